@@ -1,0 +1,25 @@
+#!/usr/bin/env bash
+# After `rt ci` or `rt must-fail`: says for each must-fail edit why the prover refused it.
+#   FACT   a fact that the contract needs no longer holds: the edit is ruled out
+#   UNFIT  a proof file or a name no longer fits the edited text: the refusal shows nothing
+# Exit status 1 where an edit is UNFIT, or refused for no reason that this script knows.
+cd "$(dirname "$0")/.." || exit 2
+unfit='expected type `tie\.|has no field|can be named|no .mod. line|exports no|does not cover|not in scope|[Pp]arse error|error\[|has-holes|unsolved|was not determined|too many arguments|is not a function|is applied to|could not tell'
+fact='^[^ ]*: error: `[^`]*`: |^note: [^ ]*: it is not proved'
+status=0
+for log in target/must-fail/*/*/.log; do
+    [ -f "$log" ] || continue
+    edit=${log#target/must-fail/} edit=${edit%/.log}
+    misfit=$(grep -E "$unfit" "$log" | grep -v '^note' | head -n 1 | cut -c1-200)
+    reason=$(grep -E "$fact" "$log" | grep -v 'was not admitted' | head -n 1 | sed -E 's/^note: [^ ]*: //; s/^[^ ]*(proofs|specs)\///' | cut -c1-160)
+    if [ -n "$misfit" ]; then
+        echo "UNFIT $edit: $misfit"
+        status=1
+    elif [ -n "$reason" ]; then
+        echo "FACT  $edit: $reason"
+    else
+        echo "?     $edit: no refusal that is known"
+        status=1
+    fi
+done
+exit $status
