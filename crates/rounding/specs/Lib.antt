@@ -1,0 +1,2 @@
+-- The words of the laws of rounding.
+pub mod Order
