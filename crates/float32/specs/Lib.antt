@@ -1,0 +1,4 @@
+pub mod Abs
+pub mod MinMax
+pub mod Lerp
+pub mod Clamp
