@@ -12,9 +12,9 @@ use lib.Dec.{T, ltb, eqb, eqb→eq, ltb→lt, nltb→le}
 use lib.Ieee.{Float, nan, inf, fin, Format, up, down, unlike, round, neg, sum, add, sub, mul, div}
 use lib.Ieee.Fits.{down-pos}
 use lib.Ieee.Scale.{finite}
-use lib.Ieee.Positive.{den, den-pos, positive, positive-finite}
+use lib.Ieee.Positive.{den, den-pos, positive}
 use Rattle.rounding.specs.Order.{_≼_, Between}
-use Rattle.rounding.proofs.Rational.{posPart, negPart, posPart-mul, negPart-mul, numPos, numNeg, numPos-pos, numNeg-zero, FractionLe, fraction-trans}
+use Rattle.rounding.proofs.Rational.{posPart, negPart, posPart-mul, negPart-mul, numPos, numNeg, numPos-pos, FractionLe, fraction-trans}
 use Rattle.rounding.proofs.Order.{to-fraction, to-fraction-positive}
 use Rattle.rounding.proofs.Monotone.{Rounds, rounds-mono}
 

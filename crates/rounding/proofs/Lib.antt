@@ -6,3 +6,4 @@ pub mod Arithmetic
 pub mod Corners
 pub mod HalfUnits
 pub mod Encoding
+pub mod Nearest
