@@ -1,3 +1,4 @@
+pub mod Operators
 pub mod Abs
 pub mod MinMax
 pub mod Lerp
