@@ -11,9 +11,6 @@ use borrow.Author.Needs.{needs}
 use Rattle.float_bits.proofs.Fixed.{infinityBits, Pattern, zeros-lt, fixed-pattern, fixed-zero, pattern-number}
 use Rattle.float_bits.proofs.from_fixed.Statement.{statement}
 use Rattle.float_bits.proofs.from_fixed.Tie as tie
-use Rattle.float_bits.proofs.from_fixed.Reads as reads
-use Rattle.float_bits.proofs.from_fixed.Lts as lts
-use Rattle.float_bits.proofs.leading_24_digits.Reads as leading-24-digits-reads
 
 returns : tie.Need-returns
 returns c = fixed-zero (c .before .args .d % 64) ∙ ap (λ (n : ℕ). round binary32 false n (2 ^ (c .before .args .d % 64))) (sym (c .if1 .taken))
