@@ -1,0 +1,106 @@
+-- The least angle: what passes a test while nothing before it does is what `leastFrom` finds (`least-unique`), so an angle whose cosine is at most n, and
+-- whose predecessor's is above n, is `leastAngle` of n (`leastAngle-unique`), the cosine falling from 0 to 2 Q. n is biased. The least angle is at most 2 Q.
+use mathlib.Core.Path.{_≡_, refl, sym, ap, subst, _∙_}
+use mathlib.Core.Logic.{inl, inr}
+use mathlib.Core.Bool.{Bool, true, false, cond}
+use Prim.Native.Nat.{ℕ, zero, suc, _+_, _-_, _*_, _/_, _^_, _≤_, _<_}
+use native.Mathlib.Nat.{lt-of-lt-of-le, eq-or-lt-of-le}
+use native.Mathlib.Decide.{decLe}
+use native.Mathlib.Omega.{arith}
+use borrow.Author.Tests.{le-leb, lt-leb}
+use lib.IntN.{ℤ}
+use lib.Signed.{leZ}
+use lib.Ieee.{minus}
+use Rattle.sine_table.specs.Table.{quarterTurn}
+use Rattle.trig.specs.Units.{cosUnits}
+use Rattle.trig.specs.Acos.{leastFrom, leastAngle}
+use Rattle.trig.specs.Biased.{biased, biasedSin}
+use Rattle.trig.proofs.Units.{minus-above, minus-below, cos-unbiased, cos-falls, cos-zero, cos-half-turn}
+
+-- ---- the least that passes a test
+
+pub least-unique : (p : ℕ → Bool) (d j u : ℕ) → j ≤ u → u ≤ j + d → p u ≡ true → ((k : ℕ) → k < u → p k ≡ false) → leastFrom p d j ≡ u
+unfolding leastFrom
+least-unique p zero j u a b t f = omega arith
+least-unique p (suc d) j u a b t f = elim (eq-or-lt-of-le a) [
+  | inl e ↦ ap (λ (x : Bool). cond x j (leastFrom p d (suc j))) (ap p e ∙ t) ∙ e
+  | inr l ↦ ap (λ (x : Bool). cond x j (leastFrom p d (suc j))) (f j l) ∙ least-unique p d (suc j) u l (omega arith) t f
+]
+
+pub least-le : (p : ℕ → Bool) (d j : ℕ) → leastFrom p d j ≤ j + d
+unfolding leastFrom
+least-le p zero j = omega arith
+least-le p (suc d) j = go (p j) (leastFrom p d (suc j)) (least-le p d (suc j))
+  where
+    go : (b : Bool) (k : ℕ) → k ≤ suc j + d → cond b j k ≤ j + suc d
+    go true k h = omega arith
+    go false k h = omega arith
+
+-- ---- the test, of biased numbers
+
+minus-le : (a b c : ℕ) → a ≤ b → leZ (minus a c) (minus b c) ≡ true
+minus-le a b c h = go (decLe c a) (decLe c b)
+  where
+    go : Dec (c ≤ a) → Dec (c ≤ b) → leZ (minus a c) (minus b c) ≡ true
+    go (yes p) (yes q) = rw (minus-above a c p, minus-above b c q) (le-leb (a - c) (b - c) (omega arith))
+    go (yes p) (no q) = absurd (omega arith)
+    go (no p) (yes q) = rw (minus-below a c (omega arith), minus-above b c q)
+    go (no p) (no q) = rw (minus-below a c (omega arith), minus-below b c (omega arith)) (le-leb (c - suc b) (c - suc a) (omega arith))
+
+minus-gt : (a b c : ℕ) → b < a → leZ (minus a c) (minus b c) ≡ false
+minus-gt a b c h = go (decLe c a) (decLe c b)
+  where
+    go : Dec (c ≤ a) → Dec (c ≤ b) → leZ (minus a c) (minus b c) ≡ false
+    go (yes p) (yes q) = rw (minus-above a c p, minus-above b c q) (lt-leb (a - c) (b - c) (omega arith))
+    go (yes p) (no q) = rw (minus-above a c p, minus-below b c (omega arith))
+    go (no p) (yes q) = absurd (omega arith)
+    go (no p) (no q) = rw (minus-below a c (omega arith), minus-below b c (omega arith)) (lt-leb (c - suc b) (c - suc a) (omega arith))
+
+cos-le : (u n : ℕ) → biased (cosUnits u) ≤ n → leZ (cosUnits u) (minus n (2 ^ 30)) ≡ true
+cos-le u n h = subst (λ (z : ℤ). leZ z (minus n (2 ^ 30)) ≡ true) (cos-unbiased u) (minus-le (biased (cosUnits u)) n (2 ^ 30) h)
+
+cos-gt : (u n : ℕ) → n < biased (cosUnits u) → leZ (cosUnits u) (minus n (2 ^ 30)) ≡ false
+cos-gt u n h = subst (λ (z : ℤ). leZ z (minus n (2 ^ 30)) ≡ false) (cos-unbiased u) (minus-gt (biased (cosUnits u)) n (2 ^ 30) h)
+
+-- ---- the least angle
+
+pub leastAngle-unique : (n u : ℕ) → u ≤ 2 * quarterTurn → biased (cosUnits u) ≤ n → ((k : ℕ) → u ≡ suc k → n < biased (cosUnits k)) → leastAngle (minus n (2 ^ 30)) ≡ u
+unfolding leastAngle
+leastAngle-unique n u h a b =
+    least-unique (λ (k : ℕ). leZ (cosUnits k) (minus n (2 ^ 30))) (2 * quarterTurn) 0 u (omega arith) (omega arith) (cos-le u n a) (before u h b)
+  where
+    before : (u : ℕ) → u ≤ 2 * quarterTurn → ((k : ℕ) → u ≡ suc k → n < biased (cosUnits k)) → (k : ℕ) → k < u → leZ (cosUnits k) (minus n (2 ^ 30)) ≡ false
+    before zero h b k l = absurd (omega arith)
+    before (suc v) h b k l = cos-gt k n (lt-of-lt-of-le (b v refl) (cos-falls k v (omega arith) (omega arith)))
+
+pub leastAngle-le : (w : ℤ) → leastAngle w ≤ 2 * quarterTurn
+unfolding leastAngle
+leastAngle-le w = let l = least-le (λ (k : ℕ). leZ (cosUnits k) w) (2 * quarterTurn) 0 in omega (arith, l)
+
+-- ---- the search by halving: the cosine of the lower angle is above n, that of the higher is not
+
+pub record Halving (n low high : ℕ) : Type 0 where
+  pub order : low < high
+  pub inside : high ≤ 2 * quarterTurn
+  pub above : n < biased (cosUnits low)
+  pub below : biased (cosUnits high) ≤ n
+
+pub halving-starts : (n : ℕ) → n < 2 ^ 31 → Halving n 0 (2 * quarterTurn)
+halving-starts n h = record { order = omega arith; inside = omega arith; above = rw cos-zero h; below = rw cos-half-turn (omega arith) }
+
+module _ {n low high : ℕ} (i : Halving n low high) (apart : 1 < high - low) (r : ℕ) (cosine : r ≡ biasedSin ((low + high) / 2 + quarterTurn)) where
+  pub halving-raises : n < r → Halving n ((low + high) / 2) high
+  unfolding cosUnits
+  halving-raises h = record { order = omega (arith, i .order); inside = i .inside; above = subst (λ (x : ℕ). n < x) cosine h; below = i .below }
+
+  pub halving-lowers : r ≤ n → Halving n low ((low + high) / 2)
+  unfolding cosUnits
+  halving-lowers h = record { order = omega (arith, i .order); inside = omega (arith, i .inside); above = i .above; below = subst (λ (x : ℕ). x ≤ n) cosine h }
+
+pub halving-ends : {n low high : ℕ} → Halving n low high → high - low ≤ 1 → low + 1 ≡ leastAngle (minus n (2 ^ 30))
+halving-ends {n} {low} {high} i h =
+    let e : high ≡ low + 1 = omega (arith, i .order) in
+    sym (leastAngle-unique n (low + 1) (rw e at (i .inside)) (rw e at (i .below)) (λ k f. subst (λ (u : ℕ). n < biased (cosUnits u)) (let g : low ≡ k = omega (arith, f) in g) (i .above)))
+
+pub least-zero : (n : ℕ) → 2 ^ 31 ≤ n → 0 ≡ leastAngle (minus n (2 ^ 30))
+least-zero n h = sym (leastAngle-unique n 0 (omega arith) (rw cos-zero h) (λ k e. absurd (omega (arith, e))))

@@ -1,0 +1,5 @@
+pub mod Units
+pub mod Least
+pub mod Shift
+pub mod Fixed
+pub mod SinCos

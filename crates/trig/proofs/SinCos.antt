@@ -1,0 +1,63 @@
+-- The last steps of sine, cosine and arc cosine: from what the code's calls give to the definitions (`sin-value`, `cos-value`, `acos-value`), and where there is
+-- nothing to work out (`sin-far`, `cos-far`, `acos-outside`).
+use mathlib.Core.Path.{_≡_, refl, sym, ap, _∙_}
+use mathlib.Core.Bool.{Bool, true, false, cond, _&&_}
+use Prim.Native.Nat.{ℕ, _+_, _^_}
+use lib.IntN.{ℤ}
+use lib.Ieee.{Float, nan, binary32, lt, div, round, minus, ofBits}
+use Rattle.sine_table.specs.Table.{quarterTurn}
+use Rattle.float32.specs.Abs.{abs}
+use Rattle.float_bits.specs.declared.Decoded.{Decoded}
+use Rattle.float_bits.specs.Decode.{negative, integerDecode}
+use Rattle.trig.specs.Units.{angleUnits, sinUnits, cosUnits, nearestFloat, withSign}
+use Rattle.trig.specs.SinCos.{near, farSin, farCos, sin, cos}
+use Rattle.trig.specs.Acos.{inDomain, leastAngle, floorUnits, acos}
+use Rattle.trig.specs.Biased.{biasedSin}
+use Rattle.trig.proofs.Units.{sin-unbiased}
+
+-- The code tests the absolute value that its call gave.
+pub near-test : (a x : Float) (b : Bool) → x ≡ abs a → lt x (ofBits binary32 0x4b800000) ≡ b → near a ≡ b
+near-test a x b e h = ap (λ (y : Float). lt y (ofBits binary32 0x4b800000)) (sym e) ∙ h
+
+taken : (b : Bool) (x y : Float) → b ≡ true → x ≡ cond b x y
+taken b x y e = sym (ap (λ (t : Bool). cond t x y) e)
+
+left : (b : Bool) (x y : Float) → b ≡ false → y ≡ cond b x y
+left b x y e = sym (ap (λ (t : Bool). cond t x y) e)
+
+module _ (a : Float) (u n : ℕ) (z : Float) (U : u ≡ angleUnits a) where
+  pub sin-value : near a ≡ true → (d : Decoded) → d ≡ integerDecode a → n ≡ biasedSin u → z ≡ nearestFloat (withSign (d .negative) (minus n (2 ^ 30))) → z ≡ sin a
+  unfolding sin integerDecode
+  sin-value h d D N Z =
+      Z ∙ ap (λ (m : ℕ). nearestFloat (withSign (d .negative) (minus m (2 ^ 30)))) (N ∙ ap biasedSin U)
+      ∙ ap (λ (w : ℤ). nearestFloat (withSign (d .negative) w)) (sin-unbiased (angleUnits a))
+      ∙ ap (λ (p : Decoded). nearestFloat (withSign (p .negative) (sinUnits (angleUnits a)))) D
+      ∙ taken (near a) (nearestFloat (withSign (negative a) (sinUnits (angleUnits a)))) farSin h
+
+  pub cos-value : near a ≡ true → n ≡ biasedSin (u + quarterTurn) → z ≡ nearestFloat (minus n (2 ^ 30)) → z ≡ cos a
+  unfolding cos cosUnits
+  cos-value h N Z =
+      Z ∙ ap (λ (m : ℕ). nearestFloat (minus m (2 ^ 30))) (N ∙ ap (λ (v : ℕ). biasedSin (v + quarterTurn)) U)
+      ∙ ap nearestFloat (sin-unbiased (angleUnits a + quarterTurn))
+      ∙ taken (near a) (nearestFloat (cosUnits (angleUnits a))) farCos h
+
+pub sin-far : (a : Float) → near a ≡ false → farSin ≡ sin a
+unfolding sin
+sin-far a h = left (near a) (nearestFloat (withSign (negative a) (sinUnits (angleUnits a)))) farSin h
+
+pub cos-far : (a : Float) → near a ≡ false → farCos ≡ cos a
+unfolding cos
+cos-far a h = left (near a) (nearestFloat (cosUnits (angleUnits a))) farCos h
+
+pub acos-value : (c : Float) (w u : ℕ) (z : Float) → inDomain c ≡ true → minus w (2 ^ 30) ≡ floorUnits c → u ≡ leastAngle (minus w (2 ^ 30)) → z ≡ round binary32 false u (2 ^ 28) → z ≡ acos c
+unfolding acos
+acos-value c w u z h W U Z =
+    Z ∙ ap (λ (v : ℕ). round binary32 false v (2 ^ 28)) (U ∙ ap leastAngle W)
+    ∙ taken (inDomain c) (round binary32 false (leastAngle (floorUnits c)) (2 ^ 28)) nan h
+
+pub acos-outside : (c : Float) → inDomain c ≡ false → div binary32 (ofBits binary32 0) (ofBits binary32 0) ≡ acos c
+unfolding acos
+acos-outside c h = none ∙ left (inDomain c) (round binary32 false (leastAngle (floorUnits c)) (2 ^ 28)) nan h
+  where
+    none : div binary32 (ofBits binary32 0) (ofBits binary32 0) ≡ nan
+    none = unfold div ofBits in refl

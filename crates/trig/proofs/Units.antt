@@ -1,0 +1,189 @@
+-- The sine in units, biased, over five quarter turns: it rises to Q (`sin-rises-first`), falls to 3 Q (`sin-falls`) and rises to 5 Q (`sin-rises-last`).
+-- So between two ends it is not above both of them unless Q lies between (`sin-below-end`), nor below both unless 3 Q does (`sin-above-end`).
+-- The cosine is the sine a quarter turn on. All rest on the rise of `quarterSine`.
+use mathlib.Core.Path.{_≡_, refl, sym, ap, ap₂, _∙_}
+use mathlib.Core.Logic.{_⊎_, inl, inr}
+use Prim.Native.Nat.{ℕ, zero, suc, _+_, _-_, _*_, _/_, _%_, _^_, _≤_, _<_, min}
+use native.Mathlib.Nat.{le-trans, eq-or-lt-of-le}
+use native.Mathlib.Decide.{decLt}
+use native.Mathlib.Omega.{arith}
+use borrow.Author.Tests.{le-leb, lt-leb}
+use mathlib.Core.Bool.{Bool, cond}
+use lib.IntN.{ℤ, pos, negsuc, negℤ}
+use lib.Ieee.{minus}
+use Rattle.sine_table.specs.Table.{quarterTurn}
+use Rattle.sine_table.specs.QuarterSine.{quarterSine}
+use Rattle.sine_table.proofs.QuarterSine.{quarterSine-mono, quarterSine-zero, quarterSine-le-one}
+use Rattle.trig.specs.Units.{sinQuarter, sinUnits, cosUnits}
+use Rattle.trig.specs.Biased.{biased, biasedSin}
+
+-- ---- the quarters
+
+pub biased-negative : (n : ℕ) → biased (negℤ (pos n)) ≡ 2 ^ 30 - n
+unfolding biased
+biased-negative zero = refl
+biased-negative (suc n) = refl
+
+pub minus-above : (a c : ℕ) → c ≤ a → minus a c ≡ pos (a - c)
+minus-above a c h = ap (λ (t : Bool). cond t (pos (a - c)) (negsuc (c - suc a))) (le-leb c a h)
+
+pub minus-below : (a c : ℕ) → a < c → minus a c ≡ negsuc (c - suc a)
+minus-below a c h = ap (λ (t : Bool). cond t (pos (a - c)) (negsuc (c - suc a))) (lt-leb c a h)
+
+-- From -2 ^ 30 on the bias is taken off again.
+unbiased-positive : (n : ℕ) → minus (biased (pos n)) (2 ^ 30) ≡ pos n
+unfolding biased
+unbiased-positive n = minus-above (2 ^ 30 + n) (2 ^ 30) (omega arith) ∙ ap pos (omega arith)
+
+unbiased-negative : (n : ℕ) → n ≤ 2 ^ 30 → minus (biased (negℤ (pos n))) (2 ^ 30) ≡ negℤ (pos n)
+unfolding biased
+unbiased-negative zero h = refl
+unbiased-negative (suc n) h = minus-below (2 ^ 30 - suc n) (2 ^ 30) (omega arith) ∙ ap negsuc (omega arith)
+
+-- In the quarter k, at v.
+abbrev pub biasedQuarter : ℕ → ℕ → ℕ
+biasedQuarter zero v = 2 ^ 30 + quarterSine v
+biasedQuarter (suc zero) v = 2 ^ 30 + quarterSine (quarterTurn - v)
+biasedQuarter (suc (suc zero)) v = 2 ^ 30 - quarterSine v
+biasedQuarter (suc (suc (suc k))) v = 2 ^ 30 - quarterSine (quarterTurn - v)
+
+quarter : (k v : ℕ) → biased (sinQuarter k v) ≡ biasedQuarter k v
+unfolding biased sinQuarter
+quarter zero v = refl
+quarter (suc zero) v = refl
+quarter (suc (suc zero)) v = biased-negative (quarterSine v)
+quarter (suc (suc (suc k))) v = biased-negative (quarterSine (quarterTurn - v))
+
+pub sin-quarter : (u k v : ℕ) → u / quarterTurn % 4 ≡ k → u % quarterTurn ≡ v → biasedSin u ≡ biasedQuarter k v
+unfolding sinUnits
+sin-quarter u k v e f = quarter (u / quarterTurn % 4) (u % quarterTurn) ∙ ap₂ biasedQuarter e f
+
+-- What the code reads from the table at v.
+pub record Read (v r : ℕ) : Type 0 where
+  pub small : r ≤ 2 ^ 30
+  pub value : r ≡ quarterSine v
+
+pub read : (v r : ℕ) → v ≤ quarterTurn → r ≡ quarterSine (min v quarterTurn) → Read v r
+read v r h e =
+    let f : r ≡ quarterSine v = e ∙ ap quarterSine (let z : min v quarterTurn ≡ v = omega arith in z) in
+    record { small = rw f (quarterSine-le-one v h); value = f }
+
+pub sin-le : (u : ℕ) → biasedSin u ≤ 2 ^ 31
+sin-le u = rw (sin-quarter u (u / quarterTurn % 4) (u % quarterTurn) refl refl) (go (u / quarterTurn % 4) (u % quarterTurn) (let l : u % quarterTurn ≤ quarterTurn = omega arith in l))
+  where
+    go : (k v : ℕ) → v ≤ quarterTurn → biasedQuarter k v ≤ 2 ^ 31
+    go zero v h = let l = quarterSine-le-one v h in omega (arith, l)
+    go (suc zero) v h = let l = quarterSine-le-one (quarterTurn - v) (omega arith) in omega (arith, l)
+    go (suc (suc zero)) v h = omega arith
+    go (suc (suc (suc k))) v h = omega arith
+
+pub sin-unbiased : (u : ℕ) → minus (biasedSin u) (2 ^ 30) ≡ sinUnits u
+unfolding sinUnits sinQuarter
+sin-unbiased u = go (u / quarterTurn % 4) (u % quarterTurn) (let l : u % quarterTurn ≤ quarterTurn = omega arith in l)
+  where
+    go : (k v : ℕ) → v ≤ quarterTurn → minus (biased (sinQuarter k v)) (2 ^ 30) ≡ sinQuarter k v
+    go zero v h = unbiased-positive (quarterSine v)
+    go (suc zero) v h = unbiased-positive (quarterSine (quarterTurn - v))
+    go (suc (suc zero)) v h = unbiased-negative (quarterSine v) (quarterSine-le-one v h)
+    go (suc (suc (suc k))) v h = unbiased-negative (quarterSine (quarterTurn - v)) (quarterSine-le-one (quarterTurn - v) (omega arith))
+
+-- Each quarter with both its ends.
+sin-first : (u : ℕ) → u ≤ quarterTurn → biasedSin u ≡ 2 ^ 30 + quarterSine u
+sin-first u h = elim (eq-or-lt-of-le h) [
+  | inl e ↦ sin-quarter u 1 0 (omega (arith, e)) (omega (arith, e)) ∙ ap (λ (x : ℕ). 2 ^ 30 + quarterSine x) (sym e)
+  | inr l ↦ sin-quarter u 0 u (omega (arith, l)) (omega (arith, l))
+]
+
+sin-second : (u : ℕ) → quarterTurn ≤ u → u ≤ 2 * quarterTurn → biasedSin u ≡ 2 ^ 30 + quarterSine (2 * quarterTurn - u)
+sin-second u g h = elim (eq-or-lt-of-le h) [
+  | inl e ↦ sin-quarter u 2 0 (omega (arith, e)) (omega (arith, e)) ∙ flat (quarterSine 0) quarterSine-zero ∙ ap (λ (x : ℕ). 2 ^ 30 + quarterSine x) (let z : 0 ≡ 2 * quarterTurn - u = omega (arith, e) in z)
+  | inr l ↦ sin-quarter u 1 (u - quarterTurn) (omega (arith, g, l)) (omega (arith, g, l)) ∙ ap (λ (x : ℕ). 2 ^ 30 + quarterSine x) (let z : quarterTurn - (u - quarterTurn) ≡ 2 * quarterTurn - u = omega (arith, g, l) in z)
+]
+  where
+    flat : (z : ℕ) → z ≡ 0 → 2 ^ 30 - z ≡ 2 ^ 30 + z
+    flat z e = omega arith
+
+sin-third : (u : ℕ) → 2 * quarterTurn ≤ u → u ≤ 3 * quarterTurn → biasedSin u ≡ 2 ^ 30 - quarterSine (u - 2 * quarterTurn)
+sin-third u g h = elim (eq-or-lt-of-le h) [
+  | inl e ↦ sin-quarter u 3 0 (omega (arith, e)) (omega (arith, e)) ∙ ap (λ (x : ℕ). 2 ^ 30 - quarterSine x) (let z : quarterTurn - 0 ≡ u - 2 * quarterTurn = omega (arith, e) in z)
+  | inr l ↦ sin-quarter u 2 (u - 2 * quarterTurn) (omega (arith, g, l)) (omega (arith, g, l))
+]
+
+sin-fourth : (u : ℕ) → 3 * quarterTurn ≤ u → u ≤ 4 * quarterTurn → biasedSin u ≡ 2 ^ 30 - quarterSine (4 * quarterTurn - u)
+sin-fourth u g h = elim (eq-or-lt-of-le h) [
+  | inl e ↦ sin-quarter u 0 0 (omega (arith, e)) (omega (arith, e)) ∙ flat (quarterSine 0) quarterSine-zero ∙ ap (λ (x : ℕ). 2 ^ 30 - quarterSine x) (let z : 0 ≡ 4 * quarterTurn - u = omega (arith, e) in z)
+  | inr l ↦ sin-quarter u 3 (u - 3 * quarterTurn) (omega (arith, g, l)) (omega (arith, g, l)) ∙ ap (λ (x : ℕ). 2 ^ 30 - quarterSine x) (let z : quarterTurn - (u - 3 * quarterTurn) ≡ 4 * quarterTurn - u = omega (arith, g, l) in z)
+]
+  where
+    flat : (z : ℕ) → z ≡ 0 → 2 ^ 30 + z ≡ 2 ^ 30 - z
+    flat z e = omega arith
+
+sin-fifth : (u : ℕ) → 4 * quarterTurn ≤ u → u ≤ 5 * quarterTurn → biasedSin u ≡ 2 ^ 30 + quarterSine (u - 4 * quarterTurn)
+sin-fifth u g h = elim (eq-or-lt-of-le h) [
+  | inl e ↦ sin-quarter u 1 0 (omega (arith, e)) (omega (arith, e)) ∙ ap (λ (x : ℕ). 2 ^ 30 + quarterSine x) (let z : quarterTurn - 0 ≡ u - 4 * quarterTurn = omega (arith, e) in z)
+  | inr l ↦ sin-quarter u 0 (u - 4 * quarterTurn) (omega (arith, g, l)) (omega (arith, g, l))
+]
+
+-- ---- rise and fall
+
+above : (a b : ℕ) → a ≤ b → 2 ^ 30 + a ≤ 2 ^ 30 + b
+above a b h = omega arith
+
+below : (a b : ℕ) → a ≤ b → 2 ^ 30 - b ≤ 2 ^ 30 - a
+below a b h = omega arith
+
+across : (a b : ℕ) → 2 ^ 30 - a ≤ 2 ^ 30 + b
+across a b = omega arith
+
+pub sin-rises-first : (a b : ℕ) → a ≤ b → b ≤ quarterTurn → biasedSin a ≤ biasedSin b
+sin-rises-first a b h k = rw (sin-first a (le-trans h k), sin-first b k) (above (quarterSine a) (quarterSine b) (quarterSine-mono a b h k))
+
+pub sin-falls : (a b : ℕ) → quarterTurn ≤ a → a ≤ b → b ≤ 3 * quarterTurn → biasedSin b ≤ biasedSin a
+sin-falls a b g h k = go (decLt a (2 * quarterTurn)) (decLt b (2 * quarterTurn))
+  where
+    go : Dec (a < 2 * quarterTurn) → Dec (b < 2 * quarterTurn) → biasedSin b ≤ biasedSin a
+    go (yes p) (yes q) = rw (sin-second a g (omega arith), sin-second b (omega arith) (omega arith)) (above (quarterSine (2 * quarterTurn - b)) (quarterSine (2 * quarterTurn - a)) (quarterSine-mono (2 * quarterTurn - b) (2 * quarterTurn - a) (omega arith) (omega arith)))
+    go (yes p) (no q) = rw (sin-second a g (omega arith), sin-third b (omega arith) k) (across (quarterSine (b - 2 * quarterTurn)) (quarterSine (2 * quarterTurn - a)))
+    go (no p) (yes q) = absurd (omega arith)
+    go (no p) (no q) = rw (sin-third a (omega arith) (omega arith), sin-third b (omega arith) k) (below (quarterSine (a - 2 * quarterTurn)) (quarterSine (b - 2 * quarterTurn)) (quarterSine-mono (a - 2 * quarterTurn) (b - 2 * quarterTurn) (omega arith) (omega arith)))
+
+pub sin-rises-last : (a b : ℕ) → 3 * quarterTurn ≤ a → a ≤ b → b ≤ 5 * quarterTurn → biasedSin a ≤ biasedSin b
+sin-rises-last a b g h k = go (decLt a (4 * quarterTurn)) (decLt b (4 * quarterTurn))
+  where
+    go : Dec (a < 4 * quarterTurn) → Dec (b < 4 * quarterTurn) → biasedSin a ≤ biasedSin b
+    go (yes p) (yes q) = rw (sin-fourth a g (omega arith), sin-fourth b (omega arith) (omega arith)) (below (quarterSine (4 * quarterTurn - b)) (quarterSine (4 * quarterTurn - a)) (quarterSine-mono (4 * quarterTurn - b) (4 * quarterTurn - a) (omega arith) (omega arith)))
+    go (yes p) (no q) = rw (sin-fourth a g (omega arith), sin-fifth b (omega arith) k) (across (quarterSine (4 * quarterTurn - a)) (quarterSine (b - 4 * quarterTurn)))
+    go (no p) (yes q) = absurd (omega arith)
+    go (no p) (no q) = rw (sin-fifth a (omega arith) (omega arith), sin-fifth b (omega arith) k) (above (quarterSine (a - 4 * quarterTurn)) (quarterSine (b - 4 * quarterTurn)) (quarterSine-mono (a - 4 * quarterTurn) (b - 4 * quarterTurn) (omega arith) (omega arith)))
+
+-- ---- between two ends
+
+pub sin-below-end : (a u b : ℕ) → a ≤ u → u ≤ b → b ≤ 5 * quarterTurn → (b < quarterTurn) ⊎ (quarterTurn < a) → (biasedSin u ≤ biasedSin a) ⊎ (biasedSin u ≤ biasedSin b)
+sin-below-end a u b h k l (inl p) = inr (sin-rises-first u b k (omega arith))
+sin-below-end a u b h k l (inr p) = elim (decLt u (3 * quarterTurn)) [ yes q ↦ inl (sin-falls a u (omega arith) h (omega arith)) | no q ↦ inr (sin-rises-last u b (omega arith) k l) ]
+
+pub sin-above-end : (a u b : ℕ) → a ≤ u → u ≤ b → b ≤ 5 * quarterTurn → (b < 3 * quarterTurn) ⊎ (3 * quarterTurn < a) → (biasedSin a ≤ biasedSin u) ⊎ (biasedSin b ≤ biasedSin u)
+sin-above-end a u b h k l (inl p) = elim (decLt u quarterTurn) [ yes q ↦ inl (sin-rises-first a u h (omega arith)) | no q ↦ inr (sin-falls u b (omega arith) k (omega arith)) ]
+sin-above-end a u b h k l (inr p) = inl (sin-rises-last a u (omega arith) h (omega arith))
+
+-- ---- the cosine
+
+pub cos-unbiased : (u : ℕ) → minus (biased (cosUnits u)) (2 ^ 30) ≡ cosUnits u
+unfolding cosUnits
+cos-unbiased u = sin-unbiased (u + quarterTurn)
+
+pub cos-zero : biased (cosUnits 0) ≡ 2 ^ 31
+unfolding biased cosUnits sinUnits sinQuarter quarterSine
+cos-zero = refl
+
+pub cos-half-turn : biased (cosUnits (2 * quarterTurn)) ≡ 0
+unfolding biased cosUnits sinUnits sinQuarter quarterSine
+cos-half-turn = refl
+
+pub cos-falls : (a b : ℕ) → a ≤ b → b ≤ 2 * quarterTurn → biased (cosUnits b) ≤ biased (cosUnits a)
+unfolding cosUnits
+cos-falls a b h k = sin-falls (a + quarterTurn) (b + quarterTurn) (omega arith) (omega arith) (omega arith)
+
+pub cos-rises : (a b : ℕ) → 2 * quarterTurn ≤ a → a ≤ b → b ≤ 4 * quarterTurn → biased (cosUnits a) ≤ biased (cosUnits b)
+unfolding cosUnits
+cos-rises a b g h k = sin-rises-last (a + quarterTurn) (b + quarterTurn) (omega arith) (omega arith) (omega arith)

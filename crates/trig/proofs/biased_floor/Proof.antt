@@ -1,0 +1,48 @@
+-- Rounded down on either side of zero: a shift of the significand, and below zero of one less (`floor-positive`, `floor-negative`).
+use Prim.Native.Nat.{_^_, _*_, _%_}
+use native.Mathlib.Omega.{arith}
+use Rattle.trig.proofs.Fixed.{unit-digits, unit-exponent, positive-part, floor-positive, floor-negative}
+use borrow.Author.Needs.{needs}
+use Rattle.trig.proofs.biased_floor.Statement.{statement}
+use Rattle.trig.proofs.biased_floor.Tie as tie
+
+integer-decode-requires : tie.Need-integer-decode-requires
+integer-decode-requires c κs = search needs
+
+sub-result : tie.Need-sub-result
+sub-result c = search needs
+
+sub-shifted : tie.Need-sub-shifted
+sub-shifted c = positive-part (c .before .before .before .integer-decode .result .negative) (c .before .before .before .integer-decode .result .significand * 2 ^ 30 % 2 ^ 64) (c .if1 .taken)
+
+shifted-requires : tie.Need-shifted-requires
+shifted-requires c κs = (let l = unit-digits (c .before .before .before .before .args .c) (c .before .before .before .before .good .0 .1) (c .before .before .before .before .pre) (c .before .before .before .integer-decode .result) (c .before .before .before .integer-decode .ensures) in omega (arith, l), unit-exponent (c .before .before .before .before .args .c) (c .before .before .before .before .good .0 .1) (c .before .before .before .before .pre) (c .before .before .before .integer-decode .result) (c .before .before .before .integer-decode .ensures))
+
+sub-result-2 : tie.Need-sub-result-2
+sub-result-2 c = let l = floor-negative (c .before .before .before .before .before .args .c) (c .before .before .before .before .before .good .0 .1) (c .before .before .before .before .before .pre) (c .before .before .before .before .integer-decode .result) (c .before .before .before .before .integer-decode .ensures) (c .shifted .result) (c .before .if1 .taken) (c .shifted .ensures) .0 in omega (arith, l)
+
+returns : tie.Need-returns
+returns c = floor-negative (c .before .before .before .before .before .args .c) (c .before .before .before .before .before .good .0 .1) (c .before .before .before .before .before .pre) (c .before .before .before .before .integer-decode .result) (c .before .before .before .before .integer-decode .ensures) (c .shifted .result) (c .before .if1 .taken) (c .shifted .ensures) .1
+
+shifted-requires-2 : tie.Need-shifted-requires-2
+shifted-requires-2 c κs = (unit-digits (c .before .before .before .before .args .c) (c .before .before .before .before .good .0 .1) (c .before .before .before .before .pre) (c .before .before .before .integer-decode .result) (c .before .before .before .integer-decode .ensures), unit-exponent (c .before .before .before .before .args .c) (c .before .before .before .before .good .0 .1) (c .before .before .before .before .pre) (c .before .before .before .integer-decode .result) (c .before .before .before .integer-decode .ensures))
+
+add-result : tie.Need-add-result
+add-result c = let l = floor-positive (c .before .before .before .before .before .args .c) (c .before .before .before .before .before .good .0 .1) (c .before .before .before .before .before .pre) (c .before .before .before .before .integer-decode .result) (c .before .before .before .before .integer-decode .ensures) (c .shifted2 .result) (c .before .if1 .left) (c .shifted2 .ensures) .0 in omega (arith, l)
+
+returns-2 : tie.Need-returns-2
+returns-2 c = floor-positive (c .before .before .before .before .before .args .c) (c .before .before .before .before .before .good .0 .1) (c .before .before .before .before .before .pre) (c .before .before .before .before .integer-decode .result) (c .before .before .before .before .integer-decode .ensures) (c .shifted2 .result) (c .before .if1 .left) (c .shifted2 .ensures) .1
+
+pub biased-floor-spec : {M : Type 1} → statement M
+biased-floor-spec =
+    tie.close
+    (tie.spec
+    integer-decode-requires
+    sub-result
+    sub-shifted
+    shifted-requires
+    sub-result-2
+    returns
+    shifted-requires-2
+    add-result
+    returns-2)

@@ -1,0 +1,4 @@
+pub mod Units
+pub mod SinCos
+pub mod Acos
+pub mod Biased
