@@ -1,0 +1,33 @@
+//! The oracle: pbrt-rust's `AnimatedTransform` and what it rests on, taken from the three source files by build.rs, around them document 01's
+//! numbers (`judged`), a second implementation of the cover (`cover`), and the questions and answers of the program `answers` (`protocol`).
+
+/// pbrt-rust's own module tree, so that the paths in the three files hold: `transform`, `quaternion` and `geometry::bounds` are the originals, the rest is the shim.
+pub mod core {
+    pub mod geometry {
+        #[allow(dead_code, unused_imports, clippy::all)]
+        pub mod bounds {
+            include!(concat!(env!("OUT_DIR"), "/bounds.rs"));
+        }
+        pub mod normal;
+        pub mod point;
+        pub mod vector;
+    }
+    pub mod pbrt;
+    #[allow(dead_code, unused_imports, clippy::all)]
+    pub mod quaternion {
+        include!(concat!(env!("OUT_DIR"), "/quaternion.rs"));
+    }
+    #[allow(dead_code, unused_imports, clippy::all)]
+    pub mod transform {
+        include!(concat!(env!("OUT_DIR"), "/transform.rs"));
+        pub mod fields;
+    }
+}
+
+pub mod angles;
+pub mod cover;
+pub mod judged;
+pub mod log;
+pub mod num;
+pub mod protocol;
+pub mod refusal;

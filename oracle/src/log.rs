@@ -1,0 +1,39 @@
+//! What the original says beside its results: `error!` is silent; a zero pivot and a range assertion that does not hold are noted for the caller.
+
+use std::cell::Cell;
+
+macro_rules! error {
+    ($($message:tt)*) => {
+        ()
+    };
+}
+pub(crate) use error;
+
+thread_local! {
+    static ZERO_PIVOT: Cell<bool> = const { Cell::new(false) };
+    static OUT_OF_RANGE: Cell<bool> = const { Cell::new(false) };
+}
+
+/// Called by the original where it finds a zero pivot.
+#[cold]
+pub fn zero_pivot() {
+    ZERO_PIVOT.set(true);
+}
+
+/// Called by the original in place of the range assertions of `Interval`'s sine and cosine.
+#[inline(always)]
+pub fn range(holds: bool) {
+    if !holds {
+        OUT_OF_RANGE.set(true);
+    }
+}
+
+/// Whether a zero pivot was met since the last call.
+pub fn take_zero_pivot() -> bool {
+    ZERO_PIVOT.replace(false)
+}
+
+/// Whether a range assertion failed since the last call.
+pub fn take_out_of_range() -> bool {
+    OUT_OF_RANGE.replace(false)
+}

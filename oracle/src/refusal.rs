@@ -1,0 +1,22 @@
+//! Document 01's refusal numbers.
+
+/// Building: a matrix entry or time is not finite.
+pub const POSE_NOT_FINITE: u8 = 1;
+/// Building: a bottom row is not 0, 0, 0, 1.
+pub const BOTTOM_ROW: u8 = 2;
+/// Building: the end time is below the start time, or their difference is not finite.
+pub const TIMES: u8 = 3;
+/// A chosen pivot is zero.
+pub const ZERO_PIVOT: u8 = 4;
+/// A finished matrix, quaternion, dot product, coefficient set or answer is not finite; in a cover, any interval end.
+pub const NOT_FINITE: u8 = 5;
+/// A query's time is NaN, or a coordinate is not finite.
+pub const QUERY: u8 = 6;
+/// A least corner is above its greatest corner.
+pub const CORNERS: u8 = 7;
+/// A depth above 12.
+pub const DEPTH: u8 = 8;
+/// A ninth zero would be stored.
+pub const NINTH_ZERO: u8 = 9;
+/// In a cover's slerp, the low end of a squared length to be rooted is zero or below.
+pub const SQUARED_LENGTH: u8 = 10;
