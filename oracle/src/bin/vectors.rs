@@ -1,5 +1,6 @@
 //! `vectors KIND COUNT SEED` prints questions of a kind: first the fixed rows at the edges, then COUNT random cases, the same for the same seed.
-//! A case is one question, or a move with the questions that are put to it. Only sums, products, quotients and roots make the numbers, so that every machine makes the same.
+//! A case is one question, or a move with the questions that are put to it. Only sums, products, quotients and roots make the numbers, so that
+//! every machine makes the same, but for the bits of a NaN.
 
 use oracle::core::geometry::point::Point3f;
 use oracle::core::transform::fields::find_zeros;
