@@ -1,0 +1,69 @@
+// The lines of the input. An empty line, or one that starts with #, has no answer.
+use crate::numbers;
+use crate::output::put_error;
+use crate::output::send;
+use crate::question::Kind;
+use crate::question::Question;
+use crate::question::parse;
+use crate::text::part;
+
+// What lasts from line to line: how many bytes of the output are not sent yet.
+pub struct State {
+    pub written: usize,
+}
+
+impl State {
+    pub fn at(mut self, end: usize) -> State {
+        self.written = end;
+        self
+    }
+}
+
+// What lasts after the lines of a text, and where in it the first line starts that has not ended.
+pub struct Lines {
+    pub next: usize,
+    pub state: State,
+}
+
+// Answers each line of `text` that ends in a line feed.
+pub fn answer_lines(text: &[u8], out: &mut [u8], s: State) -> Lines {
+    let mut state = s;
+    let mut at = 0;
+    while at < text.len() {
+        let end = bytes::scan::find(text, at, text.len(), b'\n');
+        if end == text.len() {
+            break;
+        }
+        let next = answer_line(part(text, at, end), out, state);
+        state = next;
+        at = end + 1;
+    }
+    Lines { next: at, state }
+}
+
+// Answers a line. Half of the output is free for it, which is more than the longest answer has.
+pub fn answer_line(line: &[u8], out: &mut [u8], s: State) -> State {
+    if line.len() == 0 {
+        return s;
+    }
+    if line[0] == b'#' {
+        return s;
+    }
+    let q = parse(line);
+    let written = s.written;
+    if out.len() / 2 < written {
+        send(out, written);
+        return answer(q, out, s.at(0));
+    }
+    answer(q, out, s)
+}
+
+// Answers a question by the function of its group.
+fn answer(q: Question, out: &mut [u8], s: State) -> State {
+    let at = s.written;
+    let kind = q.kind;
+    match kind {
+        Kind::Malformed => s.at(put_error(out, at)),
+        Kind::Number(n) => s.at(numbers::answer(n, q, out, at)),
+    }
+}
