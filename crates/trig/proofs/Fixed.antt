@@ -1,11 +1,11 @@
--- Floats as whole numbers of units, by the parts that `integer_decode` gives. Of an angle that is not far, and of a c in -1 to 1, the exponent is at most 149
--- (`near-exponent`, `unit-exponent`), so that |x| * 2 ^ d rounded down is one shift (`fixed-shift`), and so is c * 2 ^ 30 rounded down (`floor-positive`, `floor-negative`).
+-- Floats as whole numbers of units, by the parts that `integer_decode` gives: |x| * 2 ^ d rounded down is one shift (`fixed-decode`), so that u of an angle is one
+-- (`angle-near`, and `angle-far` from 2 ^ 24 on), and c * 2 ^ 30 rounded down is another (`floor-positive`, `floor-negative`).
 -- Back to floats: the four ways of `biased_float`, `float-..`.
 use mathlib.Core.Path.{_≡_, refl, sym, ap, subst, _∙_}
 use mathlib.Core.Logic.{_⊎_, inl, inr}
 use mathlib.Core.Bool.{Bool, true, false, not, cond, true≢false, _&&_}
-use Prim.Native.Nat.{ℕ, zero, suc, _+_, _-_, _*_, _/_, _%_, _^_, _≤_, _<_}
-use native.Mathlib.Nat.{eq-zero-or-pos, eq-or-lt-of-le, le-refl, le-trans, le-of-eq, le-of-lt, lt-of-le-of-lt, lt-of-mul-lt-mul-right, mul-le-mul, mul-le-mul-right, mul-lt-mul-of-pos-right, mul-pos, zero-lt-suc, div-lt-iff-lt-mul, div-mul-le-self, lt-div-mul-add, le-of-mul-le-mul-right, lt-of-lt-of-le, div-eq-of-lt-le, div-le-of-le-mul, mul-le-mul-left, mul-comm, mod-eq-of-lt}
+use Prim.Native.Nat.{ℕ, zero, suc, _+_, _-_, _*_, _/_, _%_, _^_, _≤_, _<_, min}
+use native.Mathlib.Nat.{eq-zero-or-pos, eq-or-lt-of-le, le-refl, le-trans, le-of-eq, le-of-lt, lt-of-le-of-lt, lt-of-mul-lt-mul-right, mul-le-mul, mul-le-mul-right, mul-lt-mul-of-pos-right, mul-pos, zero-lt-suc, div-lt-iff-lt-mul, div-mul-le-self, lt-div-mul-add, le-of-mul-le-mul-right, lt-of-lt-of-le, div-eq-of-lt-le, div-le-of-le-mul, mul-le-mul-left, mul-comm, mod-eq-of-lt, zero-div, le-div-iff-mul-le}
 use native.Mathlib.Decide.{decLt}
 use native.Mathlib.Omega.{arith}
 use borrow.Author.Tests.{ltb-true, ltb-false}
@@ -13,7 +13,7 @@ use lib.IntN.{ℤ, pos, negsuc, negℤ, negℤ-negℤ}
 use lib.Dec.{T, ltb, ltb→lt, lit<, lit≤}
 use lib.Pow.{pow-add, pow-pos, pow-lt, pow-mono}
 use lib.Signed.{shrZ}
-use lib.Ieee.{Float, nan, inf, fin, binary32, up, down, lt, le, neg, round, minus, ofBits, fits}
+use lib.Ieee.{Float, nan, inf, fin, binary32, up, down, lt, le, neg, round, minus, ofBits, fits, size}
 use lib.Ieee.Fits.{down-pos, and-l, and-r}
 use lib.Ieee.Nearest.{div-same}
 use lib.Ieee.Exact.{HasValue}
@@ -24,31 +24,12 @@ use Rattle.rounding.proofs.Order.{to-fraction, between-finite}
 use Rattle.rounding.proofs.Monotone.{round-neg}
 use Rattle.float32.specs.Abs.{abs}
 use Rattle.float_bits.specs.declared.Decoded.{Decoded}
-use Rattle.float_bits.specs.Decode.{integerDecode}
+use Rattle.float_bits.specs.Decode.{magnitude, exponent, integerDecode}
 use Rattle.float_bits.proofs.Decode.{decode-value, significand-lt, significand-normal}
 use Rattle.trig.specs.Units.{fixed, angleUnits, nearestFloat, withSign}
 use Rattle.trig.specs.SinCos.{near}
 use Rattle.trig.specs.Acos.{one, inDomain, floorUnits}
 use Rattle.trig.proofs.Units.{minus-above, minus-below}
-
--- ---- what is near, and what is in -1 to 1
-
-pub near-finite : (a : Float) → near a ≡ true → T (finite a)
-unfolding lt abs ofBits
-near-finite nan h = absurd (true≢false (sym h))
-near-finite (inf s) h = absurd (true≢false (sym h))
-near-finite (fin s m e) h = tt
-
-near-size : (a : Float) (s : Bool) (v : ℕ) → HasValue a s v (2 ^ 149) → near a ≡ true → v < 2 ^ 173
-unfolding lt abs ofBits
-near-size nan s v h k = absurd h
-near-size (inf t) s v h k = absurd h
-near-size (fin t m e) s v h k =
-    let l : m * up e * 1 < 1 * 2 ^ 24 * down e = ltb→lt (m * up e * 1) (1 * 2 ^ 24 * down e) (subst T (sym k) tt) in
-    lt-of-mul-lt-mul-right (down e) (clear (m * up e) (down e) v (2 ^ 149) (pow-pos 149) (h .1) l)
-  where
-    clear : (a d v L : ℕ) → 0 < L → a * L ≡ v * d → a * 1 < 1 * 2 ^ 24 * d → v * d < 2 ^ 24 * L * d
-    clear a d v L p e l = let k = mul-lt-mul-of-pos-right l p in omega (arith, e, k)
 
 -- ---- the parts
 
@@ -61,6 +42,9 @@ exponent-below x h = elim (significand-normal x) [
   where
     below : (j : ℕ) → 23 + j < 173 → j ≤ 149
     below j h = omega arith
+
+none : (a b : ℕ) → 0 * a * 1 / b ≡ 0
+none a b = ap (λ (n : ℕ). n / b) (let z : 0 * a * 1 ≡ 0 = omega arith in z) ∙ zero-div b
 
 fixed-value : (x : Float) (s : Bool) (d m E : ℕ) → HasValue x s (m * E) (2 ^ 149) → m * 2 ^ d * E / 2 ^ 149 ≡ fixed d x
 unfolding fixed
@@ -76,33 +60,55 @@ shl-exact : (m d : ℕ) → m < 2 ^ 24 → d ≤ 30 → m * 2 ^ d % 2 ^ 64 ≡ m
 shl-exact m d h k =
     mod-eq-of-lt (lt-of-lt-of-le (mul-lt-mul-of-pos-right h (pow-pos d)) (le-trans (le-of-eq (sym (pow-add 2 24 d))) (pow-mono {i = 24 + d} {j = 64} (omega arith))))
 
--- What the code makes of the angle x that is not far: d are its parts.
-module _ (x : Float) (f : fits binary32 x ≡ true) (n : near x ≡ true) (d : Decoded) (D : d ≡ integerDecode x) where
-  fit : T (fits binary32 x)
-  fit = subst T (sym f) tt
+-- ---- u of an angle
 
+fixed-decode : (x : Float) → T (fits binary32 x) → (d : ℕ) → integerDecode x .significand * 2 ^ d * 2 ^ integerDecode x .exponent / 2 ^ 149 ≡ fixed d x
+fixed-decode nan f d = unfold integerDecode magnitude exponent size fixed in none (2 ^ d) (2 ^ 149)
+fixed-decode (inf s) f d = unfold integerDecode magnitude exponent size fixed in none (2 ^ d) (2 ^ 149)
+fixed-decode (fin s m e) f d =
+    fixed-value (fin s m e) (integerDecode (fin s m e) .negative) d (integerDecode (fin s m e) .significand) (2 ^ integerDecode (fin s m e) .exponent) (decode-value (fin s m e) f tt)
+
+module _ (x : Float) (f : fits binary32 x ≡ true) (d : Decoded) (D : d ≡ integerDecode x) where
   digits : d .significand < 2 ^ 24
   digits = rw D (significand-lt x)
+
+  units : d .significand * 2 ^ 28 * 2 ^ d .exponent / 2 ^ 149 ≡ angleUnits x
+  units = rw D (fixed-decode x (subst T (sym f) tt) 28)
 
   pub angle-digits : d .significand * 2 ^ 28 % 2 ^ 64 < 2 ^ 54
   angle-digits = let l = digits in omega (arith, l)
 
-  pub angle-exponent : d .exponent ≤ 149
-  angle-exponent =
-      rw D (exponent-below x (near-size x (integerDecode x .negative) (integerDecode x .significand * 2 ^ integerDecode x .exponent) (decode-value x fit (near-finite x n)) n))
+  pub angle-near : d .exponent ≤ 149 → (u : ℕ) → u ≡ d .significand * 2 ^ 28 % 2 ^ 64 * 2 ^ d .exponent / 2 ^ 149 → u ≡ min (angleUnits x) (2 ^ 52)
+  angle-near h u U =
+      let e : u ≡ d .significand * 2 ^ 28 * 2 ^ d .exponent / 2 ^ 149 = U ∙ ap (λ (y : ℕ). y * 2 ^ d .exponent / 2 ^ 149) (shl-exact (d .significand) 28 digits (lit≤ tt)) in
+      least u (angleUnits x) (e ∙ units) (rw e (le-trans (shrinks (d .significand * 2 ^ 28) (2 ^ d .exponent) (2 ^ 149) (pow-mono {i = d .exponent} {j = 149} h)) (let l = digits in omega (arith, l))))
+    where
+      shrinks : (a b c : ℕ) → b ≤ c → a * b / c ≤ a
+      shrinks a b c h = div-le-of-le-mul c (le-trans (mul-le-mul-left a h) (le-of-eq (mul-comm a c)))
 
-  module _ (u : ℕ) (U : u ≡ d .significand * 2 ^ 28 % 2 ^ 64 * 2 ^ d .exponent / 2 ^ 149) where
-    pub angle-shift : u ≡ angleUnits x
-    angle-shift =
-        U ∙ ap (λ (y : ℕ). y * 2 ^ d .exponent / 2 ^ 149) (shl-exact (d .significand) 28 digits (lit≤ tt))
-        ∙ ap (λ (p : Decoded). p .significand * 2 ^ 28 * 2 ^ p .exponent / 2 ^ 149) D
-        ∙ fixed-value x (integerDecode x .negative) 28 (integerDecode x .significand) (2 ^ integerDecode x .exponent) (decode-value x fit (near-finite x n))
+      least : (u v : ℕ) → u ≡ v → u ≤ 2 ^ 52 → u ≡ min v (2 ^ 52)
+      least u v e h = omega arith
 
-    pub angle-lt : u < 2 ^ 54
-    angle-lt = rw U (lt-of-le-of-lt (shrinks (d .significand * 2 ^ 28 % 2 ^ 64) (2 ^ d .exponent) (2 ^ 149) (pow-pos 149) (pow-mono {i = d .exponent} {j = 149} angle-exponent)) angle-digits)
-      where
-        shrinks : (a b c : ℕ) → 0 < c → b ≤ c → a * b / c ≤ a
-        shrinks a b c p h = div-le-of-le-mul c (le-trans (mul-le-mul-left a h) (le-of-eq (mul-comm a c)))
+  pub angle-far : 149 < d .exponent → 2 ^ 52 ≡ min (angleUnits x) (2 ^ 52)
+  angle-far h = greatest (angleUnits x) (rw (← units) (le-div-iff-mul-le (pow-pos 149) .1 (grows (d .significand) (2 ^ d .exponent) normal (pow-mono {i = 150} {j = d .exponent} h))))
+    where
+      normal : 2 ^ 23 ≤ d .significand
+      normal = rw D (elim (significand-normal x) [ inl e ↦ absurd (let l : 149 < integerDecode x .exponent = subst (λ (p : Decoded). 149 < p .exponent) D h in omega (arith, l, e)) | inr l ↦ l ])
+
+      grows : (m E : ℕ) → 2 ^ 23 ≤ m → 2 ^ 150 ≤ E → 2 ^ 52 * 2 ^ 149 ≤ m * 2 ^ 28 * E
+      grows m E h k = mul-le-mul (let l : 2 ^ 51 ≤ m * 2 ^ 28 = omega arith in l) k
+
+      greatest : (v : ℕ) → 2 ^ 52 ≤ v → 2 ^ 52 ≡ min v (2 ^ 52)
+      greatest v h = omega arith
+
+pub near-units : (a : Float) → near a ≡ true → angleUnits a < 2 ^ 52
+unfolding lt abs ofBits fixed
+near-units nan h = absurd (true≢false (sym h))
+near-units (inf s) h = absurd (true≢false (sym h))
+near-units (fin s m e) h = div-lt-iff-lt-mul (down-pos e) .1 (below (m * up e) (down e) (ltb-true (m * up e * 1) (1 * 2 ^ 24 * down e) h))
+  where
+    below : (a d : ℕ) → a * 1 < 1 * 2 ^ 24 * d → a * 2 ^ 28 < 2 ^ 52 * d
+    below a d h = omega arith
 
 -- ---- rounding down below zero
 
@@ -224,14 +230,14 @@ module _ (c : Float) (f : fits binary32 c ≡ true) (h : inDomain c ≡ true) (d
   value : HasValue c (d .negative) (d .significand * 2 ^ d .exponent) (2 ^ 149)
   value = rw D (decode-value c (subst T (sym f) tt) (unit-finite c h))
 
-  size : d .significand * 2 ^ d .exponent ≤ 2 ^ 149
-  size = unit-size c (d .negative) (d .significand * 2 ^ d .exponent) value h
+  bounded : d .significand * 2 ^ d .exponent ≤ 2 ^ 149
+  bounded = unit-size c (d .negative) (d .significand * 2 ^ d .exponent) value h
 
   pub unit-digits : d .significand * 2 ^ 30 % 2 ^ 64 < 2 ^ 54
   unit-digits = let l : d .significand < 2 ^ 24 = rw D (significand-lt c) in omega (arith, l)
 
   pub unit-exponent : d .exponent ≤ 149
-  unit-exponent = rw D (exponent-below c (lt-of-le-of-lt (subst (λ (p : Decoded). p .significand * 2 ^ p .exponent ≤ 2 ^ 149) D size) (pow-lt {i = 149} {j = 173} (lit< tt))))
+  unit-exponent = rw D (exponent-below c (lt-of-le-of-lt (subst (λ (p : Decoded). p .significand * 2 ^ p .exponent ≤ 2 ^ 149) D bounded) (pow-lt {i = 149} {j = 173} (lit< tt))))
 
   exact : d .significand * 2 ^ 30 % 2 ^ 64 ≡ d .significand * 2 ^ 30
   exact = shl-exact (d .significand) 30 (rw D (significand-lt c)) (lit≤ tt)
@@ -242,7 +248,7 @@ module _ (c : Float) (f : fits binary32 c ≡ true) (h : inDomain c ≡ true) (d
     floor-positive k e =
         let k' = rw exact at k in
         let e' : q ≡ d .significand * 2 ^ 30 * 2 ^ d .exponent / 2 ^ 149 = e ∙ ap (λ (y : ℕ). y * 2 ^ d .exponent / 2 ^ 149) exact in (
-          rw e' (floor-top (d .significand) (2 ^ d .exponent) (2 ^ 149) (pow-pos 149) size),
+          rw e' (floor-top (d .significand) (2 ^ d .exponent) (2 ^ 149) (pow-pos 149) bounded),
           minus-above (2 ^ 30 + q) (2 ^ 30) (omega arith) ∙ ap pos (let z : 2 ^ 30 + q - 2 ^ 30 ≡ q = omega arith in z ∙ e') ∙ floor-plus c (d .negative) (d .significand) (2 ^ d .exponent) value k',
         )
 
@@ -251,7 +257,7 @@ module _ (c : Float) (f : fits binary32 c ≡ true) (h : inDomain c ≡ true) (d
     floor-negative k e =
         let k' = rw exact at k in
         let e' : q ≡ (d .significand * 2 ^ 30 - 1) * 2 ^ d .exponent / 2 ^ 149 = e ∙ ap (λ (y : ℕ). (y - 1) * 2 ^ d .exponent / 2 ^ 149) exact in
-        let l : q < 2 ^ 30 = rw e' (floor-bottom (d .significand) (2 ^ d .exponent) (2 ^ 149) (pow-pos 149) (pow-pos (d .exponent)) (positive-part (d .negative) (d .significand * 2 ^ 30) k') size) in (
+        let l : q < 2 ^ 30 = rw e' (floor-bottom (d .significand) (2 ^ d .exponent) (2 ^ 149) (pow-pos 149) (pow-pos (d .exponent)) (positive-part (d .negative) (d .significand * 2 ^ 30) k') bounded) in (
           l,
           minus-below (2 ^ 30 - 1 - q) (2 ^ 30) (omega arith) ∙ ap negsuc (let z : 2 ^ 30 - suc (2 ^ 30 - 1 - q) ≡ q = omega arith in z ∙ e')
               ∙ floor-minus c (d .negative) (d .significand) (d .exponent) unit-exponent value k',

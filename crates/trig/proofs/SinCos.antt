@@ -2,7 +2,8 @@
 -- nothing to work out (`sin-far`, `cos-far`, `acos-outside`).
 use mathlib.Core.Path.{_≡_, refl, sym, ap, _∙_}
 use mathlib.Core.Bool.{Bool, true, false, cond, _&&_}
-use Prim.Native.Nat.{ℕ, _+_, _^_}
+use Prim.Native.Nat.{ℕ, _+_, _^_, min}
+use native.Mathlib.Omega.{arith}
 use lib.IntN.{ℤ}
 use lib.Ieee.{Float, nan, binary32, lt, div, round, minus, ofBits}
 use Rattle.sine_table.specs.Table.{quarterTurn}
@@ -14,6 +15,7 @@ use Rattle.trig.specs.SinCos.{near, farSin, farCos, sin, cos}
 use Rattle.trig.specs.Acos.{inDomain, leastAngle, floorUnits, acos}
 use Rattle.trig.specs.Biased.{biasedSin}
 use Rattle.trig.proofs.Units.{sin-unbiased}
+use Rattle.trig.proofs.Fixed.{near-units}
 
 -- The code tests the absolute value that its call gave.
 pub near-test : (a x : Float) (b : Bool) → x ≡ abs a → lt x (ofBits binary32 0x4b800000) ≡ b → near a ≡ b
@@ -25,19 +27,22 @@ taken b x y e = sym (ap (λ (t : Bool). cond t x y) e)
 left : (b : Bool) (x y : Float) → b ≡ false → y ≡ cond b x y
 left b x y e = sym (ap (λ (t : Bool). cond t x y) e)
 
-module _ (a : Float) (u n : ℕ) (z : Float) (U : u ≡ angleUnits a) where
-  pub sin-value : near a ≡ true → (d : Decoded) → d ≡ integerDecode a → n ≡ biasedSin u → z ≡ nearestFloat (withSign (d .negative) (minus n (2 ^ 30))) → z ≡ sin a
+module _ (a : Float) (h : near a ≡ true) (u n : ℕ) (z : Float) (U : u ≡ min (angleUnits a) (2 ^ 52)) where
+  units : u ≡ angleUnits a
+  units = let l = near-units a h in omega (arith, l)
+
+  pub sin-value : (d : Decoded) → d ≡ integerDecode a → n ≡ biasedSin u → z ≡ nearestFloat (withSign (d .negative) (minus n (2 ^ 30))) → z ≡ sin a
   unfolding sin integerDecode
-  sin-value h d D N Z =
-      Z ∙ ap (λ (m : ℕ). nearestFloat (withSign (d .negative) (minus m (2 ^ 30)))) (N ∙ ap biasedSin U)
+  sin-value d D N Z =
+      Z ∙ ap (λ (m : ℕ). nearestFloat (withSign (d .negative) (minus m (2 ^ 30)))) (N ∙ ap biasedSin units)
       ∙ ap (λ (w : ℤ). nearestFloat (withSign (d .negative) w)) (sin-unbiased (angleUnits a))
       ∙ ap (λ (p : Decoded). nearestFloat (withSign (p .negative) (sinUnits (angleUnits a)))) D
       ∙ taken (near a) (nearestFloat (withSign (negative a) (sinUnits (angleUnits a)))) farSin h
 
-  pub cos-value : near a ≡ true → n ≡ biasedSin (u + quarterTurn) → z ≡ nearestFloat (minus n (2 ^ 30)) → z ≡ cos a
+  pub cos-value : n ≡ biasedSin (u + quarterTurn) → z ≡ nearestFloat (minus n (2 ^ 30)) → z ≡ cos a
   unfolding cos cosUnits
-  cos-value h N Z =
-      Z ∙ ap (λ (m : ℕ). nearestFloat (minus m (2 ^ 30))) (N ∙ ap (λ (v : ℕ). biasedSin (v + quarterTurn)) U)
+  cos-value N Z =
+      Z ∙ ap (λ (m : ℕ). nearestFloat (minus m (2 ^ 30))) (N ∙ ap (λ (v : ℕ). biasedSin (v + quarterTurn)) units)
       ∙ ap nearestFloat (sin-unbiased (angleUnits a + quarterTurn))
       ∙ taken (near a) (nearestFloat (cosUnits (angleUnits a))) farCos h
 

@@ -1,10 +1,10 @@
 // Sine, cosine and arc cosine, by document 01's table of sines. Angles are in units of 2^-28, sines and cosines in units of 2^-30,
 // which the code carries 2^30 more than they are.
 ghost use mathlib.Core.Path.{_≡_};
-ghost use Prim.Native.Nat.{_+_, _*_, _/_, _^_, _≤_, _<_};
+ghost use Prim.Native.Nat.{_*_, _/_, _^_, _≤_, _<_, min};
 ghost use mathlib.Core.Bool.{true};
 ghost use lib.Ieee.{binary32, minus, le, neg, ofBits};
-ghost use Rattle.trig.specs.Units.{nearestFloat, withSign};
+ghost use Rattle.trig.specs.Units.{angleUnits, nearestFloat, withSign};
 ghost use Rattle.trig.specs.SinCos.{sin, cos};
 ghost use Rattle.trig.specs.Acos.{inDomain, leastAngle, floorUnits, acos};
 ghost use Rattle.trig.specs.Biased.{biasedSin};
@@ -66,14 +66,25 @@ fn shifted(m: u64, j: u64) -> u64
     m >> (149 - j)
 }
 
+// u of an angle: |a| × 2^28 rounded down, and 2^52 for a finite a that is far. Accuracy: exact.
+pub fn angle_units(a: f32) -> u64
+    ensures value { λ r. ⌜ r ≡ min (angleUnits a) (2 ^ 52) ⌝ }
+{
+    let d = float_bits::integer_decode(a);
+    // With an exponent above 0 the significand has 24 digits, so that |a| is at least 2^24.
+    if d.exponent > 149 {
+        return 0x10_0000_0000_0000;
+    }
+    shifted(d.significand << 28, d.exponent)
+}
+
 // Document 01's sine; of a far angle 0. Accuracy: the float nearest to a straight line between entries of the table.
 pub fn sin(a: f32) -> f32
     ensures value { λ r. ⌜ r ≡ sin a ⌝ }
 {
     if float32::abs(a) < FAR {
         let d = float_bits::integer_decode(a);
-        let u = shifted(d.significand << 28, d.exponent);
-        return biased_float(d.negative, biased_sin(u));
+        return biased_float(d.negative, biased_sin(angle_units(a)));
     }
     0.0
 }
@@ -83,9 +94,7 @@ pub fn cos(a: f32) -> f32
     ensures value { λ r. ⌜ r ≡ cos a ⌝ }
 {
     if float32::abs(a) < FAR {
-        let d = float_bits::integer_decode(a);
-        let u = shifted(d.significand << 28, d.exponent);
-        return biased_float(false, biased_sin(u + QUARTER_TURN));
+        return biased_float(false, biased_sin(angle_units(a) + QUARTER_TURN));
     }
     1.0
 }

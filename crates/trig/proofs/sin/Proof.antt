@@ -1,7 +1,5 @@
--- Near, the calls in turn (`sin-value`); far, the number that `farSin` has for it.
+-- Near, the calls in turn (`sin-value`); far, what `farSin` says.
 use mathlib.Core.Bool.{true, false}
-use native.Mathlib.Omega.{arith}
-use Rattle.trig.proofs.Fixed.{angle-digits, angle-exponent, angle-shift, angle-lt}
 use Rattle.trig.proofs.SinCos.{near-test, sin-value, sin-far}
 use borrow.Author.Needs.{needs}
 use Rattle.trig.proofs.sin.Statement.{statement}
@@ -13,8 +11,8 @@ abs-requires c κs = search needs
 integer-decode-requires : tie.Need-integer-decode-requires
 integer-decode-requires c κs = search needs
 
-shifted-requires : tie.Need-shifted-requires
-shifted-requires c κs = (angle-digits (c .before .before .before .before .args .a) (c .before .before .before .before .good .0 .1) (near-test (c .before .before .before .before .args .a) (c .before .before .before .abs .result) true (c .before .before .before .abs .ensures) (c .before .before .if1 .taken)) (c .before .integer-decode .result) (c .before .integer-decode .ensures), angle-exponent (c .before .before .before .before .args .a) (c .before .before .before .before .good .0 .1) (near-test (c .before .before .before .before .args .a) (c .before .before .before .abs .result) true (c .before .before .before .abs .ensures) (c .before .before .if1 .taken)) (c .before .integer-decode .result) (c .before .integer-decode .ensures))
+angle-units-requires : tie.Need-angle-units-requires
+angle-units-requires c κs = search needs
 
 biased-sin-requires : tie.Need-biased-sin-requires
 biased-sin-requires c κs = search needs
@@ -24,9 +22,8 @@ biased-float-requires c κs = search needs
 
 returns : tie.Need-returns
 returns c =
-    sin-value (c .before .before .before .before .before .before .before .args .a) (c .before .before .shifted .result) (c .before .biased-sin .result) (c .biased-float .result)
-    (angle-shift (c .before .before .before .before .before .before .before .args .a) (c .before .before .before .before .before .before .before .good .0 .1) (near-test (c .before .before .before .before .before .before .before .args .a) (c .before .before .before .before .before .before .abs .result) true (c .before .before .before .before .before .before .abs .ensures) (c .before .before .before .before .before .if1 .taken)) (c .before .before .before .before .integer-decode .result) (c .before .before .before .before .integer-decode .ensures) (c .before .before .shifted .result) (c .before .before .shifted .ensures))
-    (near-test (c .before .before .before .before .before .before .before .args .a) (c .before .before .before .before .before .before .abs .result) true (c .before .before .before .before .before .before .abs .ensures) (c .before .before .before .before .before .if1 .taken)) (c .before .before .before .before .integer-decode .result) (c .before .before .before .before .integer-decode .ensures) (c .before .biased-sin .ensures) (c .biased-float .ensures)
+    sin-value (c .before .before .before .before .before .before .args .a) (near-test (c .before .before .before .before .before .before .args .a) (c .before .before .before .before .before .abs .result) true (c .before .before .before .before .before .abs .ensures) (c .before .before .before .before .if1 .taken)) (c .before .before .angle-units .result) (c .before .biased-sin .result) (c .biased-float .result) (c .before .before .angle-units .ensures)
+    (c .before .before .before .integer-decode .result) (c .before .before .before .integer-decode .ensures) (c .before .biased-sin .ensures) (c .biased-float .ensures)
 
 returns-2 : tie.Need-returns-2
 returns-2 c = sin-far (c .before .before .args .a) (near-test (c .before .before .args .a) (c .before .abs .result) false (c .before .abs .ensures) (c .if1 .left))
@@ -37,7 +34,7 @@ sin-spec =
     (tie.spec
     abs-requires
     integer-decode-requires
-    shifted-requires
+    angle-units-requires
     biased-sin-requires
     biased-float-requires
     returns
