@@ -1,12 +1,12 @@
 -- H never falls, `quarterSine-mono`, from 0 at 0 (`quarterSine-zero`) to 2 ^ 30 at a quarter turn (`quarterSine-one`): within two neighbours by the
 -- straight line, across entries by the table's rise. `Neighbours` is what the code's steps between two entries need.
-use mathlib.Core.Path.{_≡_, refl, sym, subst}
+use mathlib.Core.Path.{_≡_, refl, subst}
 use Prim.Native.Nat.{ℕ, _+_, _-_, _*_, _/_, _%_, _^_, _≤_, _<_}
 use native.Mathlib.Nat.{le-refl, le-trans, mul-le-mul, mul-le-mul-left}
 use native.Mathlib.Decide.{decLt}
 use native.Mathlib.Omega.{arith}
 use Rattle.sine_table.specs.Table.{quarterTurn, sineEntry}
-use Rattle.sine_table.specs.QuarterSine.{line, quarterSine}
+use Rattle.sine_table.specs.QuarterSine.{line, quarterSine, computing}
 use Rattle.sine_table.proofs.Table.{entry-mono, entry-le-one}
 
 line-ge : (a b r : ℕ) → a ≤ line a b r
@@ -43,11 +43,11 @@ quarterSine-mono v w h k = elim (decLt (v * 2048 / quarterTurn) (w * 2048 / quar
 ]
 
 pub quarterSine-zero : quarterSine 0 ≡ 0
-unfolding quarterSine
+unfolding computing
 quarterSine-zero = refl
 
 pub quarterSine-one : quarterSine quarterTurn ≡ 2 ^ 30
-unfolding quarterSine
+unfolding computing
 quarterSine-one = refl
 
 pub quarterSine-le-one : (v : ℕ) → v ≤ quarterTurn → quarterSine v ≤ 2 ^ 30

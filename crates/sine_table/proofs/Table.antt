@@ -177,7 +177,7 @@ table =
 
 -- Size, first entry, last entry, and every entry.
 table-passes : T (eqb (length table) 2049 && eqb (getD table 0 0) 0 && eqb (getD table 2048 0) (2 ^ 30) && passes 0 table)
-unfolding table sineEntry
+unfolding table sineEntry taylorSum
 table-passes = tt
 
 pub table-right : SineTable table

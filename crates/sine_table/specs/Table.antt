@@ -2,7 +2,7 @@
 -- An angle is a whole number of units of 2 ^ -28, a sine one of units of 2 ^ -30. The Taylor sum is exact: all its terms stand over one denominator.
 use mathlib.Core.Path.{_≡_}
 use mathlib.Core.List.{List}
-use Prim.Native.Nat.{ℕ, zero, suc, _+_, _-_, _*_, _/_, _^_, _≤_, _<_}
+use Prim.Native.Nat.{ℕ, zero, suc, _+_, _-_, _*_, _/_, _^_, _<_}
 use lib.ListN.{length, getD}
 
 -- Q: a quarter turn in units of 2 ^ -28.
@@ -29,7 +29,6 @@ taylorSum i =
 
 -- T[i]: 2 ^ 30 times the Taylor sum, plus a half, rounded down.
 unfoldable pub sineEntry : ℕ → ℕ
-unfolding taylorSum
 sineEntry i = (2 ^ 31 * taylorSum i + taylorDenominator) / (2 * taylorDenominator)
 
 -- A table of 2,049 entries that has those ends, rises strictly and follows the rule at every entry.

@@ -3,14 +3,13 @@
 -- Back to floats: the four ways of `biased_float`, `float-..`.
 use mathlib.Core.Path.{_≡_, refl, sym, ap, subst, _∙_}
 use mathlib.Core.Logic.{_⊎_, inl, inr}
-use mathlib.Core.Bool.{Bool, true, false, not, cond, true≢false, _&&_}
+use mathlib.Core.Bool.{Bool, true, false, true≢false, _&&_}
 use Prim.Native.Nat.{ℕ, zero, suc, _+_, _-_, _*_, _/_, _%_, _^_, _≤_, _<_, min}
-use native.Mathlib.Nat.{eq-zero-or-pos, eq-or-lt-of-le, le-refl, le-trans, le-of-eq, le-of-lt, lt-of-le-of-lt, lt-of-mul-lt-mul-right, mul-le-mul, mul-le-mul-right, mul-lt-mul-of-pos-right, mul-pos, zero-lt-suc, div-lt-iff-lt-mul, div-mul-le-self, lt-div-mul-add, le-of-mul-le-mul-right, lt-of-lt-of-le, div-eq-of-lt-le, div-le-of-le-mul, mul-le-mul-left, mul-comm, mod-eq-of-lt, zero-div, le-div-iff-mul-le}
-use native.Mathlib.Decide.{decLt}
+use native.Mathlib.Nat.{eq-zero-or-pos, eq-or-lt-of-le, le-trans, le-of-eq, le-of-lt, lt-of-le-of-lt, lt-of-mul-lt-mul-right, mul-le-mul, mul-le-mul-right, mul-lt-mul-of-pos-right, mul-pos, div-lt-iff-lt-mul, div-mul-le-self, lt-div-mul-add, le-of-mul-le-mul-right, lt-of-lt-of-le, div-eq-of-lt-le, div-le-of-le-mul, mul-le-mul-left, mul-comm, mod-eq-of-lt, zero-div, le-div-iff-mul-le}
 use native.Mathlib.Omega.{arith}
 use borrow.Author.Tests.{ltb-true, ltb-false}
-use lib.IntN.{ℤ, pos, negsuc, negℤ, negℤ-negℤ}
-use lib.Dec.{T, ltb, ltb→lt, lit<, lit≤}
+use lib.IntN.{pos, negsuc, negℤ, negℤ-negℤ}
+use lib.Dec.{T, ltb, lit<, lit≤}
 use lib.Pow.{pow-add, pow-pos, pow-lt, pow-mono}
 use lib.Signed.{shrZ}
 use lib.Ieee.{Float, nan, inf, fin, binary32, up, down, lt, le, neg, round, minus, ofBits, fits, size}
@@ -23,12 +22,13 @@ use Rattle.rounding.proofs.Encoding.{pow-lt-cancel}
 use Rattle.rounding.proofs.Order.{to-fraction, between-finite}
 use Rattle.rounding.proofs.Monotone.{round-neg}
 use Rattle.float32.specs.Abs.{abs}
+use Rattle.float32.specs.Operators.{one}
 use Rattle.float_bits.specs.declared.Decoded.{Decoded}
 use Rattle.float_bits.specs.Decode.{magnitude, exponent, integerDecode}
 use Rattle.float_bits.proofs.Decode.{decode-value, significand-lt, significand-normal}
 use Rattle.trig.specs.Units.{fixed, angleUnits, nearestFloat, withSign}
 use Rattle.trig.specs.SinCos.{near}
-use Rattle.trig.specs.Acos.{one, inDomain, floorUnits}
+use Rattle.trig.specs.Acos.{inDomain, floorUnits}
 use Rattle.trig.proofs.Units.{minus-above, minus-below}
 
 -- ---- the parts

@@ -1,5 +1,6 @@
 -- The least angle: what passes a test while nothing before it does is what `leastFrom` finds (`least-unique`), so an angle whose cosine is at most n, and
--- whose predecessor's is above n, is `leastAngle` of n (`leastAngle-unique`), the cosine falling from 0 to 2 Q. n is biased. The least angle is at most 2 Q.
+-- whose predecessor's is above n, is `leastAngle` of n (`leastAngle-unique`), since the cosine falls from 0 to 2 Q; n is biased.
+-- The least angle is at most 2 Q (`leastAngle-le`), and at most any whose cosine passes (`leastAngle-below`). `Halving` is the invariant of the search.
 use mathlib.Core.Path.{_≡_, refl, sym, ap, subst, _∙_}
 use mathlib.Core.Logic.{inl, inr}
 use mathlib.Core.Bool.{Bool, true, false, cond}
@@ -36,9 +37,21 @@ least-le p (suc d) j = go (p j) (leastFrom p d (suc j)) (least-le p d (suc j))
     go true k h = omega arith
     go false k h = omega arith
 
+least-below : (p : ℕ → Bool) (d j u : ℕ) → j ≤ u → u ≤ j + d → p u ≡ true → leastFrom p d j ≤ u
+unfolding leastFrom
+least-below p zero j u a b t = a
+least-below p (suc d) j u a b t = elim (eq-or-lt-of-le a) [
+  | inl e ↦ rw (ap p e ∙ t) a
+  | inr l ↦ go (p j) (leastFrom p d (suc j)) (least-below p d (suc j) u l (omega arith) t)
+]
+  where
+    go : (b : Bool) (k : ℕ) → k ≤ u → cond b j k ≤ u
+    go true k h = a
+    go false k h = h
+
 -- ---- the test, of biased numbers
 
-minus-le : (a b c : ℕ) → a ≤ b → leZ (minus a c) (minus b c) ≡ true
+pub minus-le : (a b c : ℕ) → a ≤ b → leZ (minus a c) (minus b c) ≡ true
 minus-le a b c h = go (decLe c a) (decLe c b)
   where
     go : Dec (c ≤ a) → Dec (c ≤ b) → leZ (minus a c) (minus b c) ≡ true
@@ -47,7 +60,7 @@ minus-le a b c h = go (decLe c a) (decLe c b)
     go (no p) (yes q) = rw (minus-below a c (omega arith), minus-above b c q)
     go (no p) (no q) = rw (minus-below a c (omega arith), minus-below b c (omega arith)) (le-leb (c - suc b) (c - suc a) (omega arith))
 
-minus-gt : (a b c : ℕ) → b < a → leZ (minus a c) (minus b c) ≡ false
+pub minus-gt : (a b c : ℕ) → b < a → leZ (minus a c) (minus b c) ≡ false
 minus-gt a b c h = go (decLe c a) (decLe c b)
   where
     go : Dec (c ≤ a) → Dec (c ≤ b) → leZ (minus a c) (minus b c) ≡ false
@@ -76,6 +89,10 @@ leastAngle-unique n u h a b =
 pub leastAngle-le : (w : ℤ) → leastAngle w ≤ 2 * quarterTurn
 unfolding leastAngle
 leastAngle-le w = let l = least-le (λ (k : ℕ). leZ (cosUnits k) w) (2 * quarterTurn) 0 in omega (arith, l)
+
+pub leastAngle-below : (w : ℤ) (u : ℕ) → u ≤ 2 * quarterTurn → leZ (cosUnits u) w ≡ true → leastAngle w ≤ u
+unfolding leastAngle
+leastAngle-below w u h t = least-below (λ (k : ℕ). leZ (cosUnits k) w) (2 * quarterTurn) 0 u (omega arith) (omega arith) t
 
 -- ---- the search by halving: the cosine of the lower angle is above n, that of the higher is not
 

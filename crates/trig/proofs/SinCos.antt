@@ -1,7 +1,7 @@
 -- The last steps of sine, cosine and arc cosine: from what the code's calls give to the definitions (`sin-value`, `cos-value`, `acos-value`), and where there is
 -- nothing to work out (`sin-far`, `cos-far`, `acos-outside`).
 use mathlib.Core.Path.{_≡_, refl, sym, ap, _∙_}
-use mathlib.Core.Bool.{Bool, true, false, cond, _&&_}
+use mathlib.Core.Bool.{Bool, true, false, cond}
 use Prim.Native.Nat.{ℕ, _+_, _^_, min}
 use native.Mathlib.Omega.{arith}
 use lib.IntN.{ℤ}

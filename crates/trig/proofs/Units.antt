@@ -1,7 +1,7 @@
 -- The sine in units, biased, over five quarter turns: it rises to Q (`sin-rises-first`), falls to 3 Q (`sin-falls`) and rises to 5 Q (`sin-rises-last`).
 -- So between two ends it is not above both of them unless Q lies between (`sin-below-end`), nor below both unless 3 Q does (`sin-above-end`).
--- The cosine is the sine a quarter turn on. All rest on the rise of `quarterSine`.
-use mathlib.Core.Path.{_≡_, refl, sym, ap, ap₂, _∙_}
+-- The cosine is the sine a quarter turn on: it falls to 2 Q, rises to 4 Q and falls again, `cos-..` likewise. All rest on the rise of `quarterSine`.
+use mathlib.Core.Path.{_≡_, refl, sym, ap, ap₂, subst₂, _∙_}
 use mathlib.Core.Logic.{_⊎_, inl, inr}
 use Prim.Native.Nat.{ℕ, zero, suc, _+_, _-_, _*_, _/_, _%_, _^_, _≤_, _<_, min}
 use native.Mathlib.Nat.{le-trans, eq-or-lt-of-le}
@@ -9,13 +9,14 @@ use native.Mathlib.Decide.{decLt}
 use native.Mathlib.Omega.{arith}
 use borrow.Author.Tests.{le-leb, lt-leb}
 use mathlib.Core.Bool.{Bool, cond}
-use lib.IntN.{ℤ, pos, negsuc, negℤ}
+use lib.IntN.{pos, negsuc, negℤ}
 use lib.Ieee.{minus}
 use Rattle.sine_table.specs.Table.{quarterTurn}
 use Rattle.sine_table.specs.QuarterSine.{quarterSine}
 use Rattle.sine_table.proofs.QuarterSine.{quarterSine-mono, quarterSine-zero, quarterSine-le-one}
 use Rattle.trig.specs.Units.{sinQuarter, sinUnits, cosUnits}
 use Rattle.trig.specs.Biased.{biased, biasedSin}
+use Rattle.trig.specs.Computing.{computing}
 
 -- ---- the quarters
 
@@ -31,11 +32,11 @@ pub minus-below : (a c : ℕ) → a < c → minus a c ≡ negsuc (c - suc a)
 minus-below a c h = ap (λ (t : Bool). cond t (pos (a - c)) (negsuc (c - suc a))) (lt-leb c a h)
 
 -- From -2 ^ 30 on the bias is taken off again.
-unbiased-positive : (n : ℕ) → minus (biased (pos n)) (2 ^ 30) ≡ pos n
+pub unbiased-positive : (n : ℕ) → minus (biased (pos n)) (2 ^ 30) ≡ pos n
 unfolding biased
 unbiased-positive n = minus-above (2 ^ 30 + n) (2 ^ 30) (omega arith) ∙ ap pos (omega arith)
 
-unbiased-negative : (n : ℕ) → n ≤ 2 ^ 30 → minus (biased (negℤ (pos n))) (2 ^ 30) ≡ negℤ (pos n)
+pub unbiased-negative : (n : ℕ) → n ≤ 2 ^ 30 → minus (biased (negℤ (pos n))) (2 ^ 30) ≡ negℤ (pos n)
 unfolding biased
 unbiased-negative zero h = refl
 unbiased-negative (suc n) h = minus-below (2 ^ 30 - suc n) (2 ^ 30) (omega arith) ∙ ap negsuc (omega arith)
@@ -67,15 +68,6 @@ pub read : (v r : ℕ) → v ≤ quarterTurn → r ≡ quarterSine (min v quarte
 read v r h e =
     let f : r ≡ quarterSine v = e ∙ ap quarterSine (let z : min v quarterTurn ≡ v = omega arith in z) in
     record { small = rw f (quarterSine-le-one v h); value = f }
-
-pub sin-le : (u : ℕ) → biasedSin u ≤ 2 ^ 31
-sin-le u = rw (sin-quarter u (u / quarterTurn % 4) (u % quarterTurn) refl refl) (go (u / quarterTurn % 4) (u % quarterTurn) (let l : u % quarterTurn ≤ quarterTurn = omega arith in l))
-  where
-    go : (k v : ℕ) → v ≤ quarterTurn → biasedQuarter k v ≤ 2 ^ 31
-    go zero v h = let l = quarterSine-le-one v h in omega (arith, l)
-    go (suc zero) v h = let l = quarterSine-le-one (quarterTurn - v) (omega arith) in omega (arith, l)
-    go (suc (suc zero)) v h = omega arith
-    go (suc (suc (suc k))) v h = omega arith
 
 pub sin-unbiased : (u : ℕ) → minus (biasedSin u) (2 ^ 30) ≡ sinUnits u
 unfolding sinUnits sinQuarter
@@ -173,11 +165,11 @@ unfolding cosUnits
 cos-unbiased u = sin-unbiased (u + quarterTurn)
 
 pub cos-zero : biased (cosUnits 0) ≡ 2 ^ 31
-unfolding biased cosUnits sinUnits sinQuarter quarterSine
+unfolding computing
 cos-zero = refl
 
 pub cos-half-turn : biased (cosUnits (2 * quarterTurn)) ≡ 0
-unfolding biased cosUnits sinUnits sinQuarter quarterSine
+unfolding computing
 cos-half-turn = refl
 
 pub cos-falls : (a b : ℕ) → a ≤ b → b ≤ 2 * quarterTurn → biased (cosUnits b) ≤ biased (cosUnits a)
@@ -187,3 +179,25 @@ cos-falls a b h k = sin-falls (a + quarterTurn) (b + quarterTurn) (omega arith) 
 pub cos-rises : (a b : ℕ) → 2 * quarterTurn ≤ a → a ≤ b → b ≤ 4 * quarterTurn → biased (cosUnits a) ≤ biased (cosUnits b)
 unfolding cosUnits
 cos-rises a b g h k = sin-rises-last (a + quarterTurn) (b + quarterTurn) (omega arith) (omega arith) (omega arith)
+
+-- Four quarter turns on it is the same.
+sin-period : (u : ℕ) → biasedSin (u + 4 * quarterTurn) ≡ biasedSin u
+sin-period u = sin-quarter (u + 4 * quarterTurn) (u / quarterTurn % 4) (u % quarterTurn) (omega arith) (omega arith) ∙ sym (sin-quarter u (u / quarterTurn % 4) (u % quarterTurn) refl refl)
+
+pub cos-falls-again : (a b : ℕ) → 4 * quarterTurn ≤ a → a ≤ b → b ≤ 5 * quarterTurn → biased (cosUnits b) ≤ biased (cosUnits a)
+unfolding cosUnits
+cos-falls-again a b g h k =
+    subst₂ (λ (x y : ℕ). x ≤ y) (back b (omega arith)) (back a g) (sin-falls (a - 3 * quarterTurn) (b - 3 * quarterTurn) (omega arith) (omega arith) (omega arith))
+  where
+    back : (a : ℕ) → 4 * quarterTurn ≤ a → biasedSin (a - 3 * quarterTurn) ≡ biasedSin (a + quarterTurn)
+    back a g = sym (sin-period (a - 3 * quarterTurn)) ∙ ap biasedSin (let e : a - 3 * quarterTurn + 4 * quarterTurn ≡ a + quarterTurn = omega arith in e)
+
+pub cos-below-end : (a u b : ℕ) → a ≤ u → u ≤ b → b ≤ 5 * quarterTurn → 0 < a → (b < 4 * quarterTurn) ⊎ (4 * quarterTurn < a)
+    → (biased (cosUnits u) ≤ biased (cosUnits a)) ⊎ (biased (cosUnits u) ≤ biased (cosUnits b))
+cos-below-end a u b h k l z (inl p) = elim (decLt u (2 * quarterTurn)) [ yes q ↦ inl (cos-falls a u h (omega arith)) | no q ↦ inr (cos-rises u b (omega arith) k (omega arith)) ]
+cos-below-end a u b h k l z (inr p) = inl (cos-falls-again a u (omega arith) h (omega arith))
+
+pub cos-above-end : (a u b : ℕ) → a ≤ u → u ≤ b → b ≤ 5 * quarterTurn → (b < 2 * quarterTurn) ⊎ (2 * quarterTurn < a)
+    → (biased (cosUnits a) ≤ biased (cosUnits u)) ⊎ (biased (cosUnits b) ≤ biased (cosUnits u))
+cos-above-end a u b h k l (inl p) = inr (cos-falls u b k (omega arith))
+cos-above-end a u b h k l (inr p) = elim (decLt u (4 * quarterTurn)) [ yes q ↦ inl (cos-rises a u (omega arith) h (omega arith)) | no q ↦ inr (cos-falls-again u b (omega arith) k l) ]

@@ -1,10 +1,11 @@
 -- Document 01's arc cosine of a float, for every float: the least angle in 0 to 2 Q whose cosine in units is at most c * 2 ^ 30 rounded down.
 use Prim.Native.Nat.{ℕ, zero, suc, _*_, _^_}
-use mathlib.Core.Bool.{Bool, true, false, cond, _&&_}
+use mathlib.Core.Bool.{Bool, false, cond, _&&_}
 use lib.IntN.{ℤ, pos}
 use lib.Signed.{leZ, shrZ}
-use lib.Ieee.{Float, nan, inf, fin, binary32, up, down, le, neg, round, ofBits}
+use lib.Ieee.{Float, nan, inf, fin, binary32, up, down, le, neg, round}
 use Rattle.sine_table.specs.Table.{quarterTurn}
+use Rattle.float32.specs.Operators.{one}
 use Rattle.trig.specs.Units.{cosUnits, withSign}
 
 -- The least k from j on that passes the test p; where none of the next d does, j + d.
@@ -21,9 +22,6 @@ unfoldable pub floorUnits : Float → ℤ
 floorUnits nan = pos 0
 floorUnits (inf s) = pos 0
 floorUnits (fin s m e) = shrZ (withSign s (pos (m * up e * 2 ^ 30))) (down e)
-
-abbrev pub one : Float
-one = ofBits binary32 0x3f800000
 
 -- c lies in -1 to 1; a NaN does not.
 abbrev pub inDomain : Float → Bool

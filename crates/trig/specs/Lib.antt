@@ -2,3 +2,4 @@ pub mod Units
 pub mod SinCos
 pub mod Acos
 pub mod Biased
+pub mod Computing

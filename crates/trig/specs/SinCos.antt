@@ -2,6 +2,7 @@
 use mathlib.Core.Bool.{Bool, cond}
 use lib.Ieee.{Float, binary32, lt, ofBits}
 use Rattle.float32.specs.Abs.{abs}
+use Rattle.float32.specs.Operators.{one}
 use Rattle.float_bits.specs.Decode.{negative}
 use Rattle.trig.specs.Units.{angleUnits, sinUnits, cosUnits, nearestFloat, withSign}
 
@@ -14,7 +15,7 @@ abbrev pub farSin : Float
 farSin = ofBits binary32 0
 
 abbrev pub farCos : Float
-farCos = ofBits binary32 0x3f800000
+farCos = one
 
 -- The sine in units of |a|, negated for a negative a, as the nearest float.
 unfoldable pub sin : Float → Float

@@ -1,7 +1,7 @@
 -- Document 01's angles in whole units: an angle u in units of 2 ^ -28, Q = `quarterTurn` of them to a quarter turn, and a sine or a cosine in units of 2 ^ -30.
 -- `angleUnits` is u of a float, `sinUnits` and `cosUnits` the rule for every u, `nearestFloat` what such a number of units is as a float.
 use Prim.Native.Nat.{ℕ, zero, suc, _+_, _-_, _*_, _/_, _%_, _^_}
-use mathlib.Core.Bool.{Bool, true, false, cond}
+use mathlib.Core.Bool.{Bool, true, false}
 use lib.IntN.{ℤ, pos, negsuc, negℤ}
 use lib.Ieee.{Float, nan, inf, fin, binary32, up, down, round}
 use Rattle.sine_table.specs.Table.{quarterTurn}

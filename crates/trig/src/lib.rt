@@ -1,9 +1,9 @@
 // Sine, cosine and arc cosine, by document 01's table of sines. Angles are in units of 2^-28, sines and cosines in units of 2^-30,
 // which the code carries 2^30 more than they are.
 ghost use mathlib.Core.Path.{_≡_};
-ghost use Prim.Native.Nat.{_*_, _/_, _^_, _≤_, _<_, min};
 ghost use mathlib.Core.Bool.{true};
-ghost use lib.Ieee.{binary32, minus, le, neg, ofBits};
+ghost use Prim.Native.Nat.{_*_, _/_, _^_, _≤_, _<_, min};
+ghost use lib.Ieee.{minus};
 ghost use Rattle.trig.specs.Units.{angleUnits, nearestFloat, withSign};
 ghost use Rattle.trig.specs.SinCos.{sin, cos};
 ghost use Rattle.trig.specs.Acos.{inDomain, leastAngle, floorUnits, acos};
@@ -71,14 +71,14 @@ pub fn angle_units(a: f32) -> u64
     ensures value { λ r. ⌜ r ≡ min (angleUnits a) (2 ^ 52) ⌝ }
 {
     let d = float_bits::integer_decode(a);
-    // With an exponent above 0 the significand has 24 digits, so that |a| is at least 2^24.
+    // With such an exponent the significand has 24 digits, so that |a| is 2^24 or more.
     if d.exponent > 149 {
         return 0x10_0000_0000_0000;
     }
     shifted(d.significand << 28, d.exponent)
 }
 
-// Document 01's sine; of a far angle 0. Accuracy: the float nearest to a straight line between entries of the table.
+// Document 01's sine; of a far angle 0. Accuracy: heuristic, the float nearest to a straight line between the table's entries.
 pub fn sin(a: f32) -> f32
     ensures value { λ r. ⌜ r ≡ sin a ⌝ }
 {
@@ -89,7 +89,7 @@ pub fn sin(a: f32) -> f32
     0.0
 }
 
-// Document 01's cosine, the sine a quarter turn on; of a far angle 1. Accuracy: as the sine's.
+// Document 01's cosine, the sine a quarter turn on; of a far angle 1. Accuracy: heuristic, as the sine's.
 pub fn cos(a: f32) -> f32
     ensures value { λ r. ⌜ r ≡ cos a ⌝ }
 {
@@ -134,7 +134,7 @@ fn biased_floor(c: f32) -> u64
     ONE + shifted(n, d.exponent)
 }
 
-// Document 01's arc cosine; outside -1 to 1 NaN. Accuracy: the float nearest to the least angle whose cosine is not above c.
+// Document 01's arc cosine; outside -1 to 1 NaN. Accuracy: heuristic, the float nearest to the least angle whose cosine by the table is not above c.
 pub fn acos(c: f32) -> f32
     ensures value { λ r. ⌜ r ≡ acos c ⌝ }
 {

@@ -1,6 +1,6 @@
 -- `quarter_sine` is H: between the two entries around v by `neighbours`, and from a quarter turn on its value there.
 use mathlib.Core.Path.{_≡_, sym, ap, _∙_}
-use Prim.Native.Nat.{ℕ, min}
+use Prim.Native.Nat.{min}
 use native.Mathlib.Omega.{arith}
 use borrow.Author.Needs.{needs}
 use Rattle.sine_table.specs.Table.{quarterTurn}

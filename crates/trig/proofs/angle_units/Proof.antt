@@ -8,13 +8,22 @@ integer-decode-requires : tie.Need-integer-decode-requires
 integer-decode-requires c κs = search needs
 
 returns : tie.Need-returns
-returns c = angle-far (c .before .before .before .args .a) (c .before .before .before .good .0 .1) (c .before .before .integer-decode .result) (c .before .before .integer-decode .ensures) (c .if1 .taken)
+returns c =
+    let s = c .before .before .before in
+    let d = c .before .before .integer-decode in
+    angle-far (s .args .a) (s .good .0 .1) (d .result) (d .ensures) (c .if1 .taken)
 
 shifted-requires : tie.Need-shifted-requires
-shifted-requires c κs = (angle-digits (c .before .before .before .before .args .a) (c .before .before .before .before .good .0 .1) (c .before .before .before .integer-decode .result) (c .before .before .before .integer-decode .ensures), c .before .if1 .left)
+shifted-requires c κs =
+    let s = c .before .before .before .before in
+    let d = c .before .before .before .integer-decode in
+    (angle-digits (s .args .a) (s .good .0 .1) (d .result) (d .ensures), c .before .if1 .left)
 
 returns-2 : tie.Need-returns-2
-returns-2 c = angle-near (c .before .before .before .before .before .args .a) (c .before .before .before .before .before .good .0 .1) (c .before .before .before .before .integer-decode .result) (c .before .before .before .before .integer-decode .ensures) (c .before .before .if1 .left) (c .shifted .result) (c .shifted .ensures)
+returns-2 c =
+    let s = c .before .before .before .before .before in
+    let d = c .before .before .before .before .integer-decode in
+    angle-near (s .args .a) (s .good .0 .1) (d .result) (d .ensures) (c .before .before .if1 .left) (c .shifted .result) (c .shifted .ensures)
 
 pub angle-units-spec : {M : Type 1} → statement M
 angle-units-spec = tie.close (tie.spec integer-decode-requires returns shifted-requires returns-2)

@@ -13,25 +13,48 @@ sub-result : tie.Need-sub-result
 sub-result c = search needs
 
 sub-shifted : tie.Need-sub-shifted
-sub-shifted c = positive-part (c .before .before .before .integer-decode .result .negative) (c .before .before .before .integer-decode .result .significand * 2 ^ 30 % 2 ^ 64) (c .if1 .taken)
+sub-shifted c =
+    let d = c .before .before .before .integer-decode in
+    positive-part (d .result .negative) (d .result .significand * 2 ^ 30 % 2 ^ 64) (c .if1 .taken)
 
 shifted-requires : tie.Need-shifted-requires
-shifted-requires c κs = (let l = unit-digits (c .before .before .before .before .args .c) (c .before .before .before .before .good .0 .1) (c .before .before .before .before .pre) (c .before .before .before .integer-decode .result) (c .before .before .before .integer-decode .ensures) in omega (arith, l), unit-exponent (c .before .before .before .before .args .c) (c .before .before .before .before .good .0 .1) (c .before .before .before .before .pre) (c .before .before .before .integer-decode .result) (c .before .before .before .integer-decode .ensures))
+shifted-requires c κs =
+    let s = c .before .before .before .before in
+    let d = c .before .before .before .integer-decode in
+    let l = unit-digits (s .args .c) (s .good .0 .1) (s .pre) (d .result) (d .ensures) in
+    (omega (arith, l), unit-exponent (s .args .c) (s .good .0 .1) (s .pre) (d .result) (d .ensures))
 
 sub-result-2 : tie.Need-sub-result-2
-sub-result-2 c = let l = floor-negative (c .before .before .before .before .before .args .c) (c .before .before .before .before .before .good .0 .1) (c .before .before .before .before .before .pre) (c .before .before .before .before .integer-decode .result) (c .before .before .before .before .integer-decode .ensures) (c .shifted .result) (c .before .if1 .taken) (c .shifted .ensures) .0 in omega (arith, l)
+sub-result-2 c =
+    let s = c .before .before .before .before .before in
+    let d = c .before .before .before .before .integer-decode in
+    let l = floor-negative (s .args .c) (s .good .0 .1) (s .pre) (d .result) (d .ensures) (c .shifted .result) (c .before .if1 .taken) (c .shifted .ensures) .0 in
+    omega (arith, l)
 
 returns : tie.Need-returns
-returns c = floor-negative (c .before .before .before .before .before .args .c) (c .before .before .before .before .before .good .0 .1) (c .before .before .before .before .before .pre) (c .before .before .before .before .integer-decode .result) (c .before .before .before .before .integer-decode .ensures) (c .shifted .result) (c .before .if1 .taken) (c .shifted .ensures) .1
+returns c =
+    let s = c .before .before .before .before .before in
+    let d = c .before .before .before .before .integer-decode in
+    floor-negative (s .args .c) (s .good .0 .1) (s .pre) (d .result) (d .ensures) (c .shifted .result) (c .before .if1 .taken) (c .shifted .ensures) .1
 
 shifted-requires-2 : tie.Need-shifted-requires-2
-shifted-requires-2 c κs = (unit-digits (c .before .before .before .before .args .c) (c .before .before .before .before .good .0 .1) (c .before .before .before .before .pre) (c .before .before .before .integer-decode .result) (c .before .before .before .integer-decode .ensures), unit-exponent (c .before .before .before .before .args .c) (c .before .before .before .before .good .0 .1) (c .before .before .before .before .pre) (c .before .before .before .integer-decode .result) (c .before .before .before .integer-decode .ensures))
+shifted-requires-2 c κs =
+    let s = c .before .before .before .before in
+    let d = c .before .before .before .integer-decode in
+    (unit-digits (s .args .c) (s .good .0 .1) (s .pre) (d .result) (d .ensures), unit-exponent (s .args .c) (s .good .0 .1) (s .pre) (d .result) (d .ensures))
 
 add-result : tie.Need-add-result
-add-result c = let l = floor-positive (c .before .before .before .before .before .args .c) (c .before .before .before .before .before .good .0 .1) (c .before .before .before .before .before .pre) (c .before .before .before .before .integer-decode .result) (c .before .before .before .before .integer-decode .ensures) (c .shifted2 .result) (c .before .if1 .left) (c .shifted2 .ensures) .0 in omega (arith, l)
+add-result c =
+    let s = c .before .before .before .before .before in
+    let d = c .before .before .before .before .integer-decode in
+    let l = floor-positive (s .args .c) (s .good .0 .1) (s .pre) (d .result) (d .ensures) (c .shifted2 .result) (c .before .if1 .left) (c .shifted2 .ensures) .0 in
+    omega (arith, l)
 
 returns-2 : tie.Need-returns-2
-returns-2 c = floor-positive (c .before .before .before .before .before .args .c) (c .before .before .before .before .before .good .0 .1) (c .before .before .before .before .before .pre) (c .before .before .before .before .integer-decode .result) (c .before .before .before .before .integer-decode .ensures) (c .shifted2 .result) (c .before .if1 .left) (c .shifted2 .ensures) .1
+returns-2 c =
+    let s = c .before .before .before .before .before in
+    let d = c .before .before .before .before .integer-decode in
+    floor-positive (s .args .c) (s .good .0 .1) (s .pre) (d .result) (d .ensures) (c .shifted2 .result) (c .before .if1 .left) (c .shifted2 .ensures) .1
 
 pub biased-floor-spec : {M : Type 1} → statement M
 biased-floor-spec =

@@ -1,11 +1,10 @@
 -- `biased_sin` takes its quarter's case of `biasedQuarter`; a sine of a quarter turn's angles is at most 1, so that nothing wraps.
-use mathlib.Core.Path.{_≡_, refl, sym, ap, _∙_}
-use Prim.Native.Nat.{ℕ, _+_, _-_, _%_, _^_, _≤_}
+use mathlib.Core.Path.{refl, sym, ap, _∙_}
+use Prim.Native.Nat.{ℕ, _+_, _-_, _%_, _^_}
 use native.Mathlib.Omega.{arith}
-use mir.Facts.{fits-below}
 use borrow.Author.Needs.{needs}
 use Rattle.sine_table.specs.Table.{quarterTurn}
-use Rattle.trig.proofs.Units.{Read, read, sin-quarter}
+use Rattle.trig.proofs.Units.{read, sin-quarter}
 use Rattle.trig.proofs.biased_sin.Statement.{statement}
 use Rattle.trig.proofs.biased_sin.Tie as tie
 

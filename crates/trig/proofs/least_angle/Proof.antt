@@ -1,9 +1,7 @@
 -- The invariant: the cosine of `low` is above w, and that of `high` is not (`Halving`). The measure is their distance.
-use mathlib.Core.Path.{_≡_, subst}
-use Prim.Native.Nat.{ℕ, _+_, _-_, _≤_, _<_}
+use Prim.Native.Nat.{_-_}
 use native.Mathlib.Omega.{arith}
 use borrow.Author.Needs.{needs}
-use Rattle.trig.specs.Units.{cosUnits}
 use Rattle.trig.proofs.Least.{Halving, halving-starts, halving-raises, halving-lowers, halving-ends, least-zero}
 use Rattle.trig.proofs.least_angle.Statement.{statement}
 use Rattle.trig.proofs.least_angle.Tie as tie

@@ -22,11 +22,17 @@ biased-float-requires c κs = search needs
 
 returns : tie.Need-returns
 returns c =
-    sin-value (c .before .before .before .before .before .before .args .a) (near-test (c .before .before .before .before .before .before .args .a) (c .before .before .before .before .before .abs .result) true (c .before .before .before .before .before .abs .ensures) (c .before .before .before .before .if1 .taken)) (c .before .before .angle-units .result) (c .before .biased-sin .result) (c .biased-float .result) (c .before .before .angle-units .ensures)
-    (c .before .before .before .integer-decode .result) (c .before .before .before .integer-decode .ensures) (c .before .biased-sin .ensures) (c .biased-float .ensures)
+    let a = c .before .before .before .before .before .before .args .a in
+    let t = c .before .before .before .before .before .abs in
+    let u = c .before .before .angle-units in
+    let d = c .before .before .before .integer-decode in
+    sin-value a (near-test a (t .result) true (t .ensures) (c .before .before .before .before .if1 .taken)) (u .result) (c .before .biased-sin .result) (c .biased-float .result) (u .ensures)
+    (d .result) (d .ensures) (c .before .biased-sin .ensures) (c .biased-float .ensures)
 
 returns-2 : tie.Need-returns-2
-returns-2 c = sin-far (c .before .before .args .a) (near-test (c .before .before .args .a) (c .before .abs .result) false (c .before .abs .ensures) (c .if1 .left))
+returns-2 c =
+    let a = c .before .before .args .a in
+    sin-far a (near-test a (c .before .abs .result) false (c .before .abs .ensures) (c .if1 .left))
 
 pub sin-spec : {M : Type 1} → statement M
 sin-spec =

@@ -1,0 +1,3 @@
+pub mod Monotone
+pub mod Range
+pub mod Acos
