@@ -1,4 +1,6 @@
 // A line as a question: a name, then its arguments with one space before each. A float is eight hexadecimal digits, its bits.
+use crate::angles;
+use crate::angles::Angle;
 use crate::numbers;
 use crate::numbers::Number;
 use crate::text::part;
@@ -8,6 +10,7 @@ use hexadecimal::Word;
 pub enum Kind {
     Malformed,
     Number(Number),
+    Angle(Angle),
 }
 
 // What comes after a name: a decimal number or none, then floats, at most 34.
@@ -42,7 +45,12 @@ pub fn parse(line: &[u8]) -> Question {
 
 // The form of a name: each group knows its own names.
 fn form_of(name: &[u8]) -> Form {
-    numbers::form_of(name)
+    let f = numbers::form_of(name);
+    let kind = f.kind;
+    if let Kind::Malformed = kind {
+        return angles::form_of(name);
+    }
+    f
 }
 
 // The form of a question that has only floats.
