@@ -1,5 +1,5 @@
 -- H never falls, `quarterSine-mono`, from 0 at 0 (`quarterSine-zero`) to 2 ^ 30 at a quarter turn (`quarterSine-one`): within two neighbours by the
--- straight line, across entries by the table's rise. `Neighbours` is what the code's steps between two entries need.
+-- straight line, across entries by the table's rise.
 use mathlib.Core.Path.{_≡_, refl, subst}
 use Prim.Native.Nat.{ℕ, _+_, _-_, _*_, _/_, _%_, _^_, _≤_, _<_}
 use native.Mathlib.Nat.{le-refl, le-trans, mul-le-mul, mul-le-mul-left}
@@ -53,17 +53,17 @@ quarterSine-one = refl
 pub quarterSine-le-one : (v : ℕ) → v ≤ quarterTurn → quarterSine v ≤ 2 ^ 30
 quarterSine-le-one v h = subst (λ (n : ℕ). quarterSine v ≤ n) quarterSine-one (quarterSine-mono v quarterTurn h (le-refl quarterTurn))
 
--- a and b are the entries around v, r the parts of Q past the first.
-pub record Neighbours (v a b r : ℕ) : Type 0 where
+-- a and b are the entries around v, r the parts of Q past the first: what the code's steps between them need.
+pub record PastEntry (v a b r : ℕ) : Type 0 where
   pub order : a ≤ b
   pub top : b ≤ 2 ^ 30
   pub product : (b - a) * r ≤ 2 ^ 60
   pub value : line a b r ≡ quarterSine v
 
-pub neighbours : (v a b : ℕ) → v < quarterTurn → a ≡ sineEntry (v * 2048 / quarterTurn) → b ≡ sineEntry (v * 2048 / quarterTurn + 1)
-    → Neighbours v a b (v * 2048 % quarterTurn)
+pub past-entry : (v a b : ℕ) → v < quarterTurn → a ≡ sineEntry (v * 2048 / quarterTurn) → b ≡ sineEntry (v * 2048 / quarterTurn + 1)
+    → PastEntry v a b (v * 2048 % quarterTurn)
 unfolding quarterSine
-neighbours v a b h e f =
+past-entry v a b h e f =
     let order : a ≤ b = rw (e, f) (entry-mono (v * 2048 / quarterTurn) (v * 2048 / quarterTurn + 1) (omega arith) (omega arith)) in
     let top : b ≤ 2 ^ 30 = rw f (entry-le-one (v * 2048 / quarterTurn + 1) (omega arith)) in
     record { order = order; top = top; product = mul-le-mul {n₂ = 2 ^ 30} {m₂ = 2 ^ 30} (omega arith) (omega arith); value = rw (e, f) }

@@ -1,7 +1,7 @@
 // The sine over a quarter turn: a table of 2,049 entries, and the straight line between them.
 // Angles are in units of 2^-28, sines in units of 2^-30.
 ghost use mathlib.Core.Path.{_≡_};
-ghost use Prim.Native.Nat.{_-_, _*_, _^_, _≤_, _<_, min};
+ghost use Prim.Native.Nat.{_+_, _-_, _*_, _^_, _≤_, _<_, min};
 ghost use Rattle.sine_table.specs.Table.{quarterTurn, sineEntry};
 ghost use Rattle.sine_table.specs.QuarterSine.{line, quarterSine};
 
@@ -2063,11 +2063,22 @@ const SINE_TABLE: [u32; 2049] = [
     1073741824,
 ];
 
-fn entry(i: usize) -> u32
-    requires { ⌜ i < 2049 ⌝ }
-    ensures value { λ r. ⌜ r ≡ sineEntry i ⌝ }
+// Two entries side by side.
+struct Pair {
+    low: u32,
+    high: u32,
+}
+
+// The table is copied at each use of the constant, so both are read from one copy.
+fn neighbours(i: usize) -> Pair
+    requires { ⌜ i < 2048 ⌝ }
+    ensures value { λ r. ⌜ (r .low ≡ sineEntry i) × (r .high ≡ sineEntry (i + 1)) ⌝ }
 {
-    SINE_TABLE[i]
+    let table = SINE_TABLE;
+    Pair {
+        low: table[i],
+        high: table[i + 1],
+    }
 }
 
 fn interpolate(a: u64, b: u64, r: u64) -> u64
@@ -2085,7 +2096,6 @@ pub fn quarter_sine(v: u64) -> u64
         return ONE;
     }
     let i = v * 2048 / QUARTER_TURN;
-    let a = entry(i as usize) as u64;
-    let b = entry((i + 1) as usize) as u64;
-    interpolate(a, b, v * 2048 % QUARTER_TURN)
+    let n = neighbours(i as usize);
+    interpolate(n.low as u64, n.high as u64, v * 2048 % QUARTER_TURN)
 }

@@ -1,11 +1,11 @@
--- `quarter_sine` is H: between the two entries around v by `neighbours`, and from a quarter turn on its value there.
+-- `quarter_sine` is H: between the two entries around v by `past-entry`, and from a quarter turn on its value there.
 use mathlib.Core.Path.{_≡_, sym, ap, _∙_}
 use Prim.Native.Nat.{min}
 use native.Mathlib.Omega.{arith}
 use borrow.Author.Needs.{needs}
 use Rattle.sine_table.specs.Table.{quarterTurn}
 use Rattle.sine_table.specs.QuarterSine.{quarterSine}
-use Rattle.sine_table.proofs.QuarterSine.{quarterSine-one, neighbours}
+use Rattle.sine_table.proofs.QuarterSine.{quarterSine-one, past-entry}
 use Rattle.sine_table.proofs.quarter_sine.Statement.{statement}
 use Rattle.sine_table.proofs.quarter_sine.Tie as tie
 
@@ -15,34 +15,31 @@ returns c = sym quarterSine-one ∙ ap quarterSine (let e : quarterTurn ≡ min 
 mul-i : tie.Need-mul-i
 mul-i c = search needs
 
-entry-requires : tie.Need-entry-requires
-entry-requires c κs = search needs
+neighbours-requires : tie.Need-neighbours-requires
+neighbours-requires c κs = search needs
 
-cast-a : tie.Need-cast-a
-cast-a c = search needs
+cast-interpolate : tie.Need-cast-interpolate
+cast-interpolate c = search needs
 
-add-entry : tie.Need-add-entry
-add-entry c = search needs
-
-entry-requires-2 : tie.Need-entry-requires-2
-entry-requires-2 c κs = search needs
-
-cast-b : tie.Need-cast-b
-cast-b c = search needs
+cast-interpolate-2 : tie.Need-cast-interpolate-2
+cast-interpolate-2 c = search needs
 
 mul-interpolate : tie.Need-mul-interpolate
 mul-interpolate c = search needs
 
 interpolate-requires : tie.Need-interpolate-requires
 interpolate-requires c κs =
-    let n = neighbours (c .before .before .before .args .v) (c .before .entry .result) (c .entry2 .result) (c .before .before .if1 .left) (c .before .entry .ensures) (c .entry2 .ensures) in
-    (n .order, (n .top, n .product))
+    let n = c .before .before .neighbours in
+    let t = past-entry (c .before .before .before .before .args .v) (n .result .low) (n .result .high) (c .before .before .before .if1 .left) (n .ensures .0) (n .ensures .1) in
+    (t .order, (t .top, t .product))
 
 returns-2 : tie.Need-returns-2
 returns-2 c =
-    let v = c .before .before .before .before .args .v in
-    let n = neighbours v (c .before .before .entry .result) (c .before .entry2 .result) (c .before .before .before .if1 .left) (c .before .before .entry .ensures) (c .before .entry2 .ensures) in
-    c .interpolate .ensures ∙ n .value ∙ ap quarterSine (let e : v ≡ min v quarterTurn = omega (arith, c .before .before .before .if1 .left) in e)
+    let n = c .before .before .before .neighbours in
+    let v = c .before .before .before .before .before .args .v in
+    let l = c .before .before .before .before .if1 .left in
+    let t = past-entry v (n .result .low) (n .result .high) l (n .ensures .0) (n .ensures .1) in
+    c .interpolate .ensures ∙ t .value ∙ ap quarterSine (let e : v ≡ min v quarterTurn = omega (arith, l) in e)
 
 pub quarter-sine-spec : {M : Type 1} → statement M
 quarter-sine-spec =
@@ -50,11 +47,9 @@ quarter-sine-spec =
     (tie.spec
     returns
     mul-i
-    entry-requires
-    cast-a
-    add-entry
-    entry-requires-2
-    cast-b
+    neighbours-requires
+    cast-interpolate
+    cast-interpolate-2
     mul-interpolate
     interpolate-requires
     returns-2)
