@@ -1,5 +1,5 @@
--- The digits of `specs/Digit.antt` by ranges of bytes, as the code tests them: `digitValue-ranges`, `digitValue-bound`, `lowerDigits-ranges`.
--- Rests on one test of every byte, which antt computes.
+-- The digits of `specs/Digit.antt` by ranges of bytes, as the code tests them: `digitValue-decimal`, `-lower`, `-upper`, `-none`; `lowerDigits-ranges`;
+-- and `digitValue-inverse`, that a written digit is read as its value. Rests on tests of every byte and of every digit, which antt computes.
 use Prim.Native.Nat.{ℕ, zero, suc, _+_, _-_, _≤_, _<_}
 use native.Mathlib.Nat.{le-trans, min-le-left, le-of-suc-le-suc, not-suc-le-zero, eq-or-lt-of-le}
 use mathlib.Core.Path.{_≡_}
@@ -32,14 +32,29 @@ below f (suc n) t k h =
     (λ l. below f n (right (f n) (allBelow f n) t) k l)
     (eq-or-lt-of-le (le-of-suc-le-suc h))
 
--- a digit's value by the range that its byte lies in
-abbrev pub ranges : ℕ → ℕ
-ranges b =
-    cond (leb 48 b && leb b 57) (b - 48) (cond (leb 97 b && leb b 102) (b - 87) (cond (leb 65 b && leb b 70) (b - 55) 16))
+abbrev pub inRange : ℕ → ℕ → ℕ → Bool
+inRange low high b = leb low b && leb b high
 
-pub digitValue-ranges : (b : ℕ) → b < 256 → ranges b ≡ digitValue b
+-- a digit's value by the range that its byte lies in
+abbrev byRange : ℕ → ℕ
+byRange b = cond (inRange 48 57 b) (b - 48) (cond (inRange 97 102 b) (b - 87) (cond (inRange 65 70 b) (b - 55) 16))
+
+byte : (b : ℕ) → b < 256 → byRange b ≡ digitValue b
 unfolding digitValue
-digitValue-ranges b h = eqb→eq (ranges b) (digitValue b) (below (λ k. eqb (ranges k) (digitValue k)) 256 tt b h)
+byte b h = eqb→eq (byRange b) (digitValue b) (below (λ k. eqb (byRange k) (digitValue k)) 256 tt b h)
+
+module _ (b : ℕ) (h : b < 256) where
+  pub digitValue-decimal : inRange 48 57 b ≡ true → b - 48 ≡ digitValue b
+  digitValue-decimal d = rw d at (byte b h)
+
+  pub digitValue-lower : inRange 48 57 b ≡ false → inRange 97 102 b ≡ true → b - 87 ≡ digitValue b
+  digitValue-lower d l = rw (d, l) at (byte b h)
+
+  pub digitValue-upper : inRange 48 57 b ≡ false → inRange 97 102 b ≡ false → inRange 65 70 b ≡ true → b - 55 ≡ digitValue b
+  digitValue-upper d l u = rw (d, l, u) at (byte b h)
+
+  pub digitValue-none : inRange 48 57 b ≡ false → inRange 97 102 b ≡ false → inRange 65 70 b ≡ false → 16 ≡ digitValue b
+  digitValue-none d l u = rw (d, l, u) at (byte b h)
 
 position-bound : (b : ℕ) (s : List ℕ) → position b s ≤ length s
 unfolding position

@@ -1,18 +1,16 @@
 -- Reading inverts writing: `read-inverse`. Rests on `number-digits`, that the digits of a number write it, and on the place that a write leaves them at.
-use Prim.Native.Nat.{ℕ, zero, suc, _+_, _*_, _/_, _%_, _^_, _≤_, _<_}
-use native.Mathlib.Nat.{pow-succ', one-le-pow, mod-lt, mod-one, mod-eq-of-lt}
+use Prim.Native.Nat.{ℕ, zero, suc, _+_, _/_, _%_, _^_, _≤_, _<_}
+use native.Mathlib.Nat.{pow-succ', one-le-pow, mod-one, mod-eq-of-lt}
 use native.Mathlib.Omega.{arith}
-use mathlib.Core.Path.{_≡_, refl, sym, _∙_, ap}
+use mathlib.Core.Path.{_≡_, refl, sym}
 use mathlib.Core.Bool.{true}
-use mathlib.Core.List.{List, [], _∷_, _++_, append-assoc}
+use mathlib.Core.List.{List, _++_, append-assoc}
 use lib.Arith.{mod-mul}
-use lib.ListN.{length, take, drop, getD}
+use lib.ListN.{length, take, drop}
 use lib.Seq.{paste, take-all, take-at, drop-at, length-take-le, length-paste}
 use borrow.Author.Tests.{lt-ltb, le-leb}
-use Rattle.hexadecimal.specs.Digit.{digitValue, lowerDigits}
 use Rattle.hexadecimal.specs.Word.{digitsOnly, number, digits, Word·read, Word·write}
-use Rattle.hexadecimal.specs.declared.Word.{Word}
-use Rattle.hexadecimal.specs.declared.Word.the-variants.{Bits, Malformed}
+use Rattle.hexadecimal.specs.declared.Word.the-variants.{Bits}
 use Rattle.hexadecimal.proofs.Digits.{digitValue-inverse}
 use Rattle.hexadecimal.proofs.Words.{length-digits, write-fits}
 

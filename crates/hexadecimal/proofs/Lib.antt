@@ -1,3 +1,3 @@
-pub mod Digits
-pub mod Words
+mod Digits
+mod Words
 pub mod Inverse

@@ -1,21 +1,19 @@
--- Words of eight digits: `read-halves` takes one apart as the code reads it, `write-digits` as the code writes it, and `read-inverse` says that
--- what was written is read back. Rests on `Digits.antt`.
+-- Words of eight digits as the code takes them apart: `half-digits`, `read-halves` and `read-short` of a reading, `digits-store`, `write-fits` and
+-- `write-short` of a writing. Rests on the definitions of `specs/Word.antt` alone.
 use Prim.Native.Nat.{ℕ, zero, suc, _+_, _-_, _*_, _/_, _%_, _^_, _≤_, _<_}
 use native.Mathlib.Nat.{pow-succ', mul-assoc, mul-le-mul-right}
 use native.Mathlib.Numerals.{add-one, add-two, add-three}
 use native.Mathlib.Omega.{arith}
-use mathlib.Core.Path.{_≡_, refl, sym, _∙_, ap}
+use mathlib.Core.Path.{_≡_, refl, _∙_, ap}
 use mathlib.Core.Bool.{Bool, true, false, cond, _&&_, and-assoc, and-true, and-eq-true-iff}
 use mathlib.Core.List.{List, [], _∷_, _++_}
-use lib.Dec.{ltb, leb}
+use lib.Dec.{ltb}
 use lib.Pow.{pow-add}
-use lib.ListN.{length, take, drop, getD, set}
+use lib.ListN.{length, take, drop, getD, set, length-drop, length-append}
 use lib.Seq.{drop-cons, drop-drop, take-add, take-all, length-take-le, paste, paste-suc}
-use lib.ListN.{length-drop, length-append}
 use borrow.Author.Tests.{ltb-true, lt-ltb, le-leb, lt-leb}
 use Rattle.hexadecimal.specs.Digit.{digitValue, lowerDigits}
 use Rattle.hexadecimal.specs.Word.{digitsOnly, number, numberOr, digits, Word·read, Word·write}
-use Rattle.hexadecimal.specs.declared.Word.{Word}
 use Rattle.hexadecimal.specs.declared.Word.the-variants.{Bits, Malformed}
 
 -- the four bytes from a place on, one by one
@@ -121,7 +119,7 @@ unfolding Word·read
 read-short s at h = rw (lt-leb (at + 8) (length s) h)
 
 -- the digit of n that stands at place i of its eight, as the code finds it
-pub digits-at : (n i : ℕ) → i < 8 → getD lowerDigits (n / 2 ^ (28 - 4 * i) % 16) 0 ≡ getD (digits 8 n) i 0
+digits-at : (n i : ℕ) → i < 8 → getD lowerDigits (n / 2 ^ (28 - 4 * i) % 16) 0 ≡ getD (digits 8 n) i 0
 unfolding digits
 digits-at n zero h = refl
 digits-at n (suc zero) h = refl

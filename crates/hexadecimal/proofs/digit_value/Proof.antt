@@ -1,12 +1,11 @@
--- `digit_value` is `digitValue`: each return is the range of bytes that its tests say (`digitValue-ranges`).
+-- `digit_value` is `digitValue`: each return is the range of bytes that its tests say (`Digits.antt`).
 use mathlib.Core.Bool.{and-eq-true-iff}
 use mathlib.Core.Path.{_≡_}
-use Prim.Native.Nat.{ℕ, _≤_, _<_}
+use Prim.Native.Nat.{ℕ, _≤_}
 use native.Mathlib.Omega.{arith}
-use lib.Dec.{leb}
 use borrow.Author.Tests.{leb-true}
 use Rattle.hexadecimal.specs.Digit.{digitValue}
-use Rattle.hexadecimal.proofs.Digits.{digitValue-ranges, digitValue-bound}
+use Rattle.hexadecimal.proofs.Digits.{digitValue-decimal, digitValue-lower, digitValue-upper, digitValue-none, digitValue-bound}
 use Rattle.hexadecimal.proofs.digit_value.Statement.{statement}
 use Rattle.hexadecimal.proofs.digit_value.Tie as tie
 
@@ -17,28 +16,32 @@ sub-result : tie.Need-sub-result
 sub-result c = leb-true _ _ (and-eq-true-iff _ _ .0 (c .if1 .taken) .0)
 
 returns : tie.Need-returns
-returns c = bounded _ _ (rw (c .if1 .taken) at (digitValue-ranges (c .before .args .b) (c .before .fits .b .fits)))
+returns c = bounded _ _ (digitValue-decimal (c .before .args .b) (c .before .fits .b .fits) (c .if1 .taken))
 
 sub-result-2 : tie.Need-sub-result-2
-sub-result-2 c = omega (arith, leb-true 97 (c .before .before .args .b) (and-eq-true-iff _ _ .0 (c .if2 .taken) .0))
+sub-result-2 c =
+    let low : 97 ≤ c .before .before .args .b = leb-true _ _ (and-eq-true-iff _ _ .0 (c .if2 .taken) .0) in
+    omega arith
 
 returns-2 : tie.Need-returns-2
-returns-2 c = bounded _ _ (rw (c .before .if1 .left, c .if2 .taken) at (digitValue-ranges (c .before .before .args .b) (c .before .before .fits .b .fits)))
+returns-2 c =
+    let s = c .before .before in
+    bounded _ _ (digitValue-lower (s .args .b) (s .fits .b .fits) (c .before .if1 .left) (c .if2 .taken))
 
 sub-result-3 : tie.Need-sub-result-3
-sub-result-3 c = omega (arith, leb-true 65 (c .before .before .before .args .b) (and-eq-true-iff _ _ .0 (c .if3 .taken) .0))
+sub-result-3 c =
+    let low : 65 ≤ c .before .before .before .args .b = leb-true _ _ (and-eq-true-iff _ _ .0 (c .if3 .taken) .0) in
+    omega arith
 
 returns-3 : tie.Need-returns-3
 returns-3 c =
-    bounded _ _
-    (rw (c .before .before .if1 .left, c .before .if2 .left, c .if3 .taken) at
-    (digitValue-ranges (c .before .before .before .args .b) (c .before .before .before .fits .b .fits)))
+    let s = c .before .before .before in
+    bounded _ _ (digitValue-upper (s .args .b) (s .fits .b .fits) (c .before .before .if1 .left) (c .before .if2 .left) (c .if3 .taken))
 
 returns-4 : tie.Need-returns-4
 returns-4 c =
-    bounded _ _
-    (rw (c .before .before .if1 .left, c .before .if2 .left, c .if3 .left) at
-    (digitValue-ranges (c .before .before .before .args .b) (c .before .before .before .fits .b .fits)))
+    let s = c .before .before .before in
+    bounded _ _ (digitValue-none (s .args .b) (s .fits .b .fits) (c .before .before .if1 .left) (c .before .if2 .left) (c .if3 .left))
 
 pub digit-value-spec : {M : Type 1} → statement M
 digit-value-spec =

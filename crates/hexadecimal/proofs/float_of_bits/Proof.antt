@@ -1,7 +1,7 @@
 -- `float_of_bits` is `ofBits`: the test is `nanBits` by one comparison, and 0/0 is NaN.
-use Prim.Native.Nat.{ℕ, _<_, _%_}
-use mathlib.Core.Path.{_≡_, refl, sym, _∙_, ap}
-use mathlib.Core.Bool.{Bool, true, not, false≢true}
+use Prim.Native.Nat.{ℕ, _≤_, _%_}
+use mathlib.Core.Path.{_≡_, refl, sym, _∙_}
+use mathlib.Core.Bool.{true, not, false≢true}
 use lib.Dec.{T}
 use lib.Ieee.{Float, nan, inf, fin, binary32, isNan, nanBits, ofBits, div}
 use lib.Ieee.Bits.{nanBits-above, nanBits-is}
@@ -9,6 +9,9 @@ use borrow.Author.Needs.{needs}
 use borrow.Author.Tests.{le-ltb, lt-ltb}
 use Rattle.hexadecimal.proofs.float_of_bits.Statement.{statement}
 use Rattle.hexadecimal.proofs.float_of_bits.Tie as tie
+
+no-nan : (n : ℕ) → n % 2147483648 ≤ 2139095040 → T (not (nanBits binary32 n))
+no-nan n h = rw (nanBits-above binary32 n, le-ltb _ _ h) tt
 
 only-nan : (x : Float) → isNan x ≡ true → nan ≡ x
 unfolding isNan
@@ -21,7 +24,7 @@ unfolding div ofBits
 zero-quotient = refl
 
 float-from-bits-result : tie.Need-float-from-bits-result
-float-from-bits-result c = rw (nanBits-above binary32 (c .before .args .n), le-ltb _ _ (c .if1 .taken)) tt
+float-from-bits-result c = no-nan (c .before .args .n) (c .if1 .taken)
 
 returns : tie.Need-returns
 returns c = search needs
