@@ -6,12 +6,14 @@
 cd "$(dirname "$0")/.." || exit 2
 unfit='expected type `tie\.|has no field|can be named|no .mod. line|exports no|does not cover|not in scope|[Pp]arse error|error\[|has-holes|unsolved|was not determined|too many arguments|is not a function|is applied to|could not tell'
 fact='^[^ ]*: error: `[^`]*`: |^note: [^ ]*: it is not proved'
+# The start of a line, with no character cut in two.
+short() { cut -c1-160 | iconv -c -f UTF-8 -t UTF-8; }
 status=0
 for log in target/must-fail/*/*/.log; do
     [ -f "$log" ] || continue
     edit=${log#target/must-fail/} edit=${edit%/.log}
-    misfit=$(grep -E "$unfit" "$log" | grep -v '^note' | head -n 1 | cut -c1-200)
-    reason=$(grep -E "$fact" "$log" | grep -v 'was not admitted' | head -n 1 | sed -E 's/^note: [^ ]*: //; s/^[^ ]*(proofs|specs)\///' | cut -c1-160)
+    misfit=$(grep -aE "$unfit" "$log" | grep -av '^note' | head -n 1 | short)
+    reason=$(grep -aE "$fact" "$log" | grep -av 'was not admitted' | head -n 1 | sed -E 's/^note: [^ ]*: //; s/^[^ ]*(proofs|specs)\///' | short)
     if [ -n "$misfit" ]; then
         echo "UNFIT $edit: $misfit"
         status=1
