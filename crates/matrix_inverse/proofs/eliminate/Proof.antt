@@ -1,0 +1,68 @@
+-- `eliminate` meets its contract. The invariant: the rows below j are cleared.
+use Prim.Native.Nat.{_≤_, _-_}
+use mathlib.Core.Path.{_≡_}
+use native.Mathlib.Omega.{arith}
+use Rattle.matrix_inverse.specs.Loop.{loop}
+use Rattle.matrix_inverse.specs.Eliminate.{clearAt, eliminate}
+use Rattle.matrix_inverse.proofs.Loop.{loop-start, loop-next, loop-end}
+use Rattle.matrix_inverse.proofs.eliminate.Statement.{statement}
+use Rattle.matrix_inverse.proofs.eliminate.Tie as tie
+use borrow.Author.Needs.{needs}
+
+abbrev Inv-loop : tie.InvT-loop
+Inv-loop k r₀ j₀ r j = (j ≤ 4) × (r ≡ loop (clearAt k) j r₀)
+
+abbrev μ-loop : tie.MeasureT-loop
+μ-loop k r₀ j₀ r j = 4 - j
+
+mul-scale-row : tie.Need-mul-scale-row Inv-loop μ-loop
+mul-scale-row c = search needs
+
+array-copy-out-scale-row : tie.Need-array-copy-out-scale-row Inv-loop μ-loop
+array-copy-out-scale-row c = search needs
+
+scale-row-requires : tie.Need-scale-row-requires Inv-loop μ-loop
+scale-row-requires c κs = search needs
+
+mul-r : tie.Need-mul-r Inv-loop μ-loop
+mul-r c = search needs
+
+array-set-from-r : tie.Need-array-set-from-r Inv-loop μ-loop
+array-set-from-r c = search needs
+
+loop-holds : tie.Need-loop-holds Inv-loop μ-loop
+loop-holds c = (search needs, loop-start _ _)
+
+clear-at-requires : tie.Need-clear-at-requires Inv-loop μ-loop
+clear-at-requires c κs = search needs
+
+add-j : tie.Need-add-j Inv-loop μ-loop
+add-j c = search needs
+
+loop-less : tie.Need-loop-less Inv-loop μ-loop
+loop-less c = search needs
+
+loop-again : tie.Need-loop-again Inv-loop μ-loop
+loop-again c = (search needs, loop-next _ _ _ _ _ (c .before .before .loop .inv .1) (c .clear-at .ensures))
+
+returns : tie.Need-returns Inv-loop μ-loop
+unfolding eliminate
+returns c = rw (← c .before .before .scale-row .ensures) (loop-end _ _ 4 _ _ (omega arith) (c .before .loop .inv .1))
+
+pub eliminate-spec : {M : Type 1} → statement M
+eliminate-spec =
+    tie.close
+    (tie.spec
+    Inv-loop
+    μ-loop
+    mul-scale-row
+    array-copy-out-scale-row
+    scale-row-requires
+    mul-r
+    array-set-from-r
+    loop-holds
+    clear-at-requires
+    add-j
+    loop-less
+    loop-again
+    returns)

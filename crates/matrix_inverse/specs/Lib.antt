@@ -1,0 +1,5 @@
+pub mod Loop
+pub mod Pivot
+pub mod Eliminate
+pub mod RestoreColumns
+pub mod Inverse
