@@ -13,7 +13,7 @@ use Rattle.matrix4x4.specs.Transpose.{column}
 use Rattle.matrix4x4.specs.Mul.{dot4, Matrix4x4·mul}
 use Rattle.matrix4x4.specs.IsFinite.{Matrix4x4·isFinite}
 use Rattle.matrix4x4.specs.IsAffine.{Matrix4x4·isAffine}
-use Rattle.matrix4x4.proofs.Zero.{Zero, One, scaled, zero-mul, mul-zero, zero-add-zero, one-mul-one, zero-add-one, eq-zero, zero-eq, eq-one}
+use Rattle.matrix4x4.proofs.Zero.{Zero, One, one-one, one-finite, zero-mul, mul-zero, zero-add-zero, one-mul-one, zero-add-one, eq-zero, zero-eq, eq-one}
 
 -- four tests that hold together, one by one
 record Four (p q r s : Bool) : Type 0 where
@@ -35,9 +35,6 @@ one-eq h = rw h tt
 
 four-all : (p : ℕ → Bool) → T (all p) → Four (p 0) (p 1) (p 2) (p 3)
 four-all p h = four-and (p 0) (p 1) (p 2) (p 3) h
-
-one-finite : {x : Float} → One x → T (finite x)
-one-finite (scaled m e h) = tt
 
 -- a row 0 0 0 1
 record Bottom (r : Row) : Type 0 where
@@ -72,7 +69,7 @@ module _ (r c : Row) (b : Bottom r) (fx : T (finite (col c 0))) (fy : T (finite 
   dot-zero z = zero-add-zero above-zero (mul-zero (col r 3) (one-finite (b .w)) z)
 
   dot-one : One (col c 3) → dot4 r c ≡ one
-  dot-one w = rw (one-mul-one (b .w) w) (zero-add-one above-zero)
+  dot-one w = rw (one-mul-one (b .w) w) (zero-add-one above-zero one-one)
 
 module _ (m1 m2 : Rows) (a1 : T (Matrix4x4·isAffine m1)) (a2 : T (Matrix4x4·isAffine m2)) (f2 : T (Matrix4x4·isFinite m2)) where
   rows-finite : Four (all (λ j. finite (at m2 0 j))) (all (λ j. finite (at m2 1 j))) (all (λ j. finite (at m2 2 j))) (all (λ j. finite (at m2 3 j)))

@@ -1,12 +1,13 @@
--- Sums and products with a zero of either sign, and with one: `zero-mul`, `mul-zero`, `zero-add-zero`, `one-mul-one`, `zero-add-one`.
--- Each rounds a fraction equal to 0/1 or 1/1, and equal fractions round alike (`round-same`).
+-- Sums and products of zeros of either sign and of ones: `zero-mul`, `mul-zero`, `zero-add-zero`, `one-mul-one`, `zero-add-one`, each the rounded value of a fraction equal
+-- to 0/1 or 1/1, and equal fractions round alike (`round-same`). What `==` says of a zero and of one: `eq-zero`, `zero-eq`, `eq-one`.
 use mathlib.Core.Path.{_≡_, refl, sym, _∙_}
 use mathlib.Core.Bool.{Bool, true, false, Bool·beq, _&&_, _||_, cond}
 use Prim.Native.Nat.{ℕ, zero, suc, _+_, _-_, _*_, _<_}
 use native.Mathlib.Nat as nat
 use native.Mathlib.Omega.{arith}
+use borrow.Author.Tests.{lt-ltb}
 use lib.IntN.{ℤ, pos}
-use lib.Dec.{T, eqb, eqb→eq, ltb, lt→ltb}
+use lib.Dec.{T, eqb, eqb→eq, ltb}
 use lib.Ieee.{Float, nan, inf, fin, binary32, ofBits, up, down, unlike, level, round, sum, add, mul, eq}
 use lib.Ieee.Fits.{up-pos, down-pos, eq→eqb, and-i, and-l, and-r}
 use lib.Ieee.Scale.{finite, round-same}
@@ -66,20 +67,15 @@ unfolding mul ofBits
 one-mul-one (scaled m e a) (scaled n d b) =
     round-one (m * up e * (n * up d)) (down e * down d) (rw (a, b)) (nat.mul-pos (down-pos e) (down-pos d))
 
-sum-one : (s : Bool) (a b c : ℕ) → a ≡ 0 → b ≡ c → 0 < c → sum binary32 s a false b c ≡ fin false 1 (pos 0)
-unfolding sum
-sum-one true a b c p q h =
-    first (ltb a b) (round binary32 (ltb b a) (a - b) c) (lt→ltb a b (omega arith)) (round-one (b - a) c (omega arith) h)
-  where
-    first : (t : Bool) {x z : Float} (y : Float) → T t → x ≡ z → cond t x y ≡ z
-    first true y h e = e
-    first false y h e = absurd h
-sum-one false a b c p q h = round-one (a + b) c (omega arith) h
+sum-one : (s : Bool) (c : ℕ) → 0 < c → sum binary32 s 0 false c c ≡ one
+unfolding sum ofBits
+sum-one false c h = rw (nat.zero-add c) (round-one c c refl h)
+sum-one true c h = rw (lt-ltb 0 c h, nat.sub-zero c) (round-one c c refl h)
 
-pub zero-add-one : {x : Float} → Zero x → x ⊕ one ≡ one
-unfolding add ofBits
-zero-add-one (signed s e) =
-    sum-one s (0 * up e * 1) (1 * down e) (down e * 1) (simp nat.zero-mul) (omega arith) (omega (arith, down-pos e))
+pub zero-add-one : {x y : Float} → Zero x → One y → x ⊕ y ≡ one
+unfolding add
+zero-add-one (signed s e) (scaled n d v) =
+    rw (nat.zero-mul (up e), nat.zero-mul (down d), v, nat.mul-comm (down d) (down e)) (sum-one s (down e * down d) (nat.mul-pos (down-pos e) (down-pos d)))
 
 -- ---- what a comparison says
 level-same : (s t : Bool) (a b : ℕ) → T (level s a t b) → a ≡ b
@@ -100,6 +96,13 @@ zero-eq (signed s e) = go s (0 * up e * 1) (0 * down e) (simp nat.zero-mul) (sim
     go : (s : Bool) (a b : ℕ) → a ≡ 0 → b ≡ 0 → T (level s a false b)
     go true a b p q = and-i (eqb a b) (eqb a 0) (eq→eqb (p ∙ sym q)) (eq→eqb p)
     go false a b p q = and-i (eqb a b) true (eq→eqb (p ∙ sym q)) tt
+
+pub one-one : One one
+unfolding ofBits
+one-one = scaled 1 (pos 0) refl
+
+pub one-finite : {x : Float} → One x → T (finite x)
+one-finite (scaled m e h) = tt
 
 pub eq-one : (x : Float) → T (eq x one) → One x
 unfolding eq ofBits

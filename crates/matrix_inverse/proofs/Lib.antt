@@ -1,3 +1,5 @@
 pub mod Loop
 pub mod InRange
 pub mod Rounds
+pub mod Refusal
+pub mod Cases

@@ -14,7 +14,7 @@ module _ {S : Type 0} (body : ℕ → S → S) (s₀ : S) where
 
   pub loop-next : (k : ℕ) (s t : S) → s ≡ loop body k s₀ → t ≡ body k s → t ≡ loop body (k + 1) s₀
   unfolding loop
-  loop-next k s t e f = rw (add-one, ← e, f)
+  loop-next k s t e f = rw (add-one k, ← e, f)
 
   pub loop-end : (n k : ℕ) (s : S) → k ≡ n → s ≡ loop body k s₀ → s ≡ loop body n s₀
   loop-end n k s e f = rw e at f

@@ -6,6 +6,7 @@ use mathlib.Core.List.{List, [], _∷_}
 use mathlib.Core.Logic.{⊎-elim}
 use Prim.Native.Nat.{ℕ, zero, suc, _+_, _≤_, _<_}
 use native.Mathlib.Nat.{eq-or-lt-of-le, le-of-suc-le-suc}
+use native.Mathlib.Numerals.{add-one}
 use native.Mathlib.Omega.{arith}
 use lib.ListN.{getD, set}
 use lib.Ieee.{eq}
@@ -62,11 +63,13 @@ module _ {m₀ : Rows} {i : ℕ} {m : Rows} {ipiv indxr indxc : List ℕ} (r : R
         rw (loop-stopped (suc i) 4 (running m₀ zeros zeros zeros) l (rw (r .state, ← found, ← swapped, z)))
 
     pub reached-next : (e : Rows) → InRange p → eq (at s (p .icol) (p .icol)) positiveZero ≡ false → e ≡ eliminate s (p .icol)
-        → Reached m₀ (suc i) e (set ipiv (p .icol) (getD ipiv (p .icol) 0 + 1)) (set indxr i (p .irow)) (set indxc i (p .icol))
+        → Reached m₀ (i + 1) e (set ipiv (p .icol) (getD ipiv (p .icol) 0 + 1)) (set indxr i (p .irow)) (set indxc i (p .icol))
     unfolding loop round
-    reached-next e b z w = record {
-      state = rw (r .state, ← found, ← swapped, z, w);
-      rows = set-below 4 indxr i (p .irow) (b .0) (r .rows);
-      columns = set-below 4 indxc i (p .icol) (b .1) (r .columns);
-      counts = set-below (suc (suc i)) ipiv (p .icol) (getD ipiv (p .icol) 0 + 1) (omega (arith, r .counts (p .icol))) (λ k. omega (arith, r .counts k));
-    }
+    reached-next e b z w =
+        rw (add-one i)
+        (record {
+          state = rw (r .state, ← found, ← swapped, z, w);
+          rows = set-below 4 indxr i (p .irow) (b .0) (r .rows);
+          columns = set-below 4 indxc i (p .icol) (b .1) (r .columns);
+          counts = set-below (suc (suc i)) ipiv (p .icol) (getD ipiv (p .icol) 0 + 1) (omega (arith, r .counts (p .icol))) (λ k. omega (arith, r .counts k));
+        })

@@ -3,3 +3,4 @@ pub mod Pivot
 pub mod Eliminate
 pub mod RestoreColumns
 pub mod Inverse
+pub mod Computing

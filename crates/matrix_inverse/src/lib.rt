@@ -239,7 +239,7 @@ pub fn inverse(m: [[f32; 4]; 4]) -> InverseAnswer
         let irow = p.irow;
         let icol = p.icol;
         let s = swap_rows(minv, irow, icol);
-        // Departs from pbrt: a zero pivot is refused before the division.
+        // Departs from pbrt: a zero pivot is refused, before the division (docs/DECISIONS.md, 1).
         if s[icol][icol] == 0.0 {
             return refused(4);
         }

@@ -1,7 +1,6 @@
 -- `inverse` meets its contract. The invariant is `Reached`: after i rounds the definition stands where the locals do.
 use Prim.Native.Nat.{_≤_, _-_}
 use native.Mathlib.Omega.{arith}
-use native.Mathlib.Numerals.{add-one}
 use Rattle.matrix_inverse.specs.Loop.{loop}
 use Rattle.matrix_inverse.proofs.Rounds.{Reached, reached-start, reached-next, reached-zeroPivot, reached-end}
 use Rattle.matrix_inverse.proofs.inverse.Statement.{statement}
@@ -83,9 +82,8 @@ loop-again c =
     let found = c .before .before .before .before .search in
     let swapped = c .before .before .before .swap-rows in (
       search needs,
-      rw add-one
-          (reached-next (c .before .before .before .before .before .before .loop .inv .1) (found .result) (swapped .result) (found .ensures .0) (swapped .ensures)
-          (c .eliminate .result) (found .ensures .1) (c .before .if1 .left) (c .eliminate .ensures)),
+      reached-next (c .before .before .before .before .before .before .loop .inv .1) (found .result) (swapped .result) (found .ensures .0) (swapped .ensures)
+          (c .eliminate .result) (found .ensures .1) (c .before .if1 .left) (c .eliminate .ensures),
     )
 
 restore-columns-requires : tie.Need-restore-columns-requires Inv-loop μ-loop
