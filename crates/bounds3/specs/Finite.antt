@@ -1,0 +1,12 @@
+-- Whether every coordinate of a point, or of a box's two corners, is finite. Definitions only.
+use mathlib.Core.Bool.{Bool, _&&_}
+use lib.Ieee.Scale.{finite}
+use Rattle.bounds3.specs.declared.Point3f.{Point3f}
+use Rattle.bounds3.specs.declared.Bounds3f.{Bounds3f}
+
+-- document 01, Refusals, 5 and 6: a value or a coordinate "is not finite"
+unfoldable pub Point3f·isFinite : Point3f → Bool
+Point3f·isFinite p = finite (p .x) && finite (p .y) && finite (p .z)
+
+unfoldable pub Bounds3f·isFinite : Bounds3f → Bool
+Bounds3f·isFinite b = Point3f·isFinite (b .«p_min») && Point3f·isFinite (b .«p_max»)

@@ -1,0 +1,4 @@
+pub mod Point3f
+pub mod Bounds3f
+pub mod Finite
+pub mod Inside
