@@ -1,3 +1,4 @@
 -- Laws of boxes.
+pub mod Finite
 pub mod Union
 pub mod Corner

@@ -2,7 +2,6 @@
 -- The union with a point is the union with that point's own box (`union-point-box`), and holds the point where it is finite (`union-point-inside`).
 -- Rests on the order of `rounding` and on the laws of least and greatest in `float32`, one axis at a time.
 use mathlib.Core.Path.{_≡_, refl}
-use mathlib.Core.Bool.{Bool, true, false, _&&_}
 use lib.Dec.{T}
 use lib.Ieee.{Float}
 use lib.Ieee.Scale.{finite}
@@ -14,7 +13,7 @@ use Rattle.bounds3.specs.declared.Point3f.{Point3f}
 use Rattle.bounds3.specs.declared.Bounds3f.{Bounds3f}
 use Rattle.bounds3.specs.Point3f.{Point3f·min, Point3f·max}
 use Rattle.bounds3.specs.Bounds3f.{Bounds3f·fromPoint, Bounds3f·unionPoint, Bounds3f·unionBounds}
-use Rattle.bounds3.specs.Finite.{Point3f·isFinite}
+use Rattle.bounds3.specs.Finite.{Finite}
 use Rattle.bounds3.specs.Inside.{Inside, Subset}
 
 -- ---- one axis: the ends low and high, and values between them
@@ -67,30 +66,15 @@ pub union-isotone : {a a' b b' : Bounds3f} → Subset a a' → Subset b b' → S
 union-isotone {a} {a'} {b} {b'} s t = union-least (union-subset-left b' s) (union-subset-right a' t)
 
 -- ---- points
-and-left : (a b : Bool) → T (a && b) → T a
-and-left true b h = tt
-and-left false b h = h
-
-and-right : (a b : Bool) → T (a && b) → T b
-and-right true b h = h
-and-right false b h = absurd h
-
-pub from-point-inside : (p : Point3f) → T (Point3f·isFinite p) → Inside (Bounds3f·fromPoint p) p
-unfolding Point3f·isFinite
-from-point-inside p f =
-    let xy = and-left (finite (p .x) && finite (p .y)) (finite (p .z)) f in
-    record {
-      x = axis-finite (p .x) (and-left (finite (p .x)) (finite (p .y)) xy);
-      y = axis-finite (p .y) (and-right (finite (p .x)) (finite (p .y)) xy);
-      z = axis-finite (p .z) (and-right (finite (p .x) && finite (p .y)) (finite (p .z)) f);
-    }
+pub from-point-inside : {p : Point3f} → Finite p → Inside (Bounds3f·fromPoint p) p
+from-point-inside {p} f = record { x = axis-finite (p .x) (f .x); y = axis-finite (p .y) (f .y); z = axis-finite (p .z) (f .z) }
 
 pub union-point-box : (b : Bounds3f) (p : Point3f) → Bounds3f·unionPoint b p ≡ Bounds3f·unionBounds b (Bounds3f·fromPoint p)
 unfolding Bounds3f·unionPoint Bounds3f·unionBounds
 union-point-box b p = refl
 
-pub union-point-inside : (b : Bounds3f) (p : Point3f) → T (Point3f·isFinite p) → Inside (Bounds3f·unionPoint b p) p
-union-point-inside b p f = rw (union-point-box b p) (union-inside-right b (from-point-inside p f))
+pub union-point-inside : (b : Bounds3f) {p : Point3f} → Finite p → Inside (Bounds3f·unionPoint b p) p
+union-point-inside b {p} f = rw (union-point-box b p) (union-inside-right b (from-point-inside f))
 
 pub union-point-keeps : {b : Bounds3f} {q : Point3f} (p : Point3f) → Inside b q → Inside (Bounds3f·unionPoint b p) q
 union-point-keeps {b} p i = rw (union-point-box b p) (union-inside-left (Bounds3f·fromPoint p) i)
