@@ -8,7 +8,7 @@ use lib.Ieee.Scale.{finite}
 use Rattle.rounding.specs.Order.{_≼_}
 use Rattle.rounding.proofs.Order.{≼-refl, ≼-trans, number-left, number-right, finite-number}
 use Rattle.float32.specs.MinMax.{minNum, maxNum}
-use Rattle.float32.proofs.MinMax.{min-left, min-right, max-left, max-right, min-picks, max-picks, min-mono, max-mono}
+use Rattle.float32.proofs.MinMax.{min-left, min-right, max-left, max-right, min-picks, max-picks}
 use Rattle.bounds3.specs.declared.Point3f.{Point3f}
 use Rattle.bounds3.specs.declared.Bounds3f.{Bounds3f}
 use Rattle.bounds3.specs.Point3f.{Point3f·min, Point3f·max}
