@@ -1,61 +1,66 @@
--- What a float's tests in code say of it: `abs-negative`, `abs-zero`, `abs-positive`, the absolute value by the order with zero;
+-- What a float's bits and tests in code say of it: `abs-bits`, `abs-nan`, the absolute value is the float without its sign's bit, or NaN;
 -- `finite-below`, `finite-beyond`, a float is finite where it lies strictly between the two infinities. Rests on lib.Ieee alone.
-use mathlib.Core.Path.{_≡_, refl, sym}
-use mathlib.Core.Bool.{Bool, true, false, _&&_, _||_, Bool·beq, true≢false}
-use Prim.Native.Nat.{ℕ, zero, suc, _+_, _*_, _^_, _≤_, _<_}
-use native.Mathlib.Nat.{mul-pos, zero-mul}
+use mathlib.Core.Path.{_≡_, refl, sym, ap, _∙_}
+use mathlib.Core.Bool.{true, false, not, true≢false}
+use Prim.Native.Nat.{ℕ, zero, suc, _+_, _%_}
 use native.Mathlib.Omega.{arith}
-use lib.IntN.{ℤ, pos, negsuc}
-use lib.Dec.{eqb}
-use lib.Pow.{pow-pos}
-use borrow.Author.Tests.{ltb-true, ltb-false, eqb-true}
-use lib.Ieee.{Float, nan, inf, fin, binary32, up, down, neg, lt, eq, fits}
-use lib.Ieee.Fits.{up-pos}
+use lib.IntN.{ℤ}
+use lib.Dec.{T}
+use lib.Ieee.{Float, nan, inf, fin, binary32, lt, eq, ne, fits, isNan, ofBits, toBits, nanBits}
+use lib.Ieee.Bits.{ofBits-toBits, toBits-lt, nanBits-is}
+use lib.Ieee.Compare.{differs-from-itself}
 use lib.Ieee.Scale.{finite}
 use Rattle.float32.specs.Abs.{abs}
 
--- ---- the order with zero
-abbrev +0 : Float
-+0 = fin false 0 (pos 0)
+-- ---- a float without its sign
 
-and-true : (a b : Bool) → (a && b) ≡ true → a ≡ true
-and-true true b h = refl
-and-true false b h = h
+magnitude : (m : ℕ) (e : ℤ) → toBits binary32 (fin true m e) ≡ 2147483648 + toBits binary32 (fin false m e)
+unfolding toBits
+magnitude m e = omega arith
 
-no-digit : (m : ℕ) (e : ℤ) → m * up e ≤ 0 → m ≡ 0
-no-digit zero e h = refl
-no-digit (suc m) e h = absurd (let p : 0 < suc m * up e = mul-pos (omega arith) (up-pos e) in omega arith)
-
-pub abs-negative : (x : Float) → lt x +0 ≡ true → neg x ≡ abs x
-unfolding lt neg abs
-abs-negative nan h = refl
-abs-negative (inf true) h = refl
-abs-negative (inf false) h = absurd (true≢false (sym h))
-abs-negative (fin true m e) h = refl
-abs-negative (fin false m e) h = absurd (omega (arith, ltb-true (m * up e * 1) (0 * 1 * down e) h))
-
--- zero is written in the one way, since x fits
-pub abs-zero : (x : Float) → fits binary32 x ≡ true → eq x +0 ≡ true → +0 ≡ abs x
-unfolding eq abs fits
-abs-zero nan f h = absurd (true≢false (sym h))
-abs-zero (inf s) f h = absurd (true≢false (sym h))
-abs-zero (fin s m e) f h = go m e f (no-digit m e (omega (arith, eqb-true (m * up e * 1) (0 * 1 * down e) (and-true (eqb (m * up e * 1) (0 * 1 * down e)) (Bool·beq s false || eqb (m * up e * 1) 0) h))))
+-- the bits of x modulo the sign's weight are those of abs x
+abs-toBits : (x : Float) → T (fits binary32 x) → T (not (isNan x)) → toBits binary32 x % 2147483648 ≡ toBits binary32 (abs x)
+unfolding abs isNan fits
+abs-toBits nan f h = absurd h
+abs-toBits (inf true) f h = unfold toBits in refl
+abs-toBits (inf false) f h = unfold toBits in refl
+abs-toBits (fin true m e) f h = omega (arith, magnitude m e, toBits-lt binary32 (fin true m e) f)
+abs-toBits (fin false m e) f h = omega (arith, magnitude m e, toBits-lt binary32 (fin true m e) (signed m e f))
   where
-    go : (m : ℕ) (e : ℤ) → fits binary32 (fin s m e) ≡ true → m ≡ 0 → +0 ≡ fin false m e
-    go zero (pos zero) f z = refl
-    go zero (pos (suc k)) f z = absurd (let p = pow-pos k in omega (arith, eqb-true (2 ^ suc k * 1) 1 f))
-    go zero (negsuc k) f z = absurd (let p = pow-pos k in omega (arith, eqb-true (1 * 2 ^ suc k) 1 f))
-    go (suc m) e f z = absurd (omega arith)
+    signed : (m : ℕ) (e : ℤ) → T (fits binary32 (fin false m e)) → T (fits binary32 (fin true m e))
+    signed zero e f = f
+    signed (suc m) e f = f
 
-pub abs-positive : (x : Float) → lt x +0 ≡ false → eq x +0 ≡ false → x ≡ abs x
-unfolding lt eq abs
-abs-positive nan h k = refl
-abs-positive (inf true) h k = absurd (true≢false h)
-abs-positive (inf false) h k = refl
-abs-positive (fin true m e) h k =
-    let z : m ≡ 0 = no-digit m e (omega (arith, ltb-false 0 (m * up e * 1 + 0 * 1 * down e) h)) in
-    absurd (true≢false (simp (z, zero-mul) at k))
-abs-positive (fin false m e) h k = refl
+abs-fits : (x : Float) → T (fits binary32 x) → T (fits binary32 (abs x))
+unfolding abs fits
+abs-fits nan f = f
+abs-fits (inf s) f = f
+abs-fits (fin s zero e) f = f
+abs-fits (fin s (suc m) e) f = f
+
+pub number-equal : (x : Float) → eq x x ≡ true → T (not (isNan x))
+unfolding eq isNan
+number-equal nan h = absurd (true≢false (sym h))
+number-equal (inf s) h = tt
+number-equal (fin s m e) h = tt
+
+pub abs-bits : (x : Float) → fits binary32 x ≡ true → eq x x ≡ true → ofBits binary32 (toBits binary32 x % 2147483648) ≡ abs x
+abs-bits x f h =
+    let t : T (fits binary32 x) = rw f tt in
+    ap (ofBits binary32) (abs-toBits x t (number-equal x h)) ∙ ofBits-toBits binary32 (abs x) (abs-fits x t)
+
+pub abs-bits-number : (x : Float) → fits binary32 x ≡ true → eq x x ≡ true → T (not (nanBits binary32 (toBits binary32 x % 2147483648)))
+unfolding abs isNan
+abs-bits-number x f h = rw (nanBits-is, abs-bits x f h) (abs-number x (number-equal x h))
+  where
+    abs-number : (x : Float) → T (not (isNan x)) → T (not (isNan (abs x)))
+    abs-number nan h = h
+    abs-number (inf s) h = h
+    abs-number (fin s m e) h = h
+
+pub abs-nan : (x : Float) → eq x x ≡ false → x ≡ abs x
+unfolding abs ne
+abs-nan x h = let e : x ≡ nan = differs-from-itself x (rw h tt) in rw e
 
 -- ---- the infinities
 pub finite-below : (x : Float) → lt x (inf false) ≡ true → lt (inf true) x ≡ finite x

@@ -11,12 +11,9 @@ ghost use Rattle.float32.specs.Clamp.{clamp};
 pub fn abs(x: f32) -> f32
     ensures value { λ r. ⌜ r ≡ abs x ⌝ }
 {
-    if x < 0.0 {
-        return -x;
-    }
-    // -0 is not below zero, and loses its sign here.
-    if x == 0.0 {
-        return 0.0;
+    // The sign is the top bit. A NaN has no bits that a contract could name.
+    if x == x {
+        return f32::from_bits(f32::to_bits(x) % 0x8000_0000);
     }
     x
 }
