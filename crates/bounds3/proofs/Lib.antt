@@ -1,4 +1,5 @@
--- Laws of boxes.
+-- Laws and cases of points and boxes.
 pub mod Finite
 pub mod Union
 pub mod Corner
+pub mod Cases

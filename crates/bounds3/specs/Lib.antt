@@ -1,4 +1,6 @@
+-- Definitions of points and boxes.
 pub mod Point3f
 pub mod Bounds3f
 pub mod Finite
 pub mod Inside
+pub mod Computing
