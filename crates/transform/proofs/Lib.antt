@@ -1,0 +1,5 @@
+-- Laws and cases of transforms.
+pub mod FromMatrix
+pub mod Wp
+pub mod Judged
+pub mod Cases

@@ -1,0 +1,37 @@
+-- `from_matrix` meets its contract: the inverse's number chooses the case.
+use borrow.Author.Tests.{eq-eqb, ne-eqb}
+use Rattle.transform.specs.Transform.{Transform·fromMatrix}
+use borrow.Author.Needs.{needs}
+use Rattle.transform.proofs.Transform.from_matrix.Statement.{statement}
+use Rattle.transform.proofs.Transform.from_matrix.Tie as tie
+
+inverse-requires : tie.Need-inverse-requires
+inverse-requires c κs = search needs
+
+from-rows-requires : tie.Need-from-rows-requires
+from-rows-requires c κs = search needs
+
+refused-requires : tie.Need-refused-requires
+refused-requires c κs = search needs
+
+returns : tie.Need-returns
+unfolding Transform·fromMatrix
+returns c =
+    rw (
+      eq-eqb _ 0 (rw (c .before .before .before .before .inverse .ensures) at (c .before .before .if1 .taken)),
+      c .before .from-rows .ensures,
+      c .before .before .before .before .inverse .ensures,
+    )
+
+returns-2 : tie.Need-returns-2
+unfolding Transform·fromMatrix
+returns-2 c =
+    rw (
+      ne-eqb _ 0 (rw (c .before .before .before .inverse .ensures) at (c .before .if1 .left)),
+      c .refused .ensures,
+      c .before .before .before .inverse .ensures,
+    )
+
+pub from-matrix-spec : {M : Type 1} → statement M
+from-matrix-spec =
+    tie.close (tie.spec inverse-requires from-rows-requires refused-requires returns returns-2)
