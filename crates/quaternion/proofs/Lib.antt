@@ -1,0 +1,2 @@
+-- Cases of quaternions.
+pub mod Cases

@@ -1,0 +1,37 @@
+-- `is_finite` meets its contract: a call for each component.
+use Rattle.quaternion.specs.IsFinite.{Quaternion·isFinite}
+use borrow.Author.Needs.{needs}
+use Rattle.quaternion.proofs.Quaternion.is_finite.Statement.{statement}
+use Rattle.quaternion.proofs.Quaternion.is_finite.Tie as tie
+
+is-finite-requires : tie.Need-is-finite-requires
+is-finite-requires c κs = search needs
+
+is-finite-requires-2 : tie.Need-is-finite-requires-2
+is-finite-requires-2 c κs = search needs
+
+is-finite-requires-3 : tie.Need-is-finite-requires-3
+is-finite-requires-3 c κs = search needs
+
+is-finite-requires-4 : tie.Need-is-finite-requires-4
+is-finite-requires-4 c κs = search needs
+
+returns : tie.Need-returns
+unfolding Quaternion·isFinite
+returns c =
+    rw (
+      c .before .before .before .is-finite .ensures,
+      c .before .before .is-finite2 .ensures,
+      c .before .is-finite3 .ensures,
+      c .is-finite4 .ensures,
+    )
+
+pub is-finite-spec : {M : Type 1} → statement M
+is-finite-spec =
+    tie.close
+    (tie.spec
+    is-finite-requires
+    is-finite-requires-2
+    is-finite-requires-3
+    is-finite-requires-4
+    returns)

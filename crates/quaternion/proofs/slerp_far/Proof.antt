@@ -1,0 +1,67 @@
+-- `slerp_far` meets its contract: a chain of ten calls.
+use Rattle.quaternion.specs.Slerp.{slerpFar}
+use borrow.Author.Needs.{needs}
+use Rattle.quaternion.proofs.slerp_far.Statement.{statement}
+use Rattle.quaternion.proofs.slerp_far.Tie as tie
+
+clamp-requires : tie.Need-clamp-requires
+clamp-requires c κs = search needs
+
+acos-requires : tie.Need-acos-requires
+acos-requires c κs = search needs
+
+mul-requires : tie.Need-mul-requires
+mul-requires c κs = search needs
+
+sub-requires : tie.Need-sub-requires
+sub-requires c κs = search needs
+
+normalize-requires : tie.Need-normalize-requires
+normalize-requires c κs = search needs
+
+cos-requires : tie.Need-cos-requires
+cos-requires c κs = search needs
+
+mul-requires-2 : tie.Need-mul-requires-2
+mul-requires-2 c κs = search needs
+
+sin-requires : tie.Need-sin-requires
+sin-requires c κs = search needs
+
+mul-requires-3 : tie.Need-mul-requires-3
+mul-requires-3 c κs = search needs
+
+add-requires : tie.Need-add-requires
+add-requires c κs = search needs
+
+returns : tie.Need-returns
+unfolding slerpFar
+returns c =
+    rw (
+      c .add .ensures,
+      c .before .mul3 .ensures,
+      c .before .before .sin .ensures,
+      c .before .before .before .mul2 .ensures,
+      c .before .before .before .before .cos .ensures,
+      c .before .before .before .before .before .normalize .ensures,
+      c .before .before .before .before .before .before .sub .ensures,
+      c .before .before .before .before .before .before .before .mul .ensures,
+      c .before .before .before .before .before .before .before .before .acos .ensures,
+      c .before .before .before .before .before .before .before .before .before .clamp .ensures,
+    )
+
+pub slerp-far-spec : {M : Type 1} → statement M
+slerp-far-spec =
+    tie.close
+    (tie.spec
+    clamp-requires
+    acos-requires
+    mul-requires
+    sub-requires
+    normalize-requires
+    cos-requires
+    mul-requires-2
+    sin-requires
+    mul-requires-3
+    add-requires
+    returns)

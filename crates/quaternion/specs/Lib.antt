@@ -1,0 +1,5 @@
+-- Definitions of quaternions.
+pub mod Quaternion
+pub mod IsFinite
+pub mod Slerp
+pub mod Computing
