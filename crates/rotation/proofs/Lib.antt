@@ -1,0 +1,2 @@
+-- Cases of rotations.
+pub mod Cases

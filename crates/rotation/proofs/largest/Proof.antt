@@ -1,0 +1,66 @@
+-- `largest` meets its contract: each branch is its case of the definition.
+use Rattle.rotation.specs.FromMatrix.{largest}
+use borrow.Author.Needs.{needs}
+use Rattle.rotation.proofs.largest.Statement.{statement}
+use Rattle.rotation.proofs.largest.Tie as tie
+
+array-copy-out-m0 : tie.Need-array-copy-out-m0
+array-copy-out-m0 c = search needs
+
+array-copy-out-m1 : tie.Need-array-copy-out-m1
+array-copy-out-m1 c = search needs
+
+array-copy-out-m2 : tie.Need-array-copy-out-m2
+array-copy-out-m2 c = search needs
+
+array-read-if1 : tie.Need-array-read-if1
+array-read-if1 c = search needs
+
+array-read-if1-2 : tie.Need-array-read-if1-2
+array-read-if1-2 c = search needs
+
+array-read-if2 : tie.Need-array-read-if2
+array-read-if2 c = search needs
+
+array-read-if2-2 : tie.Need-array-read-if2-2
+array-read-if2-2 c = search needs
+
+array-read-if3 : tie.Need-array-read-if3
+array-read-if3 c = search needs
+
+array-read-if3-2 : tie.Need-array-read-if3-2
+array-read-if3-2 c = search needs
+
+returns : tie.Need-returns
+unfolding largest
+returns c = (rw (c .before .if1 .taken, c .if2 .taken), search needs)
+
+returns-2 : tie.Need-returns-2
+unfolding largest
+returns-2 c = (rw (c .before .if1 .taken, c .if2 .left), search needs)
+
+returns-3 : tie.Need-returns-3
+unfolding largest
+returns-3 c = (rw (c .before .if1 .left, c .if3 .taken), search needs)
+
+returns-4 : tie.Need-returns-4
+unfolding largest
+returns-4 c = (rw (c .before .if1 .left, c .if3 .left), search needs)
+
+pub largest-spec : {M : Type 1} → statement M
+largest-spec =
+    tie.close
+    (tie.spec
+    array-copy-out-m0
+    array-copy-out-m1
+    array-copy-out-m2
+    array-read-if1
+    array-read-if1-2
+    array-read-if2
+    array-read-if2-2
+    array-read-if3
+    array-read-if3-2
+    returns
+    returns-2
+    returns-3
+    returns-4)
