@@ -1,8 +1,9 @@
 -- The test of a point and its three axes say the same (`test-finite`, `finite-test`), and a union of what is finite is finite (`union-point-finite`, `union-finite`).
 -- Rests on `min-picks` and `max-picks` of `float32`: least and greatest are one of their arguments.
-use mathlib.Core.Bool.{Bool, true, false, _&&_}
+use mathlib.Core.Bool.{_&&_}
 use lib.Dec.{T}
 use lib.Ieee.{Float}
+use lib.Ieee.Fits.{and-i, and-l, and-r}
 use lib.Ieee.Scale.{finite}
 use Rattle.float32.proofs.MinMax.{min-picks, max-picks}
 use Rattle.bounds3.specs.declared.Point3f.{Point3f}
@@ -11,32 +12,20 @@ use Rattle.bounds3.specs.Point3f.{Point3f·min, Point3f·max}
 use Rattle.bounds3.specs.Bounds3f.{Bounds3f·unionPoint, Bounds3f·unionBounds}
 use Rattle.bounds3.specs.Finite.{Point3f·isFinite, Bounds3f·isFinite, Finite}
 
-and-left : (a b : Bool) → T (a && b) → T a
-and-left true b h = tt
-and-left false b h = h
-
-and-right : (a b : Bool) → T (a && b) → T b
-and-right true b h = h
-and-right false b h = absurd h
-
-and-both : (a b : Bool) → T a → T b → T (a && b)
-and-both true b h k = k
-and-both false b h k = h
-
 -- ---- a point
 pub test-finite : (p : Point3f) → T (Point3f·isFinite p) → Finite p
 unfolding Point3f·isFinite
 test-finite p f =
-    let xy = and-left (finite (p .x) && finite (p .y)) (finite (p .z)) f in
+    let xy = and-l (finite (p .x) && finite (p .y)) (finite (p .z)) f in
     record {
-      x = and-left (finite (p .x)) (finite (p .y)) xy;
-      y = and-right (finite (p .x)) (finite (p .y)) xy;
-      z = and-right (finite (p .x) && finite (p .y)) (finite (p .z)) f;
+      x = and-l (finite (p .x)) (finite (p .y)) xy;
+      y = and-r (finite (p .x)) (finite (p .y)) xy;
+      z = and-r (finite (p .x) && finite (p .y)) (finite (p .z)) f;
     }
 
 pub finite-test : {p : Point3f} → Finite p → T (Point3f·isFinite p)
 unfolding Point3f·isFinite
-finite-test {p} f = and-both (finite (p .x) && finite (p .y)) (finite (p .z)) (and-both (finite (p .x)) (finite (p .y)) (f .x) (f .y)) (f .z)
+finite-test {p} f = and-i (finite (p .x) && finite (p .y)) (finite (p .z)) (and-i (finite (p .x)) (finite (p .y)) (f .x) (f .y)) (f .z)
 
 min-finite : {p q : Point3f} → Finite p → Finite q → Finite (Point3f·min p q)
 unfolding Point3f·min
@@ -54,15 +43,15 @@ max-finite {p} {q} f g =
 module _ (b : Bounds3f) (f : T (Bounds3f·isFinite b)) where
   pub low-finite : Finite (b .«p_min»)
   unfolding Bounds3f·isFinite
-  low-finite = test-finite (b .«p_min») (and-left (Point3f·isFinite (b .«p_min»)) (Point3f·isFinite (b .«p_max»)) f)
+  low-finite = test-finite (b .«p_min») (and-l (Point3f·isFinite (b .«p_min»)) (Point3f·isFinite (b .«p_max»)) f)
 
   pub high-finite : Finite (b .«p_max»)
   unfolding Bounds3f·isFinite
-  high-finite = test-finite (b .«p_max») (and-right (Point3f·isFinite (b .«p_min»)) (Point3f·isFinite (b .«p_max»)) f)
+  high-finite = test-finite (b .«p_max») (and-r (Point3f·isFinite (b .«p_min»)) (Point3f·isFinite (b .«p_max»)) f)
 
 pub box-finite : (b : Bounds3f) → Finite (b .«p_min») → Finite (b .«p_max») → T (Bounds3f·isFinite b)
 unfolding Bounds3f·isFinite
-box-finite b f g = and-both (Point3f·isFinite (b .«p_min»)) (Point3f·isFinite (b .«p_max»)) (finite-test f) (finite-test g)
+box-finite b f g = and-i (Point3f·isFinite (b .«p_min»)) (Point3f·isFinite (b .«p_max»)) (finite-test f) (finite-test g)
 
 pub union-point-finite : (b : Bounds3f) (p : Point3f) → T (Bounds3f·isFinite b) → T (Point3f·isFinite p) → T (Bounds3f·isFinite (Bounds3f·unionPoint b p))
 unfolding Bounds3f·unionPoint

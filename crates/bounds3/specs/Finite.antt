@@ -5,7 +5,7 @@ use lib.Ieee.Scale.{finite}
 use Rattle.bounds3.specs.declared.Point3f.{Point3f}
 use Rattle.bounds3.specs.declared.Bounds3f.{Bounds3f}
 
--- document 01, Refusals, 5 and 6: a value or a coordinate "is not finite"
+-- document 01, Refusals: 6 where "a coordinate is not finite", 5 where an answer "holds a value that isn't finite"
 unfoldable pub Point3f·isFinite : Point3f → Bool
 Point3f·isFinite p = finite (p .x) && finite (p .y) && finite (p .z)
 

@@ -10,7 +10,7 @@ pub record Inside (b : Bounds3f) (p : Point3f) : Type 0 where
   pub y : (b .«p_min» .y ≼ p .y) × (p .y ≼ b .«p_max» .y)
   pub z : (b .«p_min» .z ≼ p .z) × (p .z ≼ b .«p_max» .z)
 
--- Each end of a lies between the ends of b on its side: b holds whatever a holds.
+-- On each axis the ends of b are at those of a or beyond them, so that b holds whatever a holds.
 pub record Subset (a b : Bounds3f) : Type 0 where
   pub x : (b .«p_min» .x ≼ a .«p_min» .x) × (a .«p_max» .x ≼ b .«p_max» .x)
   pub y : (b .«p_min» .y ≼ a .«p_min» .y) × (a .«p_max» .y ≼ b .«p_max» .y)
