@@ -1,14 +1,12 @@
 -- Cases of the definitions, by computing, for a translation by (1, 2, 3): it moves a point and a box, leaves a vector's length, and followed by itself is one by (2, 4, 6).
 -- A point is divided by its fourth coordinate, and is refused where that is zero.
 use mathlib.Core.Path.{_≡_, refl}
-use mathlib.Core.Bool.{true, false}
+use mathlib.Core.Bool.{false}
 use mathlib.Core.List.{[], _∷_}
 use Prim.Native.Nat.{ℕ}
 use lib.Ieee.{Float, binary32, round}
-use Rattle.vector3.specs.declared.Vector3f.{Vector3f}
 use Rattle.matrix4x4.specs.Rows.{Row, Rows}
 use Rattle.bounds3.specs.declared.Point3f.{Point3f}
-use Rattle.bounds3.specs.declared.Bounds3f.{Bounds3f}
 use Rattle.transform.specs.declared.Transform.{Transform}
 use Rattle.transform.specs.declared.PointAnswer.the-variants as point
 use Rattle.transform.specs.declared.BoundsAnswer.the-variants as bounds

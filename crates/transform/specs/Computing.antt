@@ -1,7 +1,5 @@
--- What has to unfold for a given transform to be applied by computing, as one group: a case says `unfolding computing`. The inverse is not in it.
-use lib.Ieee.{add, mul, eq}
-use Rattle.matrix4x4.specs.Mul.{Matrix4x4·mul}
-use Rattle.matrix4x4.specs.Eq.{Matrix4x4·eq}
+-- What has to unfold for a given transform to be made and applied by computing, as one group: a case says `unfolding computing`.
+use Rattle.matrix_inverse.specs.Computing as inverse
 use Rattle.bounds3.specs.Computing as bounds3
 use Rattle.transform.specs.Transform.{Transform·fromMatrix, Transform·mul, Transform·eq}
 use Rattle.transform.specs.TransformPoint.{movedPoint, judged, Transform·transformPoint}
@@ -10,5 +8,5 @@ use Rattle.transform.specs.TransformBounds.{BoundsAnswer·fromMoved, Bou
 use Rattle.transform.specs.HasScale.{imageSquared, Transform·hasScale}
 
 unfoldable pub computing : Unit {0}
-unfolding add mul eq Matrix4x4·mul Matrix4x4·eq bounds3.computing Transform·fromMatrix Transform·mul Transform·eq movedPoint judged Transform·transformPoint Transform·transformVector BoundsAnswer·fromMoved BoundsAnswer·unionMoved unionCorner Transform·transformBounds imageSquared Transform·hasScale
+unfolding inverse.computing bounds3.computing Transform·fromMatrix Transform·mul Transform·eq movedPoint judged Transform·transformPoint Transform·transformVector BoundsAnswer·fromMoved BoundsAnswer·unionMoved unionCorner Transform·transformBounds imageSquared Transform·hasScale
 computing = tt
