@@ -3,7 +3,6 @@
 use mathlib.Core.Path.{_≡_, refl}
 use mathlib.Core.Bool.{true, false}
 use mathlib.Core.List.{[], _∷_}
-use Prim.Native.Nat.{ℕ}
 use lib.Ieee.{Float, binary32, round}
 use Rattle.matrix4x4.specs.Rows.{Row, Rows, Matrix4x4·fromRows}
 use Rattle.quaternion.specs.declared.Quaternion.{Quaternion}
