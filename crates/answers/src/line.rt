@@ -1,5 +1,6 @@
 // The lines of the input. An empty line, or one that starts with #, has no answer.
 use crate::angles;
+use crate::matrices;
 use crate::numbers;
 use crate::output::put_error;
 use crate::output::send;
@@ -67,5 +68,6 @@ fn answer(q: Question, out: &mut [u8], s: State) -> State {
         Kind::Malformed => s.at(put_error(out, at)),
         Kind::Number(n) => s.at(numbers::answer(n, q, out, at)),
         Kind::Angle(a) => s.at(angles::answer(a, q, out, at)),
+        Kind::Matrix(m) => s.at(matrices::answer(m, q, out, at)),
     }
 }

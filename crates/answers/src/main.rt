@@ -2,6 +2,7 @@
 // so that any other implementation can be compared with them through a pipe. What is read at once is answered before more is read.
 mod angles;
 mod line;
+mod matrices;
 mod numbers;
 mod output;
 mod question;

@@ -1,5 +1,6 @@
 // The output: each function writes bytes from a place on and answers the place after them. What has no room is left out.
 use crate::text::part;
+use quaternion::Quaternion;
 
 // Sends the first bytes of the output.
 pub fn send(out: &[u8], written: usize) {
@@ -44,4 +45,49 @@ pub fn put(out: &mut [u8], at: usize, b: u8) -> usize {
         return at + 1;
     }
     at
+}
+
+// The answer to a question that asks for a matrix.
+pub fn put_ok_matrix(out: &mut [u8], at: usize, m: [[f32; 4]; 4]) -> usize {
+    let a = m[0];
+    let b = m[1];
+    let c = m[2];
+    let d = m[3];
+    let ok = put_text(out, at, b"ok");
+    let first = put_row(out, ok, a);
+    let second = put_row(out, first, b);
+    let third = put_row(out, second, c);
+    let fourth = put_row(out, third, d);
+    put(out, fourth, b'\n')
+}
+
+// The answer to a question that asks for a quaternion.
+pub fn put_ok_quaternion(out: &mut [u8], at: usize, q: Quaternion) -> usize {
+    let v = q.v;
+    let ok = put_text(out, at, b"ok");
+    let end = put_row(out, ok, [v.x, v.y, v.z, q.w]);
+    put(out, end, b'\n')
+}
+
+// The answer to a question that is refused: a number below 100.
+pub fn put_refused(out: &mut [u8], at: usize, refusal: u8) -> usize {
+    let word = put_text(out, at, b"refused ");
+    let tens = refusal / 10 % 10;
+    let units = put_tens(out, word, tens);
+    let end = put(out, units, 48 + refusal % 10);
+    put(out, end, b'\n')
+}
+
+fn put_tens(out: &mut [u8], at: usize, tens: u8) -> usize {
+    if tens == 0 {
+        return at;
+    }
+    put(out, at, 48 + tens % 10)
+}
+
+fn put_row(out: &mut [u8], at: usize, r: [f32; 4]) -> usize {
+    let a = put_float(out, at, r[0]);
+    let b = put_float(out, a, r[1]);
+    let c = put_float(out, b, r[2]);
+    put_float(out, c, r[3])
 }

@@ -1,6 +1,8 @@
 // A line as a question: a name, then its arguments with one space before each. A float is eight hexadecimal digits, its bits.
 use crate::angles;
 use crate::angles::Angle;
+use crate::matrices;
+use crate::matrices::Matrix;
 use crate::numbers;
 use crate::numbers::Number;
 use crate::text::part;
@@ -11,6 +13,7 @@ pub enum Kind {
     Malformed,
     Number(Number),
     Angle(Angle),
+    Matrix(Matrix),
 }
 
 // What comes after a name: a decimal number or none, then floats, at most 34.
@@ -45,12 +48,24 @@ pub fn parse(line: &[u8]) -> Question {
 
 // The form of a name: each group knows its own names.
 fn form_of(name: &[u8]) -> Form {
-    let f = numbers::form_of(name);
+    let number = numbers::form_of(name);
+    if is_known(number) {
+        return number;
+    }
+    let angle = angles::form_of(name);
+    if is_known(angle) {
+        return angle;
+    }
+    matrices::form_of(name)
+}
+
+fn is_known(f: Form) -> bool {
     let kind = f.kind;
     if let Kind::Malformed = kind {
-        return angles::form_of(name);
+        false
+    } else {
+        true
     }
-    f
 }
 
 // The form of a question that has only floats.
