@@ -16,6 +16,7 @@ done
 cargo build --quiet --release --offline --manifest-path oracle/Cargo.toml --target-dir "$made/oracle"
 # `decompose` is no question of the program yet.
 "$made/oracle/release/vectors" matrices 1500 1 | grep -v '^decompose' >"$made/questions"
+"$made/oracle/release/vectors" boxes 500 1 >>"$made/questions"
 cat "$made/questions" >>"$made/stdin"
 "$made/oracle/release/answers" <"$made/questions" >>"$made/stdout"
 cp "$made/stdin" "$made/stdout" crates/answers/

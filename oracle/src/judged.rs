@@ -343,6 +343,20 @@ impl Move {
     }
 }
 
+/// A transform's matrix half over a box: 5 where a corner's wp is zero, which the original asserts against, or a moved corner isn't finite.
+pub fn transform_bounds(m: &Matrix4x4, b: &Bounds3f) -> Judged<Bounds3f> {
+    let transform = Transform::from_matrices(m, &Matrix4x4::default());
+    for i in 0..8 {
+        let p = b.corner(i);
+        let [r0, r1, r2, r3] = m.m[3];
+        if p.x * r0 + p.y * r1 + p.z * r2 + r3 == 0.0 {
+            return Err(NOT_FINITE);
+        }
+        finite(&point_values(&transform.transform_point(&p)))?;
+    }
+    Ok(transform.transform_bounds(b))
+}
+
 /// 6, then 7, of a box that a query brings.
 pub fn check_bounds(b: &Bounds3f) -> Judged<()> {
     if finite(&bounds_values(b)).is_err() {

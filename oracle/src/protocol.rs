@@ -215,6 +215,12 @@ impl Session {
                 let q: [f32; 9] = read(words)?;
                 Some(Ok(quaternion_floats(&slerp(&quaternion(&q[1..5]), &quaternion(&q[5..]), q[0]))))
             }
+            b"bounds" => {
+                let v: [f32; 22] = read(words)?;
+                let corners = [Point3f::new(v[16], v[17], v[18]), Point3f::new(v[19], v[20], v[21])];
+                let b = Bounds3f { p_min: corners[0], p_max: corners[1] };
+                Some(judged::transform_bounds(&matrix(&v[..16]), &b).map(|b| floats(&bounds_values(&b))))
+            }
             b"decompose" => {
                 let m: [f32; 16] = read(words)?;
                 let parts = judged::decompose(&matrix(&m));

@@ -1,5 +1,6 @@
-// Questions about matrices and quaternions: inverse M, mul M M, quat M, rotation Q, dot Q Q, normalize Q, slerp T Q Q.
-// A matrix is 16 floats by rows, a quaternion x y z w.
+// Questions about matrices and quaternions: inverse M, mul M M, quat M, rotation Q, dot Q Q, normalize Q, slerp T Q Q, bounds M BOX.
+// A matrix is 16 floats by rows, a quaternion x y z w, a box x0 y0 z0 x1 y1 z1; `bounds` is what `transform_bounds` makes of the box.
+use crate::output::put_ok_bounds;
 use crate::output::put_ok_float;
 use crate::output::put_ok_matrix;
 use crate::output::put_ok_quaternion;
@@ -8,10 +9,14 @@ use crate::question::Form;
 use crate::question::Kind;
 use crate::question::Question;
 use crate::question::floats;
+use bounds3::Bounds3f;
+use bounds3::Point3f;
 use check::same;
 use hexadecimal::float_of_bits;
 use matrix4x4::Matrix4x4;
 use quaternion::Quaternion;
+use transform::BoundsAnswer;
+use transform::Transform;
 use vector3::Vector3f;
 
 pub enum Matrix {
@@ -22,6 +27,7 @@ pub enum Matrix {
     Dot,
     Normalize,
     Slerp,
+    Bounds,
 }
 
 pub fn form_of(name: &[u8]) -> Form {
@@ -45,6 +51,9 @@ pub fn form_of(name: &[u8]) -> Form {
     }
     if same(name, b"slerp") {
         return floats(Kind::Matrix(Matrix::Slerp), 9);
+    }
+    if same(name, b"bounds") {
+        return floats(Kind::Matrix(Matrix::Bounds), 22);
     }
     floats(Kind::Malformed, 0)
 }
@@ -80,6 +89,7 @@ pub fn answer(m: Matrix, q: Question, out: &mut [u8], at: usize) -> usize {
             );
             put_ok_quaternion(out, at, r)
         }
+        Matrix::Bounds => answer_bounds(words, out, at),
     }
 }
 
@@ -129,4 +139,26 @@ fn quaternion_at(words: [u32; 34], i: usize) -> Quaternion {
         z: r[2],
     };
     Quaternion { v, w: r[3] }
+}
+
+fn point_at(words: [u32; 34], i: usize) -> Point3f {
+    let r = row_at(words, i);
+    Point3f {
+        x: r[0],
+        y: r[1],
+        z: r[2],
+    }
+}
+
+fn answer_bounds(words: [u32; 34], out: &mut [u8], at: usize) -> usize {
+    let m = matrix_at(words, 0);
+    let b = Bounds3f {
+        p_min: point_at(words, 16),
+        p_max: point_at(words, 19),
+    };
+    let moved = Transform::from_matrices(m, m).transform_bounds(b);
+    match moved {
+        BoundsAnswer::Bounds(r) => put_ok_bounds(out, at, r),
+        BoundsAnswer::Refused(n) => put_refused(out, at, n),
+    }
 }

@@ -1,5 +1,7 @@
 // The output: each function writes bytes from a place on and answers the place after them. What has no room is left out.
 use crate::text::part;
+use bounds3::Bounds3f;
+use bounds3::Point3f;
 use quaternion::Quaternion;
 
 // Sends the first bytes of the output.
@@ -67,6 +69,20 @@ pub fn put_ok_quaternion(out: &mut [u8], at: usize, q: Quaternion) -> usize {
     let ok = put_text(out, at, b"ok");
     let end = put_row(out, ok, [v.x, v.y, v.z, q.w]);
     put(out, end, b'\n')
+}
+
+// The answer to a question that asks for a box.
+pub fn put_ok_bounds(out: &mut [u8], at: usize, b: Bounds3f) -> usize {
+    let ok = put_text(out, at, b"ok");
+    let least = put_point(out, ok, b.p_min);
+    let end = put_point(out, least, b.p_max);
+    put(out, end, b'\n')
+}
+
+fn put_point(out: &mut [u8], at: usize, p: Point3f) -> usize {
+    let x = put_float(out, at, p.x);
+    let y = put_float(out, x, p.y);
+    put_float(out, y, p.z)
 }
 
 // The answer to a question that is refused: a number below 100.

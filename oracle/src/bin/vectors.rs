@@ -531,7 +531,32 @@ impl Random {
 }
 
 /// The kinds of question.
-const KINDS: &[&str] = &["numbers", "angles", "matrices", "bounds", "moves", "motion", "covers"];
+const KINDS: &[&str] = &["numbers", "angles", "matrices", "bounds", "moves", "motion", "covers", "boxes"];
+
+/// A box that a matrix carries: turned about, mirrored, carried to infinity, with wp of zero and a bottom row that isn't 0 0 0 1.
+fn fixed_boxes<W: Write>(q: &mut Questions<W>) {
+    let unit = [-1.0, -1.0, -1.0, 1.0, 1.0, 1.0];
+    let scales = [1.0, -1.0, 0.0, -0.0, f32::MAX, f32::from_bits(1), INFINITY, NAN];
+    for x in scales {
+        for w in scales {
+            q.ask("bounds", &[&diagonal(x, 1.0, -1.0, w), &unit]);
+        }
+    }
+    let mut projective = diagonal(1.0, 1.0, 1.0, 1.0);
+    for depth in [1.0, 0.5, -0.5, f32::MAX] {
+        projective[14] = depth;
+        q.ask("bounds", &[&projective, &unit]);
+    }
+}
+
+fn random_box<W: Write>(q: &mut Questions<W>, r: &mut Random) {
+    let mut m = r.matrix();
+    if !r.one_in(3) {
+        m[12..].copy_from_slice(&[0.0, 0.0, 0.0, 1.0]);
+    }
+    let b = r.bounds();
+    q.ask("bounds", &[&m, &b]);
+}
 
 fn fixed_numbers<W: Write>(q: &mut Questions<W>) {
     for edge in EDGES.iter().map(|bits| f32::from_bits(*bits)) {
@@ -994,6 +1019,7 @@ fn main() {
         "moves" => (fixed_moves, random_move),
         "motion" => (fixed_motion, random_motion),
         "covers" => (fixed_covers, random_cover),
+        "boxes" => (fixed_boxes, random_box),
         _ => usage(),
     };
     // Each kind has numbers of its own, whatever the seed.
