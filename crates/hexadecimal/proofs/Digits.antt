@@ -56,7 +56,7 @@ module _ (b : ℕ) (h : b < 256) where
   pub digitValue-none : inRange 48 57 b ≡ false → inRange 97 102 b ≡ false → inRange 65 70 b ≡ false → 16 ≡ digitValue b
   digitValue-none d l u = rw (d, l, u) at (byte b h)
 
-position-bound : (b : ℕ) (s : List ℕ) → position b s ≤ length s
+pub position-bound : (b : ℕ) (s : List ℕ) → position b s ≤ length s
 unfolding position
 position-bound b [] = omega arith
 position-bound b (c ∷ s) = go (eqb b c) (position-bound b s)
