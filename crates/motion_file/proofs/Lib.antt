@@ -1,0 +1,9 @@
+pub mod Pieces
+pub mod Spaces
+pub mod Names
+pub mod Words
+pub mod Values
+pub mod ReadUpTo
+pub mod Lines
+pub mod Files
+pub mod Cases

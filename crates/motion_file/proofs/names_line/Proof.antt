@@ -1,0 +1,59 @@
+-- `names_line` is `afterLine` for a line of names: the slice that it tests is the line (`after-fits`, `after-unfit`), or the place lies past the end (`after-unended`).
+use native.Mathlib.Omega.{arith}
+use mathlib.Core.Path.{sym, _∙_}
+use borrow.Author.Needs.{needs}
+use Rattle.motion_file.specs.Layout.{names}
+use Rattle.motion_file.proofs.Lines.{after-fits, after-unfit, after-unended}
+use Rattle.motion_file.proofs.names_line.Statement.{statement}
+use Rattle.motion_file.proofs.names_line.Tie as tie
+
+line-end-requires : tie.Need-line-end-requires
+line-end-requires c κs = search needs
+
+sub-is-names : tie.Need-sub-is-names
+sub-is-names c = search needs
+
+part-is-names-start : tie.Need-part-is-names-start
+part-is-names-start c = search needs
+
+part-is-names-end : tie.Need-part-is-names-end
+part-is-names-end c = search needs
+
+is-names-requires : tie.Need-is-names-requires
+is-names-requires c κs = search needs
+
+after-line-feed-requires : tie.Need-after-line-feed-requires
+after-line-feed-requires c κs = search needs
+
+returns : tie.Need-returns
+returns c =
+    let a = c .before .before .before .before .before .before .before .before .args in
+    let end = c .before .before .before .before .before .line-end in
+    c .after-line-feed .ensures
+    ∙ after-fits (names (a .text .now)) (a .s .now) (a .at) (end .result) (end .ensures) (sym (c .before .before .is-names .ensures) ∙ c .before .if2 .taken)
+
+returns-2 : tie.Need-returns-2
+returns-2 c =
+    let a = c .before .before .before .before .before .before .before .args in
+    let end = c .before .before .before .before .line-end in
+    after-unfit (names (a .text .now)) (a .s .now) (a .at) (end .result) (end .ensures) (sym (c .before .is-names .ensures) ∙ c .if2 .left)
+
+returns-3 : tie.Need-returns-3
+returns-3 c =
+    let a = c .before .before .before .before .args in
+    let end = c .before .line-end in
+    after-unended (names (a .text .now)) (a .s .now) (a .at) (end .result) (end .ensures) (omega arith)
+
+pub names-line-spec : {M : Type 1} → statement M
+names-line-spec =
+    tie.close
+    (tie.spec
+    line-end-requires
+    sub-is-names
+    part-is-names-start
+    part-is-names-end
+    is-names-requires
+    after-line-feed-requires
+    returns
+    returns-2
+    returns-3)

@@ -1,0 +1,160 @@
+-- `read_values` reads a line of values. The invariant: k of them stand in `out`, and the line is as many as `out` has places exactly where the words from `at` on are
+-- the values that are left.
+use Prim.Native.Nat.{_+_, _-_}
+use native.Mathlib.Omega.{arith}
+use mathlib.Core.Path.{_≡_, refl, sym, _∙_}
+use mathlib.Core.Bool.{false≢true}
+use lib.ListN.{length, length-set}
+use borrow.Author.Needs.{needs}
+use Rattle.motion_file.specs.Layout.{fits, valuesOf}
+use Rattle.motion_file.proofs.Values.{bits-inside}
+use Rattle.motion_file.proofs.ReadUpTo.{ReadUpTo, read-start, read-malformed, read-short, read-unspaced, read-final, read-filled, read-more}
+use Rattle.motion_file.proofs.read_values.Statement.{statement}
+use Rattle.motion_file.proofs.read_values.Tie as tie
+
+abbrev Inv-loop : tie.InvT-loop
+Inv-loop line out₀ at₀ k₀ out at k = (length out ≡ length out₀) × ReadUpTo line out at k
+
+abbrev μ-loop : tie.MeasureT-loop
+μ-loop line out₀ at₀ k₀ out at k = length out₀ - k
+
+loop-holds : tie.Need-loop-holds Inv-loop μ-loop
+loop-holds c = (refl, read-start (c .before .before .args .line .now) (c .before .before .args .out .now) (c .before .before .pre))
+
+read-word-requires : tie.Need-read-word-requires Inv-loop μ-loop
+read-word-requires c κs = search needs
+
+enum-known-bits : tie.Need-enum-known-bits Inv-loop μ-loop
+enum-known-bits c = search needs
+
+float-of-bits-requires : tie.Need-float-of-bits-requires Inv-loop μ-loop
+float-of-bits-requires c κs = search needs
+
+mul-out : tie.Need-mul-out Inv-loop μ-loop
+mul-out c = search needs
+
+slice-write-out : tie.Need-slice-write-out Inv-loop μ-loop
+slice-write-out c = search needs
+
+enum-told : tie.Need-enum-told Inv-loop μ-loop
+enum-told c = search needs
+
+same-length : tie.Need-same-length Inv-loop μ-loop
+same-length c = search needs
+
+returns : tie.Need-returns Inv-loop μ-loop
+unfolding fits
+returns c =
+    let l = c .before .before .before .loop in
+    let line = c .before .before .before .before .before .before .args .line .now in
+    let e = sym (c .before .before .read-word .ensures) ∙ c .enum-told .given .1 in
+    (sym (rw (l .inv .0) at (read-malformed line (l .out) (l .at) (l .k) (l .inv .1) e)), λ t. absurd (false≢true t))
+
+add-at : tie.Need-add-at Inv-loop μ-loop
+add-at c =
+    let l = c .before .before .before .before .before .loop in
+    let line = c .before .before .before .before .before .before .before .before .args .line .now in
+    let bits = c .before .before .bits .given in
+    let e = sym (c .before .before .before .before .read-word .ensures) ∙ bits .1 in
+    omega (arith, bits-inside line (l .at) (bits .0 .0) e)
+
+add-k : tie.Need-add-k Inv-loop μ-loop
+add-k c = search needs
+
+same-length-2 : tie.Need-same-length-2 Inv-loop μ-loop
+same-length-2 c = search needs
+
+returns-2 : tie.Need-returns-2 Inv-loop μ-loop
+unfolding fits valuesOf
+returns-2 c =
+    let l = c .before .before .before .before .before .before .loop in
+    let line = c .before .before .before .before .before .before .before .before .before .args .line .now in
+    let bits = c .before .before .before .bits .given in
+    let e = sym (c .before .before .before .before .before .read-word .ensures) ∙ bits .1 in
+    let size = length-set (l .out) (l .k) (c .before .float-of-bits .result) in
+    let full : l .k + 1 ≡ length (l .out) = omega (arith, size, l .inv .0, c .if1 .taken) in (
+      sym (rw (l .inv .0) at (read-final line (l .out) (l .at) (l .k) (l .inv .1) (bits .0 .0) e full)),
+      λ t. read-filled line (l .out) (l .at) (l .k) (l .inv .1) (bits .0 .0) e _ (c .before .float-of-bits .ensures) full t,
+    )
+
+same-length-3 : tie.Need-same-length-3 Inv-loop μ-loop
+same-length-3 c = search needs
+
+returns-3 : tie.Need-returns-3 Inv-loop μ-loop
+unfolding fits
+returns-3 c =
+    let l = c .before .before .before .before .before .before .before .loop in
+    let line = c .before .before .before .before .before .before .before .before .before .before .args .line .now in
+    let bits = c .before .before .before .before .bits .given in
+    let e = sym (c .before .before .before .before .before .before .read-word .ensures) ∙ bits .1 in
+    let size = length-set (l .out) (l .k) (c .before .before .float-of-bits .result) in
+    let more : l .k + 1 ≡ length (l .out) → ⊥ = omega (arith, size, l .inv .0, c .before .if1 .left) in (
+      sym (rw (l .inv .0) at (read-short line (l .out) (l .at) (l .k) (l .inv .1) (bits .0 .0) e more (c .if2 .taken))),
+      λ t. absurd (false≢true t),
+    )
+
+shared-slice-read-if3 : tie.Need-shared-slice-read-if3 Inv-loop μ-loop
+shared-slice-read-if3 c = search needs
+
+same-length-4 : tie.Need-same-length-4 Inv-loop μ-loop
+same-length-4 c = search needs
+
+returns-4 : tie.Need-returns-4 Inv-loop μ-loop
+unfolding fits
+returns-4 c =
+    let l = c .before .before .before .before .before .before .before .before .before .loop in
+    let line = c .before .before .before .before .before .before .before .before .before .before .before .before .args .line .now in
+    let bits = c .before .before .before .before .before .before .bits .given in
+    let e = sym (c .before .before .before .before .before .before .before .before .read-word .ensures) ∙ bits .1 in (
+      sym (rw (l .inv .0) at (read-unspaced line (l .out) (l .at) (l .k) (l .inv .1) (bits .0 .0) e (c .before .before .if2 .left) (c .if3 .taken))),
+      λ t. absurd (false≢true t),
+    )
+
+next-byte-requires : tie.Need-next-byte-requires Inv-loop μ-loop
+next-byte-requires c κs = search needs
+
+loop-less : tie.Need-loop-less Inv-loop μ-loop
+loop-less c = search needs
+
+loop-again : tie.Need-loop-again Inv-loop μ-loop
+loop-again c =
+    let l = c .before .before .before .before .before .before .before .before .before .before .loop in
+    let line = c .before .before .before .before .before .before .before .before .before .before .before .before .before .args .line .now in
+    let bits = c .before .before .before .before .before .before .before .bits .given in
+    let e = sym (c .before .before .before .before .before .before .before .before .before .read-word .ensures) ∙ bits .1 in
+    let value = c .before .before .before .before .before .float-of-bits in
+    let size = length-set (l .out) (l .k) (value .result) in
+    let more : l .k + 1 ≡ length (l .out) → ⊥ = omega (arith, size, l .inv .0, c .before .before .before .before .if1 .left) in (
+      size ∙ l .inv .0,
+      read-more line (l .out) (l .at) (l .k) (l .inv .1) (bits .0 .0) e _ (value .ensures) _ more (c .before .before .before .if2 .left)
+          (c .before .if3 .left)
+          (c .next-byte .ensures),
+    )
+
+pub read-values-spec : {M : Type 1} → statement M
+read-values-spec =
+    tie.close
+    (tie.spec
+    Inv-loop
+    μ-loop
+    loop-holds
+    read-word-requires
+    enum-known-bits
+    float-of-bits-requires
+    mul-out
+    slice-write-out
+    enum-told
+    same-length
+    returns
+    add-at
+    add-k
+    same-length-2
+    returns-2
+    same-length-3
+    returns-3
+    shared-slice-read-if3
+    same-length-4
+    returns-4
+    next-byte-requires
+    loop-less
+    loop-again)

@@ -1,0 +1,76 @@
+-- `values_line` is `afterLine` for a line of values, as `names_line` is for names; what it leaves in `out` are the values of the line.
+use native.Mathlib.Omega.{arith}
+use mathlib.Core.Path.{sym, _∙_, ap}
+use lib.ListN.{length}
+use borrow.Author.Needs.{needs}
+use Rattle.motion_file.specs.Layout.{values, valuesOf}
+use Rattle.motion_file.proofs.Lines.{line-slice, after-fits, after-unfit, after-unended}
+use Rattle.motion_file.proofs.values_line.Statement.{statement}
+use Rattle.motion_file.proofs.values_line.Tie as tie
+
+line-end-requires : tie.Need-line-end-requires
+line-end-requires c κs = search needs
+
+sub-read-values : tie.Need-sub-read-values
+sub-read-values c = search needs
+
+part-read-values-start : tie.Need-part-read-values-start
+part-read-values-start c = search needs
+
+part-read-values-end : tie.Need-part-read-values-end
+part-read-values-end c = search needs
+
+read-values-requires : tie.Need-read-values-requires
+read-values-requires c κs = search needs
+
+after-line-feed-requires : tie.Need-after-line-feed-requires
+after-line-feed-requires c κs = search needs
+
+same-length : tie.Need-same-length
+same-length c = search needs
+
+returns : tie.Need-returns
+returns c =
+    let a = c .before .before .before .before .before .before .before .before .before .before .before .args in
+    let end = c .before .before .before .before .before .before .before .before .line-end in
+    let read = c .before .before .before .before .read-values in (
+      c .after-line-feed .ensures
+          ∙ after-fits (values (length (a .out .now))) (a .s .now) (a .at) (end .result) (end .ensures) (sym (read .ensures .0) ∙ c .before .if2 .taken),
+      λ h. read .ensures .1 (c .before .if2 .taken) ∙ ap valuesOf (line-slice (a .s .now) (a .at) (end .result) (end .ensures)),
+    )
+
+same-length-2 : tie.Need-same-length-2
+same-length-2 c = search needs
+
+returns-2 : tie.Need-returns-2
+returns-2 c =
+    let a = c .before .before .before .before .before .before .before .before .before .before .args in
+    let end = c .before .before .before .before .before .before .before .line-end in (
+      after-unfit (values (length (a .out .now))) (a .s .now) (a .at) (end .result) (end .ensures)
+          (sym (c .before .before .before .read-values .ensures .0) ∙ c .if2 .left),
+      λ h. absurd (omega arith),
+    )
+
+returns-3 : tie.Need-returns-3
+returns-3 c =
+    let a = c .before .before .before .before .args in
+    let end = c .before .line-end in (
+      after-unended (values (length (a .out .now))) (a .s .now) (a .at) (end .result) (end .ensures) (omega arith),
+      λ h. absurd (omega arith),
+    )
+
+pub values-line-spec : {M : Type 1} → statement M
+values-line-spec =
+    tie.close
+    (tie.spec
+    line-end-requires
+    sub-read-values
+    part-read-values-start
+    part-read-values-end
+    read-values-requires
+    after-line-feed-requires
+    same-length
+    returns
+    same-length-2
+    returns-2
+    returns-3)

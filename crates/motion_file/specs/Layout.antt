@@ -1,0 +1,92 @@
+-- The layout of a move file and what such a file says: `layout`, `conforms`, `MoveFile·read`. Document 01, "File and program": a line of names, then lines of
+-- values in that order; values are eight hexadecimal digits of either case, the float's bits; one or more spaces stand between words, none before the first or
+-- after the last; every line ends in a line feed; a file has at most 65,536 bytes. Whatever departs from it is refused with 11, and every number is then +0.
+-- A NaN's bits all mean the one NaN. Rests on `Text.antt` and on the digits of `hexadecimal`.
+use Prim.Native.Nat.{ℕ}
+use mathlib.Core.Bool.{Bool, true, false, cond, _&&_}
+use mathlib.Core.List.{List, [], _∷_, map}
+use lib.Dec.{eqb, leb}
+use lib.ListN.{length, getD, replicate}
+use lib.Ieee.{Float, binary32, ofBits}
+use Rattle.hexadecimal.specs.Word.{digitsOnly, number}
+use Rattle.motion_file.specs.Text.{ascii, lineFeed, space, split, singleSpaced, equal}
+use Rattle.motion_file.specs.declared.MoveFile.{MoveFile}
+
+-- a kind of line: a text of names, or a number of values
+pub data Line : Type 0 where
+  names : List ℕ → Line
+  values : ℕ → Line
+
+-- the names of a pose's values and of a box's, least corner and greatest corner
+abbrev pub poseNames : List ℕ
+poseNames = ascii "time m00 m01 m02 m03 m10 m11 m12 m13 m20 m21 m22 m23"
+
+abbrev pub boundsNames : List ℕ
+boundsNames = ascii "x0 y0 z0 x1 y1 z1"
+
+-- the lines of a move file: two poses, start and end, and a box
+abbrev pub layout : List Line
+layout = names poseNames ∷ values 13 ∷ values 13 ∷ names boundsNames ∷ values 6 ∷ []
+
+-- what stands between runs of spaces; a space before the first word or after the last makes an empty word, which is no name and no value
+abbrev pub words : List ℕ → List (List ℕ)
+words line = split space (singleSpaced line)
+
+abbrev pub isValue : List ℕ → Bool
+isValue word = eqb (length word) 8 && digitsOnly word
+
+abbrev pub valueOf : List ℕ → Float
+valueOf word = ofBits binary32 (number word)
+
+unfoldable pub allValues : List (List ℕ) → Bool
+allValues [] = true
+allValues (w ∷ ws) = isValue w && allValues ws
+
+-- whether the words are so many values
+abbrev pub areValues : ℕ → List (List ℕ) → Bool
+areValues n ws = eqb (length ws) n && allValues ws
+
+-- whether a line is of a kind
+unfoldable pub fits : Line → List ℕ → Bool
+fits (names text) line = equal (singleSpaced line) text
+fits (values n) line = areValues n (words line)
+
+-- the values of a line
+unfoldable pub valuesOf : List ℕ → List Float
+valuesOf line = map valueOf (words line)
+
+-- whether a text that line feeds cut into pieces is lines of these kinds, one after the other: each ends in a line feed, so that the last piece is empty
+unfoldable pub conforms : List Line → List (List ℕ) → Bool
+conforms [] [] = false
+conforms [] (piece ∷ pieces) = equal piece [] && eqb (length pieces) 0
+conforms (kind ∷ kinds) [] = false
+conforms (kind ∷ kinds) (piece ∷ pieces) = fits kind piece && conforms kinds pieces
+
+abbrev pub maxBytes : ℕ
+maxBytes = 65536
+
+-- a file that departs from the layout
+abbrev pub MoveFile·departs : MoveFile
+MoveFile·departs =
+    record {
+      start = replicate 13 (ofBits binary32 0);
+      end = replicate 13 (ofBits binary32 0);
+      bounds = replicate 6 (ofBits binary32 0);
+      refusal = 11;
+    }
+
+-- what the lines of a file that keeps the layout say: the second and third are the poses, the fifth is the box
+abbrev pub MoveFile·contents : List (List ℕ) → MoveFile
+MoveFile·contents lines =
+    record {
+      start = valuesOf (getD lines 1 []);
+      end = valuesOf (getD lines 2 []);
+      bounds = valuesOf (getD lines 4 []);
+      refusal = 0;
+    }
+
+-- what a file says
+unfoldable pub MoveFile·read : List ℕ → MoveFile
+MoveFile·read bytes =
+    let lines = split lineFeed bytes in
+    cond (leb (length bytes) maxBytes && conforms layout lines) (MoveFile·contents lines) MoveFile·departs
