@@ -1,0 +1,3 @@
+pub mod Pastes
+pub mod Written
+pub mod Cases
