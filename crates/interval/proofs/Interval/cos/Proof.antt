@@ -1,0 +1,19 @@
+-- `Interval::cos` meets its contract: its calls in turn, from the last to the first.
+use Rattle.interval.specs.Interval.{Interval·cos}
+use Rattle.interval.proofs.Interval.cos.Statement.{statement}
+use Rattle.interval.proofs.Interval.cos.Tie as tie
+
+returns : tie.Need-returns
+unfolding Interval·cos
+returns c = rw (
+  c .new .ensures,
+  c .before .select3 .ensures,
+  c .before .before .straddles .ensures,
+  c .before .before .before .select2 .ensures,
+  c .before .before .before .before .select .ensures,
+  c .before .before .before .before .before .cos2 .ensures,
+  c .before .before .before .before .before .before .cos .ensures,
+)
+
+pub cos-spec : {M : Type 1} → statement M
+cos-spec = tie.close (tie.spec (λ c κs. tt) (λ c κs. tt) (λ c κs. tt) (λ c κs. tt) (λ c κs. tt) (λ c κs. tt) (λ c κs. tt) returns)

@@ -1,0 +1,15 @@
+-- `Interval::not_positive` meets its contract: each return is the case that the test chose.
+use Rattle.interval.specs.Enclosure.{notPositive}
+use Rattle.interval.proofs.Interval.not_positive.Statement.{statement}
+use Rattle.interval.proofs.Interval.not_positive.Tie as tie
+
+returns : tie.Need-returns
+unfolding notPositive
+returns c = rw (c .if1 .taken)
+
+returns-2 : tie.Need-returns-2
+unfolding notPositive
+returns-2 c = rw (c .if1 .left)
+
+pub not-positive-spec : {M : Type 1} → statement M
+not-positive-spec = tie.close (tie.spec returns returns-2)

@@ -1,0 +1,4 @@
+pub mod Contains
+pub mod Interval
+pub mod Enclosure
+pub mod Extension

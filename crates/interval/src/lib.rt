@@ -1,0 +1,281 @@
+// Closed intervals of 32-bit floats. `Interval` has pbrt's own operations, with which the zero search bounds a function's range. `Judged` has those of document
+// 01's cover: an interval is judged as it is formed, and each operation takes the refusal number met before it, m, and hands the first number on.
+ghost use mathlib.Core.Path.{_≡_};
+ghost use Prim.Native.Nat.{_^_, _<_};
+ghost use mathlib.Core.Bool.{cond};
+ghost use Rattle.trig.specs.Units.{angleUnits};
+ghost use Rattle.trig_laws.specs.Range.{lies};
+ghost use Rattle.interval.specs.Interval.{Interval·new, Interval·point, Interval·hull, Interval·ofFour, Interval·add, Interval·sub, Interval·mul, Interval·straddles, Interval·sin, Interval·cos};
+ghost use Rattle.interval.specs.Enclosure.{first, notFinite, notPositive, Judged·judge, Judged·addEnclosure, Judged·subEnclosure, Judged·mulEnclosure, Judged·divEnclosure, Judged·sqrtEnclosure, Judged·sinEnclosure, Judged·cosEnclosure};
+
+// pbrt's std::f32::consts::PI.
+const PI: f32 = 3.14159274;
+
+// Places of the quarters, in document 01's units of 2^-28.
+const QUARTER_TURN: u64 = 421657428;
+
+const HALF_TURN: u64 = 843314856;
+
+const THREE_QUARTERS: u64 = 1264972284;
+
+const FULL_TURN: u64 = 1686629712;
+
+// A low and a high end.
+pub struct Interval {
+    pub low: f32,
+    pub high: f32,
+}
+
+// An interval with its refusal number, 0 for none.
+pub struct Judged {
+    pub interval: Interval,
+    pub refusal: u8,
+}
+
+impl Interval {
+    // From the least to the greatest of two. Accuracy: exact.
+    pub fn new(v0: f32, v1: f32) -> Self
+        ensures value { λ r. ⌜ r ≡ Interval·new v0 v1 ⌝ }
+    {
+        Self {
+            low: float32::min(v0, v1),
+            high: float32::max(v0, v1),
+        }
+    }
+
+    // The interval of one number. Accuracy: exact.
+    pub fn point(f: f32) -> Self
+        ensures value { λ r. ⌜ r ≡ Interval·point f ⌝ }
+    {
+        Self { low: f, high: f }
+    }
+
+    // The smallest interval that contains both. Accuracy: exact.
+    pub fn hull(self, i: Interval) -> Self
+        ensures value { λ r. ⌜ r ≡ Interval·hull self i ⌝ }
+    {
+        Self {
+            low: float32::min(self.low, i.low),
+            high: float32::max(self.high, i.high),
+        }
+    }
+
+    // From the least to the greatest of four.
+    fn of_four(a: f32, b: f32, c: f32, d: f32) -> Self
+        ensures value { λ r. ⌜ r ≡ Interval·ofFour a b c d ⌝ }
+    {
+        Interval::new(a, b).hull(Interval::new(c, d))
+    }
+
+    // pbrt's sum; as of all its operations, nothing is judged. Accuracy: heuristic.
+    pub fn add(self, i: Interval) -> Self
+        ensures value { λ r. ⌜ r ≡ Interval·add self i ⌝ }
+    {
+        Interval::new(self.low + i.low, self.high + i.high)
+    }
+
+    // pbrt's difference. Accuracy: heuristic.
+    pub fn sub(self, i: Interval) -> Self
+        ensures value { λ r. ⌜ r ≡ Interval·sub self i ⌝ }
+    {
+        Interval::new(self.low - i.high, self.high - i.low)
+    }
+
+    // pbrt's product. Accuracy: heuristic.
+    pub fn mul(self, i: Interval) -> Self
+        ensures value { λ r. ⌜ r ≡ Interval·mul self i ⌝ }
+    {
+        let four = Interval::of_four(
+            self.low * i.low,
+            self.high * i.low,
+            self.low * i.high,
+            self.high * i.high,
+        );
+        Interval::new(four.low, four.high)
+    }
+
+    // Whether x lies strictly inside.
+    fn straddles(self, x: f32) -> bool
+        ensures value { λ r. ⌜ r ≡ Interval·straddles self x ⌝ }
+    {
+        (self.low < x) & (x < self.high)
+    }
+
+    // pbrt's sine of an interval of angles from 0 to a full turn; its assertions of that range are not carried over. Accuracy: heuristic.
+    pub fn sin(self) -> Self
+        ensures value { λ r. ⌜ r ≡ Interval·sin self ⌝ }
+    {
+        let a = trig::sin(self.low);
+        let b = trig::sin(self.high);
+        let low = select(a > b, b, a);
+        let high = select(a > b, a, b);
+        Interval::new(
+            select(self.straddles(3.0 / 2.0 * PI), -1.0, low),
+            select(self.straddles(PI / 2.0), 1.0, high),
+        )
+    }
+
+    // pbrt's cosine, likewise. Accuracy: heuristic.
+    pub fn cos(self) -> Self
+        ensures value { λ r. ⌜ r ≡ Interval·cos self ⌝ }
+    {
+        let a = trig::cos(self.low);
+        let b = trig::cos(self.high);
+        let low = select(a > b, b, a);
+        let high = select(a > b, a, b);
+        Interval::new(select(self.straddles(PI), -1.0, low), high)
+    }
+
+    // 5 where an end is not finite.
+    fn not_finite(self) -> u8
+        ensures value { λ r. ⌜ r ≡ notFinite self ⌝ }
+    {
+        if float32::is_finite(self.low) & float32::is_finite(self.high) {
+            0
+        } else {
+            5
+        }
+    }
+
+    // 10 where the low end is zero or below.
+    fn not_positive(self) -> u8
+        ensures value { λ r. ⌜ r ≡ notPositive self ⌝ }
+    {
+        if self.low <= 0.0 { 10 } else { 0 }
+    }
+}
+
+// x where the test holds, and y otherwise.
+fn select(test: bool, x: f32, y: f32) -> f32
+    ensures value { λ r. ⌜ r ≡ cond test x y ⌝ }
+{
+    if test { x } else { y }
+}
+
+// Whether the place w lies from one angle's u to the other's.
+fn lies(w: u64, a: f32, b: f32) -> bool
+    requires { ⌜ w < 2 ^ 52 ⌝ }
+    ensures value { λ r. ⌜ r ≡ lies w (angleUnits a) (angleUnits b) ⌝ }
+{
+    let u = trig::angle_units(a);
+    let v = trig::angle_units(b);
+    ((u <= w) | (v <= w)) & ((w <= u) | (w <= v))
+}
+
+// The first of two numbers met.
+fn first(m: u8, n: u8) -> u8
+    ensures value { λ r. ⌜ r ≡ first m n ⌝ }
+{
+    if m == 0 { n } else { m }
+}
+
+impl Judged {
+    // An interval as it is formed: 5 where an end is not finite.
+    pub fn judge(m: u8, x: Interval) -> Self
+        ensures value { λ r. ⌜ r ≡ Judged·judge m x ⌝ }
+    {
+        Self {
+            interval: x,
+            refusal: first(m, x.not_finite()),
+        }
+    }
+
+    // The sum. Accuracy: encloses.
+    pub fn add_enclosure(m: u8, x: Interval, y: Interval) -> Self
+        ensures value { λ r. ⌜ r ≡ Judged·addEnclosure m x y ⌝ }
+    {
+        Judged::judge(
+            m,
+            Interval {
+                low: x.low + y.low,
+                high: x.high + y.high,
+            },
+        )
+    }
+
+    // The difference. Accuracy: encloses.
+    pub fn sub_enclosure(m: u8, x: Interval, y: Interval) -> Self
+        ensures value { λ r. ⌜ r ≡ Judged·subEnclosure m x y ⌝ }
+    {
+        Judged::judge(
+            m,
+            Interval {
+                low: x.low - y.high,
+                high: x.high - y.low,
+            },
+        )
+    }
+
+    // The product. Accuracy: encloses.
+    pub fn mul_enclosure(m: u8, x: Interval, y: Interval) -> Self
+        ensures value { λ r. ⌜ r ≡ Judged·mulEnclosure m x y ⌝ }
+    {
+        Judged::judge(
+            m,
+            Interval::of_four(
+                x.low * y.low,
+                x.high * y.low,
+                x.low * y.high,
+                x.high * y.high,
+            ),
+        )
+    }
+
+    // The quotient; 10 where the divisor's low end is zero or below. Accuracy: encloses.
+    pub fn div_enclosure(m: u8, x: Interval, y: Interval) -> Self
+        ensures value { λ r. ⌜ r ≡ Judged·divEnclosure m x y ⌝ }
+    {
+        let four = Interval::of_four(
+            x.low / y.low,
+            x.high / y.low,
+            x.low / y.high,
+            x.high / y.high,
+        );
+        Judged::judge(first(m, y.not_positive()), four)
+    }
+
+    // The square root; 10 where the low end of x is zero or below. Accuracy: encloses.
+    pub fn sqrt_enclosure(m: u8, x: Interval) -> Self
+        ensures value { λ r. ⌜ r ≡ Judged·sqrtEnclosure m x ⌝ }
+    {
+        let roots = Interval {
+            low: square_root::sqrt(x.low),
+            high: square_root::sqrt(x.high),
+        };
+        Judged::judge(first(m, x.not_positive()), roots)
+    }
+
+    // The sine. Accuracy: encloses, for angles from 0 to a full turn.
+    pub fn sin_enclosure(m: u8, x: Interval) -> Self
+        ensures value { λ r. ⌜ r ≡ Judged·sinEnclosure m x ⌝ }
+    {
+        let a = trig::sin(x.low);
+        let b = trig::sin(x.high);
+        let range = Interval {
+            low: select(
+                lies(THREE_QUARTERS, x.low, x.high),
+                -1.0,
+                float32::min(a, b),
+            ),
+            high: select(lies(QUARTER_TURN, x.low, x.high), 1.0, float32::max(a, b)),
+        };
+        Judged::judge(m, range)
+    }
+
+    // The cosine. Accuracy: encloses, for angles from 0 to a full turn.
+    pub fn cos_enclosure(m: u8, x: Interval) -> Self
+        ensures value { λ r. ⌜ r ≡ Judged·cosEnclosure m x ⌝ }
+    {
+        let a = trig::cos(x.low);
+        let b = trig::cos(x.high);
+        let range = Interval {
+            low: select(lies(HALF_TURN, x.low, x.high), -1.0, float32::min(a, b)),
+            high: select(
+                lies(0, x.low, x.high) | lies(FULL_TURN, x.low, x.high),
+                1.0,
+                float32::max(a, b),
+            ),
+        };
+        Judged::judge(m, range)
+    }
+}
