@@ -1,0 +1,47 @@
+#!/usr/bin/env python3
+"""trace.py CRATE FUNCTION: brings the proof of an interval function in line with its code.
+
+An interval function works one judged operation per statement, `let d = Judged::add_enclosure(c.refusal, a.interval, b.interval);`, in the order in which its
+formula has them, and may copy fields, `let x = d.interval;`. Its proof is one application of `traced` (crates/formula/proofs/Trace.antt) to the contracts of
+those calls. In crates/CRATE/proofs/FUNCTION/Proof.antt this writes anew
+  ARGS   the way from the return to the arguments: `c .before .. .args`
+  CALLS  the contracts, in working order: `_ (c .before .. .mul-enclosure .ensures)`
+  NEEDS  what the calls require, which is nothing: `(λ c κs. tt)` for each
+whether the file still has these words or what an earlier run wrote in their places.
+"""
+import re
+import sys
+
+if len(sys.argv) != 3:
+    sys.exit(__doc__)
+crate, function = sys.argv[1:]
+source = open(f"crates/{crate}/src/lib.rt").read()
+proof_path = f"crates/{crate}/proofs/{function}/Proof.antt"
+found = re.search(r"^(?:pub )?fn %s\(.*?\n\{\n(.*?)\n\}\n" % re.escape(function), source, re.S | re.M)
+if not found:
+    sys.exit(f"no function {function} in crates/{crate}/src/lib.rt")
+
+# What adds to the way back from the return: each call, by its name in the proof, and each copy of a field, which has none.
+steps, times = [], {}
+body = re.sub(r"//.*", "", found.group(1))
+for statement in re.findall(r"let \w+ = ([^;]*);", body):
+    call = re.match(r"(?:\w+::)*(\w+)\s*\(", statement)
+    if call:
+        name = call.group(1).replace("_", "-")
+        times[name] = times.get(name, 0) + 1
+        steps.append(name + (str(times[name]) if times[name] > 1 else ""))
+    elif re.fullmatch(r"\w+\.\w+", statement):
+        steps.append(None)
+
+
+def back(count):
+    return "c" + " .before" * count
+
+
+calls = [f"_ ({back(len(steps) - 1 - i)} .{name} .ensures)" for i, name in enumerate(steps) if name]
+proof = open(proof_path).read()
+proof = re.sub(r"c(?: \.before)* \.args|\bARGS\b", f"{back(len(steps))} .args", proof)
+proof = re.sub(r"(?:_ \(c[ .\w-]* \.ensures\)\s*)+(?=\))|\bCALLS\b", "\n    ".join(calls), proof)
+proof = re.sub(r"(?:\(λ c κs\. tt\) ?)+|\bNEEDS ", "(λ c κs. tt) " * len(calls), proof)
+open(proof_path, "w").write(proof)
+print(f"{proof_path}: {len(calls)} calls")
