@@ -2,38 +2,22 @@
 -- `wp-zero`: where it is zero, the answer is the refusal 5, since a quotient by a zero is never finite (`div-zero`). Rests on the arithmetic of zeros in `matrix4x4`.
 use mathlib.Core.Path.{_≡_, refl}
 use mathlib.Core.Bool.{Bool, true, false, _&&_, cond}
-use Prim.Native.Nat.{ℕ, _*_, _<_}
-use native.Mathlib.Nat.{mul-pos, mul-comm, zero-mul, zero-add, sub-zero}
+use Prim.Native.Nat.{_*_}
 use native.Mathlib.Omega.{arith}
-use borrow.Author.Tests.{lt-ltb, ne-eqb}
+use borrow.Author.Tests.{ne-eqb}
 use lib.Dec.{T, eqb}
-use lib.Ieee.{Float, nan, inf, fin, binary32, ofBits, up, down, unlike, round, sum, add, div, eq}
+use lib.Ieee.{Float, nan, inf, fin, ofBits, up, down, unlike, div, eq}
 use lib.Ieee.Fits.{down-pos, and-l, and-r}
-use lib.Ieee.Scale.{finite, round-same}
-use Rattle.float32.specs.Operators.{_⊕_, _⊘_, one}
+use lib.Ieee.Scale.{finite}
+use Rattle.float32.specs.Operators.{_⊘_, one}
 use Rattle.matrix4x4.specs.Rows.{Rows, row, at, positiveZero, Matrix4x4·toRows}
 use Rattle.matrix4x4.specs.IsAffine.{Matrix4x4·isAffine}
-use Rattle.matrix4x4.proofs.Zero.{Zero, signed, One, scaled, mul-zero, zero-add-zero, eq-zero, eq-one}
+use Rattle.matrix4x4.proofs.Zero.{Zero, signed, mul-zero, zero-add-zero, zero-add-one, eq-zero, eq-one}
 use Rattle.bounds3.specs.declared.Point3f.{Point3f}
 use Rattle.bounds3.specs.Finite.{Point3f·isFinite, Finite}
 use Rattle.transform.specs.declared.Transform.{Transform}
 use Rattle.transform.specs.declared.PointAnswer.the-variants.{Refused}
 use Rattle.transform.specs.TransformPoint.{mulPoint, movedPoint, judged, Transform·transformPoint}
-
--- ---- one added to a zero
-round-one : (c : ℕ) → 0 < c → round binary32 false c c ≡ one
-unfolding round ofBits
-round-one c C = round-same binary32 false c c 1 1 C (omega arith) (omega arith)
-
-sum-one : (s : Bool) (c : ℕ) → 0 < c → sum binary32 s 0 false c c ≡ one
-unfolding sum
-sum-one false c C = rw (zero-add c) (round-one c C)
-sum-one true c C = rw (lt-ltb 0 c C, sub-zero c) (round-one c C)
-
-add-one : {x y : Float} → Zero x → One y → x ⊕ y ≡ one
-unfolding add
-add-one (signed s e) (scaled n d v) =
-    rw (zero-mul (up e), zero-mul (down d), v, mul-comm (down d) (down e)) (sum-one s (down e * down d) (mul-pos (down-pos e) (down-pos d)))
 
 -- ---- wp is 1
 module _ (m : Rows) (p : Point3f) (a : T (Matrix4x4·isAffine m)) (f : Finite p) where
@@ -46,7 +30,7 @@ module _ (m : Rows) (p : Point3f) (a : T (Matrix4x4·isAffine m)) (f : Finite p)
       let w = eq (at m 3 3) one in
       let xyz = and-l (x && y && z) w a in
       let xy = and-l (x && y) z xyz in
-      add-one
+      zero-add-one
       (zero-add-zero
       (zero-add-zero (mul-zero (p .x) (f .x) (eq-zero (at m 3 0) (and-l x y xy))) (mul-zero (p .y) (f .y) (eq-zero (at m 3 1) (and-r x y xy))))
       (mul-zero (p .z) (f .z) (eq-zero (at m 3 2) (and-r (x && y) z xyz))))
