@@ -1,1 +1,2 @@
 pub mod Encloses
+mod Cases

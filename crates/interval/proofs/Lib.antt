@@ -6,3 +6,4 @@ pub mod Angles
 mod Places
 pub mod Divisor
 pub mod Points
+mod Cases

@@ -2,3 +2,4 @@ pub mod Contains
 pub mod Interval
 pub mod Enclosure
 pub mod Extension
+pub mod Computing

@@ -1,3 +1,4 @@
 pub mod Slices
 pub mod Dt
 pub mod Scale
+mod Cases
