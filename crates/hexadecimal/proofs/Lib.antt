@@ -1,3 +1,3 @@
-mod Digits
-mod Words
+pub mod Digits
+pub mod Words
 pub mod Inverse
