@@ -1,0 +1,191 @@
+-- `find_zeros` meets its contract, by the clauses of `search`; the depth falls.
+use native.Mathlib.Omega.{arith}
+use Rattle.zero_search.proofs.Clauses.{search-excluded, search-newton, search-ends, search-halves}
+use Prim.Native.Nat.{ℕ, _<_}
+use borrow.Fn.Kinds.{In}
+use borrow.Fn.PlainCycle.{Measures, is, falls, and}
+use Rattle.zero_search.proofs.find_zeros.Reads as find-zeros
+use Rattle.zero_search.proofs.find_zeros.Kinds as find-zeros-kinds
+use Rattle.zero_search.proofs.+find_zeros.Lts-find_zeros as find-zeros-lts
+use Rattle.interval.proofs.Interval.new.Reads as new-reads
+use Rattle.zero_search.proofs.MotionDerivative.excludes_zero.Reads as excludes-zero-reads
+use Rattle.zero_search.proofs.Zeros.accept.Reads as accept-reads
+use Rattle.zero_search.proofs.midpoint.Reads as midpoint-reads
+use Rattle.zero_search.proofs.newton.Reads as newton-reads
+use Rattle.zero_search.proofs.+find_zeros.{statement}
+use Rattle.zero_search.proofs.+find_zeros.Tie.{close}
+
+abbrev μ-find-zeros : Measures 0 find-zeros-kinds.ps ℕ
+μ-find-zeros κs a = a .1 .1 .0
+
+abbrev find-zeros-at : ℕ → In 0 find-zeros-kinds.ps
+find-zeros-at t = and 0 find-zeros-kinds.ps (is 0 find-zeros-kinds.ps μ-find-zeros t) find-zeros.Pre
+
+abbrev find-zeros-below : ℕ → In 0 find-zeros-kinds.ps
+find-zeros-below t = and 0 find-zeros-kinds.ps (falls 0 find-zeros-kinds.ps _<_ μ-find-zeros t) find-zeros.Pre
+
+returns : (t : ℕ) → find-zeros-lts.Need-returns (
+  excludes-zero-reads.Asked,
+  excludes-zero-reads.Learnt,
+  midpoint-reads.Asked,
+  midpoint-reads.Learnt,
+  newton-reads.Asked,
+  newton-reads.Learnt,
+  accept-reads.Asked,
+  accept-reads.Learnt,
+  new-reads.Asked,
+  new-reads.Learnt,
+  find-zeros-below t,
+  find-zeros.Post,
+) (find-zeros-at t) find-zeros.Post
+returns t c = let a = c .before .before .args in cc (search-excluded (a .depth) (a .f) (a .i) (a .found))
+
+returns-2 : (t : ℕ) → find-zeros-lts.Need-returns-2 (
+  excludes-zero-reads.Asked,
+  excludes-zero-reads.Learnt,
+  midpoint-reads.Asked,
+  midpoint-reads.Learnt,
+  newton-reads.Asked,
+  newton-reads.Learnt,
+  accept-reads.Asked,
+  accept-reads.Learnt,
+  new-reads.Asked,
+  new-reads.Learnt,
+  find-zeros-below t,
+  find-zeros.Post,
+) (find-zeros-at t) find-zeros.Post
+returns-2 t c = let a = c .before .before .before .before .before .before .args in cc (search-newton (a .f) (a .i) (a .found))
+
+sub-find-zeros : (t : ℕ) → find-zeros-lts.Need-sub-find-zeros (
+  excludes-zero-reads.Asked,
+  excludes-zero-reads.Learnt,
+  midpoint-reads.Asked,
+  midpoint-reads.Learnt,
+  newton-reads.Asked,
+  newton-reads.Learnt,
+  accept-reads.Asked,
+  accept-reads.Learnt,
+  new-reads.Asked,
+  new-reads.Learnt,
+  find-zeros-below t,
+  find-zeros.Post,
+) (find-zeros-at t) find-zeros.Post
+sub-find-zeros t c = omega arith
+
+find-zeros-requires : (t : ℕ) → find-zeros-lts.Need-find-zeros-requires (
+  excludes-zero-reads.Asked,
+  excludes-zero-reads.Learnt,
+  midpoint-reads.Asked,
+  midpoint-reads.Learnt,
+  newton-reads.Asked,
+  newton-reads.Learnt,
+  accept-reads.Asked,
+  accept-reads.Learnt,
+  new-reads.Asked,
+  new-reads.Learnt,
+  find-zeros-below t,
+  find-zeros.Post,
+) (find-zeros-at t) find-zeros.Post
+find-zeros-requires t c κs = omega arith
+
+returns-3 : (t : ℕ) → find-zeros-lts.Need-returns-3 (
+  excludes-zero-reads.Asked,
+  excludes-zero-reads.Learnt,
+  midpoint-reads.Asked,
+  midpoint-reads.Learnt,
+  newton-reads.Asked,
+  newton-reads.Learnt,
+  accept-reads.Asked,
+  accept-reads.Learnt,
+  new-reads.Asked,
+  new-reads.Learnt,
+  find-zeros-below t,
+  find-zeros.Post,
+) (find-zeros-at t) find-zeros.Post
+returns-3 t c =
+    let lower = c .before .before in
+    let a = lower .before .before .before .before .before .before .args in
+    cc (search-ends (a .depth) (a .f) (a .i) (a .found) (lower .find-zeros .result) (lower .before .before .if2 .left) (cc) (c .if3 .taken))
+
+sub-find-zeros-2 : (t : ℕ) → find-zeros-lts.Need-sub-find-zeros-2 (
+  excludes-zero-reads.Asked,
+  excludes-zero-reads.Learnt,
+  midpoint-reads.Asked,
+  midpoint-reads.Learnt,
+  newton-reads.Asked,
+  newton-reads.Learnt,
+  accept-reads.Asked,
+  accept-reads.Learnt,
+  new-reads.Asked,
+  new-reads.Learnt,
+  find-zeros-below t,
+  find-zeros.Post,
+) (find-zeros-at t) find-zeros.Post
+sub-find-zeros-2 t c = omega arith
+
+find-zeros-requires-2 : (t : ℕ) → find-zeros-lts.Need-find-zeros-requires-2 (
+  excludes-zero-reads.Asked,
+  excludes-zero-reads.Learnt,
+  midpoint-reads.Asked,
+  midpoint-reads.Learnt,
+  newton-reads.Asked,
+  newton-reads.Learnt,
+  accept-reads.Asked,
+  accept-reads.Learnt,
+  new-reads.Asked,
+  new-reads.Learnt,
+  find-zeros-below t,
+  find-zeros.Post,
+) (find-zeros-at t) find-zeros.Post
+find-zeros-requires-2 t c κs = omega arith
+
+returns-4 : (t : ℕ) → find-zeros-lts.Need-returns-4 (
+  excludes-zero-reads.Asked,
+  excludes-zero-reads.Learnt,
+  midpoint-reads.Asked,
+  midpoint-reads.Learnt,
+  newton-reads.Asked,
+  newton-reads.Learnt,
+  accept-reads.Asked,
+  accept-reads.Learnt,
+  new-reads.Asked,
+  new-reads.Learnt,
+  find-zeros-below t,
+  find-zeros.Post,
+) (find-zeros-at t) find-zeros.Post
+returns-4 t c =
+    let lower = c .before .before .before .before in
+    let a = lower .before .before .before .before .before .before .args in
+    cc (search-halves (a .depth) (a .f) (a .i) (a .found) (lower .find-zeros .result) (lower .before .before .if2 .left) (cc) (c .before .before .if3 .left))
+
+pub +find-zeros-spec : {M : Type 1} → statement M
++find-zeros-spec = close μ-find-zeros λ t. find-zeros-lts.spec (
+  excludes-zero-reads.Asked,
+  excludes-zero-reads.Learnt,
+  midpoint-reads.Asked,
+  midpoint-reads.Learnt,
+  newton-reads.Asked,
+  newton-reads.Learnt,
+  accept-reads.Asked,
+  accept-reads.Learnt,
+  new-reads.Asked,
+  new-reads.Learnt,
+  find-zeros-below t,
+  find-zeros.Post,
+)
+    (find-zeros-at t)
+    find-zeros.Post
+    (λ c κs. tt)
+    (returns t)
+    (λ c κs. tt)
+    (λ c κs. tt)
+    (λ c κs. tt)
+    (returns-2 t)
+    (λ c κs. tt)
+    (sub-find-zeros t)
+    (find-zeros-requires t)
+    (returns-3 t)
+    (λ c κs. tt)
+    (sub-find-zeros-2 t)
+    (find-zeros-requires-2 t)
+    (returns-4 t)

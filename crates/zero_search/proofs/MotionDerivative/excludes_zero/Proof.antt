@@ -1,0 +1,11 @@
+-- `MotionDerivative::excludes_zero` meets its contract: the range is the definition's.
+use Rattle.zero_search.specs.Derivative.{MotionDerivative·excludesZero}
+use Rattle.zero_search.proofs.MotionDerivative.excludes_zero.Statement.{statement}
+use Rattle.zero_search.proofs.MotionDerivative.excludes_zero.Tie as tie
+
+returns : tie.Need-returns
+unfolding MotionDerivative·excludesZero
+returns c = cc
+
+pub excludes-zero-spec : {M : Type 1} → statement M
+excludes-zero-spec = tie.close (tie.spec (λ c κs. tt) returns)

@@ -1,0 +1,11 @@
+-- `MotionDerivative::slope` meets its contract: its cosine and sine are the definition's.
+use Rattle.zero_search.specs.Derivative.{MotionDerivative·slope}
+use Rattle.zero_search.proofs.MotionDerivative.slope.Statement.{statement}
+use Rattle.zero_search.proofs.MotionDerivative.slope.Tie as tie
+
+returns : tie.Need-returns
+unfolding MotionDerivative·slope
+returns c = cc
+
+pub slope-spec : {M : Type 1} → statement M
+slope-spec = tie.close (tie.spec (λ c κs. tt) (λ c κs. tt) returns)

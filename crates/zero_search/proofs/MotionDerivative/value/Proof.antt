@@ -1,0 +1,11 @@
+-- `MotionDerivative::value` meets its contract: its cosine and sine are the definition's.
+use Rattle.zero_search.specs.Derivative.{MotionDerivative·value}
+use Rattle.zero_search.proofs.MotionDerivative.value.Statement.{statement}
+use Rattle.zero_search.proofs.MotionDerivative.value.Tie as tie
+
+returns : tie.Need-returns
+unfolding MotionDerivative·value
+returns c = cc
+
+pub value-spec : {M : Type 1} → statement M
+value-spec = tie.close (tie.spec (λ c κs. tt) (λ c κs. tt) returns)

@@ -1,0 +1,2 @@
+pub mod Derivative
+pub mod Search

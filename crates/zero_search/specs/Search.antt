@@ -1,0 +1,105 @@
+-- 000's `interval_find_zeros` by value: the zeros found, in an array of eight with a count, and the refusal 9 where a ninth would be stored, at which the search
+-- ends. `intervalFindZeros` is the search from the interval 0 to 1 at depth 8, `examined` how many intervals it looks at. Definitions only.
+use Prim.Native.Nat.{ℕ, zero, suc, _+_}
+use mathlib.Core.Bool.{Bool, true, false, cond, _&&_}
+use mathlib.Core.List.{List, [], _∷_}
+use lib.Dec.{ltb, eqb}
+use lib.ListN.{set}
+use lib.Ieee.{Float, binary32, ofBits, lt, le}
+use Rattle.float32.specs.Operators.{_⊕_, _⊖_, _⊗_, one, half}
+use Rattle.interval.specs.declared.Interval.{Interval}
+use Rattle.interval.specs.Interval.{Interval·new}
+use Rattle.zero_search.specs.declared.MotionDerivative.{MotionDerivative}
+use Rattle.zero_search.specs.declared.Zeros.{Zeros}
+use Rattle.zero_search.specs.Derivative.{positiveZero, MotionDerivative·excludesZero, MotionDerivative·newton}
+
+-- (i.low + i.high) * 0.5
+abbrev pub midpoint : Interval → Float
+midpoint i = (i .low ⊕ i .high) ⊗ half
+
+-- 1.0e-3
+abbrev pub tolerance : Float
+tolerance = ofBits binary32 0x3a83126f
+
+-- Eight places, each +0.
+abbrev pub eightZeros : List Float
+eightZeros = positiveZero ∷ positiveZero ∷ positiveZero ∷ positiveZero ∷ positiveZero ∷ positiveZero ∷ positiveZero ∷ positiveZero ∷ []
+
+-- Nothing found yet.
+abbrev pub noZeros : Zeros
+noZeros = record { zeros = eightZeros; count = 0; refusal = 0 }
+
+-- What a ninth zero gives: the refusal 9 and nothing else.
+abbrev pub ninthZero : Zeros
+ninthZero = record { zeros = eightZeros; count = 0; refusal = 9 }
+
+-- zeros[*zero_count] = t_newton; *zero_count += 1
+unfoldable pub Zeros·store : Zeros → Float → Zeros
+Zeros·store z t =
+    cond (ltb (z .count) 8)
+    (record { zeros = set (z .zeros) (z .count) t; count = z .count + 1; refusal = 0 })
+    ninthZero
+
+-- t_newton >= i.low - 1.0e-3 && t_newton < i.high + 1.0e-3
+abbrev pub nearInterval : Interval → Float → Bool
+nearInterval i t = le (i .low ⊖ tolerance) t && lt t (i .high ⊕ tolerance)
+
+-- The end of 000's search at depth 0: t is stored where it lies in the interval or near it.
+unfoldable pub Zeros·accept : Zeros → Interval → Float → Zeros
+Zeros·accept z i t = cond (nearInterval i t) (Zeros·store z t) z
+
+-- Newton's result from the midpoint, after `for _ in 0..4`.
+abbrev pub newtonZero : MotionDerivative → Interval → Float
+newtonZero f i = MotionDerivative·newton f 4 (midpoint i)
+
+-- Interval::new(i.low, mid) and Interval::new(mid, i.high)
+abbrev pub lowerHalf : Interval → Interval
+lowerHalf i = Interval·new (i .low) (midpoint i)
+
+abbrev pub upperHalf : Interval → Interval
+upperHalf i = Interval·new (midpoint i) (i .high)
+
+-- The body of 000's interval_find_zeros at a depth; whether the range test leaves the interval out is an argument, to match on.
+unfoldable pub search : ℕ → Bool → MotionDerivative → Interval → Zeros → Zeros
+search zero true f i z = z
+search (suc d) true f i z = z
+search zero false f i z = Zeros·accept z i (newtonZero f i)
+search (suc d) false f i z =
+    let lower = search d (MotionDerivative·excludesZero f (lowerHalf i)) f (lowerHalf i) z in
+    cond (eqb (lower .refusal) 0)
+    (search d (MotionDerivative·excludesZero f (upperHalf i)) f (upperHalf i) lower)
+    lower
+
+abbrev pub findZeros : ℕ → MotionDerivative → Interval → Zeros → Zeros
+findZeros d f i z = search d (MotionDerivative·excludesZero f i) f i z
+
+-- How many intervals that search examines, its own included: the range test is made for each.
+unfoldable pub searchExamined : ℕ → Bool → MotionDerivative → Interval → Zeros → ℕ
+searchExamined zero true f i z = 1
+searchExamined (suc d) true f i z = 1
+searchExamined zero false f i z = 1
+searchExamined (suc d) false f i z =
+    let lower = findZeros d f (lowerHalf i) z in
+    1 +
+    searchExamined d (MotionDerivative·excludesZero f (lowerHalf i)) f (lowerHalf i) z +
+    cond (eqb (lower .refusal) 0)
+    (searchExamined d (MotionDerivative·excludesZero f (upperHalf i)) f (upperHalf i) lower)
+    0
+
+-- How often 0 to 1 is halved.
+abbrev pub maxDepth : ℕ
+maxDepth = 8
+
+abbrev pub unitInterval : Interval
+unitInterval = Interval·new positiveZero one
+
+-- interval_find_zeros from 0 to 1 at depth 8, as bound_point_motion calls it
+unfoldable pub intervalFindZeros : Float → Float → Float → Float → Float → Float → Zeros
+intervalFindZeros c1 c2 c3 c4 c5 theta =
+    findZeros maxDepth (record { c1 = c1; c2 = c2; c3 = c3; c4 = c4; c5 = c5; theta = theta }) unitInterval noZeros
+
+-- How many intervals intervalFindZeros examines.
+unfoldable pub examined : Float → Float → Float → Float → Float → Float → ℕ
+examined c1 c2 c3 c4 c5 theta =
+    let f : MotionDerivative = record { c1 = c1; c2 = c2; c3 = c3; c4 = c4; c5 = c5; theta = theta } in
+    searchExamined maxDepth (MotionDerivative·excludesZero f unitInterval) f unitInterval noZeros
