@@ -1,37 +1,13 @@
--- The clauses of Newton's steps and of the search, as laws over any number of steps and any depth: what the recursive functions of the code return, case by case.
+-- The clauses of `search`, as laws over any depth: `search-excluded`, `search-newton`, `search-ends`, `search-halves`.
 use mathlib.Core.Path.{_≡_, refl, sym}
-use mathlib.Core.Bool.{true, false, _||_}
+use mathlib.Core.Bool.{true, false}
 use Prim.Native.Nat.{ℕ, zero, suc, _-_}
 use native.Mathlib.Numerals.{sub-one}
 use borrow.Author.Tests.{eq-eqb, ne-eqb}
-use lib.Ieee.{Float, eq}
-use Rattle.float32.specs.Operators.{_⊖_, _⊘_}
 use Rattle.interval.specs.declared.Interval.{Interval}
-use Rattle.zero_search.specs.declared.MotionDerivative.{MotionDerivative}
+use Rattle.motion_derivative.specs.declared.MotionDerivative.{MotionDerivative}
 use Rattle.zero_search.specs.declared.Zeros.{Zeros}
-use Rattle.zero_search.specs.Derivative.{positiveZero, MotionDerivative·value, MotionDerivative·slope, MotionDerivative·newton}
 use Rattle.zero_search.specs.Search.{Zeros·accept, newtonZero, lowerHalf, upperHalf, search, findZeros}
-
-pub newton-none : (f : MotionDerivative) (t : Float) → MotionDerivative·newton f 0 t ≡ t
-unfolding MotionDerivative·newton
-newton-none f t = refl
-
-pub newton-stops : (f : MotionDerivative) (n : ℕ) (t v s : Float)
-    → v ≡ MotionDerivative·value f t → s ≡ MotionDerivative·slope f t
-    → (eq v positiveZero || eq s positiveZero) ≡ true
-    → MotionDerivative·newton f n t ≡ t
-unfolding MotionDerivative·newton
-newton-stops f zero t v s value slope h = refl
-newton-stops f (suc n) t v s value slope h = rw (sym value, sym slope, h)
-
-pub newton-steps : (f : MotionDerivative) (n : ℕ) (t v s : Float)
-    → (n ≡ 0 → ⊥)
-    → v ≡ MotionDerivative·value f t → s ≡ MotionDerivative·slope f t
-    → (eq v positiveZero || eq s positiveZero) ≡ false
-    → MotionDerivative·newton f n t ≡ MotionDerivative·newton f (n - 1) (t ⊖ v ⊘ s)
-unfolding MotionDerivative·newton
-newton-steps f zero t v s nonzero value slope h = absurd (nonzero refl)
-newton-steps f (suc n) t v s nonzero value slope h = rw (sym value, sym slope, h, sub-one)
 
 pub search-excluded : (d : ℕ) (f : MotionDerivative) (i : Interval) (z : Zeros) → search d true f i z ≡ z
 unfolding search

@@ -7,9 +7,9 @@ use lib.Pow.{pow-pos}
 use lib.Dec.{eqb}
 use lib.Ieee.{Float}
 use Rattle.interval.specs.declared.Interval.{Interval}
-use Rattle.zero_search.specs.declared.MotionDerivative.{MotionDerivative}
+use Rattle.motion_derivative.specs.declared.MotionDerivative.{MotionDerivative}
 use Rattle.zero_search.specs.declared.Zeros.{Zeros}
-use Rattle.zero_search.specs.Derivative.{MotionDerivative·excludesZero}
+use Rattle.motion_derivative.specs.Derivative.{MotionDerivative·excludesZero}
 use Rattle.zero_search.specs.Search.{lowerHalf, upperHalf, findZeros, searchExamined, examined, maxDepth, noZeros, unitInterval}
 
 cond-below : (b : Bool) (m n : ℕ) → m < n → cond b m 0 < n

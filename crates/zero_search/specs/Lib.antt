@@ -1,2 +1,1 @@
-pub mod Derivative
 pub mod Search

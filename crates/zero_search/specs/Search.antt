@@ -9,9 +9,9 @@ use lib.Ieee.{Float, binary32, ofBits, lt, le}
 use Rattle.float32.specs.Operators.{_⊕_, _⊖_, _⊗_, one, half}
 use Rattle.interval.specs.declared.Interval.{Interval}
 use Rattle.interval.specs.Interval.{Interval·new}
-use Rattle.zero_search.specs.declared.MotionDerivative.{MotionDerivative}
+use Rattle.motion_derivative.specs.declared.MotionDerivative.{MotionDerivative}
 use Rattle.zero_search.specs.declared.Zeros.{Zeros}
-use Rattle.zero_search.specs.Derivative.{positiveZero, MotionDerivative·excludesZero, MotionDerivative·newton}
+use Rattle.motion_derivative.specs.Derivative.{positiveZero, MotionDerivative·excludesZero, MotionDerivative·newton}
 
 -- (i.low + i.high) * 0.5
 abbrev pub midpoint : Interval → Float

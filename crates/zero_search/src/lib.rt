@@ -1,8 +1,9 @@
 // The zero search of pbrt's motion box: where the derivative of a coordinate's motion may vanish, from 0 to 1.
 ghost use mathlib.Core.Path.{_≡_};
-ghost use Rattle.zero_search.specs.Derivative.{affine, MotionDerivative·range, MotionDerivative·excludesZero, MotionDerivative·value, MotionDerivative·slope, MotionDerivative·newton};
 ghost use Rattle.zero_search.specs.Search.{midpoint, Zeros·store, Zeros·accept, findZeros, intervalFindZeros};
 use interval::Interval;
+use motion_derivative::MotionDerivative;
+use motion_derivative::newton;
 
 // How far outside its interval a zero is still taken.
 const TOLERANCE: f32 = 0.001;
@@ -12,82 +13,12 @@ const DEPTH: u32 = 8;
 
 const NEWTON_STEPS: u32 = 4;
 
-// The derivative of a coordinate's motion: c1 + (c2 + c3 t) cos(2 theta t) + (c4 + c5 t) sin(2 theta t).
-pub struct MotionDerivative {
-    pub c1: f32,
-    pub c2: f32,
-    pub c3: f32,
-    pub c4: f32,
-    pub c5: f32,
-    pub theta: f32,
-}
-
 // The zeros found, in the order of their intervals, in the first `count` places; unused places are +0. The refusal is 9 where a ninth zero would be stored, and
 // then there are no zeros.
 pub struct Zeros {
     pub zeros: [f32; 8],
     pub count: usize,
     pub refusal: u8,
-}
-
-// a + b i
-fn affine(a: f32, b: f32, i: Interval) -> Interval
-    ensures value { λ r. ⌜ r ≡ affine a b i ⌝ }
-{
-    Interval::point(a).add(Interval::point(b).mul(i))
-}
-
-impl MotionDerivative {
-    // pbrt's bounds of the values over an interval. Accuracy: heuristic.
-    fn range(self, i: Interval) -> Interval
-        ensures value { λ r. ⌜ r ≡ MotionDerivative·range self i ⌝ }
-    {
-        let c = Interval::point(2.0 * self.theta).mul(i);
-        let cosines = affine(self.c2, self.c3, i).mul(c.cos());
-        let sines = affine(self.c4, self.c5, i).mul(c.sin());
-        Interval::point(self.c1).add(cosines).add(sines)
-    }
-
-    // Whether the bounds have no zero inside, or are one number.
-    fn excludes_zero(self, i: Interval) -> bool
-        ensures value { λ r. ⌜ r ≡ MotionDerivative·excludesZero self i ⌝ }
-    {
-        let range = self.range(i);
-        (range.low > 0.0) | (range.high < 0.0) | (range.low == range.high)
-    }
-
-    fn value(self, t: f32) -> f32
-        ensures value { λ r. ⌜ r ≡ MotionDerivative·value self t ⌝ }
-    {
-        let cos = trig::cos(2.0 * self.theta * t);
-        let sin = trig::sin(2.0 * self.theta * t);
-        self.c1 + (self.c2 + self.c3 * t) * cos + (self.c4 + self.c5 * t) * sin
-    }
-
-    // The derivative of the value.
-    fn slope(self, t: f32) -> f32
-        ensures value { λ r. ⌜ r ≡ MotionDerivative·slope self t ⌝ }
-    {
-        let cos = trig::cos(2.0 * t * self.theta);
-        let sin = trig::sin(2.0 * t * self.theta);
-        (self.c3 + 2.0 * (self.c4 + self.c5 * t) * self.theta) * cos
-            + (self.c5 - 2.0 * (self.c2 + self.c3 * t) * self.theta) * sin
-    }
-}
-
-// At most so many of Newton's steps from t; they stop where the value or the slope is zero.
-fn newton(f: MotionDerivative, steps: u32, t: f32) -> f32
-    ensures value { λ r. ⌜ r ≡ MotionDerivative·newton f steps t ⌝ }
-{
-    if steps == 0 {
-        return t;
-    }
-    let value = f.value(t);
-    let slope = f.slope(t);
-    if (value == 0.0) | (slope == 0.0) {
-        return t;
-    }
-    newton(f, steps - 1, t - value / slope)
 }
 
 fn midpoint(i: Interval) -> f32

@@ -8,10 +8,10 @@ use Rattle.zero_search.proofs.find_zeros.Reads as find-zeros
 use Rattle.zero_search.proofs.find_zeros.Kinds as find-zeros-kinds
 use Rattle.zero_search.proofs.+find_zeros.Lts-find_zeros as find-zeros-lts
 use Rattle.interval.proofs.Interval.new.Reads as new-reads
-use Rattle.zero_search.proofs.MotionDerivative.excludes_zero.Reads as excludes-zero-reads
+use Rattle.motion_derivative.proofs.MotionDerivative.excludes_zero.Reads as excludes-zero-reads
 use Rattle.zero_search.proofs.Zeros.accept.Reads as accept-reads
 use Rattle.zero_search.proofs.midpoint.Reads as midpoint-reads
-use Rattle.zero_search.proofs.newton.Reads as newton-reads
+use Rattle.motion_derivative.proofs.newton.Reads as newton-reads
 use Rattle.zero_search.proofs.+find_zeros.{statement}
 use Rattle.zero_search.proofs.+find_zeros.Tie.{close}
 

@@ -1,7 +1,7 @@
 -- `MotionDerivative::range` meets its contract: its calls in turn, from the last to the first.
-use Rattle.zero_search.specs.Derivative.{MotionDerivative·range}
-use Rattle.zero_search.proofs.MotionDerivative.range.Statement.{statement}
-use Rattle.zero_search.proofs.MotionDerivative.range.Tie as tie
+use Rattle.motion_derivative.specs.Derivative.{MotionDerivative·range}
+use Rattle.motion_derivative.proofs.MotionDerivative.range.Statement.{statement}
+use Rattle.motion_derivative.proofs.MotionDerivative.range.Tie as tie
 
 returns : tie.Need-returns
 unfolding MotionDerivative·range

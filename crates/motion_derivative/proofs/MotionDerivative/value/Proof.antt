@@ -1,7 +1,7 @@
 -- `MotionDerivative::value` meets its contract: its cosine and sine are the definition's.
-use Rattle.zero_search.specs.Derivative.{MotionDerivative·value}
-use Rattle.zero_search.proofs.MotionDerivative.value.Statement.{statement}
-use Rattle.zero_search.proofs.MotionDerivative.value.Tie as tie
+use Rattle.motion_derivative.specs.Derivative.{MotionDerivative·value}
+use Rattle.motion_derivative.proofs.MotionDerivative.value.Statement.{statement}
+use Rattle.motion_derivative.proofs.MotionDerivative.value.Tie as tie
 
 returns : tie.Need-returns
 unfolding MotionDerivative·value

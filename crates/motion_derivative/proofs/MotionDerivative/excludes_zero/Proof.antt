@@ -1,7 +1,7 @@
 -- `MotionDerivative::excludes_zero` meets its contract: the range is the definition's.
-use Rattle.zero_search.specs.Derivative.{MotionDerivative·excludesZero}
-use Rattle.zero_search.proofs.MotionDerivative.excludes_zero.Statement.{statement}
-use Rattle.zero_search.proofs.MotionDerivative.excludes_zero.Tie as tie
+use Rattle.motion_derivative.specs.Derivative.{MotionDerivative·excludesZero}
+use Rattle.motion_derivative.proofs.MotionDerivative.excludes_zero.Statement.{statement}
+use Rattle.motion_derivative.proofs.MotionDerivative.excludes_zero.Tie as tie
 
 returns : tie.Need-returns
 unfolding MotionDerivative·excludesZero

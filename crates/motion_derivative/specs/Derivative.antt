@@ -7,7 +7,7 @@ use Rattle.float32.specs.Operators.{_⊕_, _⊖_, _⊗_, _⊘_, two}
 use Rattle.trig.specs.SinCos.{sin, cos}
 use Rattle.interval.specs.declared.Interval.{Interval}
 use Rattle.interval.specs.Interval.{Interval·point, Interval·add, Interval·mul, Interval·sin, Interval·cos}
-use Rattle.zero_search.specs.declared.MotionDerivative.{MotionDerivative}
+use Rattle.motion_derivative.specs.declared.MotionDerivative.{MotionDerivative}
 
 -- 0.0
 abbrev pub positiveZero : Float

@@ -1,7 +1,7 @@
 -- `MotionDerivative::slope` meets its contract: its cosine and sine are the definition's.
-use Rattle.zero_search.specs.Derivative.{MotionDerivative·slope}
-use Rattle.zero_search.proofs.MotionDerivative.slope.Statement.{statement}
-use Rattle.zero_search.proofs.MotionDerivative.slope.Tie as tie
+use Rattle.motion_derivative.specs.Derivative.{MotionDerivative·slope}
+use Rattle.motion_derivative.proofs.MotionDerivative.slope.Statement.{statement}
+use Rattle.motion_derivative.proofs.MotionDerivative.slope.Tie as tie
 
 returns : tie.Need-returns
 unfolding MotionDerivative·slope

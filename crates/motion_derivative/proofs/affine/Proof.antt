@@ -1,7 +1,7 @@
 -- `affine` meets its contract: its calls in turn, from the last to the first.
-use Rattle.zero_search.specs.Derivative.{affine}
-use Rattle.zero_search.proofs.affine.Statement.{statement}
-use Rattle.zero_search.proofs.affine.Tie as tie
+use Rattle.motion_derivative.specs.Derivative.{affine}
+use Rattle.motion_derivative.proofs.affine.Statement.{statement}
+use Rattle.motion_derivative.proofs.affine.Tie as tie
 
 returns : tie.Need-returns
 unfolding affine

@@ -1,16 +1,16 @@
 -- `newton` meets its contract, by the clauses of its definition; the number of steps falls.
 use native.Mathlib.Omega.{arith}
-use Rattle.zero_search.proofs.Clauses.{newton-none, newton-stops, newton-steps}
+use Rattle.motion_derivative.proofs.Clauses.{newton-none, newton-stops, newton-steps}
 use Prim.Native.Nat.{ℕ, _<_}
 use borrow.Fn.Kinds.{In}
 use borrow.Fn.PlainCycle.{Measures, is, falls, and}
-use Rattle.zero_search.proofs.newton.Reads as newton
-use Rattle.zero_search.proofs.newton.Kinds as newton-kinds
-use Rattle.zero_search.proofs.+newton.Lts-newton as newton-lts
-use Rattle.zero_search.proofs.MotionDerivative.slope.Reads as slope-reads
-use Rattle.zero_search.proofs.MotionDerivative.value.Reads as value-reads
-use Rattle.zero_search.proofs.+newton.{statement}
-use Rattle.zero_search.proofs.+newton.Tie.{close}
+use Rattle.motion_derivative.proofs.newton.Reads as newton
+use Rattle.motion_derivative.proofs.newton.Kinds as newton-kinds
+use Rattle.motion_derivative.proofs.+newton.Lts-newton as newton-lts
+use Rattle.motion_derivative.proofs.MotionDerivative.slope.Reads as slope-reads
+use Rattle.motion_derivative.proofs.MotionDerivative.value.Reads as value-reads
+use Rattle.motion_derivative.proofs.+newton.{statement}
+use Rattle.motion_derivative.proofs.+newton.Tie.{close}
 
 abbrev μ-newton : Measures 0 newton-kinds.ps ℕ
 μ-newton κs a = a .1 .0
