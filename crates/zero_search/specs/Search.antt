@@ -25,20 +25,16 @@ tolerance = ofBits binary32 0x3a83126f
 abbrev pub eightZeros : List Float
 eightZeros = positiveZero ∷ positiveZero ∷ positiveZero ∷ positiveZero ∷ positiveZero ∷ positiveZero ∷ positiveZero ∷ positiveZero ∷ []
 
--- Nothing found yet.
-abbrev pub noZeros : Zeros
-noZeros = record { zeros = eightZeros; count = 0; refusal = 0 }
-
--- What a ninth zero gives: the refusal 9 and nothing else.
-abbrev pub ninthZero : Zeros
-ninthZero = record { zeros = eightZeros; count = 0; refusal = 9 }
+-- Nothing found: 0 before the search, 9 where a ninth zero would be stored.
+abbrev pub Zeros·empty : ℕ → Zeros
+Zeros·empty refusal = record { zeros = eightZeros; count = 0; refusal = refusal }
 
 -- zeros[*zero_count] = t_newton; *zero_count += 1
 unfoldable pub Zeros·store : Zeros → Float → Zeros
 Zeros·store z t =
     cond (ltb (z .count) 8)
     (record { zeros = set (z .zeros) (z .count) t; count = z .count + 1; refusal = 0 })
-    ninthZero
+    (Zeros·empty 9)
 
 -- t_newton >= i.low - 1.0e-3 && t_newton < i.high + 1.0e-3
 abbrev pub nearInterval : Interval → Float → Bool
@@ -96,10 +92,10 @@ unitInterval = Interval·new positiveZero one
 -- interval_find_zeros from 0 to 1 at depth 8, as bound_point_motion calls it
 unfoldable pub intervalFindZeros : Float → Float → Float → Float → Float → Float → Zeros
 intervalFindZeros c1 c2 c3 c4 c5 theta =
-    findZeros maxDepth (record { c1 = c1; c2 = c2; c3 = c3; c4 = c4; c5 = c5; theta = theta }) unitInterval noZeros
+    findZeros maxDepth (record { c1 = c1; c2 = c2; c3 = c3; c4 = c4; c5 = c5; theta = theta }) unitInterval (Zeros·empty 0)
 
 -- How many intervals intervalFindZeros examines.
 unfoldable pub examined : Float → Float → Float → Float → Float → Float → ℕ
 examined c1 c2 c3 c4 c5 theta =
     let f : MotionDerivative = record { c1 = c1; c2 = c2; c3 = c3; c4 = c4; c5 = c5; theta = theta } in
-    searchExamined maxDepth (MotionDerivative·excludesZero f unitInterval) f unitInterval noZeros
+    searchExamined maxDepth (MotionDerivative·excludesZero f unitInterval) f unitInterval (Zeros·empty 0)

@@ -1,6 +1,6 @@
 // The zero search of pbrt's motion box: where the derivative of a coordinate's motion may vanish, from 0 to 1.
 ghost use mathlib.Core.Path.{_≡_};
-ghost use Rattle.zero_search.specs.Search.{midpoint, Zeros·store, Zeros·accept, findZeros, intervalFindZeros};
+ghost use Rattle.zero_search.specs.Search.{midpoint, Zeros·empty, Zeros·store, Zeros·accept, findZeros, intervalFindZeros};
 use interval::Interval;
 use motion_derivative::MotionDerivative;
 use motion_derivative::newton;
@@ -28,6 +28,17 @@ fn midpoint(i: Interval) -> f32
 }
 
 impl Zeros {
+    // No zeros, with a refusal or, where it is 0, without.
+    fn empty(refusal: u8) -> Zeros
+        ensures value { λ r. ⌜ r ≡ Zeros·empty refusal ⌝ }
+    {
+        Zeros {
+            zeros: [0.0; 8],
+            count: 0,
+            refusal,
+        }
+    }
+
     // One more zero; 9 where there are eight.
     fn store(self, t: f32) -> Zeros
         ensures value { λ r. ⌜ r ≡ Zeros·store self t ⌝ }
@@ -42,11 +53,7 @@ impl Zeros {
                 refusal: 0,
             };
         }
-        Zeros {
-            zeros: [0.0; 8],
-            count: 0,
-            refusal: 9,
-        }
+        Zeros::empty(9)
     }
 
     // Stores what Newton's steps found, unless it lies too far outside the interval.
@@ -90,10 +97,5 @@ pub fn interval_find_zeros(c1: f32, c2: f32, c3: f32, c4: f32, c5: f32, theta: f
         c5,
         theta,
     };
-    let none = Zeros {
-        zeros: [0.0; 8],
-        count: 0,
-        refusal: 0,
-    };
-    find_zeros(f, Interval::new(0.0, 1.0), DEPTH, none)
+    find_zeros(f, Interval::new(0.0, 1.0), DEPTH, Zeros::empty(0))
 }

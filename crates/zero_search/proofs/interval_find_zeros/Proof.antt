@@ -8,4 +8,4 @@ unfolding intervalFindZeros
 returns c = cc
 
 pub interval-find-zeros-spec : {M : Type 1} → statement M
-interval-find-zeros-spec = tie.close (tie.spec (λ c κs. tt) (λ c κs. tt) returns)
+interval-find-zeros-spec = tie.close (tie.spec (λ c κs. tt) (λ c κs. tt) (λ c κs. tt) returns)
