@@ -1,0 +1,135 @@
+-- What a decomposition can be: its refusal is 0, 4 or 5 (`decompose-refusal`), after one every number is +0 (`decompose-refused`), and without one the quaternion and all of the
+-- scale are finite, and the translation is the matrix's (`Accepted`, `decompose-accepted`). Rests on `inverse-refusal`: a round hands on no number but the inverse's and 5.
+use mathlib.Core.Path.{_≡_, refl, sym, ap, _∙_}
+use mathlib.Core.Bool.{Bool, true, false, _&&_, cond}
+use mathlib.Core.Logic.{_⊎_, inl, inr, ⊎-elim}
+use Prim.Native.Nat.{ℕ}
+use native.Mathlib.Omega.{arith}
+use borrow.Author.Tests.{eqb-false}
+use lib.Dec.{T, eqb}
+use lib.Ieee.{le}
+use lib.Ieee.Fits.{and-l, and-r}
+use Rattle.matrix4x4.specs.Rows.{Rows, at, Matrix4x4·toRows, Matrix4x4·fromRows}
+use Rattle.matrix4x4.specs.Mul.{Matrix4x4·mul}
+use Rattle.matrix4x4.specs.Transpose.{Matrix4x4·transpose}
+use Rattle.matrix4x4.specs.IsFinite.{Matrix4x4·isFinite}
+use Rattle.matrix_inverse.specs.Loop.{loop}
+use Rattle.matrix_inverse.specs.declared.InverseAnswer.{InverseAnswer}
+use Rattle.matrix_inverse.specs.Inverse.{Matrix4x4·inverse}
+use Rattle.matrix_inverse.proofs.Loop.{loop-keeps}
+use Rattle.matrix_inverse.proofs.Refusal.{inverse-refusal}
+use Rattle.quaternion.specs.declared.Quaternion.{Quaternion}
+use Rattle.quaternion.specs.IsFinite.{Quaternion·isFinite}
+use Rattle.rotation.specs.FromMatrix.{Quaternion·fromMatrix}
+use Rattle.decomposition.specs.declared.Decomposition.{Decomposition}
+use Rattle.decomposition.specs.Polar.{linearPart, mean, distance, settledNorm, Polar, refused, unsettled, settled, judgedRound, round, polar}
+use Rattle.decomposition.specs.Decompose.{Decomposition·refused, judged, parts, finish, Matrix4x4·decompose}
+
+-- The parts of m that were not refused: the translation as it stands in m, a finite quaternion, a finite scale.
+pub record Accepted (m : Rows) (d : Decomposition) : Type 0 where
+  pub translation : d .t ≡ record { x = at m 0 3; y = at m 1 3; z = at m 2 3 }
+  pub rotation : T (Quaternion·isFinite (d .r))
+  pub scale : T (Matrix4x4·isFinite (Matrix4x4·toRows (d .s)))
+
+-- the numbers of a refusal
+data Number : ℕ → Type 0 where
+  zeroPivot : Number 4
+  notFinite : Number 5
+
+number : {n : ℕ} → (n ≡ 0) ⊎ ((n ≡ 4) ⊎ (n ≡ 5)) → (n ≡ 0 → ⊥) → Number n
+number (inl e) z = absurd (z e)
+number (inr (inl e)) z = rw e zeroPivot
+number (inr (inr e)) z = rw e notFinite
+
+-- Where the rounds stand, a refusal has one of the numbers.
+data Numbered : Polar → Type 0 where
+  stopped : {n : ℕ} → Number n → Numbered (refused n)
+  going : {r : Rows} → Numbered (unsettled r)
+  done : {r : Rows} → Numbered (settled r)
+
+judged-numbered : (r rnext : Rows) → Numbered (judgedRound r rnext)
+unfolding judgedRound
+judged-numbered r rnext = go (Matrix4x4·isFinite rnext) (le (distance r rnext) settledNorm)
+  where
+    go : (a b : Bool) → Numbered (cond a (cond b (settled rnext) (unsettled rnext)) (refused 5))
+    go true true = done
+    go true false = going
+    go false b = stopped notFinite
+
+round-numbered : (k : ℕ) (s : Polar) → Numbered s → Numbered (round k s)
+unfolding round
+round-numbered k (refused n) h = h
+round-numbered k (settled r) h = h
+round-numbered k (unsettled r) h = go (eqb (rit .refusal) 0) refl
+  where
+    rit : InverseAnswer
+    rit = Matrix4x4·inverse (Matrix4x4·transpose r)
+
+    go : (b : Bool) → eqb (rit .refusal) 0 ≡ b → Numbered (cond b (judgedRound r (mean r (Matrix4x4·toRows (rit .m)))) (refused (rit .refusal)))
+    go true e = judged-numbered r (mean r (Matrix4x4·toRows (rit .m)))
+    go false e = stopped (number (inverse-refusal (Matrix4x4·transpose r)) (eqb-false (rit .refusal) 0 e))
+
+polar-numbered : (m : Rows) → Numbered (polar m)
+unfolding polar
+polar-numbered m = loop-keeps (λ k s. Numbered s) round 100 (λ k s l h. round-numbered k s h) (unsettled (linearPart m)) going
+
+data Answered (m : Rows) (d : Decomposition) : Type 0 where
+  none : (n : ℕ) → Number n → d ≡ Decomposition·refused n → Answered m d
+  parted : d .refusal ≡ 0 → Accepted m d → Answered m d
+
+judged-answered : (m : Rows) (q : Quaternion) (s : Rows) → Answered m (judged m q s)
+unfolding judged Matrix4x4·isFinite
+judged-answered m q s = go (Quaternion·isFinite q && Matrix4x4·isFinite s) (λ h. h)
+  where
+    good : Decomposition
+    good = record { t = record { x = at m 0 3; y = at m 1 3; z = at m 2 3 }; r = q; s = Matrix4x4·fromRows s; refusal = 0 }
+
+    go : (b : Bool) → (T b → T (Quaternion·isFinite q && Matrix4x4·isFinite s)) → Answered m (cond b good (Decomposition·refused 5))
+    go true f = parted refl (record {
+      translation = refl;
+      rotation = and-l (Quaternion·isFinite q) (Matrix4x4·isFinite s) (f tt);
+      scale = and-r (Quaternion·isFinite q) (Matrix4x4·isFinite s) (f tt);
+    })
+    go false f = none 5 notFinite refl
+
+parts-answered : (m r : Rows) → Answered m (parts m r)
+unfolding parts
+parts-answered m r = go (eqb (Matrix4x4·inverse r .refusal) 0) refl
+  where
+    go : (b : Bool) → eqb (Matrix4x4·inverse r .refusal) 0 ≡ b
+        → Answered m (cond b (judged m (Quaternion·fromMatrix r) (Matrix4x4·mul (Matrix4x4·toRows (Matrix4x4·inverse r .m)) m)) (Decomposition·refused (Matrix4x4·inverse r .refusal)))
+    go true e = judged-answered m (Quaternion·fromMatrix r) (Matrix4x4·mul (Matrix4x4·toRows (Matrix4x4·inverse r .m)) m)
+    go false e = none (Matrix4x4·inverse r .refusal) (number (inverse-refusal r) (eqb-false (Matrix4x4·inverse r .refusal) 0 e)) refl
+
+finish-answered : (m : Rows) (s : Polar) → Numbered s → Answered m (finish m s)
+unfolding finish
+finish-answered m (refused n) (stopped h) = none n h refl
+finish-answered m (unsettled r) h = parts-answered m r
+finish-answered m (settled r) h = parts-answered m r
+
+decompose-answered : (m : Rows) → Answered m (Matrix4x4·decompose m)
+unfolding Matrix4x4·decompose
+decompose-answered m = finish-answered m (polar m) (polar-numbered m)
+
+pub decompose-refusal : (m : Rows) → (Matrix4x4·decompose m .refusal ≡ 0) ⊎ ((Matrix4x4·decompose m .refusal ≡ 4) ⊎ (Matrix4x4·decompose m .refusal ≡ 5))
+decompose-refusal m = go (Matrix4x4·decompose m) (decompose-answered m)
+  where
+    go : (d : Decomposition) → Answered m d → (d .refusal ≡ 0) ⊎ ((d .refusal ≡ 4) ⊎ (d .refusal ≡ 5))
+    go d (parted e a) = inl e
+    go d (none _ zeroPivot e) = inr (inl (ap (λ (x : Decomposition). x .refusal) e))
+    go d (none _ notFinite e) = inr (inr (ap (λ (x : Decomposition). x .refusal) e))
+
+pub decompose-refused : (m : Rows) → (Matrix4x4·decompose m .refusal ≡ 0 → ⊥) → Matrix4x4·decompose m ≡ Decomposition·refused (Matrix4x4·decompose m .refusal)
+decompose-refused m z = go (Matrix4x4·decompose m) z (decompose-answered m)
+  where
+    go : (d : Decomposition) → (d .refusal ≡ 0 → ⊥) → Answered m d → d ≡ Decomposition·refused (d .refusal)
+    go d z (parted e a) = absurd (z e)
+    go d z (none n h e) = e ∙ ap Decomposition·refused (sym (ap (λ (x : Decomposition). x .refusal) e))
+
+pub decompose-accepted : (m : Rows) → Matrix4x4·decompose m .refusal ≡ 0 → Accepted m (Matrix4x4·decompose m)
+decompose-accepted m h = go (Matrix4x4·decompose m) h (decompose-answered m)
+  where
+    go : (d : Decomposition) → d .refusal ≡ 0 → Answered m d → Accepted m d
+    go d h (parted e a) = a
+    go d h (none _ zeroPivot e) = absurd (let i : d .refusal ≡ 4 = ap (λ (x : Decomposition). x .refusal) e in omega arith)
+    go d h (none _ notFinite e) = absurd (let i : d .refusal ≡ 5 = ap (λ (x : Decomposition). x .refusal) e in omega arith)

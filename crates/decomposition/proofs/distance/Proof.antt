@@ -1,0 +1,63 @@
+-- `distance` meets its contract: each row is taken into the greatest so far.
+use Rattle.decomposition.specs.Polar.{distance}
+use borrow.Author.Needs.{needs}
+use Rattle.decomposition.proofs.distance.Statement.{statement}
+use Rattle.decomposition.proofs.distance.Tie as tie
+
+array-copy-out-a1 : tie.Need-array-copy-out-a1
+array-copy-out-a1 c = search needs
+
+array-copy-out-b1 : tie.Need-array-copy-out-b1
+array-copy-out-b1 c = search needs
+
+array-copy-out-c1 : tie.Need-array-copy-out-c1
+array-copy-out-c1 c = search needs
+
+array-copy-out-a2 : tie.Need-array-copy-out-a2
+array-copy-out-a2 c = search needs
+
+array-copy-out-b2 : tie.Need-array-copy-out-b2
+array-copy-out-b2 c = search needs
+
+array-copy-out-c2 : tie.Need-array-copy-out-c2
+array-copy-out-c2 c = search needs
+
+row-distance-requires : tie.Need-row-distance-requires
+row-distance-requires c κs = search needs
+
+max-requires : tie.Need-max-requires
+max-requires c κs = search needs
+
+row-distance-requires-2 : tie.Need-row-distance-requires-2
+row-distance-requires-2 c κs = search needs
+
+max-requires-2 : tie.Need-max-requires-2
+max-requires-2 c κs = search needs
+
+row-distance-requires-3 : tie.Need-row-distance-requires-3
+row-distance-requires-3 c κs = search needs
+
+max-requires-3 : tie.Need-max-requires-3
+max-requires-3 c κs = search needs
+
+returns : tie.Need-returns
+unfolding distance
+returns c = rw (c .max3 .ensures, c .before .row-distance3 .ensures, c .before .before .max2 .ensures, c .before .before .before .row-distance2 .ensures, c .before .before .before .before .max .ensures, c .before .before .before .before .before .row-distance .ensures)
+
+pub distance-spec : {M : Type 1} → statement M
+distance-spec =
+    tie.close
+    (tie.spec
+    array-copy-out-a1
+    array-copy-out-b1
+    array-copy-out-c1
+    array-copy-out-a2
+    array-copy-out-b2
+    array-copy-out-c2
+    row-distance-requires
+    max-requires
+    row-distance-requires-2
+    max-requires-2
+    row-distance-requires-3
+    max-requires-3
+    returns)

@@ -1,0 +1,45 @@
+-- `parts` meets its contract: the inverse's number chooses the case.
+use borrow.Author.Tests.{eq-eqb, ne-eqb}
+use Rattle.decomposition.specs.Decompose.{parts}
+use borrow.Author.Needs.{needs}
+use Rattle.decomposition.proofs.parts.Statement.{statement}
+use Rattle.decomposition.proofs.parts.Tie as tie
+
+inverse-requires : tie.Need-inverse-requires
+inverse-requires c κs = search needs
+
+quaternion-from-matrix-requires : tie.Need-quaternion-from-matrix-requires
+quaternion-from-matrix-requires c κs = search needs
+
+to-rows-requires : tie.Need-to-rows-requires
+to-rows-requires c κs = search needs
+
+mul-requires : tie.Need-mul-requires
+mul-requires c κs = search needs
+
+judged-requires : tie.Need-judged-requires
+judged-requires c κs = search needs
+
+refused-requires : tie.Need-refused-requires
+refused-requires c κs = search needs
+
+returns : tie.Need-returns
+unfolding parts
+returns c = rw (← c .before .before .before .before .before .before .inverse .ensures, eq-eqb _ 0 (c .before .before .before .before .if1 .taken), ← c .before .before .before .quaternion-from-matrix .ensures, ← c .before .before .to-rows .ensures, ← c .before .mul .ensures) (c .judged .ensures)
+
+returns-2 : tie.Need-returns-2
+unfolding parts
+returns-2 c = rw (← c .before .before .before .inverse .ensures, ne-eqb _ 0 (c .before .if1 .left)) (c .refused .ensures)
+
+pub parts-spec : {M : Type 1} → statement M
+parts-spec =
+    tie.close
+    (tie.spec
+    inverse-requires
+    quaternion-from-matrix-requires
+    to-rows-requires
+    mul-requires
+    judged-requires
+    refused-requires
+    returns
+    returns-2)

@@ -1,0 +1,44 @@
+-- pbrt's `decompose`: a matrix m as translation t, rotation r and scale s, with m = t r s up to rounding. A refusal stands beside them: 4 or 5 of an inverse, 5 where a
+-- polar round's matrix, the quaternion or the scale holds a value that isn't finite, in working order; after it every number is +0. Definitions only.
+use Prim.Native.Nat.{ℕ}
+use mathlib.Core.Bool.{_&&_, cond}
+use lib.Dec.{eqb}
+use Rattle.vector3.specs.declared.Vector3f.{Vector3f}
+use Rattle.matrix4x4.specs.Rows.{Rows, at, tabulate, positiveZero, Matrix4x4·toRows, Matrix4x4·fromRows}
+use Rattle.matrix4x4.specs.Mul.{Matrix4x4·mul}
+use Rattle.matrix4x4.specs.IsFinite.{Matrix4x4·isFinite}
+use Rattle.matrix_inverse.specs.Inverse.{Matrix4x4·inverse}
+use Rattle.quaternion.specs.declared.Quaternion.{Quaternion}
+use Rattle.quaternion.specs.IsFinite.{Quaternion·isFinite}
+use Rattle.rotation.specs.FromMatrix.{Quaternion·fromMatrix}
+use Rattle.decomposition.specs.declared.Decomposition.{Decomposition}
+use Rattle.decomposition.specs.Polar.{Polar, refused, unsettled, settled, polar}
+
+abbrev pub Decomposition·refused : ℕ → Decomposition
+Decomposition·refused n =
+    let o : Vector3f = record { x = positiveZero; y = positiveZero; z = positiveZero } in
+    record { t = o; r = record { v = o; w = positiveZero }; s = Matrix4x4·fromRows (tabulate (λ i. tabulate (λ j. positiveZero))); refusal = n }
+
+-- document 01, Refusals, 5: a finished "matrix, quaternion .. holds a value that isn't finite"; the scale with all 16 entries
+unfoldable pub judged : Rows → Quaternion → Rows → Decomposition
+judged m r s =
+    cond (Quaternion·isFinite r && Matrix4x4·isFinite s)
+    (record { t = record { x = at m 0 3; y = at m 1 3; z = at m 2 3 }; r = r; s = Matrix4x4·fromRows s; refusal = 0 })
+    (Decomposition·refused 5)
+
+-- `*rquat = Transform::from_matrix(&r).into();` and `*s = Matrix4x4::mul(&Matrix4x4::inverse(&r), m);`, where `from_matrix` works the same inverse
+unfoldable pub parts : Rows → Rows → Decomposition
+parts m r =
+    let inverse = Matrix4x4·inverse r in
+    cond (eqb (inverse .refusal) 0)
+    (judged m (Quaternion·fromMatrix r) (Matrix4x4·mul (Matrix4x4·toRows (inverse .m)) m))
+    (Decomposition·refused (inverse .refusal))
+
+unfoldable pub finish : Rows → Polar → Decomposition
+finish m (refused n) = Decomposition·refused n
+finish m (unsettled r) = parts m r
+finish m (settled r) = parts m r
+
+-- `AnimatedTransform::decompose`
+unfoldable pub Matrix4x4·decompose : Rows → Decomposition
+Matrix4x4·decompose m = finish m (polar m)
