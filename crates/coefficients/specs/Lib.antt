@@ -1,0 +1,3 @@
+pub mod Coefficients
+pub mod IsFinite
+pub mod Computing
