@@ -1,0 +1,79 @@
+-- `theta-angles`: theta times a dt from 0 to 1 is an angle, in floats and in intervals, where theta lies from 0 to a quarter turn.
+-- `theta-quarter`: so it does where it is the arc cosine of what is at least 0. Rests on the product's isotonicity and on the arc cosine's range.
+use mathlib.Core.Path.{_≡_, refl, ap, subst}
+use mathlib.Core.Bool.{Bool, true, false, not, cond, _&&_}
+use lib.Dec.{T}
+use lib.Ieee.{Float, ofBits, isNan, lt, le, neg, mul, round}
+use lib.Ieee.Fits.{and-i}
+use lib.Ieee.Bits.{is-true}
+use lib.Ieee.Scale.{finite}
+use Rattle.rounding.specs.Order.{_≼_}
+use Rattle.rounding.proofs.Order.{≼-trans, between-finite, finite-number, lt-≼, not-lt-≼}
+use Rattle.rounding.proofs.Corners.{Bounds}
+use Rattle.float32.specs.Operators.{one}
+use Rattle.float32.specs.MinMax.{minNum, maxNum}
+use Rattle.float32.specs.Clamp.{clamp}
+use Rattle.trig.specs.Acos.{acos, inDomain}
+use Rattle.trig_laws.specs.Range.{quarterTurnFloat, fullTurnFloat}
+use Rattle.trig_laws.proofs.Acos.{acos-range, acos-quarter}
+use Rattle.transform.specs.Transform.{+0}
+use Rattle.interval.specs.declared.Interval.{Interval}
+use Rattle.interval.specs.declared.Judged.{Judged}
+use Rattle.interval.specs.Interval.{Interval·point, Interval·new, Interval·hull, Interval·ofFour}
+use Rattle.interval.specs.Contains.{Subset, Finite, Refines}
+use Rattle.interval.specs.Enclosure.{areAngles, first, notFinite, Judged·judge, Interval·mulEnclosure, Judged·mulEnclosure}
+use Rattle.interval.proofs.Contains.{subset-refl, point-encloses}
+use Rattle.interval.proofs.Isotone.{mul-isotone}
+use Rattle.pose_steps.specs.Promise.{unitInterval}
+
+abbrev quarterInterval : Interval
+quarterInterval = record { low = +0; high = quarterTurnFloat }
+
+quarter-finite : Finite quarterInterval
+quarter-finite = record { low = unfold ofBits in tt; high = unfold ofBits in tt }
+
+pub unit-finite : Finite unitInterval
+unit-finite = record { low = unfold ofBits in tt; high = unfold ofBits in tt }
+
+-- From 0 to a quarter turn, times from 0 to 1, is from 0 to a quarter turn.
+products : Judged·mulEnclosure 0 quarterInterval unitInterval ≡ record { interval = quarterInterval; refusal = 0 }
+unfolding Judged·mulEnclosure Judged·judge Interval·mulEnclosure Interval·ofFour Interval·hull Interval·new minNum maxNum isNan mul round lt ofBits first notFinite
+products = refl
+
+quarter-full : quarterTurnFloat ≼ fullTurnFloat
+quarter-full = record { holds = unfold le ofBits in tt }
+
+pub theta-finite : {θ : Float} → +0 ≼ θ → θ ≼ quarterTurnFloat → T (finite θ)
+theta-finite l h = between-finite (quarter-finite .low) (quarter-finite .high) l h
+
+pub theta-angles : {θ : Float} {D : Interval} → +0 ≼ θ → θ ≼ quarterTurnFloat → Subset D unitInterval → T (areAngles (Interval·mulEnclosure (Interval·point θ) D))
+unfolding Judged·mulEnclosure Judged·judge
+theta-angles {θ} {D} l h d =
+    let p = subset-refl (point-encloses θ (theta-finite l h) .contains) in
+    let t : Refines (Interval·point θ) quarterInterval = record { finite = quarter-finite; subset = record { low = l; proper = p .proper; high = h } } in
+    let s = mul-isotone .isotone 0 0 t (record { finite = unit-finite; subset = d }) refl (ap (λ (j : Judged). j .refusal) products) .refines .subset in
+    let r : Subset (Interval·mulEnclosure (Interval·point θ) D) quarterInterval = subst (λ (j : Judged). Subset (Interval·mulEnclosure (Interval·point θ) D) (j .interval)) products s in
+    let X = Interval·mulEnclosure (Interval·point θ) D in
+    and-i (le +0 (X .low)) (le (X .high) fullTurnFloat) (r .low .holds) (≼-trans (r .high) quarter-full .holds)
+
+-- ---- the arc cosine of a dot product
+below-zero : neg one ≼ +0
+below-zero = record { holds = unfold le neg ofBits in tt }
+
+not-below : {c : Float} → +0 ≼ c → c ≼ neg one → ⊥
+not-below l h = let t = ≼-trans l h .holds in unfold le neg ofBits in t
+
+clamped : (c : Float) → T (finite c) → +0 ≼ c → (inDomain (clamp c (neg one) one) ≡ true) × (+0 ≼ clamp c (neg one) one)
+unfolding clamp
+clamped c f l = go (lt c (neg one)) (lt one c) (λ t. not-below l (lt-≼ c (neg one) t)) (λ t. not-lt-≼ c one (finite-number c f) (finite-number one (unit-finite .high)) t)
+  where
+    go : (a b : Bool) → (T a → ⊥) → (T (not b) → c ≼ one) → (inDomain (cond a (neg one) (cond b one c)) ≡ true) × (+0 ≼ cond a (neg one) (cond b one c))
+    go true b never below = absurd (never tt)
+    go false true never below = (unfold le neg ofBits in refl, record { holds = unfold le ofBits in tt })
+    go false false never below =
+        (is-true (le (neg one) c && le c one) (and-i (le (neg one) c) (le c one) (≼-trans below-zero l .holds) (below tt .holds)), l)
+
+pub theta-quarter : (c : Float) → T (finite c) → +0 ≼ c → Bounds +0 quarterTurnFloat (acos (clamp c (neg one) one))
+theta-quarter c f l =
+    let (d, n) = clamped c f l in
+    record { below = acos-range (clamp c (neg one) one) d .below; above = acos-quarter (clamp c (neg one) one) d n }

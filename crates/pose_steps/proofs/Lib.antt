@@ -1,0 +1,8 @@
+pub mod Angle
+mod Valid
+mod Zero
+pub mod Rows
+pub mod Extends
+pub mod Isotone
+pub mod Number
+pub mod Box

@@ -1,0 +1,144 @@
+-- The numbers that a slice can give: 5, and 10 of a squared length (`matrix-number`, `point-number`). One induction over the language, `program-number`.
+use mathlib.Core.Path.{refl}
+use mathlib.Core.Logic.{inl, inr}
+use Prim.Native.Nat.{ℕ, zero, suc}
+use mathlib.Core.Bool.{Bool, true, false, _&&_, cond}
+use mathlib.Core.List.{List, [], _∷_, _++_}
+use lib.ListN.{length}
+use lib.Ieee.{binary32, ofBits, le}
+use lib.Ieee.Scale.{finite}
+use Rattle.matrix4x4.specs.declared.Matrix4x4.{Matrix4x4}
+use Rattle.matrix4x4.specs.Rows.{Row}
+use Rattle.interval.specs.declared.Interval.{Interval}
+use Rattle.interval.specs.Enclosure.{first, notFinite, notPositive, Judged·judge, Interval·divEnclosure, Interval·sqrtEnclosure, Judged·addEnclosure, Judged·subEnclosure, Judged·mulEnclosure, Judged·divEnclosure, Judged·sqrtEnclosure, Judged·sinEnclosure, Judged·cosEnclosure, Interval·addEnclosure, Interval·subEnclosure, Interval·mulEnclosure, Interval·sinEnclosure, Interval·cosEnclosure}
+use Rattle.formula.specs.Program.{Binary, sum, difference, product, quotient, Unary, root, sine, cosine, Expr, var, con, binary, unary, Program, _>>=_, give}
+use Rattle.formula.specs.Enclose.{Binary·enclose, Unary·enclose, Expr·enclose, Enclosure, enclosure, Expr·encloseAll, extend, Program·enclose}
+use Rattle.pose_steps.specs.declared.RigidMotion.{RigidMotion}
+use Rattle.pose_steps.specs.declared.IntervalVector.{IntervalVector}
+use Rattle.pose_steps.specs.declared.IntervalRow.{IntervalRow}
+use Rattle.pose_steps.specs.declared.IntervalMatrix.{IntervalMatrix}
+use Rattle.pose_steps.specs.Stages.{translationStage, slerpNearStage, slerpFarStage, scaleRowStage, rotationStage, mulRowStage, transformPointStage}
+use Rattle.pose_steps.specs.Pose.{Vector3f·list, Quaternion·list, three, isNear}
+use Rattle.pose_steps.specs.Enclose.{points, IntervalVector·list, IntervalQuaternion·list, IntervalRow·list, IntervalMatrix·list, Pose·encloseTranslation, Pose·encloseSlerpNear, Pose·encloseSlerpFar, encloseSlerpBy, Pose·encloseSlerp, Pose·encloseScaleRow, Pose·encloseScale, Pose·encloseRotation, Pose·encloseMulRow, Pose·encloseMul, Pose·encloseTransformPoint, IntervalMatrix·translation, Pose·encloseMatrix, Pose·enclosePoint}
+use Rattle.pose_steps.specs.Promise.{SliceNumber}
+
+-- ---- one operation
+first-number : (m n : ℕ) → SliceNumber m → SliceNumber n → SliceNumber (first m n)
+unfolding first
+first-number zero n i j = j
+first-number (suc m) n i j = i
+
+finite-number : (X : Interval) → SliceNumber (notFinite X)
+unfolding notFinite
+finite-number X = go (finite (X .low) && finite (X .high))
+  where
+    go : (b : Bool) → SliceNumber (cond b 0 5)
+    go true = inl refl
+    go false = inr (inl refl)
+
+positive-number : (X : Interval) → SliceNumber (notPositive X)
+unfolding notPositive
+positive-number X = go (le (X .low) (ofBits binary32 0))
+  where
+    go : (b : Bool) → SliceNumber (cond b 10 0)
+    go true = inr (inr refl)
+    go false = inl refl
+
+judge-number : (m : ℕ) (X : Interval) → SliceNumber m → SliceNumber (Judged·judge m X .refusal)
+unfolding Judged·judge
+judge-number m X i = first-number m (notFinite X) i (finite-number X)
+
+positive-judged : (m : ℕ) (Y X : Interval) → SliceNumber m → SliceNumber (Judged·judge (first m (notPositive Y)) X .refusal)
+positive-judged m Y X i = judge-number (first m (notPositive Y)) X (first-number m (notPositive Y) i (positive-number Y))
+
+binary-number : (o : Binary) (m : ℕ) (X Y : Interval) → SliceNumber m → SliceNumber (Binary·enclose o m X Y .refusal)
+unfolding Judged·addEnclosure Judged·subEnclosure Judged·mulEnclosure Judged·divEnclosure
+binary-number sum m X Y i = judge-number m (Interval·addEnclosure X Y) i
+binary-number difference m X Y i = judge-number m (Interval·subEnclosure X Y) i
+binary-number product m X Y i = judge-number m (Interval·mulEnclosure X Y) i
+binary-number quotient m X Y i = positive-judged m Y (Interval·divEnclosure X Y) i
+
+unary-number : (o : Unary) (m : ℕ) (X : Interval) → SliceNumber m → SliceNumber (Unary·enclose o m X .refusal)
+unfolding Judged·sqrtEnclosure Judged·sinEnclosure Judged·cosEnclosure
+unary-number root m X i = positive-judged m X (Interval·sqrtEnclosure X) i
+unary-number sine m X i = judge-number m (Interval·sinEnclosure X) i
+unary-number cosine m X i = judge-number m (Interval·cosEnclosure X) i
+
+-- ---- the induction
+expr-number : (m : ℕ) (σ : List Interval) (e : Expr) → SliceNumber m → SliceNumber (Expr·enclose m σ e .refusal)
+unfolding Expr·enclose
+expr-number m σ (var i) n = n
+expr-number m σ (con x) n = n
+expr-number m σ (binary o a b) n =
+    let p = Expr·enclose m σ a in
+    let q = Expr·enclose (p .refusal) σ b in
+    binary-number o (q .refusal) (p .interval) (q .interval) (expr-number (p .refusal) σ b (expr-number m σ a n))
+expr-number m σ (unary o a) n = let p = Expr·enclose m σ a in unary-number o (p .refusal) (p .interval) (expr-number m σ a n)
+
+all-number : (m : ℕ) (σ : List Interval) (es : List Expr) → SliceNumber m → SliceNumber (Expr·encloseAll m σ es .refusal)
+unfolding Expr·encloseAll
+all-number m σ [] n = n
+all-number m σ (e ∷ es) n = all-number (Expr·enclose m σ e .refusal) σ es (expr-number m σ e n)
+
+pub program-number : (p : Program) (c : Enclosure) → SliceNumber (c .refusal) → SliceNumber (Program·enclose c p .refusal)
+unfolding Program·enclose
+program-number (give es) c n = all-number (c .refusal) (c .intervals) es n
+program-number (e >>= k) c n =
+    let σ = c .intervals in
+    let j = Expr·enclose (c .refusal) σ e in
+    program-number (k (var (length σ))) (extend σ j) (expr-number (c .refusal) σ e n)
+
+-- ---- the stages in sequence
+slerp-number : (m : ℕ) (a : RigidMotion) (D : Interval) → SliceNumber m → SliceNumber (Pose·encloseSlerp m a D .refusal)
+unfolding Pose·encloseSlerp encloseSlerpBy Pose·encloseSlerpNear Pose·encloseSlerpFar
+slerp-number m a D n = go (isNear a)
+  where
+    go : (b : Bool) → SliceNumber (encloseSlerpBy b m a D .refusal)
+    go true = program-number slerpNearStage (enclosure m (points (Quaternion·list (a .r0) ++ Quaternion·list (a .r1)) ++ D ∷ [])) n
+    go false = program-number slerpFarStage (enclosure m (points (Quaternion·list (a .r0) ++ Quaternion·list (a .r1) ++ a .«cos_theta» ∷ a .theta ∷ []) ++ D ∷ [])) n
+
+scale-row-number : (m : ℕ) (s0 s1 : Row) (D : Interval) → SliceNumber m → SliceNumber (Pose·encloseScaleRow m s0 s1 D .refusal)
+unfolding Pose·encloseScaleRow
+scale-row-number m s0 s1 D n = program-number scaleRowStage (enclosure m (points (three s0 ++ three s1) ++ D ∷ [])) n
+
+scale-number : (m : ℕ) (s0 s1 : Matrix4x4) (D : Interval) → SliceNumber m → SliceNumber (Pose·encloseScale m s0 s1 D .refusal)
+unfolding Pose·encloseScale
+scale-number m s0 s1 D n =
+    let p = Pose·encloseScaleRow m (s0 .r0) (s1 .r0) D in
+    let q = Pose·encloseScaleRow (p .refusal) (s0 .r1) (s1 .r1) D in
+    scale-row-number (q .refusal) (s0 .r2) (s1 .r2) D (scale-row-number (p .refusal) (s0 .r1) (s1 .r1) D (scale-row-number m (s0 .r0) (s1 .r0) D n))
+
+mul-row-number : (m : ℕ) (R : IntervalRow) (M : IntervalMatrix) → SliceNumber m → SliceNumber (Pose·encloseMulRow m R M .refusal)
+unfolding Pose·encloseMulRow
+mul-row-number m R M n = program-number mulRowStage (enclosure m (IntervalRow·list R ++ IntervalMatrix·list M)) n
+
+mul-number : (m : ℕ) (A B : IntervalMatrix) → SliceNumber m → SliceNumber (Pose·encloseMul m A B .refusal)
+unfolding Pose·encloseMul
+mul-number m A B n =
+    let p = Pose·encloseMulRow m (A .r0) B in
+    let q = Pose·encloseMulRow (p .refusal) (A .r1) B in
+    mul-row-number (q .refusal) (A .r2) B (mul-row-number (p .refusal) (A .r1) B (mul-row-number m (A .r0) B n))
+
+pub transformPoint-number : (m : ℕ) (M : IntervalMatrix) (P : IntervalVector) → SliceNumber m → SliceNumber (Pose·encloseTransformPoint m M P .refusal)
+unfolding Pose·encloseTransformPoint
+transformPoint-number m M P n = program-number transformPointStage (enclosure m (IntervalMatrix·list M ++ IntervalVector·list P)) n
+
+module _ (a : RigidMotion) (s0 s1 : Matrix4x4) (D : Interval) where
+  pub matrix-number : SliceNumber (Pose·encloseMatrix a s0 s1 D .refusal)
+  unfolding Pose·encloseMatrix Pose·encloseTranslation Pose·encloseRotation
+  matrix-number =
+      let I = Pose·encloseTranslation 0 (a .t0) (a .t1) D in
+      let J = Pose·encloseSlerp (I .refusal) a D in
+      let K = Pose·encloseScale (J .refusal) s0 s1 D in
+      let L = Pose·encloseRotation (K .refusal) (J .quaternion) in
+      let M = Pose·encloseMul (L .refusal) (IntervalMatrix·translation (I .vector)) (L .matrix) in
+      mul-number (M .refusal) (M .matrix) (K .matrix)
+      (mul-number (L .refusal) (IntervalMatrix·translation (I .vector)) (L .matrix)
+      (program-number rotationStage (enclosure (K .refusal) (IntervalQuaternion·list (J .quaternion)))
+      (scale-number (J .refusal) s0 s1 D
+      (slerp-number (I .refusal) a D
+      (program-number translationStage (enclosure 0 (points (Vector3f·list (a .t0) ++ Vector3f·list (a .t1)) ++ D ∷ [])) (inl refl))))))
+
+  pub point-number : (P : IntervalVector) → SliceNumber (Pose·enclosePoint a s0 s1 D P .refusal)
+  unfolding Pose·enclosePoint
+  point-number P = let M = Pose·encloseMatrix a s0 s1 D in transformPoint-number (M .refusal) (M .matrix) P matrix-number

@@ -1,0 +1,114 @@
+-- Constants, rows and matrices: what holds entry by entry of a matrix's rows holds of its list, and back (`encloses-list`, `list-encloses`, `refines-list`, `list-refines`), a number with equal ends encloses itself and lies in itself
+-- (`points-enclose`, `points-refine`), and a matrix that is enclosed is finite (`matrix-finite`).
+use mathlib.Core.Path.{_≡_, refl}
+use Prim.Native.Nat.{ℕ}
+use native.Mathlib.Omega.{arith}
+use mathlib.Core.Bool.{Bool, _&&_}
+use mathlib.Core.List.{List, [], _∷_, _++_}
+use lib.ListN.{length, length-append}
+use lib.Dec.{T}
+use lib.Ieee.{Float, ofBits}
+use lib.Ieee.Fits.{and-i}
+use lib.Ieee.Scale.{finite}
+use Rattle.float32.specs.Operators.{one}
+use Rattle.matrix4x4.specs.declared.Matrix4x4.{Matrix4x4}
+use Rattle.matrix4x4.specs.Rows.{Row, col, at, all, Matrix4x4·toRows}
+use Rattle.matrix4x4.specs.IsFinite.{Matrix4x4·isFinite}
+use Rattle.transform.specs.Transform.{+0}
+use Rattle.interval.specs.declared.Interval.{Interval}
+use Rattle.interval.specs.Contains.{Encloses, Refines}
+use Rattle.interval.proofs.Contains.{contains-finite, point-encloses, point-refines}
+use Rattle.formula.specs.Promise.{Pairwise}
+use Rattle.formula.proofs.Pairwise.{pairwise-append}
+use Rattle.pose_steps.specs.declared.IntervalMatrix.{IntervalMatrix}
+use Rattle.pose_steps.specs.Pose.{entries, Matrix4x4·list, bottomRow, allFinite}
+use Rattle.pose_steps.specs.Enclose.{points, IntervalRow·list, IntervalMatrix·list}
+use Rattle.pose_steps.specs.Promise.{AllFinite, EnclosesMatrix, RefinesMatrix}
+
+-- ---- constants, and constants with an interval of dt
+pub points-enclose : (l : List Float) → AllFinite l → Pairwise Encloses (points l) l
+points-enclose [] f = tt
+points-enclose (x ∷ l) f = (point-encloses x (f .0), points-enclose l (f .1))
+
+pub points-refine : (l : List Float) → AllFinite l → Pairwise Refines (points l) (points l)
+points-refine [] f = tt
+points-refine (x ∷ l) f = (point-refines x (f .0), points-refine l (f .1))
+
+pub finite-append : (l k : List Float) → AllFinite l → AllFinite k → AllFinite (l ++ k)
+finite-append [] k f g = g
+finite-append (x ∷ l) k f g = (f .0, finite-append l k (f .1) g)
+
+pub constants-enclose : (l : List Float) {D : Interval} {dt : Float} → AllFinite l → Encloses D dt → Pairwise Encloses (points l ++ D ∷ []) (l ++ dt ∷ [])
+constants-enclose l {D} {dt} f d = pairwise-append Encloses (points l) (D ∷ []) l (dt ∷ []) (points-enclose l f) (d, tt)
+
+pub constants-refine : (l : List Float) {D D' : Interval} → AllFinite l → Refines D D' → Pairwise Refines (points l ++ D ∷ []) (points l ++ D' ∷ [])
+constants-refine l {D} {D'} f d = pairwise-append Refines (points l) (D ∷ []) (points l) (D' ∷ []) (points-refine l f) (d, tt)
+
+-- ---- rows
+module _ {A B : Type 0} (R : A → B → Type 0) (p q r : List A) (p' q' r' : List B) where
+  pub rows-list : Pairwise R p p' → Pairwise R q q' → Pairwise R r r' → Pairwise R (p ++ q ++ r) (p' ++ q' ++ r')
+  rows-list a b c = pairwise-append R (p ++ q) r (p' ++ q') r' (pairwise-append R p q p' q' a b) c
+
+split : {A B : Type 0} (R : A → B → Type 0) (p q : List A) (p' q' : List B) → length p ≡ length p' → Pairwise R (p ++ q) (p' ++ q') → Pairwise R p p' × Pairwise R q q'
+split R [] q [] q' e h = (tt, h)
+split R [] q (y ∷ p') q' e h = absurd (omega arith)
+split R (x ∷ p) q [] q' e h = absurd (omega arith)
+split R (x ∷ p) q (y ∷ p') q' e h = let (i, j) = split R p q p' q' (omega arith) (h .1) in ((h .0, i), j)
+
+pub list-rows : {A B : Type 0} (R : A → B → Type 0) (p q r : List A) (p' q' r' : List B) → length p ≡ length p' → length q ≡ length q'
+    → Pairwise R (p ++ q ++ r) (p' ++ q' ++ r') → Pairwise R p p' × Pairwise R q q' × Pairwise R r r'
+list-rows R p q r p' q' r' e f h =
+    let (i, j) = split R (p ++ q) r (p' ++ q') r' (rw (length-append p q, length-append p' q', e, f)) h in
+    let (k, l) = split R p q p' q' e i in
+    (k, l, j)
+
+pub encloses-list : {M : IntervalMatrix} {m : Matrix4x4} → EnclosesMatrix M m → Pairwise Encloses (IntervalMatrix·list M) (Matrix4x4·list m)
+encloses-list {M} {m} e =
+    rows-list Encloses (IntervalRow·list (M .r0)) (IntervalRow·list (M .r1)) (IntervalRow·list (M .r2)) (entries (m .r0)) (entries (m .r1)) (entries (m .r2)) (e .r0) (e .r1) (e .r2)
+
+pub list-encloses : (M : IntervalMatrix) (m : Matrix4x4) → Pairwise Encloses (IntervalMatrix·list M) (Matrix4x4·list m) → EnclosesMatrix M m
+list-encloses M m e =
+    let (a, b, c) = list-rows Encloses (IntervalRow·list (M .r0)) (IntervalRow·list (M .r1)) (IntervalRow·list (M .r2)) (entries (m .r0)) (entries (m .r1)) (entries (m .r2)) refl refl e in
+    record { r0 = a; r1 = b; r2 = c }
+
+pub refines-list : {M M' : IntervalMatrix} → RefinesMatrix M M' → Pairwise Refines (IntervalMatrix·list M) (IntervalMatrix·list M')
+refines-list {M} {M'} e =
+    rows-list Refines (IntervalRow·list (M .r0)) (IntervalRow·list (M .r1)) (IntervalRow·list (M .r2)) (IntervalRow·list (M' .r0)) (IntervalRow·list (M' .r1)) (IntervalRow·list (M' .r2)) (e .r0) (e .r1) (e .r2)
+
+pub list-refines : (M M' : IntervalMatrix) → Pairwise Refines (IntervalMatrix·list M) (IntervalMatrix·list M') → RefinesMatrix M M'
+list-refines M M' e =
+    let (a, b, c) = list-rows Refines (IntervalRow·list (M .r0)) (IntervalRow·list (M .r1)) (IntervalRow·list (M .r2)) (IntervalRow·list (M' .r0)) (IntervalRow·list (M' .r1)) (IntervalRow·list (M' .r2)) refl refl e in
+    record { r0 = a; r1 = b; r2 = c }
+
+-- ---- finite
+encloses-finite : {X : Interval} {x : Float} → Encloses X x → T (finite x)
+encloses-finite e = contains-finite (e .finite) (e .contains)
+
+pub enclosed-finite : (σ : List Interval) (l : List Float) → Pairwise Encloses σ l → AllFinite l
+enclosed-finite [] [] e = tt
+enclosed-finite [] (x ∷ l) e = absurd e
+enclosed-finite (X ∷ σ) [] e = absurd e
+enclosed-finite (X ∷ σ) (x ∷ l) e = (encloses-finite (e .0), enclosed-finite σ l (e .1))
+
+all-of : (p : ℕ → Bool) → T (p 0) → T (p 1) → T (p 2) → T (p 3) → T (all p)
+all-of p a b c d = and-i (p 0 && p 1 && p 2) (p 3) (and-i (p 0 && p 1) (p 2) (and-i (p 0) (p 1) a b) c) d
+
+row-finite : (r : Row) → AllFinite (entries r) → T (all (λ j. finite (col r j)))
+row-finite r (a, (b, (c, (d, e)))) = all-of (λ j. finite (col r j)) a b c d
+
+pub zero-finite : T (finite +0)
+unfolding ofBits
+zero-finite = tt
+
+pub one-finite : T (finite one)
+unfolding ofBits
+one-finite = tt
+
+pub matrix-finite : {M : IntervalMatrix} (m : Matrix4x4) → m .r3 ≡ bottomRow → EnclosesMatrix M m → T (allFinite m)
+unfolding Matrix4x4·isFinite
+matrix-finite {M} m b e =
+    all-of (λ i. all (λ j. finite (at (Matrix4x4·toRows m) i j)))
+    (row-finite (m .r0) (enclosed-finite (IntervalRow·list (M .r0)) (entries (m .r0)) (e .r0)))
+    (row-finite (m .r1) (enclosed-finite (IntervalRow·list (M .r1)) (entries (m .r1)) (e .r1)))
+    (row-finite (m .r2) (enclosed-finite (IntervalRow·list (M .r2)) (entries (m .r2)) (e .r2)))
+    (row-finite (m .r3) (rw b (zero-finite, (zero-finite, (zero-finite, (one-finite, tt))))))

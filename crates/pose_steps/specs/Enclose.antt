@@ -1,0 +1,168 @@
+-- The steps read in intervals: the slice of a move over any interval of dt, `Pose·encloseMatrix`, and of a box of points, `Pose·enclosePoint`. Definitions only.
+-- Every interval is judged as it is formed, and the first number met is carried along. A slice works translation, slerp, scale, rotation, product, product, moved point.
+-- The move's constants have equal ends.
+use Prim.Native.Nat.{ℕ}
+use mathlib.Core.Bool.{Bool, true, false}
+use mathlib.Core.List.{List, [], _∷_, _++_, map}
+use lib.ListN.{getD}
+use lib.Ieee.{Float}
+use Rattle.float32.specs.Operators.{one}
+use Rattle.vector3.specs.declared.Vector3f.{Vector3f}
+use Rattle.quaternion.specs.declared.Quaternion.{Quaternion}
+use Rattle.matrix4x4.specs.declared.Matrix4x4.{Matrix4x4}
+use Rattle.matrix4x4.specs.Rows.{Row, col}
+use Rattle.bounds3.specs.declared.Bounds3f.{Bounds3f}
+use Rattle.transform.specs.Transform.{+0}
+use Rattle.interval.specs.declared.Interval.{Interval}
+use Rattle.interval.specs.Interval.{Interval·point}
+use Rattle.formula.specs.Enclose.{Enclosure, enclosure, unbound, Program·enclose}
+use Rattle.pose_steps.specs.declared.RigidMotion.{RigidMotion}
+use Rattle.pose_steps.specs.declared.IntervalVector.{IntervalVector}
+use Rattle.pose_steps.specs.declared.IntervalQuaternion.{IntervalQuaternion}
+use Rattle.pose_steps.specs.declared.IntervalRow.{IntervalRow}
+use Rattle.pose_steps.specs.declared.IntervalMatrix.{IntervalMatrix}
+use Rattle.pose_steps.specs.declared.JudgedVector.{JudgedVector}
+use Rattle.pose_steps.specs.declared.JudgedQuaternion.{JudgedQuaternion}
+use Rattle.pose_steps.specs.declared.JudgedRow.{JudgedRow}
+use Rattle.pose_steps.specs.declared.JudgedMatrix.{JudgedMatrix}
+use Rattle.pose_steps.specs.Stages.{translationStage, slerpNearStage, slerpFarStage, scaleRowStage, rotationStage, mulRowStage, transformPointStage}
+use Rattle.pose_steps.specs.Pose.{Vector3f·list, Quaternion·list, three, isNear}
+
+-- ---- structs as lists of intervals, and back
+-- Constants, as equal ends.
+abbrev pub points : List Float → List Interval
+points l = map Interval·point l
+
+abbrev pub IntervalVector·list : IntervalVector → List Interval
+IntervalVector·list v = v .x ∷ v .y ∷ v .z ∷ []
+
+abbrev pub IntervalQuaternion·list : IntervalQuaternion → List Interval
+IntervalQuaternion·list q = q .x ∷ q .y ∷ q .z ∷ q .w ∷ []
+
+abbrev pub IntervalRow·list : IntervalRow → List Interval
+IntervalRow·list r = r .c0 ∷ r .c1 ∷ r .c2 ∷ r .c3 ∷ []
+
+abbrev pub IntervalMatrix·list : IntervalMatrix → List Interval
+IntervalMatrix·list m = IntervalRow·list (m .r0) ++ IntervalRow·list (m .r1) ++ IntervalRow·list (m .r2)
+
+abbrev pub at : Enclosure → ℕ → Interval
+at c i = getD (c .intervals) i unbound
+
+abbrev pub JudgedVector·of : Enclosure → JudgedVector
+JudgedVector·of c = record { vector = record { x = at c 0; y = at c 1; z = at c 2 }; refusal = c .refusal }
+
+abbrev pub JudgedQuaternion·of : Enclosure → JudgedQuaternion
+JudgedQuaternion·of c = record { quaternion = record { x = at c 0; y = at c 1; z = at c 2; w = at c 3 }; refusal = c .refusal }
+
+abbrev pub JudgedRow·of : Enclosure → JudgedRow
+JudgedRow·of c = record { row = record { c0 = at c 0; c1 = at c 1; c2 = at c 2; c3 = at c 3 }; refusal = c .refusal }
+
+abbrev pub JudgedMatrix·of : Enclosure → JudgedMatrix
+JudgedMatrix·of c =
+    record {
+      matrix = record {
+        r0 = record { c0 = at c 0; c1 = at c 1; c2 = at c 2; c3 = at c 3 };
+        r1 = record { c0 = at c 4; c1 = at c 5; c2 = at c 6; c3 = at c 7 };
+        r2 = record { c0 = at c 8; c1 = at c 9; c2 = at c 10; c3 = at c 11 };
+      };
+      refusal = c .refusal;
+    }
+
+-- ---- the stages; m is the number met before
+unfoldable pub Pose·encloseTranslation : ℕ → Vector3f → Vector3f → Interval → JudgedVector
+Pose·encloseTranslation m t0 t1 D = JudgedVector·of (Program·enclose (enclosure m (points (Vector3f·list t0 ++ Vector3f·list t1) ++ D ∷ [])) translationStage)
+
+unfoldable pub Pose·encloseSlerpNear : ℕ → Quaternion → Quaternion → Interval → JudgedQuaternion
+Pose·encloseSlerpNear m q1 q2 D = JudgedQuaternion·of (Program·enclose (enclosure m (points (Quaternion·list q1 ++ Quaternion·list q2) ++ D ∷ [])) slerpNearStage)
+
+unfoldable pub Pose·encloseSlerpFar : ℕ → Quaternion → Quaternion → Float → Float → Interval → JudgedQuaternion
+Pose·encloseSlerpFar m q1 q2 cosθ θ D =
+    JudgedQuaternion·of (Program·enclose (enclosure m (points (Quaternion·list q1 ++ Quaternion·list q2 ++ cosθ ∷ θ ∷ []) ++ D ∷ [])) slerpFarStage)
+
+unfoldable pub encloseSlerpBy : Bool → ℕ → RigidMotion → Interval → JudgedQuaternion
+encloseSlerpBy true m a D = Pose·encloseSlerpNear m (a .r0) (a .r1) D
+encloseSlerpBy false m a D = Pose·encloseSlerpFar m (a .r0) (a .r1) (a .«cos_theta») (a .theta) D
+
+unfoldable pub Pose·encloseSlerp : ℕ → RigidMotion → Interval → JudgedQuaternion
+Pose·encloseSlerp m a D = encloseSlerpBy (isNear a) m a D
+
+unfoldable pub Pose·encloseScaleRow : ℕ → Row → Row → Interval → JudgedRow
+Pose·encloseScaleRow m s0 s1 D = JudgedRow·of (Program·enclose (enclosure m (points (three s0 ++ three s1) ++ D ∷ [])) scaleRowStage)
+
+-- Three rows in turn, the number handed from row to row.
+abbrev pub JudgedMatrix·rows : JudgedRow → JudgedRow → JudgedRow → JudgedMatrix
+JudgedMatrix·rows p q r = record { matrix = record { r0 = p .row; r1 = q .row; r2 = r .row }; refusal = r .refusal }
+
+unfoldable pub Pose·encloseScale : ℕ → Matrix4x4 → Matrix4x4 → Interval → JudgedMatrix
+Pose·encloseScale m s0 s1 D =
+    let p = Pose·encloseScaleRow m (s0 .r0) (s1 .r0) D in
+    let q = Pose·encloseScaleRow (p .refusal) (s0 .r1) (s1 .r1) D in
+    let r = Pose·encloseScaleRow (q .refusal) (s0 .r2) (s1 .r2) D in
+    JudgedMatrix·rows p q r
+
+unfoldable pub Pose·encloseRotation : ℕ → IntervalQuaternion → JudgedMatrix
+Pose·encloseRotation m q = JudgedMatrix·of (Program·enclose (enclosure m (IntervalQuaternion·list q)) rotationStage)
+
+unfoldable pub Pose·encloseMulRow : ℕ → IntervalRow → IntervalMatrix → JudgedRow
+Pose·encloseMulRow m a b = JudgedRow·of (Program·enclose (enclosure m (IntervalRow·list a ++ IntervalMatrix·list b)) mulRowStage)
+
+unfoldable pub Pose·encloseMul : ℕ → IntervalMatrix → IntervalMatrix → JudgedMatrix
+Pose·encloseMul m a b =
+    let p = Pose·encloseMulRow m (a .r0) b in
+    let q = Pose·encloseMulRow (p .refusal) (a .r1) b in
+    let r = Pose·encloseMulRow (q .refusal) (a .r2) b in
+    JudgedMatrix·rows p q r
+
+unfoldable pub Pose·encloseTransformPoint : ℕ → IntervalMatrix → IntervalVector → JudgedVector
+Pose·encloseTransformPoint m a p = JudgedVector·of (Program·enclose (enclosure m (IntervalMatrix·list a ++ IntervalVector·list p)) transformPointStage)
+
+-- ---- in sequence
+-- The matrix that adds an interval vector to a point.
+abbrev pub IntervalMatrix·translation : IntervalVector → IntervalMatrix
+IntervalMatrix·translation v =
+    let 𝟎 : Interval = Interval·point +0 in
+    let 𝟏 : Interval = Interval·point one in
+    record {
+      r0 = record { c0 = 𝟏; c1 = 𝟎; c2 = 𝟎; c3 = v .x };
+      r1 = record { c0 = 𝟎; c1 = 𝟏; c2 = 𝟎; c3 = v .y };
+      r2 = record { c0 = 𝟎; c1 = 𝟎; c2 = 𝟏; c3 = v .z };
+    }
+
+-- document 01, Cover: "In a slice the steps of `interpolate` and `transform_point` are done in the Rust's order with each number an interval"
+unfoldable pub Pose·encloseMatrix : RigidMotion → Matrix4x4 → Matrix4x4 → Interval → JudgedMatrix
+Pose·encloseMatrix a s0 s1 D =
+    let trans = Pose·encloseTranslation 0 (a .t0) (a .t1) D in
+    let rotate = Pose·encloseSlerp (trans .refusal) a D in
+    let scale = Pose·encloseScale (rotate .refusal) s0 s1 D in
+    let rotation = Pose·encloseRotation (scale .refusal) (rotate .quaternion) in
+    let first = Pose·encloseMul (rotation .refusal) (IntervalMatrix·translation (trans .vector)) (rotation .matrix) in
+    Pose·encloseMul (first .refusal) (first .matrix) (scale .matrix)
+
+unfoldable pub Pose·enclosePoint : RigidMotion → Matrix4x4 → Matrix4x4 → Interval → IntervalVector → JudgedVector
+Pose·enclosePoint a s0 s1 D p =
+    let pose = Pose·encloseMatrix a s0 s1 D in
+    Pose·encloseTransformPoint (pose .refusal) (pose .matrix) p
+
+-- ---- a stored matrix with equal ends, and a box as three intervals
+abbrev pub IntervalRow·point : Row → IntervalRow
+IntervalRow·point r = record { c0 = Interval·point (col r 0); c1 = Interval·point (col r 1); c2 = Interval·point (col r 2); c3 = Interval·point (col r 3) }
+
+abbrev pub IntervalMatrix·point : Matrix4x4 → IntervalMatrix
+IntervalMatrix·point m = record { r0 = IntervalRow·point (m .r0); r1 = IntervalRow·point (m .r1); r2 = IntervalRow·point (m .r2) }
+
+abbrev pub Bounds3f·intervals : Bounds3f → IntervalVector
+Bounds3f·intervals b =
+    let l = b .«p_min» in
+    let h = b .«p_max» in
+    record {
+      x = record { low = l .x; high = h .x };
+      y = record { low = l .y; high = h .y };
+      z = record { low = l .z; high = h .z };
+    }
+
+abbrev pub IntervalVector·bounds : IntervalVector → Bounds3f
+IntervalVector·bounds w =
+    record {
+      «p_min» = record { x = w .x .low; y = w .y .low; z = w .z .low };
+      «p_max» = record { x = w .x .high; y = w .y .high; z = w .z .high };
+    }

@@ -1,0 +1,4 @@
+pub mod Stages
+pub mod Pose
+pub mod Enclose
+pub mod Promise
