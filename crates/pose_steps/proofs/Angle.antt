@@ -1,4 +1,4 @@
--- `theta-angles`: theta times a dt from 0 to 1 is an angle, in floats and in intervals, where theta lies from 0 to a quarter turn.
+-- `theta-angles`: theta times a dt from 0 to 1 is an interval of angles, where theta lies from 0 to a quarter turn.
 -- `theta-quarter`: so it does where it is the arc cosine of what is at least 0. Rests on the product's isotonicity and on the arc cosine's range.
 use mathlib.Core.Path.{_≡_, refl, ap, subst}
 use mathlib.Core.Bool.{Bool, true, false, not, cond, _&&_}
@@ -8,7 +8,7 @@ use lib.Ieee.Fits.{and-i}
 use lib.Ieee.Bits.{is-true}
 use lib.Ieee.Scale.{finite}
 use Rattle.rounding.specs.Order.{_≼_}
-use Rattle.rounding.proofs.Order.{≼-trans, between-finite, finite-number, lt-≼, not-lt-≼}
+use Rattle.rounding.proofs.Order.{≼-refl, ≼-trans, number-right, between-finite, finite-number, lt-≼, not-lt-≼}
 use Rattle.rounding.proofs.Corners.{Bounds}
 use Rattle.float32.specs.Operators.{one}
 use Rattle.float32.specs.MinMax.{minNum, maxNum}
@@ -20,14 +20,10 @@ use Rattle.transform.specs.Transform.{+0}
 use Rattle.interval.specs.declared.Interval.{Interval}
 use Rattle.interval.specs.declared.Judged.{Judged}
 use Rattle.interval.specs.Interval.{Interval·point, Interval·new, Interval·hull, Interval·ofFour}
-use Rattle.interval.specs.Contains.{Subset, Finite, Refines}
+use Rattle.interval.specs.Contains.{Subset, Finite}
 use Rattle.interval.specs.Enclosure.{areAngles, first, notFinite, Judged·judge, Interval·mulEnclosure, Judged·mulEnclosure}
-use Rattle.interval.proofs.Contains.{subset-refl, point-encloses}
 use Rattle.interval.proofs.Isotone.{mul-isotone}
-use Rattle.pose_steps.specs.Promise.{unitInterval}
-
-abbrev quarterInterval : Interval
-quarterInterval = record { low = +0; high = quarterTurnFloat }
+use Rattle.pose_steps.specs.Promise.{quarterInterval, unitInterval}
 
 quarter-finite : Finite quarterInterval
 quarter-finite = record { low = unfold ofBits in tt; high = unfold ofBits in tt }
@@ -46,14 +42,15 @@ quarter-full = record { holds = unfold le ofBits in tt }
 pub theta-finite : {θ : Float} → +0 ≼ θ → θ ≼ quarterTurnFloat → T (finite θ)
 theta-finite l h = between-finite (quarter-finite .low) (quarter-finite .high) l h
 
-pub theta-angles : {θ : Float} {D : Interval} → +0 ≼ θ → θ ≼ quarterTurnFloat → Subset D unitInterval → T (areAngles (Interval·mulEnclosure (Interval·point θ) D))
+pub theta-subset : {θ : Float} → +0 ≼ θ → θ ≼ quarterTurnFloat → Subset (Interval·point θ) quarterInterval
+theta-subset {θ} l h = record { low = l; proper = ≼-refl θ (number-right l); high = h }
+
+pub theta-angles : {Θ D : Interval} → Subset Θ quarterInterval → Subset D unitInterval → T (areAngles (Interval·mulEnclosure Θ D))
 unfolding Judged·mulEnclosure Judged·judge
-theta-angles {θ} {D} l h d =
-    let p = subset-refl (point-encloses θ (theta-finite l h) .contains) in
-    let t : Refines (Interval·point θ) quarterInterval = record { finite = quarter-finite; subset = record { low = l; proper = p .proper; high = h } } in
-    let s = mul-isotone .isotone 0 0 t (record { finite = unit-finite; subset = d }) refl (ap (λ (j : Judged). j .refusal) products) .refines .subset in
-    let r : Subset (Interval·mulEnclosure (Interval·point θ) D) quarterInterval = subst (λ (j : Judged). Subset (Interval·mulEnclosure (Interval·point θ) D) (j .interval)) products s in
-    let X = Interval·mulEnclosure (Interval·point θ) D in
+theta-angles {Θ} {D} t d =
+    let X = Interval·mulEnclosure Θ D in
+    let s = mul-isotone .isotone 0 0 (record { finite = quarter-finite; subset = t }) (record { finite = unit-finite; subset = d }) refl (ap (λ (j : Judged). j .refusal) products) .refines .subset in
+    let r : Subset X quarterInterval = subst (λ (j : Judged). Subset X (j .interval)) products s in
     and-i (le +0 (X .low)) (le (X .high) fullTurnFloat) (r .low .holds) (≼-trans (r .high) quarter-full .holds)
 
 -- ---- the arc cosine of a dot product

@@ -3,7 +3,7 @@
 use mathlib.Core.Path.{_≡_, refl}
 use Prim.Native.Nat.{ℕ}
 use mathlib.Core.Bool.{Bool, true, false, _&&_}
-use mathlib.Core.List.{List, [], _∷_, _++_}
+use mathlib.Core.List.{[], _∷_, _++_}
 use lib.Dec.{T}
 use lib.Ieee.{Float}
 use lib.Ieee.Fits.{and-i}
@@ -17,14 +17,10 @@ use Rattle.matrix4x4.specs.Rows.{Row}
 use Rattle.bounds3.specs.declared.Point3f.{Point3f}
 use Rattle.bounds3.specs.Finite.{Point3f·isFinite}
 use Rattle.transform.specs.Transform.{+0, translation}
-use Rattle.transform.specs.Apply.{judged}
 use Rattle.interval.specs.declared.Interval.{Interval}
 use Rattle.interval.specs.Contains.{Contains, Subset, Encloses}
 use Rattle.interval.proofs.Contains.{point-encloses, subset-finite}
-use Rattle.formula.specs.Program.{Program}
-use Rattle.formula.specs.Eval.{Program·eval}
-use Rattle.formula.specs.Enclose.{enclosure, Program·enclose, Program·valid}
-use Rattle.formula.specs.Stage.{Program·stage}
+use Rattle.formula.specs.Enclose.{enclosure}
 use Rattle.formula.specs.Promise.{Pairwise}
 use Rattle.formula.proofs.Pairwise.{pairwise-append}
 use Rattle.formula.proofs.Stage.{stage-extends}
@@ -35,69 +31,75 @@ use Rattle.pose_steps.specs.declared.IntervalRow.{IntervalRow}
 use Rattle.pose_steps.specs.declared.IntervalMatrix.{IntervalMatrix}
 use Rattle.pose_steps.specs.Stages.{translationStage, slerpNearStage, slerpFarStage, scaleRowStage, rotationStage, mulRowStage, transformPointStage}
 use Rattle.pose_steps.specs.Pose.{Vector3f·list, Quaternion·list, Point3f·list, Matrix4x4·list, three, entries, bottomRow, Pose·translation, Pose·slerpNear, Pose·slerpFar, slerpBy, isNear, Pose·slerp, Pose·scaleRow, Pose·scale, Pose·rotation, Pose·mulRow, Pose·mul, Pose·transformPoint, Quaternion·isFinite, allFinite, PoseAnswer·judged, Pose·matrix, Pose·movedPoint}
-use Rattle.pose_steps.specs.Enclose.{points, IntervalVector·list, IntervalQuaternion·list, IntervalRow·list, IntervalMatrix·list, Pose·encloseTranslation, Pose·encloseSlerpNear, Pose·encloseSlerpFar, encloseSlerpBy, Pose·encloseSlerp, Pose·encloseScaleRow, Pose·encloseScale, Pose·encloseRotation, Pose·encloseMulRow, Pose·encloseMul, Pose·encloseTransformPoint, IntervalMatrix·translation, Pose·encloseMatrix, Pose·enclosePoint}
-use Rattle.pose_steps.specs.Promise.{AllFinite, RigidMotion·Valid, FiniteScale, unitInterval, EnclosesMatrix, EnclosesPose, EnclosesAnswer}
-use Rattle.pose_steps.proofs.Angle.{unit-finite, theta-angles, theta-finite}
+use Rattle.pose_steps.specs.Enclose.{IntervalVector·list, IntervalVector·point, IntervalQuaternion·list, IntervalQuaternion·point, IntervalRow·list, IntervalRow·three, IntervalMatrix·list, IntervalMatrix·point, Pose·encloseTranslation, Pose·encloseSlerpNear, Pose·encloseSlerpFar, encloseSlerpBy, Pose·encloseSlerp, Pose·encloseScaleRow, Pose·encloseScale, Pose·encloseRotation, Pose·encloseMulRow, Pose·encloseMul, Pose·encloseTransformPoint, IntervalMatrix·translation, Pose·encloseMatrix, Pose·enclosePoint}
+use Rattle.pose_steps.specs.Promise.{AllFinite, RigidMotion·Valid, FiniteScale, quarterInterval, unitInterval, EnclosesScale, EnclosesMatrix, EnclosesPose, EnclosesAnswer}
+use Rattle.pose_steps.proofs.Angle.{unit-finite, theta-angles, theta-finite, theta-subset}
 use Rattle.pose_steps.proofs.Valid.{translation-valid, near-valid, far-valid, scale-valid, rotation-valid, mul-valid, point-valid}
 use Rattle.pose_steps.proofs.Zero.{slerp-zero, scale-row-zero, scale-zero, rotation-zero, mul-row-zero, mul-zero, point-zero}
-use Rattle.pose_steps.proofs.Rows.{finite-append, constants-enclose, encloses-list, list-encloses, enclosed-finite, zero-finite, one-finite, matrix-finite}
+use Rattle.pose_steps.proofs.Rows.{points-enclose, scale-encloses, rows-list, encloses-list, list-encloses, enclosed-finite, zero-finite, one-finite, matrix-finite}
 
--- ---- the stages that take constants and dt
-module _ {D : Interval} {dt : Float} (d : Encloses D dt) (m : ℕ) where
-  constants-extend : (p : Program) (l : List Float) → AllFinite l → T (Program·valid (enclosure m (points l ++ D ∷ [])) p) → Program·enclose (enclosure m (points l ++ D ∷ [])) p .refusal ≡ 0
-      → Pairwise Encloses (Program·stage (enclosure m (points l ++ D ∷ [])) p .intervals) (Program·eval (l ++ dt ∷ []) p)
-  constants-extend p l f v = stage-extends p (enclosure m (points l ++ D ∷ [])) (l ++ dt ∷ []) v (λ z. constants-enclose l f d)
-
-  pub translation-extends : (t0 t1 : Vector3f) → AllFinite (Vector3f·list t0) → AllFinite (Vector3f·list t1) → Pose·encloseTranslation m t0 t1 D .refusal ≡ 0
-      → Pairwise Encloses (IntervalVector·list (Pose·encloseTranslation m t0 t1 D .vector)) (Vector3f·list (Pose·translation t0 t1 dt))
+-- ---- the stages that take dt
+module _ (m : ℕ) {D : Interval} {dt : Float} (d : Encloses D dt) where
+  pub translation-extends : (T0 T1 : IntervalVector) (t0 t1 : Vector3f) → Pairwise Encloses (IntervalVector·list T0) (Vector3f·list t0) → Pairwise Encloses (IntervalVector·list T1) (Vector3f·list t1)
+      → Pose·encloseTranslation m T0 T1 D .refusal ≡ 0 → Pairwise Encloses (IntervalVector·list (Pose·encloseTranslation m T0 T1 D .vector)) (Vector3f·list (Pose·translation t0 t1 dt))
   unfolding Pose·translation Pose·encloseTranslation
-  translation-extends t0 t1 f g =
-      constants-extend translationStage (Vector3f·list t0 ++ Vector3f·list t1) (finite-append (Vector3f·list t0) (Vector3f·list t1) f g) (translation-valid m t0 t1 D)
+  translation-extends T0 T1 t0 t1 e f =
+      stage-extends translationStage (enclosure m (IntervalVector·list T0 ++ IntervalVector·list T1 ++ D ∷ [])) (Vector3f·list t0 ++ Vector3f·list t1 ++ dt ∷ []) (translation-valid m D T0 T1)
+      (λ z. rows-list Encloses (IntervalVector·list T0) (IntervalVector·list T1) (D ∷ []) (Vector3f·list t0) (Vector3f·list t1) (dt ∷ []) e f (d, tt))
 
-  pub near-extends : (q1 q2 : Quaternion) → AllFinite (Quaternion·list q1) → AllFinite (Quaternion·list q2) → Pose·encloseSlerpNear m q1 q2 D .refusal ≡ 0
-      → Pairwise Encloses (IntervalQuaternion·list (Pose·encloseSlerpNear m q1 q2 D .quaternion)) (Quaternion·list (Pose·slerpNear q1 q2 dt))
-  unfolding Pose·slerpNear Pose·encloseSlerpNear
-  near-extends q1 q2 f g =
-      constants-extend slerpNearStage (Quaternion·list q1 ++ Quaternion·list q2) (finite-append (Quaternion·list q1) (Quaternion·list q2) f g) (near-valid m q1 q2 D)
+  module _ (P Q : IntervalQuaternion) (p q : Quaternion) (e : Pairwise Encloses (IntervalQuaternion·list P) (Quaternion·list p)) (f : Pairwise Encloses (IntervalQuaternion·list Q) (Quaternion·list q)) where
+    pub near-extends : Pose·encloseSlerpNear m P Q D .refusal ≡ 0 → Pairwise Encloses (IntervalQuaternion·list (Pose·encloseSlerpNear m P Q D .quaternion)) (Quaternion·list (Pose·slerpNear p q dt))
+    unfolding Pose·slerpNear Pose·encloseSlerpNear
+    near-extends =
+        stage-extends slerpNearStage (enclosure m (IntervalQuaternion·list P ++ IntervalQuaternion·list Q ++ D ∷ [])) (Quaternion·list p ++ Quaternion·list q ++ dt ∷ []) (near-valid m D P Q)
+        (λ z. rows-list Encloses (IntervalQuaternion·list P) (IntervalQuaternion·list Q) (D ∷ []) (Quaternion·list p) (Quaternion·list q) (dt ∷ []) e f (d, tt))
 
-  pub scale-row-extends : (s0 s1 : Row) → AllFinite (three s0) → AllFinite (three s1) → Pose·encloseScaleRow m s0 s1 D .refusal ≡ 0
-      → Pairwise Encloses (IntervalRow·list (Pose·encloseScaleRow m s0 s1 D .row)) (entries (Pose·scaleRow s0 s1 dt))
-  unfolding Pose·scaleRow Pose·encloseScaleRow
-  scale-row-extends s0 s1 f g = constants-extend scaleRowStage (three s0 ++ three s1) (finite-append (three s0) (three s1) f g) (scale-valid m s0 s1 D)
-
-  -- dt lies from 0 to 1
-  module _ (a : RigidMotion) (v : RigidMotion·Valid a) (u : Subset D unitInterval) where
-    pub far-extends : Pose·encloseSlerpFar m (a .r0) (a .r1) (a .«cos_theta») (a .theta) D .refusal ≡ 0
-        → Pairwise Encloses (IntervalQuaternion·list (Pose·encloseSlerpFar m (a .r0) (a .r1) (a .«cos_theta») (a .theta) D .quaternion))
-        (Quaternion·list (Pose·slerpFar (a .r0) (a .r1) (a .«cos_theta») (a .theta) dt))
+    -- theta times dt is an angle
+    pub far-extends : {C Θ : Interval} {cosθ θ : Float} → Encloses C cosθ → Encloses Θ θ → Subset Θ quarterInterval → Subset D unitInterval → Pose·encloseSlerpFar m P Q C Θ D .refusal ≡ 0
+        → Pairwise Encloses (IntervalQuaternion·list (Pose·encloseSlerpFar m P Q C Θ D .quaternion)) (Quaternion·list (Pose·slerpFar p q cosθ θ dt))
     unfolding Pose·slerpFar Pose·encloseSlerpFar
-    far-extends =
-        let q = Quaternion·list (a .r0) ++ Quaternion·list (a .r1) in
-        let c = a .«cos_theta» ∷ a .theta ∷ [] in
-        constants-extend slerpFarStage (q ++ c)
-        (finite-append q c (finite-append (Quaternion·list (a .r0)) (Quaternion·list (a .r1)) (v .r0) (v .r1)) (v .cosTheta, (theta-finite (v .theta-from-zero) (v .theta-to-quarter), tt)))
-        (far-valid m (a .r0) (a .r1) (a .«cos_theta») (a .theta) D (theta-angles (v .theta-from-zero) (v .theta-to-quarter) u))
+    far-extends {C} {Θ} {cosθ} {θ} c t u v =
+        stage-extends slerpFarStage (enclosure m (IntervalQuaternion·list P ++ IntervalQuaternion·list Q ++ C ∷ Θ ∷ D ∷ [])) (Quaternion·list p ++ Quaternion·list q ++ cosθ ∷ θ ∷ dt ∷ [])
+        (far-valid m D P Q C Θ (theta-angles u v))
+        (λ z.
+        rows-list Encloses (IntervalQuaternion·list P) (IntervalQuaternion·list Q) (C ∷ Θ ∷ D ∷ []) (Quaternion·list p) (Quaternion·list q) (cosθ ∷ θ ∷ dt ∷ []) e f
+        (c, (t, (d, tt))))
 
-    pub slerp-extends : Pose·encloseSlerp m a D .refusal ≡ 0 → Pairwise Encloses (IntervalQuaternion·list (Pose·encloseSlerp m a D .quaternion)) (Quaternion·list (Pose·slerp a dt))
-    unfolding Pose·slerp Pose·encloseSlerp slerpBy encloseSlerpBy
-    slerp-extends = go (isNear a)
-      where
-        go : (b : Bool) → encloseSlerpBy b m a D .refusal ≡ 0 → Pairwise Encloses (IntervalQuaternion·list (encloseSlerpBy b m a D .quaternion)) (Quaternion·list (slerpBy b a dt))
-        go true = near-extends (a .r0) (a .r1) (v .r0) (v .r1)
-        go false = far-extends
+  pub slerp-extends : (a : RigidMotion) → RigidMotion·Valid a → Subset D unitInterval → Pose·encloseSlerp m a D .refusal ≡ 0
+      → Pairwise Encloses (IntervalQuaternion·list (Pose·encloseSlerp m a D .quaternion)) (Quaternion·list (Pose·slerp a dt))
+  unfolding Pose·slerp Pose·encloseSlerp slerpBy encloseSlerpBy
+  slerp-extends a v u = go (isNear a)
+    where
+      go : (b : Bool) → encloseSlerpBy b m a D .refusal ≡ 0 → Pairwise Encloses (IntervalQuaternion·list (encloseSlerpBy b m a D .quaternion)) (Quaternion·list (slerpBy b a dt))
+      go true =
+          near-extends (IntervalQuaternion·point (a .r0)) (IntervalQuaternion·point (a .r1)) (a .r0) (a .r1)
+          (points-enclose (Quaternion·list (a .r0)) (v .r0)) (points-enclose (Quaternion·list (a .r1)) (v .r1))
+      go false =
+          far-extends (IntervalQuaternion·point (a .r0)) (IntervalQuaternion·point (a .r1)) (a .r0) (a .r1)
+          (points-enclose (Quaternion·list (a .r0)) (v .r0)) (points-enclose (Quaternion·list (a .r1)) (v .r1))
+          (point-encloses (a .«cos_theta») (v .cosTheta)) (point-encloses (a .theta) (theta-finite (v .theta-from-zero) (v .theta-to-quarter)))
+          (theta-subset (v .theta-from-zero) (v .theta-to-quarter)) u
 
-pub scale-extends : {D : Interval} {dt : Float} → Encloses D dt → (m : ℕ) (s0 s1 : Matrix4x4) → FiniteScale s0 → FiniteScale s1 → Pose·encloseScale m s0 s1 D .refusal ≡ 0
-    → EnclosesMatrix (Pose·encloseScale m s0 s1 D .matrix) (Pose·scale s0 s1 dt)
+pub scale-row-extends : (m : ℕ) {D : Interval} {dt : Float} → Encloses D dt → (R S : IntervalRow) (r s : Row)
+    → Pairwise Encloses (IntervalRow·three R) (three r) → Pairwise Encloses (IntervalRow·three S) (three s) → Pose·encloseScaleRow m R S D .refusal ≡ 0
+    → Pairwise Encloses (IntervalRow·list (Pose·encloseScaleRow m R S D .row)) (entries (Pose·scaleRow r s dt))
+unfolding Pose·scaleRow Pose·encloseScaleRow
+scale-row-extends m {D} {dt} d R S r s e f =
+    stage-extends scaleRowStage (enclosure m (IntervalRow·three R ++ IntervalRow·three S ++ D ∷ [])) (three r ++ three s ++ dt ∷ []) (scale-valid m D R S)
+    (λ z. rows-list Encloses (IntervalRow·three R) (IntervalRow·three S) (D ∷ []) (three r) (three s) (dt ∷ []) e f (d, tt))
+
+pub scale-extends : (m : ℕ) {D : Interval} {dt : Float} → Encloses D dt → {A B : IntervalMatrix} {a b : Matrix4x4} → EnclosesScale A a → EnclosesScale B b → Pose·encloseScale m A B D .refusal ≡ 0
+    → EnclosesMatrix (Pose·encloseScale m A B D .matrix) (Pose·scale a b dt)
 unfolding Pose·scale Pose·encloseScale
-scale-extends {D} {dt} d m s0 s1 f g z =
-    let p = Pose·encloseScaleRow m (s0 .r0) (s1 .r0) D in
-    let q = Pose·encloseScaleRow (p .refusal) (s0 .r1) (s1 .r1) D in
-    let zq = scale-row-zero (q .refusal) (s0 .r2) (s1 .r2) D z in
-    let zp = scale-row-zero (p .refusal) (s0 .r1) (s1 .r1) D zq in
+scale-extends m {D} d {A} {B} {a} {b} e f z =
+    let p = Pose·encloseScaleRow m (A .r0) (B .r0) D in
+    let q = Pose·encloseScaleRow (p .refusal) (A .r1) (B .r1) D in
+    let zq = scale-row-zero (q .refusal) (A .r2) (B .r2) D z in
+    let zp = scale-row-zero (p .refusal) (A .r1) (B .r1) D zq in
     record {
-      r0 = scale-row-extends d m (s0 .r0) (s1 .r0) (f .r0) (g .r0) zp;
-      r1 = scale-row-extends d (p .refusal) (s0 .r1) (s1 .r1) (f .r1) (g .r1) zq;
-      r2 = scale-row-extends d (q .refusal) (s0 .r2) (s1 .r2) (f .r2) (g .r2) z;
+      r0 = scale-row-extends m d (A .r0) (B .r0) (a .r0) (b .r0) (e .r0) (f .r0) zp;
+      r1 = scale-row-extends (p .refusal) d (A .r1) (B .r1) (a .r1) (b .r1) (e .r1) (f .r1) zq;
+      r2 = scale-row-extends (q .refusal) d (A .r2) (B .r2) (a .r2) (b .r2) (e .r2) (f .r2) z;
     }
 
 -- ---- the stages that take what was worked out before
@@ -171,15 +173,19 @@ module _ {a : RigidMotion} {s0 s1 : Matrix4x4} (v : RigidMotion·Valid a) (f : F
   unfolding Pose·matrix Pose·encloseMatrix
   matrix-extends z =
       let e : Encloses D dt = record { finite = subset-finite unit-finite u; contains = d } in
-      let I = Pose·encloseTranslation 0 (a .t0) (a .t1) D in
+      let t0 = IntervalVector·point (a .t0) in
+      let t1 = IntervalVector·point (a .t1) in
+      let S0 = IntervalMatrix·point s0 in
+      let S1 = IntervalMatrix·point s1 in
+      let I = Pose·encloseTranslation 0 t0 t1 D in
       let J = Pose·encloseSlerp (I .refusal) a D in
-      let K = Pose·encloseScale (J .refusal) s0 s1 D in
+      let K = Pose·encloseScale (J .refusal) S0 S1 D in
       let L = Pose·encloseRotation (K .refusal) (J .quaternion) in
       let M = Pose·encloseMul (L .refusal) (IntervalMatrix·translation (I .vector)) (L .matrix) in
       let zM = mul-zero (M .refusal) (M .matrix) (K .matrix) z in
       let zL = mul-zero (L .refusal) (IntervalMatrix·translation (I .vector)) (L .matrix) zM in
       let zK = rotation-zero (K .refusal) (J .quaternion) zL in
-      let zJ = scale-zero (J .refusal) s0 s1 D zK in
+      let zJ = scale-zero (J .refusal) S0 S1 D zK in
       let zI = slerp-zero (I .refusal) a D zJ in
       let trans = Pose·translation (a .t0) (a .t1) dt in
       let rotate = Pose·slerp a dt in
@@ -188,9 +194,10 @@ module _ {a : RigidMotion} {s0 s1 : Matrix4x4} (v : RigidMotion·Valid a) (f : F
       let rotation = Pose·rotation rotate in
       let first = Pose·mul translate rotation in
       let last = Pose·mul first scale in
-      let q = slerp-extends e (I .refusal) a v u zJ in
-      let k = scale-extends e (J .refusal) s0 s1 f g zK in
-      let t = translation-matrix-extends trans (translation-extends e 0 (a .t0) (a .t1) (v .t0) (v .t1) zI) in
+      let q = slerp-extends (I .refusal) e a v u zJ in
+      let k = scale-extends (J .refusal) e (scale-encloses f) (scale-encloses g) zK in
+      let t = translation-matrix-extends trans
+      (translation-extends 0 e t0 t1 (a .t0) (a .t1) (points-enclose (Vector3f·list (a .t0)) (v .t0)) (points-enclose (Vector3f·list (a .t1)) (v .t1)) zI) in
       let l = rotation-extends (K .refusal) rotate q zL in
       let m = mul-extends (L .refusal) t l zM in
       let n = mul-extends (M .refusal) m k z in
@@ -213,7 +220,7 @@ module _ {a : RigidMotion} {s0 s1 : Matrix4x4} (v : RigidMotion·Valid a) (f : F
 
   pub movedPoint-extends : {P : IntervalVector} {p : Point3f} → Pairwise Encloses (IntervalVector·list P) (Point3f·list p)
       → Pose·enclosePoint a s0 s1 D P .refusal ≡ 0 → EnclosesAnswer (Pose·enclosePoint a s0 s1 D P .vector) (Pose·movedPoint a s0 s1 dt p)
-  unfolding Pose·enclosePoint Pose·movedPoint judged Point3f·isFinite
+  unfolding Pose·enclosePoint Pose·movedPoint Point3f·isFinite
   movedPoint-extends {P} {p} e z =
       let M = Pose·encloseMatrix a s0 s1 D in
       let m = matrix-extends (point-zero (M .refusal) (M .matrix) P z) in

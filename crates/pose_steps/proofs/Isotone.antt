@@ -3,23 +3,16 @@
 use mathlib.Core.Path.{_≡_, refl}
 use Prim.Native.Nat.{ℕ}
 use mathlib.Core.Bool.{Bool, true, false}
-use mathlib.Core.List.{List, [], _∷_, _++_}
-use lib.Dec.{T}
-use lib.Ieee.{Float}
+use mathlib.Core.List.{[], _∷_, _++_}
 use lib.Ieee.Scale.{finite}
 use Rattle.float32.specs.Operators.{one}
-use Rattle.vector3.specs.declared.Vector3f.{Vector3f}
-use Rattle.quaternion.specs.declared.Quaternion.{Quaternion}
 use Rattle.matrix4x4.specs.declared.Matrix4x4.{Matrix4x4}
-use Rattle.matrix4x4.specs.Rows.{Row}
 use Rattle.transform.specs.Transform.{+0}
 use Rattle.interval.specs.declared.Interval.{Interval}
 use Rattle.interval.specs.Contains.{Subset, Refines}
 use Rattle.interval.proofs.Contains.{point-refines, subset-finite}
-use Rattle.formula.specs.Program.{Program}
-use Rattle.formula.specs.Enclose.{enclosure, Program·valid}
-use Rattle.formula.specs.Stage.{Program·stage}
-use Rattle.formula.specs.Promise.{Pairwise, NarrowerAll}
+use Rattle.formula.specs.Enclose.{enclosure}
+use Rattle.formula.specs.Promise.{Pairwise}
 use Rattle.formula.proofs.Pairwise.{pairwise-append}
 use Rattle.formula.proofs.Stage.{stage-isotone}
 use Rattle.pose_steps.specs.declared.RigidMotion.{RigidMotion}
@@ -28,67 +21,80 @@ use Rattle.pose_steps.specs.declared.IntervalQuaternion.{IntervalQuatern
 use Rattle.pose_steps.specs.declared.IntervalRow.{IntervalRow}
 use Rattle.pose_steps.specs.declared.IntervalMatrix.{IntervalMatrix}
 use Rattle.pose_steps.specs.Stages.{translationStage, slerpNearStage, slerpFarStage, scaleRowStage, rotationStage, mulRowStage, transformPointStage}
-use Rattle.pose_steps.specs.Pose.{Vector3f·list, Quaternion·list, three, isNear}
-use Rattle.pose_steps.specs.Enclose.{points, IntervalVector·list, IntervalQuaternion·list, IntervalRow·list, IntervalMatrix·list, Pose·encloseTranslation, Pose·encloseSlerpNear, Pose·encloseSlerpFar, encloseSlerpBy, Pose·encloseSlerp, Pose·encloseScaleRow, Pose·encloseScale, Pose·encloseRotation, Pose·encloseMulRow, Pose·encloseMul, Pose·encloseTransformPoint, IntervalMatrix·translation, Pose·encloseMatrix, Pose·enclosePoint}
-use Rattle.pose_steps.specs.Promise.{AllFinite, RigidMotion·Valid, FiniteScale, unitInterval, RefinesMatrix, NarrowerVector, NarrowerQuaternion, NarrowerRow, NarrowerMatrix}
-use Rattle.pose_steps.proofs.Angle.{unit-finite, theta-angles, theta-finite}
+use Rattle.pose_steps.specs.Pose.{Vector3f·list, Quaternion·list, isNear}
+use Rattle.pose_steps.specs.Enclose.{IntervalVector·list, IntervalVector·point, IntervalQuaternion·list, IntervalQuaternion·point, IntervalRow·list, IntervalRow·three, IntervalMatrix·list, IntervalMatrix·point, Pose·encloseTranslation, Pose·encloseSlerpNear, Pose·encloseSlerpFar, encloseSlerpBy, Pose·encloseSlerp, Pose·encloseScaleRow, Pose·encloseScale, Pose·encloseRotation, Pose·encloseMulRow, Pose·encloseMul, Pose·encloseTransformPoint, IntervalMatrix·translation, Pose·encloseMatrix, Pose·enclosePoint}
+use Rattle.pose_steps.specs.Promise.{RigidMotion·Valid, FiniteScale, quarterInterval, unitInterval, RefinesScale, RefinesMatrix, NarrowerVector, NarrowerQuaternion, NarrowerRow, NarrowerMatrix}
+use Rattle.pose_steps.proofs.Angle.{unit-finite, theta-angles, theta-finite, theta-subset}
 use Rattle.pose_steps.proofs.Valid.{translation-valid, near-valid, far-valid, scale-valid, rotation-valid, mul-valid, point-valid}
 use Rattle.pose_steps.proofs.Zero.{slerp-zero, scale-row-zero, scale-zero, rotation-zero, mul-row-zero, mul-zero, point-zero}
-use Rattle.pose_steps.proofs.Rows.{finite-append, constants-refine, refines-list, list-refines, zero-finite, one-finite}
+use Rattle.pose_steps.proofs.Rows.{points-refine, scale-refines, rows-list, refines-list, list-refines, zero-finite, one-finite}
 
--- ---- the stages that take constants and dt; m was met with the narrower D, m' with the wider D'
-module _ {D D' : Interval} (d : Refines D D') (m' : ℕ) {m : ℕ} (k : m ≡ 0) where
-  constants-isotone : (p : Program) (l : List Float) → AllFinite l → T (Program·valid (enclosure m' (points l ++ D' ∷ [])) p)
-      → NarrowerAll (Program·stage (enclosure m (points l ++ D ∷ [])) p) (Program·stage (enclosure m' (points l ++ D' ∷ [])) p)
-  constants-isotone p l f v = stage-isotone p (enclosure m (points l ++ D ∷ [])) (enclosure m' (points l ++ D' ∷ [])) v (λ z. (k, constants-refine l f d))
-
-  pub translation-isotone : (t0 t1 : Vector3f) → AllFinite (Vector3f·list t0) → AllFinite (Vector3f·list t1)
-      → NarrowerVector (Pose·encloseTranslation m t0 t1 D) (Pose·encloseTranslation m' t0 t1 D')
+-- ---- the stages that take dt; m was met with the narrower intervals, m' with the wider ones
+module _ (m' : ℕ) {m : ℕ} (k : m ≡ 0) {D D' : Interval} (d : Refines D D') where
+  pub translation-isotone : (T0 T0' T1 T1' : IntervalVector) → Pairwise Refines (IntervalVector·list T0) (IntervalVector·list T0') → Pairwise Refines (IntervalVector·list T1) (IntervalVector·list T1')
+      → NarrowerVector (Pose·encloseTranslation m T0 T1 D) (Pose·encloseTranslation m' T0' T1' D')
   unfolding Pose·encloseTranslation
-  translation-isotone t0 t1 f g =
-      constants-isotone translationStage (Vector3f·list t0 ++ Vector3f·list t1) (finite-append (Vector3f·list t0) (Vector3f·list t1) f g) (translation-valid m' t0 t1 D')
+  translation-isotone T0 T0' T1 T1' e f =
+      stage-isotone translationStage (enclosure m (IntervalVector·list T0 ++ IntervalVector·list T1 ++ D ∷ [])) (enclosure m' (IntervalVector·list T0' ++ IntervalVector·list T1' ++ D' ∷ []))
+      (translation-valid m' D' T0' T1')
+      (λ z. (k, rows-list Refines (IntervalVector·list T0) (IntervalVector·list T1) (D ∷ []) (IntervalVector·list T0') (IntervalVector·list T1') (D' ∷ []) e f (d, tt)))
 
-  pub near-isotone : (q1 q2 : Quaternion) → AllFinite (Quaternion·list q1) → AllFinite (Quaternion·list q2)
-      → NarrowerQuaternion (Pose·encloseSlerpNear m q1 q2 D) (Pose·encloseSlerpNear m' q1 q2 D')
-  unfolding Pose·encloseSlerpNear
-  near-isotone q1 q2 f g =
-      constants-isotone slerpNearStage (Quaternion·list q1 ++ Quaternion·list q2) (finite-append (Quaternion·list q1) (Quaternion·list q2) f g) (near-valid m' q1 q2 D')
+  module _ (P P' Q Q' : IntervalQuaternion) (e : Pairwise Refines (IntervalQuaternion·list P) (IntervalQuaternion·list P')) (f : Pairwise Refines (IntervalQuaternion·list Q) (IntervalQuaternion·list Q')) where
+    pub near-isotone : NarrowerQuaternion (Pose·encloseSlerpNear m P Q D) (Pose·encloseSlerpNear m' P' Q' D')
+    unfolding Pose·encloseSlerpNear
+    near-isotone =
+        stage-isotone slerpNearStage (enclosure m (IntervalQuaternion·list P ++ IntervalQuaternion·list Q ++ D ∷ []))
+        (enclosure m' (IntervalQuaternion·list P' ++ IntervalQuaternion·list Q' ++ D' ∷ [])) (near-valid m' D' P' Q')
+        (λ z. (k, rows-list Refines (IntervalQuaternion·list P) (IntervalQuaternion·list Q) (D ∷ []) (IntervalQuaternion·list P') (IntervalQuaternion·list Q') (D' ∷ []) e f (d, tt)))
 
-  pub scale-row-isotone : (s0 s1 : Row) → AllFinite (three s0) → AllFinite (three s1) → NarrowerRow (Pose·encloseScaleRow m s0 s1 D) (Pose·encloseScaleRow m' s0 s1 D')
-  unfolding Pose·encloseScaleRow
-  scale-row-isotone s0 s1 f g = constants-isotone scaleRowStage (three s0 ++ three s1) (finite-append (three s0) (three s1) f g) (scale-valid m' s0 s1 D')
-
-  -- dt lies from 0 to 1
-  module _ (a : RigidMotion) (v : RigidMotion·Valid a) (u : Subset D' unitInterval) where
-    pub far-isotone :
-        NarrowerQuaternion (Pose·encloseSlerpFar m (a .r0) (a .r1) (a .«cos_theta») (a .theta) D) (Pose·encloseSlerpFar m' (a .r0) (a .r1) (a .«cos_theta») (a .theta) D')
+    -- theta times dt is an angle
+    pub far-isotone : {C C' Θ Θ' : Interval} → Refines C C' → Refines Θ Θ' → Subset Θ' quarterInterval → Subset D' unitInterval
+        → NarrowerQuaternion (Pose·encloseSlerpFar m P Q C Θ D) (Pose·encloseSlerpFar m' P' Q' C' Θ' D')
     unfolding Pose·encloseSlerpFar
-    far-isotone =
-        let q = Quaternion·list (a .r0) ++ Quaternion·list (a .r1) in
-        let c = a .«cos_theta» ∷ a .theta ∷ [] in
-        constants-isotone slerpFarStage (q ++ c)
-        (finite-append q c (finite-append (Quaternion·list (a .r0)) (Quaternion·list (a .r1)) (v .r0) (v .r1)) (v .cosTheta, (theta-finite (v .theta-from-zero) (v .theta-to-quarter), tt)))
-        (far-valid m' (a .r0) (a .r1) (a .«cos_theta») (a .theta) D' (theta-angles (v .theta-from-zero) (v .theta-to-quarter) u))
+    far-isotone {C} {C'} {Θ} {Θ'} c t u v =
+        stage-isotone slerpFarStage (enclosure m (IntervalQuaternion·list P ++ IntervalQuaternion·list Q ++ C ∷ Θ ∷ D ∷ []))
+        (enclosure m' (IntervalQuaternion·list P' ++ IntervalQuaternion·list Q' ++ C' ∷ Θ' ∷ D' ∷ [])) (far-valid m' D' P' Q' C' Θ' (theta-angles u v))
+        (λ z. (
+          k,
+          rows-list Refines (IntervalQuaternion·list P) (IntervalQuaternion·list Q) (C ∷ Θ ∷ D ∷ []) (IntervalQuaternion·list P') (IntervalQuaternion·list Q') (C' ∷ Θ' ∷ D' ∷ []) e f
+              (c, (t, (d, tt))),
+        ))
 
-    pub slerp-isotone : NarrowerQuaternion (Pose·encloseSlerp m a D) (Pose·encloseSlerp m' a D')
-    unfolding Pose·encloseSlerp encloseSlerpBy
-    slerp-isotone = go (isNear a)
-      where
-        go : (b : Bool) → NarrowerQuaternion (encloseSlerpBy b m a D) (encloseSlerpBy b m' a D')
-        go true = near-isotone (a .r0) (a .r1) (v .r0) (v .r1)
-        go false = far-isotone
+  pub slerp-isotone : (a : RigidMotion) → RigidMotion·Valid a → Subset D' unitInterval → NarrowerQuaternion (Pose·encloseSlerp m a D) (Pose·encloseSlerp m' a D')
+  unfolding Pose·encloseSlerp encloseSlerpBy
+  slerp-isotone a v u = go (isNear a)
+    where
+      go : (b : Bool) → NarrowerQuaternion (encloseSlerpBy b m a D) (encloseSlerpBy b m' a D')
+      go true =
+          let p = IntervalQuaternion·point (a .r0) in
+          let q = IntervalQuaternion·point (a .r1) in
+          near-isotone p p q q (points-refine (Quaternion·list (a .r0)) (v .r0)) (points-refine (Quaternion·list (a .r1)) (v .r1))
+      go false =
+          let p = IntervalQuaternion·point (a .r0) in
+          let q = IntervalQuaternion·point (a .r1) in
+          far-isotone p p q q (points-refine (Quaternion·list (a .r0)) (v .r0)) (points-refine (Quaternion·list (a .r1)) (v .r1))
+          (point-refines (a .«cos_theta») (v .cosTheta)) (point-refines (a .theta) (theta-finite (v .theta-from-zero) (v .theta-to-quarter)))
+          (theta-subset (v .theta-from-zero) (v .theta-to-quarter)) u
 
-pub scale-isotone : {D D' : Interval} → Refines D D' → (m' : ℕ) {m : ℕ} → m ≡ 0 → (s0 s1 : Matrix4x4) → FiniteScale s0 → FiniteScale s1
-    → NarrowerMatrix (Pose·encloseScale m s0 s1 D) (Pose·encloseScale m' s0 s1 D')
+  pub scale-row-isotone : (R R' S S' : IntervalRow) → Pairwise Refines (IntervalRow·three R) (IntervalRow·three R') → Pairwise Refines (IntervalRow·three S) (IntervalRow·three S')
+      → NarrowerRow (Pose·encloseScaleRow m R S D) (Pose·encloseScaleRow m' R' S' D')
+  unfolding Pose·encloseScaleRow
+  scale-row-isotone R R' S S' e f =
+      stage-isotone scaleRowStage (enclosure m (IntervalRow·three R ++ IntervalRow·three S ++ D ∷ [])) (enclosure m' (IntervalRow·three R' ++ IntervalRow·three S' ++ D' ∷ []))
+      (scale-valid m' D' R' S')
+      (λ z. (k, rows-list Refines (IntervalRow·three R) (IntervalRow·three S) (D ∷ []) (IntervalRow·three R') (IntervalRow·three S') (D' ∷ []) e f (d, tt)))
+
+pub scale-isotone : (m' : ℕ) {m : ℕ} → m ≡ 0 → {D D' : Interval} → Refines D D' → {A A' B B' : IntervalMatrix} → RefinesScale A A' → RefinesScale B B'
+    → NarrowerMatrix (Pose·encloseScale m A B D) (Pose·encloseScale m' A' B' D')
 unfolding Pose·encloseScale
-scale-isotone {D} {D'} d m' k s0 s1 f g z =
-    let p' = Pose·encloseScaleRow m' (s0 .r0) (s1 .r0) D' in
-    let q' = Pose·encloseScaleRow (p' .refusal) (s0 .r1) (s1 .r1) D' in
-    let zq = scale-row-zero (q' .refusal) (s0 .r2) (s1 .r2) D' z in
-    let zp = scale-row-zero (p' .refusal) (s0 .r1) (s1 .r1) D' zq in
-    let (kp, a) = scale-row-isotone d m' k (s0 .r0) (s1 .r0) (f .r0) (g .r0) zp in
-    let (kq, b) = scale-row-isotone d (p' .refusal) kp (s0 .r1) (s1 .r1) (f .r1) (g .r1) zq in
-    let (kr, c) = scale-row-isotone d (q' .refusal) kq (s0 .r2) (s1 .r2) (f .r2) (g .r2) z in
+scale-isotone m' k {D} {D'} d {A} {A'} {B} {B'} e f z =
+    let p' = Pose·encloseScaleRow m' (A' .r0) (B' .r0) D' in
+    let q' = Pose·encloseScaleRow (p' .refusal) (A' .r1) (B' .r1) D' in
+    let zq = scale-row-zero (q' .refusal) (A' .r2) (B' .r2) D' z in
+    let zp = scale-row-zero (p' .refusal) (A' .r1) (B' .r1) D' zq in
+    let (kp, a) = scale-row-isotone m' k d (A .r0) (A' .r0) (B .r0) (B' .r0) (e .r0) (f .r0) zp in
+    let (kq, b) = scale-row-isotone (p' .refusal) kp d (A .r1) (A' .r1) (B .r1) (B' .r1) (e .r1) (f .r1) zq in
+    let (kr, c) = scale-row-isotone (q' .refusal) kq d (A .r2) (A' .r2) (B .r2) (B' .r2) (e .r2) (f .r2) z in
     (kr, record { r0 = a; r1 = b; r2 = c })
 
 -- ---- the stages that take what was worked out before
@@ -139,21 +145,25 @@ module _ {a : RigidMotion} {s0 s1 : Matrix4x4} (v : RigidMotion·Valid a) (f : F
   unfolding Pose·encloseMatrix
   matrix-isotone z =
       let e : Refines D D' = record { finite = subset-finite unit-finite u; subset = d } in
-      let I = Pose·encloseTranslation 0 (a .t0) (a .t1) D in
+      let t0 = IntervalVector·point (a .t0) in
+      let t1 = IntervalVector·point (a .t1) in
+      let S0 = IntervalMatrix·point s0 in
+      let S1 = IntervalMatrix·point s1 in
+      let I = Pose·encloseTranslation 0 t0 t1 D in
       let J = Pose·encloseSlerp (I .refusal) a D in
-      let I' = Pose·encloseTranslation 0 (a .t0) (a .t1) D' in
+      let I' = Pose·encloseTranslation 0 t0 t1 D' in
       let J' = Pose·encloseSlerp (I' .refusal) a D' in
-      let K' = Pose·encloseScale (J' .refusal) s0 s1 D' in
+      let K' = Pose·encloseScale (J' .refusal) S0 S1 D' in
       let L' = Pose·encloseRotation (K' .refusal) (J' .quaternion) in
       let M' = Pose·encloseMul (L' .refusal) (IntervalMatrix·translation (I' .vector)) (L' .matrix) in
       let zM = mul-zero (M' .refusal) (M' .matrix) (K' .matrix) z in
       let zL = mul-zero (L' .refusal) (IntervalMatrix·translation (I' .vector)) (L' .matrix) zM in
       let zK = rotation-zero (K' .refusal) (J' .quaternion) zL in
-      let zJ = scale-zero (J' .refusal) s0 s1 D' zK in
+      let zJ = scale-zero (J' .refusal) S0 S1 D' zK in
       let zI = slerp-zero (I' .refusal) a D' zJ in
-      let (kI, i) = translation-isotone e 0 refl (a .t0) (a .t1) (v .t0) (v .t1) zI in
-      let (kJ, j) = slerp-isotone e (I' .refusal) kI a v u zJ in
-      let (kK, k) = scale-isotone e (J' .refusal) kJ s0 s1 f g zK in
+      let (kI, i) = translation-isotone 0 refl e t0 t0 t1 t1 (points-refine (Vector3f·list (a .t0)) (v .t0)) (points-refine (Vector3f·list (a .t1)) (v .t1)) zI in
+      let (kJ, j) = slerp-isotone (I' .refusal) kI e a v u zJ in
+      let (kK, k) = scale-isotone (J' .refusal) kJ e (scale-refines f) (scale-refines g) zK in
       let (kL, l) = rotation-isotone (K' .refusal) kK (J .quaternion) (J' .quaternion) j zL in
       let (kM, m) = mul-isotone (L' .refusal) kL (translation-matrix-isotone (I .vector) (I' .vector) i) l zM in
       mul-isotone (M' .refusal) kM m k z

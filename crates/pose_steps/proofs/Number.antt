@@ -8,8 +8,8 @@ use lib.ListN.{length}
 use lib.Ieee.{binary32, ofBits, le}
 use lib.Ieee.Scale.{finite}
 use Rattle.matrix4x4.specs.declared.Matrix4x4.{Matrix4x4}
-use Rattle.matrix4x4.specs.Rows.{Row}
 use Rattle.interval.specs.declared.Interval.{Interval}
+use Rattle.interval.specs.Interval.{Interval·point}
 use Rattle.interval.specs.Enclosure.{first, notFinite, notPositive, Judged·judge, Interval·divEnclosure, Interval·sqrtEnclosure, Judged·addEnclosure, Judged·subEnclosure, Judged·mulEnclosure, Judged·divEnclosure, Judged·sqrtEnclosure, Judged·sinEnclosure, Judged·cosEnclosure, Interval·addEnclosure, Interval·subEnclosure, Interval·mulEnclosure, Interval·sinEnclosure, Interval·cosEnclosure}
 use Rattle.formula.specs.Program.{Binary, sum, difference, product, quotient, Unary, root, sine, cosine, Expr, var, con, binary, unary, Program, _>>=_, give}
 use Rattle.formula.specs.Enclose.{Binary·enclose, Unary·enclose, Expr·enclose, Enclosure, enclosure, Expr·encloseAll, extend, Program·enclose}
@@ -18,8 +18,8 @@ use Rattle.pose_steps.specs.declared.IntervalVector.{IntervalVector}
 use Rattle.pose_steps.specs.declared.IntervalRow.{IntervalRow}
 use Rattle.pose_steps.specs.declared.IntervalMatrix.{IntervalMatrix}
 use Rattle.pose_steps.specs.Stages.{translationStage, slerpNearStage, slerpFarStage, scaleRowStage, rotationStage, mulRowStage, transformPointStage}
-use Rattle.pose_steps.specs.Pose.{Vector3f·list, Quaternion·list, three, isNear}
-use Rattle.pose_steps.specs.Enclose.{points, IntervalVector·list, IntervalQuaternion·list, IntervalRow·list, IntervalMatrix·list, Pose·encloseTranslation, Pose·encloseSlerpNear, Pose·encloseSlerpFar, encloseSlerpBy, Pose·encloseSlerp, Pose·encloseScaleRow, Pose·encloseScale, Pose·encloseRotation, Pose·encloseMulRow, Pose·encloseMul, Pose·encloseTransformPoint, IntervalMatrix·translation, Pose·encloseMatrix, Pose·enclosePoint}
+use Rattle.pose_steps.specs.Pose.{isNear}
+use Rattle.pose_steps.specs.Enclose.{IntervalVector·list, IntervalVector·point, IntervalQuaternion·list, IntervalQuaternion·point, IntervalRow·list, IntervalRow·three, IntervalMatrix·list, IntervalMatrix·point, Pose·encloseTranslation, Pose·encloseSlerpNear, Pose·encloseSlerpFar, encloseSlerpBy, Pose·encloseSlerp, Pose·encloseScaleRow, Pose·encloseScale, Pose·encloseRotation, Pose·encloseMulRow, Pose·encloseMul, Pose·encloseTransformPoint, IntervalMatrix·translation, Pose·encloseMatrix, Pose·enclosePoint}
 use Rattle.pose_steps.specs.Promise.{SliceNumber}
 
 -- ---- one operation
@@ -94,14 +94,17 @@ unfolding Pose·encloseSlerp encloseSlerpBy Pose·encloseSlerpNear Pose·enclose
 slerp-number m a D n = go (isNear a)
   where
     go : (b : Bool) → SliceNumber (encloseSlerpBy b m a D .refusal)
-    go true = program-number slerpNearStage (enclosure m (points (Quaternion·list (a .r0) ++ Quaternion·list (a .r1)) ++ D ∷ [])) n
-    go false = program-number slerpFarStage (enclosure m (points (Quaternion·list (a .r0) ++ Quaternion·list (a .r1) ++ a .«cos_theta» ∷ a .theta ∷ []) ++ D ∷ [])) n
+    go true = program-number slerpNearStage (enclosure m (IntervalQuaternion·list (IntervalQuaternion·point (a .r0)) ++ IntervalQuaternion·list (IntervalQuaternion·point (a .r1)) ++ D ∷ [])) n
+    go false =
+        program-number slerpFarStage
+        (enclosure m (IntervalQuaternion·list (IntervalQuaternion·point (a .r0)) ++ IntervalQuaternion·list (IntervalQuaternion·point (a .r1)) ++ Interval·point (a .«cos_theta») ∷ Interval·point (a .theta) ∷ D ∷ []))
+        n
 
-scale-row-number : (m : ℕ) (s0 s1 : Row) (D : Interval) → SliceNumber m → SliceNumber (Pose·encloseScaleRow m s0 s1 D .refusal)
+scale-row-number : (m : ℕ) (s0 s1 : IntervalRow) (D : Interval) → SliceNumber m → SliceNumber (Pose·encloseScaleRow m s0 s1 D .refusal)
 unfolding Pose·encloseScaleRow
-scale-row-number m s0 s1 D n = program-number scaleRowStage (enclosure m (points (three s0 ++ three s1) ++ D ∷ [])) n
+scale-row-number m s0 s1 D n = program-number scaleRowStage (enclosure m (IntervalRow·three s0 ++ IntervalRow·three s1 ++ D ∷ [])) n
 
-scale-number : (m : ℕ) (s0 s1 : Matrix4x4) (D : Interval) → SliceNumber m → SliceNumber (Pose·encloseScale m s0 s1 D .refusal)
+scale-number : (m : ℕ) (s0 s1 : IntervalMatrix) (D : Interval) → SliceNumber m → SliceNumber (Pose·encloseScale m s0 s1 D .refusal)
 unfolding Pose·encloseScale
 scale-number m s0 s1 D n =
     let p = Pose·encloseScaleRow m (s0 .r0) (s1 .r0) D in
@@ -127,17 +130,19 @@ module _ (a : RigidMotion) (s0 s1 : Matrix4x4) (D : Interval) where
   pub matrix-number : SliceNumber (Pose·encloseMatrix a s0 s1 D .refusal)
   unfolding Pose·encloseMatrix Pose·encloseTranslation Pose·encloseRotation
   matrix-number =
-      let I = Pose·encloseTranslation 0 (a .t0) (a .t1) D in
+      let t0 = IntervalVector·point (a .t0) in
+      let t1 = IntervalVector·point (a .t1) in
+      let I = Pose·encloseTranslation 0 t0 t1 D in
       let J = Pose·encloseSlerp (I .refusal) a D in
-      let K = Pose·encloseScale (J .refusal) s0 s1 D in
+      let K = Pose·encloseScale (J .refusal) (IntervalMatrix·point s0) (IntervalMatrix·point s1) D in
       let L = Pose·encloseRotation (K .refusal) (J .quaternion) in
       let M = Pose·encloseMul (L .refusal) (IntervalMatrix·translation (I .vector)) (L .matrix) in
       mul-number (M .refusal) (M .matrix) (K .matrix)
       (mul-number (L .refusal) (IntervalMatrix·translation (I .vector)) (L .matrix)
       (program-number rotationStage (enclosure (K .refusal) (IntervalQuaternion·list (J .quaternion)))
-      (scale-number (J .refusal) s0 s1 D
+      (scale-number (J .refusal) (IntervalMatrix·point s0) (IntervalMatrix·point s1) D
       (slerp-number (I .refusal) a D
-      (program-number translationStage (enclosure 0 (points (Vector3f·list (a .t0) ++ Vector3f·list (a .t1)) ++ D ∷ [])) (inl refl))))))
+      (program-number translationStage (enclosure 0 (IntervalVector·list t0 ++ IntervalVector·list t1 ++ D ∷ [])) (inl refl))))))
 
   pub point-number : (P : IntervalVector) → SliceNumber (Pose·enclosePoint a s0 s1 D P .refusal)
   unfolding Pose·enclosePoint

@@ -4,7 +4,7 @@ use mathlib.Core.Path.{_≡_, refl}
 use Prim.Native.Nat.{ℕ}
 use native.Mathlib.Omega.{arith}
 use mathlib.Core.Bool.{Bool, _&&_}
-use mathlib.Core.List.{List, [], _∷_, _++_}
+use mathlib.Core.List.{List, [], _∷_, _++_, map}
 use lib.ListN.{length, length-append}
 use lib.Dec.{T}
 use lib.Ieee.{Float, ofBits}
@@ -16,33 +16,30 @@ use Rattle.matrix4x4.specs.Rows.{Row, col, at, all, Matrix4x4·toRows}
 use Rattle.matrix4x4.specs.IsFinite.{Matrix4x4·isFinite}
 use Rattle.transform.specs.Transform.{+0}
 use Rattle.interval.specs.declared.Interval.{Interval}
+use Rattle.interval.specs.Interval.{Interval·point}
 use Rattle.interval.specs.Contains.{Encloses, Refines}
 use Rattle.interval.proofs.Contains.{contains-finite, point-encloses, point-refines}
 use Rattle.formula.specs.Promise.{Pairwise}
 use Rattle.formula.proofs.Pairwise.{pairwise-append}
 use Rattle.pose_steps.specs.declared.IntervalMatrix.{IntervalMatrix}
-use Rattle.pose_steps.specs.Pose.{entries, Matrix4x4·list, bottomRow, allFinite}
-use Rattle.pose_steps.specs.Enclose.{points, IntervalRow·list, IntervalMatrix·list}
-use Rattle.pose_steps.specs.Promise.{AllFinite, EnclosesMatrix, RefinesMatrix}
+use Rattle.pose_steps.specs.Pose.{three, entries, Matrix4x4·list, bottomRow, allFinite}
+use Rattle.pose_steps.specs.Enclose.{IntervalRow·list, IntervalMatrix·list, IntervalMatrix·point}
+use Rattle.pose_steps.specs.Promise.{AllFinite, FiniteScale, EnclosesScale, RefinesScale, EnclosesMatrix, RefinesMatrix}
 
--- ---- constants, and constants with an interval of dt
-pub points-enclose : (l : List Float) → AllFinite l → Pairwise Encloses (points l) l
+-- ---- constants
+pub points-enclose : (l : List Float) → AllFinite l → Pairwise Encloses (map Interval·point l) l
 points-enclose [] f = tt
 points-enclose (x ∷ l) f = (point-encloses x (f .0), points-enclose l (f .1))
 
-pub points-refine : (l : List Float) → AllFinite l → Pairwise Refines (points l) (points l)
+pub points-refine : (l : List Float) → AllFinite l → Pairwise Refines (map Interval·point l) (map Interval·point l)
 points-refine [] f = tt
 points-refine (x ∷ l) f = (point-refines x (f .0), points-refine l (f .1))
 
-pub finite-append : (l k : List Float) → AllFinite l → AllFinite k → AllFinite (l ++ k)
-finite-append [] k f g = g
-finite-append (x ∷ l) k f g = (f .0, finite-append l k (f .1) g)
+pub scale-encloses : {s : Matrix4x4} → FiniteScale s → EnclosesScale (IntervalMatrix·point s) s
+scale-encloses {s} f = record { r0 = points-enclose (three (s .r0)) (f .r0); r1 = points-enclose (three (s .r1)) (f .r1); r2 = points-enclose (three (s .r2)) (f .r2) }
 
-pub constants-enclose : (l : List Float) {D : Interval} {dt : Float} → AllFinite l → Encloses D dt → Pairwise Encloses (points l ++ D ∷ []) (l ++ dt ∷ [])
-constants-enclose l {D} {dt} f d = pairwise-append Encloses (points l) (D ∷ []) l (dt ∷ []) (points-enclose l f) (d, tt)
-
-pub constants-refine : (l : List Float) {D D' : Interval} → AllFinite l → Refines D D' → Pairwise Refines (points l ++ D ∷ []) (points l ++ D' ∷ [])
-constants-refine l {D} {D'} f d = pairwise-append Refines (points l) (D ∷ []) (points l) (D' ∷ []) (points-refine l f) (d, tt)
+pub scale-refines : {s : Matrix4x4} → FiniteScale s → RefinesScale (IntervalMatrix·point s) (IntervalMatrix·point s)
+scale-refines {s} f = record { r0 = points-refine (three (s .r0)) (f .r0); r1 = points-refine (three (s .r1)) (f .r1); r2 = points-refine (three (s .r2)) (f .r2) }
 
 -- ---- rows
 module _ {A B : Type 0} (R : A → B → Type 0) (p q r : List A) (p' q' r' : List B) where

@@ -3,9 +3,8 @@ use mathlib.Core.Path.{_≡_}
 use Prim.Native.Nat.{ℕ}
 use mathlib.Core.Bool.{Bool, true, false}
 use mathlib.Core.List.{[], _∷_, _++_}
-use Rattle.matrix4x4.specs.declared.Matrix4x4.{Matrix4x4}
-use Rattle.matrix4x4.specs.Rows.{Row}
 use Rattle.interval.specs.declared.Interval.{Interval}
+use Rattle.interval.specs.Interval.{Interval·point}
 use Rattle.formula.specs.Enclose.{enclosure}
 use Rattle.formula.proofs.Carries.{program-zero}
 use Rattle.pose_steps.specs.declared.RigidMotion.{RigidMotion}
@@ -14,8 +13,8 @@ use Rattle.pose_steps.specs.declared.IntervalQuaternion.{IntervalQuatern
 use Rattle.pose_steps.specs.declared.IntervalRow.{IntervalRow}
 use Rattle.pose_steps.specs.declared.IntervalMatrix.{IntervalMatrix}
 use Rattle.pose_steps.specs.Stages.{slerpNearStage, slerpFarStage, scaleRowStage, rotationStage, mulRowStage, transformPointStage}
-use Rattle.pose_steps.specs.Pose.{Quaternion·list, three, isNear}
-use Rattle.pose_steps.specs.Enclose.{points, IntervalVector·list, IntervalQuaternion·list, IntervalRow·list, IntervalMatrix·list, Pose·encloseSlerpNear, Pose·encloseSlerpFar, encloseSlerpBy, Pose·encloseSlerp, Pose·encloseScaleRow, Pose·encloseScale, Pose·encloseRotation, Pose·encloseMulRow, Pose·encloseMul, Pose·encloseTransformPoint}
+use Rattle.pose_steps.specs.Pose.{isNear}
+use Rattle.pose_steps.specs.Enclose.{IntervalVector·list, IntervalQuaternion·list, IntervalQuaternion·point, IntervalRow·list, IntervalRow·three, IntervalMatrix·list, Pose·encloseSlerpNear, Pose·encloseSlerpFar, encloseSlerpBy, Pose·encloseSlerp, Pose·encloseScaleRow, Pose·encloseScale, Pose·encloseRotation, Pose·encloseMulRow, Pose·encloseMul, Pose·encloseTransformPoint}
 
 module _ (m : ℕ) where
   pub slerp-zero : (a : RigidMotion) (D : Interval) → Pose·encloseSlerp m a D .refusal ≡ 0 → m ≡ 0
@@ -23,12 +22,14 @@ module _ (m : ℕ) where
   slerp-zero a D = go (isNear a)
     where
       go : (b : Bool) → encloseSlerpBy b m a D .refusal ≡ 0 → m ≡ 0
-      go true z = program-zero (enclosure m (points (Quaternion·list (a .r0) ++ Quaternion·list (a .r1)) ++ D ∷ [])) slerpNearStage z
-      go false z = program-zero (enclosure m (points (Quaternion·list (a .r0) ++ Quaternion·list (a .r1) ++ a .«cos_theta» ∷ a .theta ∷ []) ++ D ∷ [])) slerpFarStage z
+      go true z = program-zero (enclosure m (IntervalQuaternion·list (IntervalQuaternion·point (a .r0)) ++ IntervalQuaternion·list (IntervalQuaternion·point (a .r1)) ++ D ∷ [])) slerpNearStage z
+      go false z =
+          program-zero
+          (enclosure m (IntervalQuaternion·list (IntervalQuaternion·point (a .r0)) ++ IntervalQuaternion·list (IntervalQuaternion·point (a .r1)) ++ Interval·point (a .«cos_theta») ∷ Interval·point (a .theta) ∷ D ∷ [])) slerpFarStage z
 
-  pub scale-row-zero : (s0 s1 : Row) (D : Interval) → Pose·encloseScaleRow m s0 s1 D .refusal ≡ 0 → m ≡ 0
+  pub scale-row-zero : (R S : IntervalRow) (D : Interval) → Pose·encloseScaleRow m R S D .refusal ≡ 0 → m ≡ 0
   unfolding Pose·encloseScaleRow
-  scale-row-zero s0 s1 D z = program-zero (enclosure m (points (three s0 ++ three s1) ++ D ∷ [])) scaleRowStage z
+  scale-row-zero R S D z = program-zero (enclosure m (IntervalRow·three R ++ IntervalRow·three S ++ D ∷ [])) scaleRowStage z
 
   pub rotation-zero : (Q : IntervalQuaternion) → Pose·encloseRotation m Q .refusal ≡ 0 → m ≡ 0
   unfolding Pose·encloseRotation
@@ -43,7 +44,7 @@ module _ (m : ℕ) where
   point-zero M P z = program-zero (enclosure m (IntervalMatrix·list M ++ IntervalVector·list P)) transformPointStage z
 
 -- ---- three rows in turn
-pub scale-zero : (m : ℕ) (s0 s1 : Matrix4x4) (D : Interval) → Pose·encloseScale m s0 s1 D .refusal ≡ 0 → m ≡ 0
+pub scale-zero : (m : ℕ) (s0 s1 : IntervalMatrix) (D : Interval) → Pose·encloseScale m s0 s1 D .refusal ≡ 0 → m ≡ 0
 unfolding Pose·encloseScale
 scale-zero m s0 s1 D z =
     let p = Pose·encloseScaleRow m (s0 .r0) (s1 .r0) D in

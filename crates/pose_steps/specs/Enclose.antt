@@ -1,11 +1,10 @@
 -- The steps read in intervals: the slice of a move over any interval of dt, `Pose·encloseMatrix`, and of a box of points, `Pose·enclosePoint`. Definitions only.
 -- Every interval is judged as it is formed, and the first number met is carried along. A slice works translation, slerp, scale, rotation, product, product, moved point.
--- The move's constants have equal ends.
+-- The move's constants have equal ends (`IntervalVector·point` and its like).
 use Prim.Native.Nat.{ℕ}
 use mathlib.Core.Bool.{Bool, true, false}
-use mathlib.Core.List.{List, [], _∷_, _++_, map}
+use mathlib.Core.List.{List, [], _∷_, _++_}
 use lib.ListN.{getD}
-use lib.Ieee.{Float}
 use Rattle.float32.specs.Operators.{one}
 use Rattle.vector3.specs.declared.Vector3f.{Vector3f}
 use Rattle.quaternion.specs.declared.Quaternion.{Quaternion}
@@ -26,13 +25,9 @@ use Rattle.pose_steps.specs.declared.JudgedQuaternion.{JudgedQuaternion}
 use Rattle.pose_steps.specs.declared.JudgedRow.{JudgedRow}
 use Rattle.pose_steps.specs.declared.JudgedMatrix.{JudgedMatrix}
 use Rattle.pose_steps.specs.Stages.{translationStage, slerpNearStage, slerpFarStage, scaleRowStage, rotationStage, mulRowStage, transformPointStage}
-use Rattle.pose_steps.specs.Pose.{Vector3f·list, Quaternion·list, three, isNear}
+use Rattle.pose_steps.specs.Pose.{isNear}
 
 -- ---- structs as lists of intervals, and back
--- Constants, as equal ends.
-abbrev pub points : List Float → List Interval
-points l = map Interval·point l
-
 abbrev pub IntervalVector·list : IntervalVector → List Interval
 IntervalVector·list v = v .x ∷ v .y ∷ v .z ∷ []
 
@@ -41,6 +36,10 @@ IntervalQuaternion·list q = q .x ∷ q .y ∷ q .z ∷ q .w ∷ []
 
 abbrev pub IntervalRow·list : IntervalRow → List Interval
 IntervalRow·list r = r .c0 ∷ r .c1 ∷ r .c2 ∷ r .c3 ∷ []
+
+-- The first three intervals of a row.
+abbrev pub IntervalRow·three : IntervalRow → List Interval
+IntervalRow·three r = r .c0 ∷ r .c1 ∷ r .c2 ∷ []
 
 abbrev pub IntervalMatrix·list : IntervalMatrix → List Interval
 IntervalMatrix·list m = IntervalRow·list (m .r0) ++ IntervalRow·list (m .r1) ++ IntervalRow·list (m .r2)
@@ -68,36 +67,51 @@ JudgedMatrix·of c =
       refusal = c .refusal;
     }
 
+-- ---- numbers with equal ends
+abbrev pub IntervalVector·point : Vector3f → IntervalVector
+IntervalVector·point v = record { x = Interval·point (v .x); y = Interval·point (v .y); z = Interval·point (v .z) }
+
+abbrev pub IntervalQuaternion·point : Quaternion → IntervalQuaternion
+IntervalQuaternion·point q =
+    record { x = Interval·point (q .v .x); y = Interval·point (q .v .y); z = Interval·point (q .v .z); w = Interval·point (q .w) }
+
+abbrev pub IntervalRow·point : Row → IntervalRow
+IntervalRow·point r = record { c0 = Interval·point (col r 0); c1 = Interval·point (col r 1); c2 = Interval·point (col r 2); c3 = Interval·point (col r 3) }
+
+abbrev pub IntervalMatrix·point : Matrix4x4 → IntervalMatrix
+IntervalMatrix·point m = record { r0 = IntervalRow·point (m .r0); r1 = IntervalRow·point (m .r1); r2 = IntervalRow·point (m .r2) }
+
 -- ---- the stages; m is the number met before
-unfoldable pub Pose·encloseTranslation : ℕ → Vector3f → Vector3f → Interval → JudgedVector
-Pose·encloseTranslation m t0 t1 D = JudgedVector·of (Program·enclose (enclosure m (points (Vector3f·list t0 ++ Vector3f·list t1) ++ D ∷ [])) translationStage)
+unfoldable pub Pose·encloseTranslation : ℕ → IntervalVector → IntervalVector → Interval → JudgedVector
+Pose·encloseTranslation m t0 t1 dt = JudgedVector·of (Program·enclose (enclosure m (IntervalVector·list t0 ++ IntervalVector·list t1 ++ dt ∷ [])) translationStage)
 
-unfoldable pub Pose·encloseSlerpNear : ℕ → Quaternion → Quaternion → Interval → JudgedQuaternion
-Pose·encloseSlerpNear m q1 q2 D = JudgedQuaternion·of (Program·enclose (enclosure m (points (Quaternion·list q1 ++ Quaternion·list q2) ++ D ∷ [])) slerpNearStage)
+unfoldable pub Pose·encloseSlerpNear : ℕ → IntervalQuaternion → IntervalQuaternion → Interval → JudgedQuaternion
+Pose·encloseSlerpNear m q1 q2 t = JudgedQuaternion·of (Program·enclose (enclosure m (IntervalQuaternion·list q1 ++ IntervalQuaternion·list q2 ++ t ∷ [])) slerpNearStage)
 
-unfoldable pub Pose·encloseSlerpFar : ℕ → Quaternion → Quaternion → Float → Float → Interval → JudgedQuaternion
-Pose·encloseSlerpFar m q1 q2 cosθ θ D =
-    JudgedQuaternion·of (Program·enclose (enclosure m (points (Quaternion·list q1 ++ Quaternion·list q2 ++ cosθ ∷ θ ∷ []) ++ D ∷ [])) slerpFarStage)
+unfoldable pub Pose·encloseSlerpFar : ℕ → IntervalQuaternion → IntervalQuaternion → Interval → Interval → Interval → JudgedQuaternion
+Pose·encloseSlerpFar m q1 q2 cosθ θ t =
+    JudgedQuaternion·of (Program·enclose (enclosure m (IntervalQuaternion·list q1 ++ IntervalQuaternion·list q2 ++ cosθ ∷ θ ∷ t ∷ [])) slerpFarStage)
 
 unfoldable pub encloseSlerpBy : Bool → ℕ → RigidMotion → Interval → JudgedQuaternion
-encloseSlerpBy true m a D = Pose·encloseSlerpNear m (a .r0) (a .r1) D
-encloseSlerpBy false m a D = Pose·encloseSlerpFar m (a .r0) (a .r1) (a .«cos_theta») (a .theta) D
+encloseSlerpBy true m a t = Pose·encloseSlerpNear m (IntervalQuaternion·point (a .r0)) (IntervalQuaternion·point (a .r1)) t
+encloseSlerpBy false m a t =
+    Pose·encloseSlerpFar m (IntervalQuaternion·point (a .r0)) (IntervalQuaternion·point (a .r1)) (Interval·point (a .«cos_theta»)) (Interval·point (a .theta)) t
 
 unfoldable pub Pose·encloseSlerp : ℕ → RigidMotion → Interval → JudgedQuaternion
-Pose·encloseSlerp m a D = encloseSlerpBy (isNear a) m a D
+Pose·encloseSlerp m a t = encloseSlerpBy (isNear a) m a t
 
-unfoldable pub Pose·encloseScaleRow : ℕ → Row → Row → Interval → JudgedRow
-Pose·encloseScaleRow m s0 s1 D = JudgedRow·of (Program·enclose (enclosure m (points (three s0 ++ three s1) ++ D ∷ [])) scaleRowStage)
+unfoldable pub Pose·encloseScaleRow : ℕ → IntervalRow → IntervalRow → Interval → JudgedRow
+Pose·encloseScaleRow m s0 s1 dt = JudgedRow·of (Program·enclose (enclosure m (IntervalRow·three s0 ++ IntervalRow·three s1 ++ dt ∷ [])) scaleRowStage)
 
 -- Three rows in turn, the number handed from row to row.
 abbrev pub JudgedMatrix·rows : JudgedRow → JudgedRow → JudgedRow → JudgedMatrix
 JudgedMatrix·rows p q r = record { matrix = record { r0 = p .row; r1 = q .row; r2 = r .row }; refusal = r .refusal }
 
-unfoldable pub Pose·encloseScale : ℕ → Matrix4x4 → Matrix4x4 → Interval → JudgedMatrix
-Pose·encloseScale m s0 s1 D =
-    let p = Pose·encloseScaleRow m (s0 .r0) (s1 .r0) D in
-    let q = Pose·encloseScaleRow (p .refusal) (s0 .r1) (s1 .r1) D in
-    let r = Pose·encloseScaleRow (q .refusal) (s0 .r2) (s1 .r2) D in
+unfoldable pub Pose·encloseScale : ℕ → IntervalMatrix → IntervalMatrix → Interval → JudgedMatrix
+Pose·encloseScale m s0 s1 dt =
+    let p = Pose·encloseScaleRow m (s0 .r0) (s1 .r0) dt in
+    let q = Pose·encloseScaleRow (p .refusal) (s0 .r1) (s1 .r1) dt in
+    let r = Pose·encloseScaleRow (q .refusal) (s0 .r2) (s1 .r2) dt in
     JudgedMatrix·rows p q r
 
 unfoldable pub Pose·encloseRotation : ℕ → IntervalQuaternion → JudgedMatrix
@@ -130,26 +144,20 @@ IntervalMatrix·translation v =
 
 -- document 01, Cover: "In a slice the steps of `interpolate` and `transform_point` are done in the Rust's order with each number an interval"
 unfoldable pub Pose·encloseMatrix : RigidMotion → Matrix4x4 → Matrix4x4 → Interval → JudgedMatrix
-Pose·encloseMatrix a s0 s1 D =
-    let trans = Pose·encloseTranslation 0 (a .t0) (a .t1) D in
-    let rotate = Pose·encloseSlerp (trans .refusal) a D in
-    let scale = Pose·encloseScale (rotate .refusal) s0 s1 D in
+Pose·encloseMatrix a s0 s1 dt =
+    let trans = Pose·encloseTranslation 0 (IntervalVector·point (a .t0)) (IntervalVector·point (a .t1)) dt in
+    let rotate = Pose·encloseSlerp (trans .refusal) a dt in
+    let scale = Pose·encloseScale (rotate .refusal) (IntervalMatrix·point s0) (IntervalMatrix·point s1) dt in
     let rotation = Pose·encloseRotation (scale .refusal) (rotate .quaternion) in
     let first = Pose·encloseMul (rotation .refusal) (IntervalMatrix·translation (trans .vector)) (rotation .matrix) in
     Pose·encloseMul (first .refusal) (first .matrix) (scale .matrix)
 
 unfoldable pub Pose·enclosePoint : RigidMotion → Matrix4x4 → Matrix4x4 → Interval → IntervalVector → JudgedVector
-Pose·enclosePoint a s0 s1 D p =
-    let pose = Pose·encloseMatrix a s0 s1 D in
+Pose·enclosePoint a s0 s1 dt p =
+    let pose = Pose·encloseMatrix a s0 s1 dt in
     Pose·encloseTransformPoint (pose .refusal) (pose .matrix) p
 
--- ---- a stored matrix with equal ends, and a box as three intervals
-abbrev pub IntervalRow·point : Row → IntervalRow
-IntervalRow·point r = record { c0 = Interval·point (col r 0); c1 = Interval·point (col r 1); c2 = Interval·point (col r 2); c3 = Interval·point (col r 3) }
-
-abbrev pub IntervalMatrix·point : Matrix4x4 → IntervalMatrix
-IntervalMatrix·point m = record { r0 = IntervalRow·point (m .r0); r1 = IntervalRow·point (m .r1); r2 = IntervalRow·point (m .r2) }
-
+-- ---- a box as three intervals, and back
 abbrev pub Bounds3f·intervals : Bounds3f → IntervalVector
 Bounds3f·intervals b =
     let l = b .«p_min» in

@@ -14,10 +14,10 @@ use Rattle.matrix4x4.specs.declared.Matrix4x4.{Matrix4x4}
 use Rattle.matrix4x4.specs.Rows.{Row, col, four, tabulate, Matrix4x4·toRows, Matrix4x4·fromRows}
 use Rattle.matrix4x4.specs.IsFinite.{Matrix4x4·isFinite}
 use Rattle.bounds3.specs.declared.Point3f.{Point3f}
+use Rattle.bounds3.specs.Finite.{Point3f·isFinite}
 use Rattle.transform.specs.Transform.{+0, translation}
-use Rattle.transform.specs.Apply.{judged}
 use Rattle.transform.specs.declared.PointAnswer.{PointAnswer}
-use Rattle.transform.specs.declared.PointAnswer.the-variants.{Refused}
+use Rattle.transform.specs.declared.PointAnswer.the-variants.{Moved, Refused}
 use Rattle.formula.specs.Eval.{Program·eval}
 use Rattle.pose_steps.specs.declared.RigidMotion.{RigidMotion}
 use Rattle.pose_steps.specs.declared.PoseAnswer.{PoseAnswer}
@@ -139,4 +139,5 @@ Pose·matrix a s0 s1 dt =
 unfoldable pub Pose·movedPoint : RigidMotion → Matrix4x4 → Matrix4x4 → Float → Point3f → PointAnswer
 Pose·movedPoint a s0 s1 dt p =
     let pose = Pose·matrix a s0 s1 dt in
-    cond (eqb (pose .refusal) 0) (judged (Pose·transformPoint (pose .m) p)) (Refused (pose .refusal))
+    let q = Pose·transformPoint (pose .m) p in
+    cond (eqb (pose .refusal) 0 && Point3f·isFinite q) (Moved q) (Refused 5)

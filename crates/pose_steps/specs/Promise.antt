@@ -29,7 +29,7 @@ use Rattle.pose_steps.specs.declared.JudgedQuaternion.{JudgedQuaternion}
 use Rattle.pose_steps.specs.declared.JudgedRow.{JudgedRow}
 use Rattle.pose_steps.specs.declared.JudgedMatrix.{JudgedMatrix}
 use Rattle.pose_steps.specs.Pose.{Vector3f·list, Quaternion·list, Point3f·list, three, entries}
-use Rattle.pose_steps.specs.Enclose.{IntervalVector·list, IntervalQuaternion·list, IntervalRow·list}
+use Rattle.pose_steps.specs.Enclose.{IntervalVector·list, IntervalQuaternion·list, IntervalRow·list, IntervalRow·three}
 
 abbrev pub AllFinite : List Float → Type 0
 AllFinite [] = Unit {0}
@@ -50,7 +50,10 @@ pub record FiniteScale (s : Matrix4x4) : Type 0 where
   pub r1 : AllFinite (three (s .r1))
   pub r2 : AllFinite (three (s .r2))
 
--- From 0 to 1, where `slerp` has an angle.
+-- Where far slerp has an angle: theta from 0 to a quarter turn, and dt from 0 to 1.
+abbrev pub quarterInterval : Interval
+quarterInterval = record { low = +0; high = quarterTurnFloat }
+
 abbrev pub unitInterval : Interval
 unitInterval = record { low = +0; high = one }
 
@@ -60,11 +63,22 @@ pub record EnclosesMatrix (M : IntervalMatrix) (m : Matrix4x4) : Type 0 where
   pub r1 : Pairwise Encloses (IntervalRow·list (M .r1)) (entries (m .r1))
   pub r2 : Pairwise Encloses (IntervalRow·list (M .r2)) (entries (m .r2))
 
+-- The same of the nine entries that the scale's lerp reads.
+pub record EnclosesScale (M : IntervalMatrix) (m : Matrix4x4) : Type 0 where
+  pub r0 : Pairwise Encloses (IntervalRow·three (M .r0)) (three (m .r0))
+  pub r1 : Pairwise Encloses (IntervalRow·three (M .r1)) (three (m .r1))
+  pub r2 : Pairwise Encloses (IntervalRow·three (M .r2)) (three (m .r2))
+
 -- Each interval lies in its counterpart, which is finite.
 pub record RefinesMatrix (M M' : IntervalMatrix) : Type 0 where
   pub r0 : Pairwise Refines (IntervalRow·list (M .r0)) (IntervalRow·list (M' .r0))
   pub r1 : Pairwise Refines (IntervalRow·list (M .r1)) (IntervalRow·list (M' .r1))
   pub r2 : Pairwise Refines (IntervalRow·list (M .r2)) (IntervalRow·list (M' .r2))
+
+pub record RefinesScale (M M' : IntervalMatrix) : Type 0 where
+  pub r0 : Pairwise Refines (IntervalRow·three (M .r0)) (IntervalRow·three (M' .r0))
+  pub r1 : Pairwise Refines (IntervalRow·three (M .r1)) (IntervalRow·three (M' .r1))
+  pub r2 : Pairwise Refines (IntervalRow·three (M .r2)) (IntervalRow·three (M' .r2))
 
 -- Nothing is refused, and the matrix lies in M.
 pub record EnclosesPose (M : IntervalMatrix) (r : PoseAnswer) : Type 0 where
