@@ -2,7 +2,7 @@
 // In floats at a dt, where a finished value that isn't finite is refused with 5; in intervals over any interval of dt and any box of points, where each is judged as it is formed.
 ghost use mathlib.Core.Path.{_≡_};
 ghost use Rattle.transform.specs.Transform.{translation};
-ghost use Rattle.pose_steps.specs.Pose.{Pose·transformPoint, Quaternion·isFinite, allFinite, PoseAnswer·judged, Pose·matrix, Pose·movedPoint};
+ghost use Rattle.pose_steps.specs.Pose.{Pose·transformPoint, allFinite, PoseAnswer·judged, Pose·matrix, Pose·movedPoint};
 ghost use Rattle.pose_steps.specs.Enclose.{IntervalVector·point, IntervalRow·point, IntervalMatrix·point, Pose·encloseTransformPoint, IntervalMatrix·translation, Pose·encloseMatrix, Pose·enclosePoint};
 use bounds3::Point3f;
 use interval::Interval;
@@ -15,7 +15,6 @@ use pose_steps::JudgedMatrix;
 use pose_steps::JudgedVector;
 use pose_steps::PoseAnswer;
 use pose_steps::RigidMotion;
-use quaternion::Quaternion;
 use transform::PointAnswer;
 use vector3::Vector3f;
 
@@ -79,15 +78,6 @@ fn translation_matrix(v: Vector3f) -> Matrix4x4
     }
 }
 
-pub fn is_finite(q: Quaternion) -> bool
-    ensures value { λ r. ⌜ r ≡ Quaternion·isFinite q ⌝ }
-{
-    float32::is_finite(q.v.x)
-        & float32::is_finite(q.v.y)
-        & float32::is_finite(q.v.z)
-        & float32::is_finite(q.w)
-}
-
 fn all_finite(m: Matrix4x4) -> bool
     ensures value { λ r. ⌜ r ≡ allFinite m ⌝ }
 {
@@ -121,7 +111,7 @@ pub fn matrix(a: RigidMotion, s0: Matrix4x4, s1: Matrix4x4, dt: f32) -> PoseAnsw
     let rotating = pose_rotation::rotation(rotate);
     let first = pose_product::mul(translate, rotating);
     let last = pose_product::mul(first, scaling);
-    let finite = is_finite(rotate)
+    let finite = rotate.is_finite()
         & all_finite(scaling)
         & all_finite(translate)
         & all_finite(rotating)

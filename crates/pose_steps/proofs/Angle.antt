@@ -16,14 +16,15 @@ use Rattle.float32.specs.Clamp.{clamp}
 use Rattle.trig.specs.Acos.{acos, inDomain}
 use Rattle.trig_laws.specs.Range.{quarterTurnFloat, fullTurnFloat}
 use Rattle.trig_laws.proofs.Acos.{acos-range, acos-quarter}
-use Rattle.transform.specs.Transform.{+0}
+use Rattle.matrix4x4.specs.Rows.{positiveZero}
 use Rattle.interval.specs.declared.Interval.{Interval}
+use Rattle.unit_interval.specs.Unit.{unitInterval}
 use Rattle.interval.specs.declared.Judged.{Judged}
 use Rattle.interval.specs.Interval.{Interval·point, Interval·new, Interval·hull, Interval·ofFour}
 use Rattle.interval.specs.Contains.{Subset, Finite}
 use Rattle.interval.specs.Enclosure.{areAngles, first, notFinite, Judged·judge, Interval·mulEnclosure, Judged·mulEnclosure}
 use Rattle.interval.proofs.Isotone.{mul-isotone}
-use Rattle.pose_steps.specs.Promise.{quarterInterval, unitInterval}
+use Rattle.pose_steps.specs.Promise.{quarterInterval}
 
 quarter-finite : Finite quarterInterval
 quarter-finite = record { low = unfold ofBits in tt; high = unfold ofBits in tt }
@@ -39,10 +40,10 @@ products = refl
 quarter-full : quarterTurnFloat ≼ fullTurnFloat
 quarter-full = record { holds = unfold le ofBits in tt }
 
-pub theta-finite : {θ : Float} → +0 ≼ θ → θ ≼ quarterTurnFloat → T (finite θ)
+pub theta-finite : {θ : Float} → positiveZero ≼ θ → θ ≼ quarterTurnFloat → T (finite θ)
 theta-finite l h = between-finite (quarter-finite .low) (quarter-finite .high) l h
 
-pub theta-subset : {θ : Float} → +0 ≼ θ → θ ≼ quarterTurnFloat → Subset (Interval·point θ) quarterInterval
+pub theta-subset : {θ : Float} → positiveZero ≼ θ → θ ≼ quarterTurnFloat → Subset (Interval·point θ) quarterInterval
 theta-subset {θ} l h = record { low = l; proper = ≼-refl θ (number-right l); high = h }
 
 pub theta-angles : {Θ D : Interval} → Subset Θ quarterInterval → Subset D unitInterval → T (areAngles (Interval·mulEnclosure Θ D))
@@ -51,26 +52,26 @@ theta-angles {Θ} {D} t d =
     let X = Interval·mulEnclosure Θ D in
     let s = mul-isotone .isotone 0 0 (record { finite = quarter-finite; subset = t }) (record { finite = unit-finite; subset = d }) refl (ap (λ (j : Judged). j .refusal) products) .refines .subset in
     let r : Subset X quarterInterval = subst (λ (j : Judged). Subset X (j .interval)) products s in
-    and-i (le +0 (X .low)) (le (X .high) fullTurnFloat) (r .low .holds) (≼-trans (r .high) quarter-full .holds)
+    and-i (le positiveZero (X .low)) (le (X .high) fullTurnFloat) (r .low .holds) (≼-trans (r .high) quarter-full .holds)
 
 -- ---- the arc cosine of a dot product
-below-zero : neg one ≼ +0
+below-zero : neg one ≼ positiveZero
 below-zero = record { holds = unfold le neg ofBits in tt }
 
-not-below : {c : Float} → +0 ≼ c → c ≼ neg one → ⊥
+not-below : {c : Float} → positiveZero ≼ c → c ≼ neg one → ⊥
 not-below l h = let t = ≼-trans l h .holds in unfold le neg ofBits in t
 
-clamped : (c : Float) → T (finite c) → +0 ≼ c → (inDomain (clamp c (neg one) one) ≡ true) × (+0 ≼ clamp c (neg one) one)
+clamped : (c : Float) → T (finite c) → positiveZero ≼ c → (inDomain (clamp c (neg one) one) ≡ true) × (positiveZero ≼ clamp c (neg one) one)
 unfolding clamp
 clamped c f l = go (lt c (neg one)) (lt one c) (λ t. not-below l (lt-≼ c (neg one) t)) (λ t. not-lt-≼ c one (finite-number c f) (finite-number one (unit-finite .high)) t)
   where
-    go : (a b : Bool) → (T a → ⊥) → (T (not b) → c ≼ one) → (inDomain (cond a (neg one) (cond b one c)) ≡ true) × (+0 ≼ cond a (neg one) (cond b one c))
+    go : (a b : Bool) → (T a → ⊥) → (T (not b) → c ≼ one) → (inDomain (cond a (neg one) (cond b one c)) ≡ true) × (positiveZero ≼ cond a (neg one) (cond b one c))
     go true b never below = absurd (never tt)
     go false true never below = (unfold le neg ofBits in refl, record { holds = unfold le ofBits in tt })
     go false false never below =
         (is-true (le (neg one) c && le c one) (and-i (le (neg one) c) (le c one) (≼-trans below-zero l .holds) (below tt .holds)), l)
 
-pub theta-quarter : (c : Float) → T (finite c) → +0 ≼ c → Bounds +0 quarterTurnFloat (acos (clamp c (neg one) one))
+pub theta-quarter : (c : Float) → T (finite c) → positiveZero ≼ c → Bounds positiveZero quarterTurnFloat (acos (clamp c (neg one) one))
 theta-quarter c f l =
     let (d, n) = clamped c f l in
     record { below = acos-range (clamp c (neg one) one) d .below; above = acos-quarter (clamp c (neg one) one) d n }

@@ -12,12 +12,14 @@ use lib.Ieee.Scale.{finite}
 use Rattle.float32.specs.Operators.{one}
 use Rattle.vector3.specs.declared.Vector3f.{Vector3f}
 use Rattle.quaternion.specs.declared.Quaternion.{Quaternion}
+use Rattle.quaternion.specs.IsFinite.{Quaternion·isFinite}
 use Rattle.matrix4x4.specs.declared.Matrix4x4.{Matrix4x4}
-use Rattle.matrix4x4.specs.Rows.{Row}
+use Rattle.matrix4x4.specs.Rows.{Row, positiveZero}
 use Rattle.bounds3.specs.declared.Point3f.{Point3f}
 use Rattle.bounds3.specs.Finite.{Point3f·isFinite}
-use Rattle.transform.specs.Transform.{+0, translation}
+use Rattle.transform.specs.Transform.{translation}
 use Rattle.interval.specs.declared.Interval.{Interval}
+use Rattle.unit_interval.specs.Unit.{unitInterval}
 use Rattle.interval.specs.Contains.{Contains, Subset, Encloses}
 use Rattle.interval.proofs.Contains.{point-encloses, subset-finite}
 use Rattle.formula.specs.Enclose.{enclosure}
@@ -30,9 +32,9 @@ use Rattle.pose_steps.specs.declared.IntervalQuaternion.{IntervalQuatern
 use Rattle.pose_steps.specs.declared.IntervalRow.{IntervalRow}
 use Rattle.pose_steps.specs.declared.IntervalMatrix.{IntervalMatrix}
 use Rattle.pose_steps.specs.Stages.{translationStage, slerpNearStage, slerpFarStage, scaleRowStage, rotationStage, mulRowStage, transformPointStage}
-use Rattle.pose_steps.specs.Pose.{Vector3f·list, Quaternion·list, Point3f·list, Matrix4x4·list, three, entries, bottomRow, Pose·translation, Pose·slerpNear, Pose·slerpFar, slerpBy, isNear, Pose·slerp, Pose·scaleRow, Pose·scale, Pose·rotation, Pose·mulRow, Pose·mul, Pose·transformPoint, Quaternion·isFinite, allFinite, PoseAnswer·judged, Pose·matrix, Pose·movedPoint}
+use Rattle.pose_steps.specs.Pose.{Vector3f·list, Quaternion·list, Point3f·list, Matrix4x4·list, three, entries, bottomRow, Pose·translation, Pose·slerpNear, Pose·slerpFar, slerpBy, isNear, Pose·slerp, Pose·scaleRow, Pose·scale, Pose·rotation, Pose·mulRow, Pose·mul, Pose·transformPoint, allFinite, PoseAnswer·judged, Pose·matrix, Pose·movedPoint}
 use Rattle.pose_steps.specs.Enclose.{IntervalVector·list, IntervalVector·point, IntervalQuaternion·list, IntervalQuaternion·point, IntervalRow·list, IntervalRow·three, IntervalMatrix·list, IntervalMatrix·point, Pose·encloseTranslation, Pose·encloseSlerpNear, Pose·encloseSlerpFar, encloseSlerpBy, Pose·encloseSlerp, Pose·encloseScaleRow, Pose·encloseScale, Pose·encloseRotation, Pose·encloseMulRow, Pose·encloseMul, Pose·encloseTransformPoint, IntervalMatrix·translation, Pose·encloseMatrix, Pose·enclosePoint}
-use Rattle.pose_steps.specs.Promise.{AllFinite, RigidMotion·Valid, FiniteScale, quarterInterval, unitInterval, EnclosesScale, EnclosesMatrix, EnclosesPose, EnclosesAnswer}
+use Rattle.pose_steps.specs.Promise.{AllFinite, RigidMotion·Valid, FiniteScale, quarterInterval, EnclosesScale, EnclosesMatrix, EnclosesPose, EnclosesAnswer}
 use Rattle.pose_steps.proofs.Angle.{unit-finite, theta-angles, theta-finite, theta-subset}
 use Rattle.pose_steps.proofs.Valid.{translation-valid, near-valid, far-valid, scale-valid, rotation-valid, mul-valid, point-valid}
 use Rattle.pose_steps.proofs.Zero.{slerp-zero, scale-row-zero, scale-zero, rotation-zero, mul-row-zero, mul-zero, point-zero}
@@ -138,7 +140,7 @@ transformPoint-extends m {M} {P} {b} {p} e f =
 translation-matrix-extends : {W : IntervalVector} (v : Vector3f) → Pairwise Encloses (IntervalVector·list W) (Vector3f·list v)
     → EnclosesMatrix (IntervalMatrix·translation W) (translation (v .x) (v .y) (v .z))
 translation-matrix-extends {W} v (x, (y, (z, e))) =
-    let i = point-encloses +0 zero-finite in
+    let i = point-encloses positiveZero zero-finite in
     let j = point-encloses one one-finite in
     record { r0 = (j, (i, (i, (x, tt)))); r1 = (i, (j, (i, (y, tt)))); r2 = (i, (i, (j, (z, tt)))) }
 

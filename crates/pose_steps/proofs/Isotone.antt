@@ -7,8 +7,9 @@ use mathlib.Core.List.{[], _∷_, _++_}
 use lib.Ieee.Scale.{finite}
 use Rattle.float32.specs.Operators.{one}
 use Rattle.matrix4x4.specs.declared.Matrix4x4.{Matrix4x4}
-use Rattle.transform.specs.Transform.{+0}
+use Rattle.matrix4x4.specs.Rows.{positiveZero}
 use Rattle.interval.specs.declared.Interval.{Interval}
+use Rattle.unit_interval.specs.Unit.{unitInterval}
 use Rattle.interval.specs.Contains.{Subset, Refines}
 use Rattle.interval.proofs.Contains.{point-refines, subset-finite}
 use Rattle.formula.specs.Enclose.{enclosure}
@@ -23,7 +24,7 @@ use Rattle.pose_steps.specs.declared.IntervalMatrix.{IntervalMatrix}
 use Rattle.pose_steps.specs.Stages.{translationStage, slerpNearStage, slerpFarStage, scaleRowStage, rotationStage, mulRowStage, transformPointStage}
 use Rattle.pose_steps.specs.Pose.{Vector3f·list, Quaternion·list, isNear}
 use Rattle.pose_steps.specs.Enclose.{IntervalVector·list, IntervalVector·point, IntervalQuaternion·list, IntervalQuaternion·point, IntervalRow·list, IntervalRow·three, IntervalMatrix·list, IntervalMatrix·point, Pose·encloseTranslation, Pose·encloseSlerpNear, Pose·encloseSlerpFar, encloseSlerpBy, Pose·encloseSlerp, Pose·encloseScaleRow, Pose·encloseScale, Pose·encloseRotation, Pose·encloseMulRow, Pose·encloseMul, Pose·encloseTransformPoint, IntervalMatrix·translation, Pose·encloseMatrix, Pose·enclosePoint}
-use Rattle.pose_steps.specs.Promise.{RigidMotion·Valid, FiniteScale, quarterInterval, unitInterval, RefinesScale, RefinesMatrix, NarrowerVector, NarrowerQuaternion, NarrowerRow, NarrowerMatrix}
+use Rattle.pose_steps.specs.Promise.{RigidMotion·Valid, FiniteScale, quarterInterval, RefinesScale, RefinesMatrix, NarrowerVector, NarrowerQuaternion, NarrowerRow, NarrowerMatrix}
 use Rattle.pose_steps.proofs.Angle.{unit-finite, theta-angles, theta-finite, theta-subset}
 use Rattle.pose_steps.proofs.Valid.{translation-valid, near-valid, far-valid, scale-valid, rotation-valid, mul-valid, point-valid}
 use Rattle.pose_steps.proofs.Zero.{slerp-zero, scale-row-zero, scale-zero, rotation-zero, mul-row-zero, mul-zero, point-zero}
@@ -135,7 +136,7 @@ mul-isotone m' k {A} {A'} {B} {B'} e f z =
 -- ---- in sequence
 translation-matrix-isotone : (W W' : IntervalVector) → Pairwise Refines (IntervalVector·list W) (IntervalVector·list W') → RefinesMatrix (IntervalMatrix·translation W) (IntervalMatrix·translation W')
 translation-matrix-isotone W W' (x, (y, (z, e))) =
-    let i = point-refines +0 zero-finite in
+    let i = point-refines positiveZero zero-finite in
     let j = point-refines one one-finite in
     record { r0 = (j, (i, (i, (x, tt)))); r1 = (i, (j, (i, (y, tt)))); r2 = (i, (i, (j, (z, tt)))) }
 

@@ -12,9 +12,8 @@ use lib.Ieee.Fits.{and-i}
 use lib.Ieee.Scale.{finite}
 use Rattle.float32.specs.Operators.{one}
 use Rattle.matrix4x4.specs.declared.Matrix4x4.{Matrix4x4}
-use Rattle.matrix4x4.specs.Rows.{Row, col, at, all, Matrix4x4·toRows}
+use Rattle.matrix4x4.specs.Rows.{Row, col, at, all, Matrix4x4·toRows, positiveZero}
 use Rattle.matrix4x4.specs.IsFinite.{Matrix4x4·isFinite}
-use Rattle.transform.specs.Transform.{+0}
 use Rattle.interval.specs.declared.Interval.{Interval}
 use Rattle.interval.specs.Interval.{Interval·point}
 use Rattle.interval.specs.Contains.{Encloses, Refines}
@@ -93,7 +92,7 @@ all-of p a b c d = and-i (p 0 && p 1 && p 2) (p 3) (and-i (p 0 && p 1) (p 2) (an
 row-finite : (r : Row) → AllFinite (entries r) → T (all (λ j. finite (col r j)))
 row-finite r (a, (b, (c, (d, e)))) = all-of (λ j. finite (col r j)) a b c d
 
-pub zero-finite : T (finite +0)
+pub zero-finite : T (finite positiveZero)
 unfolding ofBits
 zero-finite = tt
 

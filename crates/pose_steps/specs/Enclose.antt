@@ -9,9 +9,8 @@ use Rattle.float32.specs.Operators.{one}
 use Rattle.vector3.specs.declared.Vector3f.{Vector3f}
 use Rattle.quaternion.specs.declared.Quaternion.{Quaternion}
 use Rattle.matrix4x4.specs.declared.Matrix4x4.{Matrix4x4}
-use Rattle.matrix4x4.specs.Rows.{Row, col}
+use Rattle.matrix4x4.specs.Rows.{Row, col, positiveZero}
 use Rattle.bounds3.specs.declared.Bounds3f.{Bounds3f}
-use Rattle.transform.specs.Transform.{+0}
 use Rattle.interval.specs.declared.Interval.{Interval}
 use Rattle.interval.specs.Interval.{Interval·point}
 use Rattle.formula.specs.Enclose.{Enclosure, enclosure, unbound, Program·enclose}
@@ -134,7 +133,7 @@ Pose·encloseTransformPoint m a p = JudgedVector·of (Program·enclose (enclosur
 -- The matrix that adds an interval vector to a point.
 abbrev pub IntervalMatrix·translation : IntervalVector → IntervalMatrix
 IntervalMatrix·translation v =
-    let 𝟎 : Interval = Interval·point +0 in
+    let 𝟎 : Interval = Interval·point positiveZero in
     let 𝟏 : Interval = Interval·point one in
     record {
       r0 = record { c0 = 𝟏; c1 = 𝟎; c2 = 𝟎; c3 = v .x };

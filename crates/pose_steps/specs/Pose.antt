@@ -5,17 +5,17 @@ use mathlib.Core.Bool.{Bool, true, false, _&&_, cond}
 use mathlib.Core.List.{List, [], _∷_, _++_}
 use lib.Dec.{eqb}
 use lib.Ieee.{Float, lt}
-use lib.Ieee.Scale.{finite}
 use Rattle.float32.specs.Operators.{one}
 use Rattle.vector3.specs.declared.Vector3f.{Vector3f}
 use Rattle.quaternion.specs.declared.Quaternion.{Quaternion}
 use Rattle.quaternion.specs.Slerp.{slerpThreshold}
+use Rattle.quaternion.specs.IsFinite.{Quaternion·isFinite}
 use Rattle.matrix4x4.specs.declared.Matrix4x4.{Matrix4x4}
-use Rattle.matrix4x4.specs.Rows.{Row, col, four, tabulate, Matrix4x4·toRows, Matrix4x4·fromRows}
+use Rattle.matrix4x4.specs.Rows.{Row, col, tabulate, Matrix4x4·toRows, Matrix4x4·fromRows, positiveZero}
 use Rattle.matrix4x4.specs.IsFinite.{Matrix4x4·isFinite}
 use Rattle.bounds3.specs.declared.Point3f.{Point3f}
 use Rattle.bounds3.specs.Finite.{Point3f·isFinite}
-use Rattle.transform.specs.Transform.{+0, translation}
+use Rattle.transform.specs.Transform.{translation}
 use Rattle.transform.specs.declared.PointAnswer.{PointAnswer}
 use Rattle.transform.specs.declared.PointAnswer.the-variants.{Moved, Refused}
 use Rattle.formula.specs.Eval.{Program·eval}
@@ -47,14 +47,14 @@ abbrev pub three : Row → List Float
 three r = col r 0 ∷ col r 1 ∷ col r 2 ∷ []
 
 abbrev pub entries : Row → List Float
-entries r = four (col r)
+entries r = tabulate (col r)
 
 -- The three upper rows.
 abbrev pub Matrix4x4·list : Matrix4x4 → List Float
 Matrix4x4·list m = entries (m .r0) ++ entries (m .r1) ++ entries (m .r2)
 
 abbrev pub bottomRow : Row
-bottomRow = +0 ∷ +0 ∷ +0 ∷ one ∷ []
+bottomRow = positiveZero ∷ positiveZero ∷ positiveZero ∷ one ∷ []
 
 abbrev pub Matrix4x4·ofList : List Float → Matrix4x4
 Matrix4x4·ofList l =
@@ -112,16 +112,13 @@ unfoldable pub Pose·transformPoint : Matrix4x4 → Point3f → Point3f
 Pose·transformPoint m p = Point3f·ofList (Program·eval (Matrix4x4·list m ++ Point3f·list p) transformPointStage)
 
 -- ---- in sequence
-unfoldable pub Quaternion·isFinite : Quaternion → Bool
-Quaternion·isFinite q = finite (q .v .x) && finite (q .v .y) && finite (q .v .z) && finite (q .w)
-
 abbrev pub allFinite : Matrix4x4 → Bool
 allFinite m = Matrix4x4·isFinite (Matrix4x4·toRows m)
 
 -- The number beside the matrix, which is +0 throughout where it is refused.
 unfoldable pub PoseAnswer·judged : Bool → Matrix4x4 → PoseAnswer
 PoseAnswer·judged true m = record { m = m; refusal = 0 }
-PoseAnswer·judged false m = record { m = Matrix4x4·fromRows (tabulate (λ i j. +0)); refusal = 5 }
+PoseAnswer·judged false m = record { m = Matrix4x4·fromRows (tabulate (λ i. tabulate (λ j. positiveZero))); refusal = 5 }
 
 -- `interpolate`, matrix half: Transform::translate(&trans) * rotate.into() * Transform::from_matrix(&scale)
 unfoldable pub Pose·matrix : RigidMotion → Matrix4x4 → Matrix4x4 → Float → PoseAnswer

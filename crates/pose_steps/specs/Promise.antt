@@ -9,11 +9,10 @@ use lib.Ieee.{Float}
 use lib.Ieee.Scale.{finite}
 use Rattle.rounding.specs.Order.{_≼_}
 use Rattle.trig_laws.specs.Range.{quarterTurnFloat}
-use Rattle.float32.specs.Operators.{one}
 use Rattle.matrix4x4.specs.declared.Matrix4x4.{Matrix4x4}
+use Rattle.matrix4x4.specs.Rows.{positiveZero}
 use Rattle.bounds3.specs.declared.Point3f.{Point3f}
 use Rattle.bounds3.specs.declared.Bounds3f.{Bounds3f}
-use Rattle.transform.specs.Transform.{+0}
 use Rattle.transform.specs.declared.PointAnswer.{PointAnswer}
 use Rattle.transform.specs.declared.PointAnswer.the-variants.{Moved}
 use Rattle.interval.specs.declared.Interval.{Interval}
@@ -41,7 +40,7 @@ pub record RigidMotion·Valid (a : RigidMotion) : Type 0 where
   pub r0 : AllFinite (Quaternion·list (a .r0))
   pub r1 : AllFinite (Quaternion·list (a .r1))
   pub cosTheta : T (finite (a .«cos_theta»))
-  pub theta-from-zero : +0 ≼ a .theta
+  pub theta-from-zero : positiveZero ≼ a .theta
   pub theta-to-quarter : a .theta ≼ quarterTurnFloat
 
 -- The nine entries of S that `interpolate` reads.
@@ -50,12 +49,9 @@ pub record FiniteScale (s : Matrix4x4) : Type 0 where
   pub r1 : AllFinite (three (s .r1))
   pub r2 : AllFinite (three (s .r2))
 
--- Where far slerp has an angle: theta from 0 to a quarter turn, and dt from 0 to 1.
+-- Where far slerp has an angle: theta from 0 to a quarter turn, as dt lies from 0 to 1.
 abbrev pub quarterInterval : Interval
-quarterInterval = record { low = +0; high = quarterTurnFloat }
-
-abbrev pub unitInterval : Interval
-unitInterval = record { low = +0; high = one }
+quarterInterval = record { low = positiveZero; high = quarterTurnFloat }
 
 -- Each entry of the three upper rows is finite and lies in its interval.
 pub record EnclosesMatrix (M : IntervalMatrix) (m : Matrix4x4) : Type 0 where
