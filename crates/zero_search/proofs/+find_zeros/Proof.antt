@@ -1,4 +1,5 @@
 -- `find_zeros` meets its contract, by the clauses of `search`; the depth falls.
+use mathlib.Core.Path.{sym}
 use native.Mathlib.Omega.{arith}
 use Rattle.zero_search.proofs.Clauses.{search-excluded, search-newton, search-ends, search-halves}
 use Prim.Native.Nat.{ℕ, _<_}
@@ -54,7 +55,19 @@ returns-2 : (t : ℕ) → find-zeros-lts.Need-returns-2 (
   find-zeros-below t,
   find-zeros.Post,
 ) (find-zeros-at t) find-zeros.Post
-returns-2 t c = let a = c .before .before .before .before .before .before .args in cc (search-newton (a .f) (a .i) (a .found))
+returns-2 t c =
+    let mid = c .before .before .before in
+    let range = mid .before .before in
+    let a = range .before .args in
+    rw (
+      c .accept .ensures,
+      c .before .newton .ensures,
+      mid .midpoint .ensures,
+      sym (range .excludes-zero .ensures),
+      mid .before .if1 .left,
+      c .before .before .if2 .taken,
+      search-newton (a .f) (a .i) (a .found),
+    )
 
 sub-find-zeros : (t : ℕ) → find-zeros-lts.Need-sub-find-zeros (
   excludes-zero-reads.Asked,

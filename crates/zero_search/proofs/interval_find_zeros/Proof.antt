@@ -5,7 +5,7 @@ use Rattle.zero_search.proofs.interval_find_zeros.Tie as tie
 
 returns : tie.Need-returns
 unfolding intervalFindZeros
-returns c = cc
+returns c = rw (c .find-zeros .ensures, c .before .empty .ensures, c .before .before .new .ensures)
 
 pub interval-find-zeros-spec : {M : Type 1} → statement M
 interval-find-zeros-spec = tie.close (tie.spec (λ c κs. tt) (λ c κs. tt) (λ c κs. tt) returns)
