@@ -1,2 +1,4 @@
 pub mod Clauses
 pub mod Examined
+pub mod Stored
+mod Cases

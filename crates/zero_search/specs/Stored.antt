@@ -1,0 +1,15 @@
+-- What the zeros of a search are like, whatever the coefficients: the statement of `intervalFindZeros-stored`.
+use mathlib.Core.Path.{_≡_}
+use mathlib.Core.Logic.{_⊎_}
+use Prim.Native.Nat.{ℕ, _≤_, _<_}
+use lib.ListN.{length, getD}
+use lib.Ieee.{nan}
+use Rattle.motion_derivative.specs.Derivative.{positiveZero}
+use Rattle.zero_search.specs.declared.Zeros.{Zeros}
+
+-- At most eight are stored, every place after them is +0, and there is no refusal but 9, which leaves none.
+pub record Stored (z : Zeros) : Type 0 where
+  pub places : length (z .zeros) ≡ 8
+  pub count : z .count ≤ 8
+  pub unused : (k : ℕ) → z .count ≤ k → k < 8 → getD (z .zeros) k nan ≡ positiveZero
+  pub refusal : (z .refusal ≡ 0) ⊎ ((z .refusal ≡ 9) × (z .count ≡ 0))
