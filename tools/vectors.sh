@@ -1,9 +1,9 @@
 #!/usr/bin/env bash
 # Makes crates/answers/stdin and crates/answers/stdout: the questions of each group and their expected answer lines, in this order.
 # Each group's expected values come from outside the libraries:
-#   numbers    hardware float arithmetic      tools/number_vectors.rs
-#   angles     exact fractions                tools/angle_vectors.py
-#   matrices   the original Rust              oracle/ (which says where it looks for pbrt-rust's sources)
+#   numbers                  hardware float arithmetic   tools/number_vectors.rs
+#   angles                   exact fractions             tools/angle_vectors.py
+#   matrices, boxes, zeros   the original Rust           oracle/ (which says where it looks for pbrt-rust's sources)
 set -eu
 cd "$(dirname "$0")/.."
 made=$(mktemp -d)
@@ -14,9 +14,9 @@ for group in "$made/number_vectors" "python3 tools/angle_vectors.py"; do
     $group --answers >>"$made/stdout"
 done
 cargo build --quiet --release --offline --manifest-path oracle/Cargo.toml --target-dir "$made/oracle"
-# `decompose` is no question of the program yet.
-"$made/oracle/release/vectors" matrices 1500 1 | grep -v '^decompose' >"$made/questions"
+"$made/oracle/release/vectors" matrices 1500 1 >"$made/questions"
 "$made/oracle/release/vectors" boxes 500 1 >>"$made/questions"
+"$made/oracle/release/vectors" motion 500 1 | grep '^zeros' >>"$made/questions"
 cat "$made/questions" >>"$made/stdin"
 "$made/oracle/release/answers" <"$made/questions" >>"$made/stdout"
 cp "$made/stdin" "$made/stdout" crates/answers/

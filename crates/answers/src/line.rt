@@ -4,6 +4,7 @@ use crate::matrices;
 use crate::numbers;
 use crate::output::put_error;
 use crate::output::send;
+use crate::parts;
 use crate::question::Kind;
 use crate::question::Question;
 use crate::question::parse;
@@ -69,5 +70,6 @@ fn answer(q: Question, out: &mut [u8], s: State) -> State {
         Kind::Number(n) => s.at(numbers::answer(n, q, out, at)),
         Kind::Angle(a) => s.at(angles::answer(a, q, out, at)),
         Kind::Matrix(m) => s.at(matrices::answer(m, q, out, at)),
+        Kind::Part(p) => s.at(parts::answer(p, q, out, at)),
     }
 }

@@ -5,6 +5,7 @@ mod line;
 mod matrices;
 mod numbers;
 mod output;
+mod parts;
 mod question;
 mod text;
 

@@ -103,7 +103,7 @@ fn answer_inverse(words: [u32; 34], out: &mut [u8], at: usize) -> usize {
 }
 
 // The float at a place of the arguments, 0 beyond them.
-fn float_at(words: [u32; 34], i: usize) -> f32 {
+pub fn float_at(words: [u32; 34], i: usize) -> f32 {
     if i < 34 { float_of_bits(words[i]) } else { 0.0 }
 }
 
@@ -119,7 +119,7 @@ fn row_at(words: [u32; 34], i: usize) -> [f32; 4] {
     [0.0; 4]
 }
 
-fn matrix_at(words: [u32; 34], i: usize) -> [[f32; 4]; 4] {
+pub fn matrix_at(words: [u32; 34], i: usize) -> [[f32; 4]; 4] {
     if i < 19 {
         return [
             row_at(words, i),

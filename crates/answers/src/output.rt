@@ -51,16 +51,20 @@ pub fn put(out: &mut [u8], at: usize, b: u8) -> usize {
 
 // The answer to a question that asks for a matrix.
 pub fn put_ok_matrix(out: &mut [u8], at: usize, m: [[f32; 4]; 4]) -> usize {
+    let ok = put_text(out, at, b"ok");
+    let end = put_matrix(out, ok, m);
+    put(out, end, b'\n')
+}
+
+pub fn put_matrix(out: &mut [u8], at: usize, m: [[f32; 4]; 4]) -> usize {
     let a = m[0];
     let b = m[1];
     let c = m[2];
     let d = m[3];
-    let ok = put_text(out, at, b"ok");
-    let first = put_row(out, ok, a);
+    let first = put_row(out, at, a);
     let second = put_row(out, first, b);
     let third = put_row(out, second, c);
-    let fourth = put_row(out, third, d);
-    put(out, fourth, b'\n')
+    put_row(out, third, d)
 }
 
 // The answer to a question that asks for a quaternion.
@@ -101,7 +105,7 @@ fn put_tens(out: &mut [u8], at: usize, tens: u8) -> usize {
     put(out, at, 48 + tens % 10)
 }
 
-fn put_row(out: &mut [u8], at: usize, r: [f32; 4]) -> usize {
+pub fn put_row(out: &mut [u8], at: usize, r: [f32; 4]) -> usize {
     let a = put_float(out, at, r[0]);
     let b = put_float(out, a, r[1]);
     let c = put_float(out, b, r[2]);

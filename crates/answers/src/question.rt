@@ -5,6 +5,8 @@ use crate::matrices;
 use crate::matrices::Matrix;
 use crate::numbers;
 use crate::numbers::Number;
+use crate::parts;
+use crate::parts::Part;
 use crate::text::part;
 use hexadecimal::Word;
 
@@ -14,6 +16,7 @@ pub enum Kind {
     Number(Number),
     Angle(Angle),
     Matrix(Matrix),
+    Part(Part),
 }
 
 // What comes after a name: a decimal number or none, then floats, at most 34.
@@ -56,7 +59,11 @@ fn form_of(name: &[u8]) -> Form {
     if is_known(angle) {
         return angle;
     }
-    matrices::form_of(name)
+    let matrix = matrices::form_of(name);
+    if is_known(matrix) {
+        return matrix;
+    }
+    parts::form_of(name)
 }
 
 fn is_known(f: Form) -> bool {
