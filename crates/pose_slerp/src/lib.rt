@@ -1,7 +1,7 @@
 // The rotation of a pose at dt, pbrt's `slerp` with its dot product and angle given: in floats, and in intervals of which each is judged as it is formed.
 // slerp is linear above 0.9995. A squared length whose low end is zero or below is refused with 10 before it is rooted.
 ghost use mathlib.Core.Path.{_≡_};
-ghost use Rattle.pose_steps.specs.Pose.{Pose·slerpNear, Pose·slerpFar, Pose·slerp};
+ghost use Rattle.pose_steps.specs.Pose.{RigidMotion·new, Pose·slerpNear, Pose·slerpFar, Pose·slerp};
 ghost use Rattle.pose_steps.specs.Enclose.{IntervalQuaternion·point, Pose·encloseSlerpNear, Pose·encloseSlerpFar, Pose·encloseSlerp};
 use interval::Interval;
 use interval::Judged;
@@ -10,6 +10,22 @@ use pose_steps::JudgedQuaternion;
 use pose_steps::RigidMotion;
 use quaternion::Quaternion;
 use vector3::Vector3f;
+
+// The constants of a move: the dot product of its rotations and the angle between them are worked out here, once.
+pub fn rigid_motion(t0: Vector3f, t1: Vector3f, r0: Quaternion, r1: Quaternion) -> RigidMotion
+    ensures value { λ r. ⌜ r ≡ RigidMotion·new t0 t1 r0 r1 ⌝ }
+{
+    let cos_theta = r0.dot(r1);
+    let theta = trig::acos(float32::clamp(cos_theta, -1.0, 1.0));
+    RigidMotion {
+        t0,
+        t1,
+        r0,
+        r1,
+        cos_theta,
+        theta,
+    }
+}
 
 pub fn slerp_near(q1: Quaternion, q2: Quaternion, t: f32) -> Quaternion
     ensures value { λ r. ⌜ r ≡ Pose·slerpNear q1 q2 t ⌝ }

@@ -1,5 +1,5 @@
 -- `theta-angles`: theta times a dt from 0 to 1 is an interval of angles, where theta lies from 0 to a quarter turn.
--- `theta-quarter`: so it does where it is the arc cosine of what is at least 0. Rests on the product's isotonicity and on the arc cosine's range.
+-- `theta-quarter`: so it does where it is the arc cosine of what is at least 0, and a move of such parts is valid (`new-valid`). Rests on the product's isotonicity and on the arc cosine's range.
 use mathlib.Core.Path.{_≡_, refl, ap, subst}
 use mathlib.Core.Bool.{Bool, true, false, not, cond, _&&_}
 use lib.Dec.{T}
@@ -17,6 +17,9 @@ use Rattle.trig.specs.Acos.{acos, inDomain}
 use Rattle.trig_laws.specs.Range.{quarterTurnFloat, fullTurnFloat}
 use Rattle.trig_laws.proofs.Acos.{acos-range, acos-quarter}
 use Rattle.matrix4x4.specs.Rows.{positiveZero}
+use Rattle.vector3.specs.declared.Vector3f.{Vector3f}
+use Rattle.quaternion.specs.declared.Quaternion.{Quaternion}
+use Rattle.quaternion.specs.Quaternion.{Quaternion·dot}
 use Rattle.interval.specs.declared.Interval.{Interval}
 use Rattle.unit_interval.specs.Unit.{unitInterval}
 use Rattle.interval.specs.declared.Judged.{Judged}
@@ -24,7 +27,8 @@ use Rattle.interval.specs.Interval.{Interval·point, Interval·new, Interval·h
 use Rattle.interval.specs.Contains.{Subset, Finite}
 use Rattle.interval.specs.Enclosure.{areAngles, first, notFinite, Judged·judge, Interval·mulEnclosure, Judged·mulEnclosure}
 use Rattle.interval.proofs.Isotone.{mul-isotone}
-use Rattle.pose_steps.specs.Promise.{quarterInterval}
+use Rattle.pose_steps.specs.Pose.{Vector3f·list, Quaternion·list, RigidMotion·new}
+use Rattle.pose_steps.specs.Promise.{AllFinite, RigidMotion·Valid, quarterInterval}
 
 quarter-finite : Finite quarterInterval
 quarter-finite = record { low = unfold ofBits in tt; high = unfold ofBits in tt }
@@ -75,3 +79,11 @@ pub theta-quarter : (c : Float) → T (finite c) → positiveZero ≼ c → Boun
 theta-quarter c f l =
     let (d, n) = clamped c f l in
     record { below = acos-range (clamp c (neg one) one) d .below; above = acos-quarter (clamp c (neg one) one) d n }
+
+-- A move whose parts are finite and whose rotations have a finite dot product of at least 0 is valid.
+pub new-valid : (t0 t1 : Vector3f) (r0 r1 : Quaternion) → AllFinite (Vector3f·list t0) → AllFinite (Vector3f·list t1) → AllFinite (Quaternion·list r0) → AllFinite (Quaternion·list r1)
+    → T (finite (Quaternion·dot r0 r1)) → positiveZero ≼ Quaternion·dot r0 r1 → RigidMotion·Valid (RigidMotion·new t0 t1 r0 r1)
+unfolding RigidMotion·new
+new-valid t0 t1 r0 r1 a b c d f l =
+    let q = theta-quarter (Quaternion·dot r0 r1) f l in
+    record { t0 = a; t1 = b; r0 = c; r1 = d; cosTheta = f; theta-from-zero = q .below; theta-to-quarter = q .above }

@@ -6,3 +6,4 @@ pub mod Extends
 pub mod Isotone
 pub mod Number
 pub mod Box
+pub mod Composition

@@ -1,13 +1,20 @@
--- The numbers that a slice can give: 5, and 10 of a squared length (`matrix-number`, `point-number`). One induction over the language, `program-number`.
+-- The numbers that a slice can give: 5, and 10 of a squared length (`matrix-number`, `point-number`); one induction over the language, `program-number`.
+-- A point query between the poses gives 5 alone (`movedPoint-judged`).
 use mathlib.Core.Path.{refl}
 use mathlib.Core.Logic.{inl, inr}
 use Prim.Native.Nat.{ℕ, zero, suc}
 use mathlib.Core.Bool.{Bool, true, false, _&&_, cond}
 use mathlib.Core.List.{List, [], _∷_, _++_}
 use lib.ListN.{length}
-use lib.Ieee.{binary32, ofBits, le}
+use lib.Dec.{T, eqb}
+use lib.Ieee.{Float, binary32, ofBits, le}
+use lib.Ieee.Fits.{and-r}
 use lib.Ieee.Scale.{finite}
 use Rattle.matrix4x4.specs.declared.Matrix4x4.{Matrix4x4}
+use Rattle.bounds3.specs.declared.Point3f.{Point3f}
+use Rattle.bounds3.specs.Finite.{Point3f·isFinite}
+use Rattle.transform.specs.declared.PointAnswer.the-variants.{Moved, Refused}
+use Rattle.transform.specs.Answer.{origin, PointAnswer·Judged}
 use Rattle.interval.specs.declared.Interval.{Interval}
 use Rattle.interval.specs.Interval.{Interval·point}
 use Rattle.interval.specs.Enclosure.{first, notFinite, notPositive, Judged·judge, Interval·divEnclosure, Interval·sqrtEnclosure, Judged·addEnclosure, Judged·subEnclosure, Judged·mulEnclosure, Judged·divEnclosure, Judged·sqrtEnclosure, Judged·sinEnclosure, Judged·cosEnclosure, Interval·addEnclosure, Interval·subEnclosure, Interval·mulEnclosure, Interval·sinEnclosure, Interval·cosEnclosure}
@@ -18,7 +25,7 @@ use Rattle.pose_steps.specs.declared.IntervalVector.{IntervalVector}
 use Rattle.pose_steps.specs.declared.IntervalRow.{IntervalRow}
 use Rattle.pose_steps.specs.declared.IntervalMatrix.{IntervalMatrix}
 use Rattle.pose_steps.specs.Stages.{translationStage, slerpNearStage, slerpFarStage, scaleRowStage, rotationStage, mulRowStage, transformPointStage}
-use Rattle.pose_steps.specs.Pose.{isNear}
+use Rattle.pose_steps.specs.Pose.{isNear, Pose·transformPoint, Pose·matrix, Pose·movedPoint}
 use Rattle.pose_steps.specs.Enclose.{IntervalVector·list, IntervalVector·point, IntervalQuaternion·list, IntervalQuaternion·point, IntervalRow·list, IntervalRow·three, IntervalMatrix·list, IntervalMatrix·point, Pose·encloseTranslation, Pose·encloseSlerpNear, Pose·encloseSlerpFar, encloseSlerpBy, Pose·encloseSlerp, Pose·encloseScaleRow, Pose·encloseScale, Pose·encloseRotation, Pose·encloseMulRow, Pose·encloseMul, Pose·encloseTransformPoint, IntervalMatrix·translation, Pose·encloseMatrix, Pose·enclosePoint}
 use Rattle.pose_steps.specs.Promise.{SliceNumber}
 
@@ -147,3 +154,20 @@ module _ (a : RigidMotion) (s0 s1 : Matrix4x4) (D : Interval) where
   pub point-number : (P : IntervalVector) → SliceNumber (Pose·enclosePoint a s0 s1 D P .refusal)
   unfolding Pose·enclosePoint
   point-number P = let M = Pose·encloseMatrix a s0 s1 D in transformPoint-number (M .refusal) (M .matrix) P matrix-number
+
+-- ---- a point query's: 5 alone, and its point is finite where nothing is refused
+origin-finite : T (Point3f·isFinite origin)
+unfolding Point3f·isFinite ofBits
+origin-finite = tt
+
+pub movedPoint-judged : (a : RigidMotion) (s0 s1 : Matrix4x4) (dt : Float) (p : Point3f) → PointAnswer·Judged (Pose·movedPoint a s0 s1 dt p)
+unfolding Pose·movedPoint
+movedPoint-judged a s0 s1 dt p =
+    let pose = Pose·matrix a s0 s1 dt in
+    let q = Pose·transformPoint (pose .m) p in
+    let z = eqb (pose .refusal) 0 in
+    go q (z && Point3f·isFinite q) (and-r z (Point3f·isFinite q))
+  where
+    go : (q : Point3f) (b : Bool) → (T b → T (Point3f·isFinite q)) → PointAnswer·Judged (cond b (Moved q) (Refused 5))
+    go q true f = record { number = inl refl; values = f tt }
+    go q false f = record { number = inr refl; values = origin-finite }

@@ -2,3 +2,4 @@ pub mod Stages
 pub mod Pose
 pub mod Enclose
 pub mod Promise
+pub mod Composition

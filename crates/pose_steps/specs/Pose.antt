@@ -1,13 +1,16 @@
 -- The steps read in floats: a move's pose at dt, `Pose·matrix`, and a point that it moves, `Pose·movedPoint`, stage by stage and in sequence. Definitions only.
 -- What is judged is what document 01 calls finished: the quaternion, the scale, the matrices, the products and the moved point; one that isn't finite is 5.
--- cos_theta and theta are the move's constants, worked out once.
+-- cos_theta and theta are the move's constants, worked out once (`RigidMotion·new`).
 use mathlib.Core.Bool.{Bool, true, false, _&&_, cond}
 use mathlib.Core.List.{List, [], _∷_, _++_}
 use lib.Dec.{eqb}
-use lib.Ieee.{Float, lt}
+use lib.Ieee.{Float, lt, neg}
 use Rattle.float32.specs.Operators.{one}
+use Rattle.float32.specs.Clamp.{clamp}
+use Rattle.trig.specs.Acos.{acos}
 use Rattle.vector3.specs.declared.Vector3f.{Vector3f}
 use Rattle.quaternion.specs.declared.Quaternion.{Quaternion}
+use Rattle.quaternion.specs.Quaternion.{Quaternion·dot}
 use Rattle.quaternion.specs.Slerp.{slerpThreshold}
 use Rattle.quaternion.specs.IsFinite.{Quaternion·isFinite}
 use Rattle.matrix4x4.specs.declared.Matrix4x4.{Matrix4x4}
@@ -74,6 +77,12 @@ Pose·slerpNear q1 q2 t = Quaternion·ofList (Program·eval (Quaternion·list q1
 
 unfoldable pub Pose·slerpFar : Quaternion → Quaternion → Float → Float → Float → Quaternion
 Pose·slerpFar q1 q2 cosθ θ t = Quaternion·ofList (Program·eval (Quaternion·list q1 ++ Quaternion·list q2 ++ cosθ ∷ θ ∷ t ∷ []) slerpFarStage)
+
+-- `slerp`: let cos_theta = q1.dot(q2) and let theta = clamp(cos_theta, -1.0, 1.0).acos()
+unfoldable pub RigidMotion·new : Vector3f → Vector3f → Quaternion → Quaternion → RigidMotion
+RigidMotion·new t0 t1 r0 r1 =
+    let cosθ = Quaternion·dot r0 r1 in
+    record { t0 = t0; t1 = t1; r0 = r0; r1 = r1; «cos_theta» = cosθ; theta = acos (clamp cosθ (neg one) one) }
 
 -- A match and no `cond`, so that only the case that holds is computed.
 unfoldable pub slerpBy : Bool → RigidMotion → Float → Quaternion

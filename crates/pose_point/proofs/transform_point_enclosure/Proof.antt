@@ -5,8 +5,8 @@ use Rattle.formula.specs.Enclose.{enclosure}
 use Rattle.formula.proofs.Trace.{traced}
 use Rattle.pose_steps.specs.Stages.{transformPointStage}
 use Rattle.pose_steps.specs.Enclose.{IntervalMatrix·list, IntervalVector·list, JudgedVector·of, Pose·encloseTransformPoint}
-use Rattle.pose.proofs.transform_point_enclosure.Statement.{statement}
-use Rattle.pose.proofs.transform_point_enclosure.Tie as tie
+use Rattle.pose_point.proofs.transform_point_enclosure.Statement.{statement}
+use Rattle.pose_point.proofs.transform_point_enclosure.Tie as tie
 
 returns : tie.Need-returns
 unfolding Pose·encloseTransformPoint

@@ -1,7 +1,7 @@
 -- `matrix_point` meets its contract.
 use borrow.Author.Needs.{needs}
-use Rattle.pose.proofs.matrix_point.Statement.{statement}
-use Rattle.pose.proofs.matrix_point.Tie as tie
+use Rattle.pose_point.proofs.matrix_point.Statement.{statement}
+use Rattle.pose_point.proofs.matrix_point.Tie as tie
 
 row-point-requires : tie.Need-row-point-requires
 row-point-requires c κs = search needs

@@ -1,7 +1,7 @@
 -- `vector_point` meets its contract.
 use borrow.Author.Needs.{needs}
-use Rattle.pose.proofs.vector_point.Statement.{statement}
-use Rattle.pose.proofs.vector_point.Tie as tie
+use Rattle.pose_point.proofs.vector_point.Statement.{statement}
+use Rattle.pose_point.proofs.vector_point.Tie as tie
 
 point-requires : tie.Need-point-requires
 point-requires c κs = search needs

@@ -1,7 +1,7 @@
 -- `row_point` meets its contract.
 use borrow.Author.Needs.{needs}
-use Rattle.pose.proofs.row_point.Statement.{statement}
-use Rattle.pose.proofs.row_point.Tie as tie
+use Rattle.pose_point.proofs.row_point.Statement.{statement}
+use Rattle.pose_point.proofs.row_point.Tie as tie
 
 array-read-point : tie.Need-array-read-point
 array-read-point c = search needs

@@ -1,8 +1,8 @@
 -- `transform_point` meets its contract: the formula, read in floats, is its code.
 use Rattle.pose_steps.specs.Pose.{Pose·transformPoint}
 use borrow.Author.Needs.{needs}
-use Rattle.pose.proofs.transform_point.Statement.{statement}
-use Rattle.pose.proofs.transform_point.Tie as tie
+use Rattle.pose_point.proofs.transform_point.Statement.{statement}
+use Rattle.pose_point.proofs.transform_point.Tie as tie
 
 array-read-t8 : tie.Need-array-read-t8
 array-read-t8 c = search needs

@@ -1,0 +1,95 @@
+// A point moved by a matrix whose bottom row is 0, 0, 0, 1, pbrt's `transform_point` with wp = 1: in floats, and in intervals of which each is judged as it is formed.
+// And vectors and matrices of floats as intervals with equal ends.
+ghost use mathlib.Core.Path.{_≡_};
+ghost use Rattle.pose_steps.specs.Pose.{Pose·transformPoint};
+ghost use Rattle.pose_steps.specs.Enclose.{IntervalVector·point, IntervalRow·point, IntervalMatrix·point, Pose·encloseTransformPoint};
+use bounds3::Point3f;
+use interval::Interval;
+use interval::Judged;
+use matrix4x4::Matrix4x4;
+use pose_steps::IntervalMatrix;
+use pose_steps::IntervalRow;
+use pose_steps::IntervalVector;
+use pose_steps::JudgedVector;
+use vector3::Vector3f;
+
+// A vector with equal ends. Accuracy: exact.
+pub fn vector_point(v: Vector3f) -> IntervalVector
+    ensures value { λ r. ⌜ r ≡ IntervalVector·point v ⌝ }
+{
+    let x = Interval::point(v.x);
+    let y = Interval::point(v.y);
+    let z = Interval::point(v.z);
+    IntervalVector { x, y, z }
+}
+
+fn row_point(r: [f32; 4]) -> IntervalRow
+    ensures value { λ s. ⌜ s ≡ IntervalRow·point r ⌝ }
+{
+    let c0 = Interval::point(r[0]);
+    let c1 = Interval::point(r[1]);
+    let c2 = Interval::point(r[2]);
+    let c3 = Interval::point(r[3]);
+    IntervalRow { c0, c1, c2, c3 }
+}
+
+// A matrix of floats, with equal ends: its bottom row is left out. Accuracy: exact.
+pub fn matrix_point(m: Matrix4x4) -> IntervalMatrix
+    ensures value { λ r. ⌜ r ≡ IntervalMatrix·point m ⌝ }
+{
+    let a = m.r0;
+    let b = m.r1;
+    let c = m.r2;
+    let r0 = row_point(a);
+    let r1 = row_point(b);
+    let r2 = row_point(c);
+    IntervalMatrix { r0, r1, r2 }
+}
+
+pub fn transform_point(m: Matrix4x4, p: Point3f) -> Point3f
+    ensures value { λ r. ⌜ r ≡ Pose·transformPoint m p ⌝ }
+{
+    let r0 = m.r0;
+    let r1 = m.r1;
+    let r2 = m.r2;
+    Point3f {
+        x: p.x * r0[0] + p.y * r0[1] + p.z * r0[2] + r0[3],
+        y: p.x * r1[0] + p.y * r1[1] + p.z * r1[2] + r1[3],
+        z: p.x * r2[0] + p.y * r2[1] + p.z * r2[2] + r2[3],
+    }
+}
+
+// Accuracy: encloses.
+pub fn transform_point_enclosure(m: u8, a: IntervalMatrix, p: IntervalVector) -> JudgedVector
+    ensures value { λ r. ⌜ r ≡ Pose·encloseTransformPoint m a p ⌝ }
+{
+    let r0 = a.r0;
+    let r1 = a.r1;
+    let r2 = a.r2;
+    let p0 = Judged::mul_enclosure(m, p.x, r0.c0);
+    let q0 = Judged::mul_enclosure(p0.refusal, p.y, r0.c1);
+    let s0 = Judged::add_enclosure(q0.refusal, p0.interval, q0.interval);
+    let t0 = Judged::mul_enclosure(s0.refusal, p.z, r0.c2);
+    let u0 = Judged::add_enclosure(t0.refusal, s0.interval, t0.interval);
+    let w0 = Judged::add_enclosure(u0.refusal, u0.interval, r0.c3);
+    let p1 = Judged::mul_enclosure(w0.refusal, p.x, r1.c0);
+    let q1 = Judged::mul_enclosure(p1.refusal, p.y, r1.c1);
+    let s1 = Judged::add_enclosure(q1.refusal, p1.interval, q1.interval);
+    let t1 = Judged::mul_enclosure(s1.refusal, p.z, r1.c2);
+    let u1 = Judged::add_enclosure(t1.refusal, s1.interval, t1.interval);
+    let w1 = Judged::add_enclosure(u1.refusal, u1.interval, r1.c3);
+    let p2 = Judged::mul_enclosure(w1.refusal, p.x, r2.c0);
+    let q2 = Judged::mul_enclosure(p2.refusal, p.y, r2.c1);
+    let s2 = Judged::add_enclosure(q2.refusal, p2.interval, q2.interval);
+    let t2 = Judged::mul_enclosure(s2.refusal, p.z, r2.c2);
+    let u2 = Judged::add_enclosure(t2.refusal, s2.interval, t2.interval);
+    let w2 = Judged::add_enclosure(u2.refusal, u2.interval, r2.c3);
+    let x = w0.interval;
+    let y = w1.interval;
+    let z = w2.interval;
+    let vector = IntervalVector { x, y, z };
+    JudgedVector {
+        vector,
+        refusal: w2.refusal,
+    }
+}
