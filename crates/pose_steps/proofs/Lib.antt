@@ -7,3 +7,4 @@ pub mod Isotone
 pub mod Number
 pub mod Box
 pub mod Composition
+mod Cases
