@@ -2,18 +2,17 @@
 -- scale are finite, and the translation is the matrix's (`Accepted`, `decompose-accepted`). Rests on `inverse-refusal`: a round hands on no number but the inverse's and 5.
 use mathlib.Core.Path.{_≡_, refl, sym, ap, _∙_}
 use mathlib.Core.Bool.{Bool, true, false, _&&_, cond}
-use mathlib.Core.Logic.{_⊎_, inl, inr, ⊎-elim}
+use mathlib.Core.Logic.{_⊎_, inl, inr}
 use Prim.Native.Nat.{ℕ}
 use native.Mathlib.Omega.{arith}
 use borrow.Author.Tests.{eqb-false}
 use lib.Dec.{T, eqb}
 use lib.Ieee.{le}
 use lib.Ieee.Fits.{and-l, and-r}
-use Rattle.matrix4x4.specs.Rows.{Rows, at, Matrix4x4·toRows, Matrix4x4·fromRows}
+use Rattle.matrix4x4.specs.Rows.{Rows, Matrix4x4·toRows, Matrix4x4·fromRows}
 use Rattle.matrix4x4.specs.Mul.{Matrix4x4·mul}
 use Rattle.matrix4x4.specs.Transpose.{Matrix4x4·transpose}
 use Rattle.matrix4x4.specs.IsFinite.{Matrix4x4·isFinite}
-use Rattle.matrix_inverse.specs.Loop.{loop}
 use Rattle.matrix_inverse.specs.declared.InverseAnswer.{InverseAnswer}
 use Rattle.matrix_inverse.specs.Inverse.{Matrix4x4·inverse}
 use Rattle.matrix_inverse.proofs.Loop.{loop-keeps}
@@ -23,11 +22,11 @@ use Rattle.quaternion.specs.IsFinite.{Quaternion·isFinite}
 use Rattle.rotation.specs.FromMatrix.{Quaternion·fromMatrix}
 use Rattle.decomposition.specs.declared.Decomposition.{Decomposition}
 use Rattle.decomposition.specs.Polar.{linearPart, mean, distance, settledNorm, Polar, refused, unsettled, settled, judgedRound, round, polar}
-use Rattle.decomposition.specs.Decompose.{Decomposition·refused, judged, parts, finish, Matrix4x4·decompose}
+use Rattle.decomposition.specs.Decompose.{Decomposition·refused, translationOf, judged, parts, finish, Matrix4x4·decompose}
 
 -- The parts of m that were not refused: the translation as it stands in m, a finite quaternion, a finite scale.
 pub record Accepted (m : Rows) (d : Decomposition) : Type 0 where
-  pub translation : d .t ≡ record { x = at m 0 3; y = at m 1 3; z = at m 2 3 }
+  pub translation : d .t ≡ translationOf m
   pub rotation : T (Quaternion·isFinite (d .r))
   pub scale : T (Matrix4x4·isFinite (Matrix4x4·toRows (d .s)))
 
@@ -82,7 +81,7 @@ unfolding judged Matrix4x4·isFinite
 judged-answered m q s = go (Quaternion·isFinite q && Matrix4x4·isFinite s) (λ h. h)
   where
     good : Decomposition
-    good = record { t = record { x = at m 0 3; y = at m 1 3; z = at m 2 3 }; r = q; s = Matrix4x4·fromRows s; refusal = 0 }
+    good = record { t = translationOf m; r = q; s = Matrix4x4·fromRows s; refusal = 0 }
 
     go : (b : Bool) → (T b → T (Quaternion·isFinite q && Matrix4x4·isFinite s)) → Answered m (cond b good (Decomposition·refused 5))
     go true f = parted refl (record {

@@ -1,6 +1,6 @@
 -- A turn of the loop in `decompose`, which stands at r after k rounds (`Reached`): its inverse refuses (`inverse-refuses`), its matrix does (`matrix-refuses`), it is the last
 -- (`turn-last`), or the loop goes on from its matrix (`turn-next`). Rests on `loop-fixed`: where the body changes nothing, no turn that is left does.
-use mathlib.Core.Path.{_≡_, refl, sym, _∙_}
+use mathlib.Core.Path.{_≡_, refl, _∙_}
 use mathlib.Core.Bool.{Bool, true, false, _||_, true≢false, false≢true}
 use mathlib.Core.Logic.{⊎-elim}
 use Prim.Native.Nat.{ℕ, zero, suc, _+_, _≤_, _<_}
@@ -8,7 +8,7 @@ use native.Mathlib.Nat.{eq-or-lt-of-le, le-of-suc-le-suc}
 use native.Mathlib.Numerals.{add-one}
 use native.Mathlib.Omega.{arith}
 use lib.Dec.{leb}
-use lib.Ieee.{Float, le}
+use lib.Ieee.{le}
 use borrow.Author.Tests.{leb-true, leb-false, eq-eqb, ne-eqb}
 use Rattle.matrix4x4.specs.Rows.{Rows, Matrix4x4·toRows}
 use Rattle.matrix4x4.specs.Transpose.{Matrix4x4·transpose}

@@ -19,11 +19,15 @@ Decomposition·refused n =
     let o : Vector3f = record { x = positiveZero; y = positiveZero; z = positiveZero } in
     record { t = o; r = record { v = o; w = positiveZero }; s = Matrix4x4·fromRows (tabulate (λ i. tabulate (λ j. positiveZero))); refusal = n }
 
+-- `t.x = m.m[0][3]`, and so on
+abbrev pub translationOf : Rows → Vector3f
+translationOf m = record { x = at m 0 3; y = at m 1 3; z = at m 2 3 }
+
 -- document 01, Refusals, 5: a finished "matrix, quaternion .. holds a value that isn't finite"; the scale with all 16 entries
 unfoldable pub judged : Rows → Quaternion → Rows → Decomposition
 judged m r s =
     cond (Quaternion·isFinite r && Matrix4x4·isFinite s)
-    (record { t = record { x = at m 0 3; y = at m 1 3; z = at m 2 3 }; r = r; s = Matrix4x4·fromRows s; refusal = 0 })
+    (record { t = translationOf m; r = r; s = Matrix4x4·fromRows s; refusal = 0 })
     (Decomposition·refused 5)
 
 -- `*rquat = Transform::from_matrix(&r).into();` and `*s = Matrix4x4::mul(&Matrix4x4::inverse(&r), m);`, where `from_matrix` works the same inverse
