@@ -1,0 +1,23 @@
+-- `is_finite` meets its contract: the tests of the time and of the matrix.
+use Rattle.pose_pair.specs.Pose.{Pose·isFinite}
+use borrow.Author.Needs.{needs}
+use Rattle.pose_pair.proofs.Pose.is_finite.Statement.{statement}
+use Rattle.pose_pair.proofs.Pose.is_finite.Tie as tie
+use Rattle.matrix4x4.proofs.is_finite.Reads as is-finite-reads′
+
+is-finite-requires : tie.Need-is-finite-requires
+is-finite-requires c κs = search needs
+
+to-rows-requires : tie.Need-to-rows-requires
+to-rows-requires c κs = search needs
+
+is-finite-requires-2 : tie.Need-is-finite-requires-2
+is-finite-requires-2 c κs = search needs
+
+returns : tie.Need-returns
+unfolding Pose·isFinite
+returns c = rw (c .is-finite2 .ensures, c .before .to-rows .ensures, c .before .before .is-finite .ensures)
+
+pub is-finite-spec : {M : Type 1} → statement M
+is-finite-spec =
+    tie.close (tie.spec is-finite-requires to-rows-requires is-finite-requires-2 returns)

@@ -1,0 +1,28 @@
+-- What the building of a move asks of two poses before it works anything: refusals 1, 2 and 3, in this order. Definitions only.
+use Prim.Native.Nat.{ℕ}
+use mathlib.Core.Bool.{Bool, not, _&&_, _||_, cond}
+use lib.Ieee.{Float, lt}
+use lib.Ieee.Scale.{finite}
+use Rattle.float32.specs.Operators.{_⊖_}
+use Rattle.matrix4x4.specs.Rows.{Matrix4x4·toRows}
+use Rattle.matrix4x4.specs.IsFinite.{Matrix4x4·isFinite}
+use Rattle.matrix4x4.specs.IsAffine.{Matrix4x4·isAffine}
+use Rattle.pose_pair.specs.declared.Pose.{Pose}
+
+-- document 01, Refusals, 1: "a matrix entry or time is not finite"
+unfoldable pub Pose·isFinite : Pose → Bool
+Pose·isFinite p = finite (p .time) && Matrix4x4·isFinite (Matrix4x4·toRows (p .m))
+
+-- document 01, Refusals, 2: "a bottom row isn't 0, 0, 0, 1 (either zero)"
+unfoldable pub Pose·isAffine : Pose → Bool
+Pose·isAffine p = Matrix4x4·isAffine (Matrix4x4·toRows (p .m))
+
+-- document 01, Refusals, 3: "the end time is below the start time, or end − start is not finite"
+unfoldable pub timesRefusal : Float → Float → ℕ
+timesRefusal start end = cond (lt end start || not (finite (end ⊖ start))) 3 0
+
+unfoldable pub posesRefusal : Pose → Pose → ℕ
+posesRefusal start end =
+    cond (not (Pose·isFinite start && Pose·isFinite end)) 1
+    (cond (not (Pose·isAffine start && Pose·isAffine end)) 2
+    (timesRefusal (start .time) (end .time)))

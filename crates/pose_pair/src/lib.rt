@@ -1,0 +1,49 @@
+// A pose, and what the building of a move asks of two of them before it works anything.
+use matrix4x4::Matrix4x4;
+ghost use mathlib.Core.Path.{_≡_};
+ghost use Rattle.pose_pair.specs.Pose.{Pose·isFinite, Pose·isAffine, timesRefusal, posesRefusal};
+
+// A matrix at a time.
+pub struct Pose {
+    pub time: f32,
+    pub m: Matrix4x4,
+}
+
+impl Pose {
+    // The time and every entry are finite.
+    pub fn is_finite(self) -> bool
+        ensures value { λ r. ⌜ r ≡ Pose·isFinite self ⌝ }
+    {
+        float32::is_finite(self.time) & matrix4x4::is_finite(self.m.to_rows())
+    }
+
+    // The bottom row is 0 0 0 1, with a zero of either sign.
+    pub fn is_affine(self) -> bool
+        ensures value { λ r. ⌜ r ≡ Pose·isAffine self ⌝ }
+    {
+        matrix4x4::is_affine(self.m.to_rows())
+    }
+}
+
+pub fn times_refusal(start: f32, end: f32) -> u8
+    ensures value { λ r. ⌜ r ≡ timesRefusal start end ⌝ }
+{
+    if (end < start) | !float32::is_finite(end - start) {
+        3
+    } else {
+        0
+    }
+}
+
+// What is refused before anything is worked: 1, 2, 3, or 0 for none.
+pub fn poses_refusal(start: Pose, end: Pose) -> u8
+    ensures value { λ r. ⌜ r ≡ posesRefusal start end ⌝ }
+{
+    if !(start.is_finite() & end.is_finite()) {
+        return 1;
+    }
+    if !(start.is_affine() & end.is_affine()) {
+        return 2;
+    }
+    times_refusal(start.time, end.time)
+}
