@@ -1,0 +1,53 @@
+-- `between` meets its contract: the number that was met chooses the case.
+use Rattle.animated_transform.specs.New.{between}
+use borrow.Author.Tests.{eq-eqb, ne-eqb}
+use borrow.Author.Needs.{needs}
+use Rattle.animated_transform.proofs.between.Statement.{statement}
+use Rattle.animated_transform.proofs.between.Tie as tie
+
+flip-requires : tie.Need-flip-requires
+flip-requires c κs = search needs
+
+dot-requires : tie.Need-dot-requires
+dot-requires c κs = search needs
+
+pair-coefficients-requires : tie.Need-pair-coefficients-requires
+pair-coefficients-requires c κs = search needs
+
+dot-requires-2 : tie.Need-dot-requires-2
+dot-requires-2 c κs = search needs
+
+dots-refusal-requires : tie.Need-dots-refusal-requires
+dots-refusal-requires c κs = search needs
+
+first-refusal-requires : tie.Need-first-refusal-requires
+first-refusal-requires c κs = search needs
+
+refused-requires : tie.Need-refused-requires
+refused-requires c κs = search needs
+
+returns : tie.Need-returns
+unfolding between
+returns c = rw (← c .before .before .before .before .before .before .before .before .before .flip .ensures, ← c .before .before .before .before .before .before .dot .ensures, ← c .before .before .before .before .before .pair-coefficients .ensures, ← c .before .before .before .before .dot2 .ensures, ← c .before .before .before .dots-refusal .ensures, ← c .before .before .first-refusal .ensures, ne-eqb _ 0 (c .before .if1 .taken)) (c .refused .ensures)
+
+eq-requires : tie.Need-eq-requires
+eq-requires c κs = search needs
+
+returns-2 : tie.Need-returns-2
+unfolding between
+returns-2 c = rw (← c .before .before .before .before .before .before .before .before .before .before .flip .ensures, ← c .before .before .before .before .before .before .before .dot .ensures, ← c .before .before .before .before .before .before .pair-coefficients .ensures, ← c .before .before .before .before .before .dot2 .ensures, ← c .before .before .before .before .dots-refusal .ensures, ← c .before .before .before .first-refusal .ensures, eq-eqb _ 0 (c .before .before .if1 .left), ← c .eq .ensures)
+
+pub between-spec : {M : Type 1} → statement M
+between-spec =
+    tie.close
+    (tie.spec
+    flip-requires
+    dot-requires
+    pair-coefficients-requires
+    dot-requires-2
+    dots-refusal-requires
+    first-refusal-requires
+    refused-requires
+    returns
+    eq-requires
+    returns-2)

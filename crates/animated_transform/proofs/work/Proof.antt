@@ -1,0 +1,65 @@
+-- `work` meets its contract: the first number that was met chooses the case.
+use Rattle.animated_transform.specs.New.{work}
+use borrow.Author.Tests.{eq-eqb, ne-eqb}
+use borrow.Author.Needs.{needs}
+use Rattle.animated_transform.proofs.work.Statement.{statement}
+use Rattle.animated_transform.proofs.work.Tie as tie
+
+to-rows-requires : tie.Need-to-rows-requires
+to-rows-requires c κs = search needs
+
+to-rows-requires-2 : tie.Need-to-rows-requires-2
+to-rows-requires-2 c κs = search needs
+
+from-matrix-requires : tie.Need-from-matrix-requires
+from-matrix-requires c κs = search needs
+
+from-matrix-requires-2 : tie.Need-from-matrix-requires-2
+from-matrix-requires-2 c κs = search needs
+
+decompose-requires : tie.Need-decompose-requires
+decompose-requires c κs = search needs
+
+decompose-requires-2 : tie.Need-decompose-requires-2
+decompose-requires-2 c κs = search needs
+
+first-refusal-requires : tie.Need-first-refusal-requires
+first-refusal-requires c κs = search needs
+
+first-refusal-requires-2 : tie.Need-first-refusal-requires-2
+first-refusal-requires-2 c κs = search needs
+
+first-refusal-requires-3 : tie.Need-first-refusal-requires-3
+first-refusal-requires-3 c κs = search needs
+
+refused-requires : tie.Need-refused-requires
+refused-requires c κs = search needs
+
+returns : tie.Need-returns
+unfolding work
+returns c = rw (← c .before .before .before .before .before .before .before .before .before .before .to-rows .ensures, ← c .before .before .before .before .before .before .before .before .before .to-rows2 .ensures, ← c .before .before .before .before .before .before .before .before .from-matrix .ensures, ← c .before .before .before .before .before .before .before .from-matrix2 .ensures, ← c .before .before .before .before .before .before .decompose .ensures, ← c .before .before .before .before .before .decompose2 .ensures, ← c .before .before .before .before .first-refusal .ensures, ← c .before .before .before .first-refusal2 .ensures, ← c .before .before .first-refusal3 .ensures, ne-eqb _ 0 (c .before .if1 .taken)) (c .refused .ensures)
+
+between-requires : tie.Need-between-requires
+between-requires c κs = search needs
+
+returns-2 : tie.Need-returns-2
+unfolding work
+returns-2 c = rw (← c .before .before .before .before .before .before .before .before .before .before .to-rows .ensures, ← c .before .before .before .before .before .before .before .before .before .to-rows2 .ensures, ← c .before .before .before .before .before .before .before .before .from-matrix .ensures, ← c .before .before .before .before .before .before .before .from-matrix2 .ensures, ← c .before .before .before .before .before .before .decompose .ensures, ← c .before .before .before .before .before .decompose2 .ensures, ← c .before .before .before .before .first-refusal .ensures, ← c .before .before .before .first-refusal2 .ensures, ← c .before .before .first-refusal3 .ensures, eq-eqb _ 0 (c .before .if1 .left)) (c .between .ensures)
+
+pub work-spec : {M : Type 1} → statement M
+work-spec =
+    tie.close
+    (tie.spec
+    to-rows-requires
+    to-rows-requires-2
+    from-matrix-requires
+    from-matrix-requires-2
+    decompose-requires
+    decompose-requires-2
+    first-refusal-requires
+    first-refusal-requires-2
+    first-refusal-requires-3
+    refused-requires
+    returns
+    between-requires
+    returns-2)

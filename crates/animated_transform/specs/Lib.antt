@@ -1,0 +1,3 @@
+pub mod New
+pub mod Built
+pub mod Computing

@@ -1,0 +1,152 @@
+// pbrt's AnimatedTransform, built from two poses: a move by translation, rotation and scale.
+use coefficients::Coefficients;
+use decomposition::Decomposition;
+use matrix4x4::Matrix4x4;
+use pose_pair::Pose;
+use quaternion::Quaternion;
+use transform::Transform;
+use vector3::Vector3f;
+ghost use mathlib.Core.Path.{_≡_};
+ghost use Rattle.animated_transform.specs.New.{firstRefusal, AnimatedTransformAnswer·refused, between, work, AnimatedTransform·new};
+
+// 0 stands for the start and 1 for the end, so that pbrt's t[0] is t0; the coefficients are pbrt's c1 to c5.
+pub struct AnimatedTransform {
+    pub start_transform: Transform,
+    pub end_transform: Transform,
+    pub start_time: f32,
+    pub end_time: f32,
+    pub actually_animated: bool,
+    pub has_rotation: bool,
+    pub t0: Vector3f,
+    pub t1: Vector3f,
+    pub r0: Quaternion,
+    pub r1: Quaternion,
+    pub s0: Matrix4x4,
+    pub s1: Matrix4x4,
+    pub coefficients: Coefficients,
+}
+
+// A move beside a refusal (error code, 0 for none), after which every number is +0 and every yes or no is no.
+pub struct AnimatedTransformAnswer {
+    pub value: AnimatedTransform,
+    pub refusal: u8,
+}
+
+fn refused(refusal: u8) -> AnimatedTransformAnswer
+    ensures value { λ r. ⌜ r ≡ AnimatedTransformAnswer·refused refusal ⌝ }
+{
+    let t = Vector3f {
+        x: 0.0,
+        y: 0.0,
+        z: 0.0,
+    };
+    let r = Quaternion { v: t, w: 0.0 };
+    let m = Matrix4x4 {
+        r0: [0.0; 4],
+        r1: [0.0; 4],
+        r2: [0.0; 4],
+        r3: [0.0; 4],
+    };
+    let transform = Transform { m, m_inv: m };
+    let coefficients = Coefficients::zero();
+    let value = AnimatedTransform {
+        start_transform: transform,
+        end_transform: transform,
+        start_time: 0.0,
+        end_time: 0.0,
+        actually_animated: false,
+        has_rotation: false,
+        t0: t,
+        t1: t,
+        r0: r,
+        r1: r,
+        s0: m,
+        s1: m,
+        coefficients,
+    };
+    AnimatedTransformAnswer { value, refusal }
+}
+
+// The first of two refusals: 0 is none.
+fn first_refusal(a: u8, b: u8) -> u8
+    ensures value { λ r. ⌜ r ≡ firstRefusal a b ⌝ }
+{
+    if a == 0 { b } else { a }
+}
+
+// The work per pair: transforms a and b, parts p and q of the start and of the end.
+fn between(
+    start: Pose,
+    end: Pose,
+    a: Transform,
+    b: Transform,
+    p: Decomposition,
+    q: Decomposition,
+) -> AnimatedTransformAnswer
+    ensures value { λ r. ⌜ r ≡ between start end a b p q ⌝ }
+{
+    let t0 = p.t;
+    let t1 = q.t;
+    let r0 = p.r;
+    let r1 = rotation_arc::flip(r0, q.r);
+    let s0 = p.s;
+    let s1 = q.s;
+    let cos_theta = r0.dot(r1);
+    // slerp is linear above 0.9995 and has_rotation asks for less: at 0.9995 itself neither holds.
+    let has_rotation = cos_theta < 0.9995;
+    let c = rotation_arc::pair_coefficients(has_rotation, t0, t1, r0, r1, s0, s1, cos_theta);
+    let dots = rotation_arc::dots_refusal(r0.dot(q.r), cos_theta);
+    let n = first_refusal(dots, c.refusal);
+    if n != 0 {
+        return refused(n);
+    }
+    let coefficients = c.value;
+    let value = AnimatedTransform {
+        start_transform: a,
+        end_transform: b,
+        start_time: start.time,
+        end_time: end.time,
+        actually_animated: !a.eq(b),
+        has_rotation,
+        t0,
+        t1,
+        r0,
+        r1,
+        s0,
+        s1,
+        coefficients,
+    };
+    AnimatedTransformAnswer { value, refusal: 0 }
+}
+
+// The work per pose, then that per pair: both inverses are met before the parts.
+fn work(start: Pose, end: Pose) -> AnimatedTransformAnswer
+    ensures value { λ r. ⌜ r ≡ work start end ⌝ }
+{
+    let m0 = start.m.to_rows();
+    let m1 = end.m.to_rows();
+    let a = Transform::from_matrix(m0);
+    let b = Transform::from_matrix(m1);
+    let p = decomposition::decompose(m0);
+    let q = decomposition::decompose(m1);
+    let inverses = first_refusal(a.refusal, b.refusal);
+    let parts = first_refusal(p.refusal, q.refusal);
+    let n = first_refusal(inverses, parts);
+    if n != 0 {
+        return refused(n);
+    }
+    between(start, end, a.transform, b.transform, p, q)
+}
+
+impl AnimatedTransform {
+    // Refused with 1 to 5, whichever is met first; pbrt goes on where this refuses. Accuracy: each operation is correctly rounded.
+    pub fn new(start: Pose, end: Pose) -> AnimatedTransformAnswer
+        ensures value { λ r. ⌜ r ≡ AnimatedTransform·new start end ⌝ }
+    {
+        let n = pose_pair::poses_refusal(start, end);
+        if n != 0 {
+            return refused(n);
+        }
+        work(start, end)
+    }
+}
