@@ -1,6 +1,8 @@
 #!/usr/bin/env bash
 # After `rt ci` or `rt must-fail`: says for each must-fail edit why the prover refused it.
 #   FACT   a fact that the contract needs no longer holds: the edit is ruled out
+#   FACT?  a rewriting step finds no place for the code's own test: most likely that fact, but only a control
+#          (the edit with a matching change of the definition, proved) would tell
 #   UNFIT  a proof file or a name no longer fits the edited text: the refusal shows nothing
 # Exit status 1 where an edit is UNFIT, or refused for no reason that this script knows.
 cd "$(dirname "$0")/.." || exit 2
@@ -17,6 +19,8 @@ for log in target/must-fail/*/*/.log; do
     if [ -n "$misfit" ]; then
         echo "UNFIT $edit: $misfit"
         status=1
+    elif [[ $reason == *"no occurrence"* ]]; then
+        echo "FACT? $edit: $reason"
     elif [ -n "$reason" ]; then
         echo "FACT  $edit: $reason"
     else
