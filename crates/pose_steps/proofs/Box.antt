@@ -1,11 +1,10 @@
 -- Boxes as three intervals: a point inside a finite box is enclosed by it (`inside-encloses`), what encloses a point has it inside (`encloses-inside`), and likewise for a box in a
--- box (`subset-refines`, `refines-subset`). `order-refl`: a finite box in order lies in itself. A stored matrix with equal ends encloses itself (`stored-encloses`).
+-- box (`subset-refines`, `refines-subset`). `order-refl`: a finite box in order lies in itself.
 use lib.Dec.{T}
 use lib.Ieee.{Float}
 use lib.Ieee.Scale.{finite}
 use Rattle.rounding.specs.Order.{_≼_}
 use Rattle.rounding.proofs.Order.{≼-refl, number-left, number-right}
-use Rattle.matrix4x4.specs.declared.Matrix4x4.{Matrix4x4}
 use Rattle.bounds3.specs.declared.Point3f.{Point3f}
 use Rattle.bounds3.specs.declared.Bounds3f.{Bounds3f}
 use Rattle.bounds3.specs.Finite.{Bounds3f·isFinite}
@@ -15,10 +14,9 @@ use Rattle.interval.specs.Contains as interval
 use Rattle.interval.specs.Contains.{Encloses, Refines}
 use Rattle.formula.specs.Promise.{Pairwise}
 use Rattle.pose_steps.specs.declared.IntervalVector.{IntervalVector}
-use Rattle.pose_steps.specs.Pose.{Point3f·list, entries}
-use Rattle.pose_steps.specs.Enclose.{IntervalVector·list, IntervalMatrix·point, Bounds3f·intervals, IntervalVector·bounds}
-use Rattle.pose_steps.specs.Promise.{AllFinite, EnclosesMatrix, InOrder}
-use Rattle.pose_steps.proofs.Rows.{points-enclose}
+use Rattle.pose_steps.specs.Pose.{Point3f·list}
+use Rattle.pose_steps.specs.Enclose.{IntervalVector·list, Bounds3f·intervals, IntervalVector·bounds}
+use Rattle.pose_steps.specs.Promise.{InOrder}
 
 -- ---- one axis
 between : {l x h : Float} → T (finite l) → T (finite h) → (l ≼ x) × (x ≼ h) → Encloses (record { low = l; high = h }) x
@@ -69,8 +67,3 @@ order-refl {b} o =
       y = (≼-refl (l .y) (number-left (o .y)), ≼-refl (h .y) (number-right (o .y)));
       z = (≼-refl (l .z) (number-left (o .z)), ≼-refl (h .z) (number-right (o .z)));
     }
-
--- ---- a stored matrix
-pub stored-encloses : (m : Matrix4x4) → AllFinite (entries (m .r0)) → AllFinite (entries (m .r1)) → AllFinite (entries (m .r2)) → EnclosesMatrix (IntervalMatrix·point m) m
-stored-encloses m f g h =
-    record { r0 = points-enclose (entries (m .r0)) f; r1 = points-enclose (entries (m .r1)) g; r2 = points-enclose (entries (m .r2)) h }

@@ -36,6 +36,8 @@ use Rattle.rotation.specs.FromQuaternion.{inverseRotation, Transform·fromQuate
 use Rattle.pose_steps.specs.declared.RigidMotion.{RigidMotion}
 use Rattle.pose_steps.specs.Pose.{bottomRow, RigidMotion·new, Pose·translation, Pose·slerpNear, Pose·slerpFar, slerpBy, Pose·slerp, Pose·scaleRow, Pose·scale, Pose·rotation, Pose·mulRow, Pose·mul, Pose·transformPoint, allFinite, PoseAnswer·judged, Pose·matrix, Pose·movedPoint}
 use Rattle.pose_steps.specs.Composition.{lerpTranslation, lerpScale, composition}
+use Rattle.pose_steps.proofs.Rows.{scale-bottom, rotation-bottom, mul-bottom}
+use Rattle.pose_steps.proofs.Finite.{all-each}
 
 -- ---- stages whose two definitions are one term
 pub translation-same : (t0 t1 : Vector3f) (dt : Float) → Pose·translation t0 t1 dt ≡ lerpTranslation t0 t1 dt
@@ -95,12 +97,6 @@ module _ (x y z : Float) (f : T (finite x)) (g : T (finite y)) (h : T (finite z)
 abbrev affine : Row → Row → Row → Matrix4x4
 affine p q r = record { r0 = p; r1 = q; r2 = r; r3 = bottomRow }
 
-all-each : (p : ℕ → Bool) → T (all p) → T (p 0) × T (p 1) × T (p 2) × T (p 3)
-all-each p h =
-    let abc = and-l (p 0 && p 1 && p 2) (p 3) h in
-    let ab = and-l (p 0 && p 1) (p 2) abc in
-    (and-l (p 0) (p 1) ab, and-r (p 0) (p 1) ab, and-r (p 0 && p 1) (p 2) abc, and-r (p 0 && p 1 && p 2) (p 3) h)
-
 module _ (a b c p q r : Row) where
   mul-same : T (allFinite (affine p q r)) → Matrix4x4·fromRows (Matrix4x4·mul (Matrix4x4·toRows (affine a b c)) (Matrix4x4·toRows (affine p q r))) ≡ Pose·mul (affine a b c) (affine p q r)
   unfolding Matrix4x4·mul Pose·mul Pose·mulRow Matrix4x4·isFinite
@@ -127,18 +123,6 @@ judged-accepted : (b : Bool) (m : Matrix4x4) → PoseAnswer·judged b m .refusal
 unfolding PoseAnswer·judged
 judged-accepted true m z = (tt, refl)
 judged-accepted false m z = absurd (omega arith)
-
-rotation-bottom : (q : Quaternion) → Pose·rotation q .r3 ≡ bottomRow
-unfolding Pose·rotation
-rotation-bottom q = refl
-
-scale-bottom : (s0 s1 : Matrix4x4) (dt : Float) → Pose·scale s0 s1 dt .r3 ≡ bottomRow
-unfolding Pose·scale
-scale-bottom s0 s1 dt = refl
-
-mul-bottom : (A B : Matrix4x4) → Pose·mul A B .r3 ≡ bottomRow
-unfolding Pose·mul
-mul-bottom A B = refl
 
 -- ---- the composition
 abbrev translationOf : Vector3f → Matrix4x4

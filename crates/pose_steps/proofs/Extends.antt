@@ -32,13 +32,13 @@ use Rattle.pose_steps.specs.declared.IntervalQuaternion.{IntervalQuatern
 use Rattle.pose_steps.specs.declared.IntervalRow.{IntervalRow}
 use Rattle.pose_steps.specs.declared.IntervalMatrix.{IntervalMatrix}
 use Rattle.pose_steps.specs.Stages.{translationStage, slerpNearStage, slerpFarStage, scaleRowStage, rotationStage, mulRowStage, transformPointStage}
-use Rattle.pose_steps.specs.Pose.{Vector3f·list, Quaternion·list, Point3f·list, Matrix4x4·list, three, entries, bottomRow, Pose·translation, Pose·slerpNear, Pose·slerpFar, slerpBy, isNear, Pose·slerp, Pose·scaleRow, Pose·scale, Pose·rotation, Pose·mulRow, Pose·mul, Pose·transformPoint, allFinite, PoseAnswer·judged, Pose·matrix, Pose·movedPoint}
+use Rattle.pose_steps.specs.Pose.{Vector3f·list, Quaternion·list, Point3f·list, Matrix4x4·list, three, entries, Pose·translation, Pose·slerpNear, Pose·slerpFar, slerpBy, isNear, Pose·slerp, Pose·scaleRow, Pose·scale, Pose·rotation, Pose·mulRow, Pose·mul, Pose·transformPoint, allFinite, PoseAnswer·judged, Pose·matrix, Pose·movedPoint}
 use Rattle.pose_steps.specs.Enclose.{IntervalVector·list, IntervalVector·point, IntervalQuaternion·list, IntervalQuaternion·point, IntervalRow·list, IntervalRow·three, IntervalMatrix·list, IntervalMatrix·point, Pose·encloseTranslation, Pose·encloseSlerpNear, Pose·encloseSlerpFar, encloseSlerpBy, Pose·encloseSlerp, Pose·encloseScaleRow, Pose·encloseScale, Pose·encloseRotation, Pose·encloseMulRow, Pose·encloseMul, Pose·encloseTransformPoint, IntervalMatrix·translation, Pose·encloseMatrix, Pose·enclosePoint}
 use Rattle.pose_steps.specs.Promise.{AllFinite, RigidMotion·Valid, FiniteScale, quarterInterval, EnclosesScale, EnclosesMatrix, EnclosesPose, EnclosesAnswer}
 use Rattle.pose_steps.proofs.Angle.{unit-finite, theta-angles, theta-finite, theta-subset}
 use Rattle.pose_steps.proofs.Valid.{translation-valid, near-valid, far-valid, scale-valid, rotation-valid, mul-valid, point-valid}
 use Rattle.pose_steps.proofs.Zero.{slerp-zero, scale-row-zero, scale-zero, rotation-zero, mul-row-zero, mul-zero, point-zero}
-use Rattle.pose_steps.proofs.Rows.{points-enclose, scale-encloses, rows-list, encloses-list, list-encloses, enclosed-finite, zero-finite, one-finite, matrix-finite}
+use Rattle.pose_steps.proofs.Rows.{scale-bottom, rotation-bottom, mul-bottom, points-enclose, scale-encloses, rows-list, encloses-list, list-encloses, enclosed-finite, zero-finite, one-finite, matrix-finite}
 
 -- ---- the stages that take dt
 module _ (m : ℕ) {D : Interval} {dt : Float} (d : Encloses D dt) where
@@ -151,18 +151,6 @@ quaternion-finite q (x, (y, (z, (w, e)))) =
     let Y = finite (q .v .y) in
     let Z = finite (q .v .z) in
     and-i (X && Y && Z) (finite (q .w)) (and-i (X && Y) Z (and-i X Y x y) z) w
-
-scale-bottom : (s0 s1 : Matrix4x4) (dt : Float) → Pose·scale s0 s1 dt .r3 ≡ bottomRow
-unfolding Pose·scale
-scale-bottom s0 s1 dt = refl
-
-rotation-bottom : (q : Quaternion) → Pose·rotation q .r3 ≡ bottomRow
-unfolding Pose·rotation
-rotation-bottom q = refl
-
-mul-bottom : (a b : Matrix4x4) → Pose·mul a b .r3 ≡ bottomRow
-unfolding Pose·mul
-mul-bottom a b = refl
 
 judged-pose : {M : IntervalMatrix} {m : Matrix4x4} (b : Bool) → T b → EnclosesMatrix M m → EnclosesPose M (PoseAnswer·judged b m)
 unfolding PoseAnswer·judged

@@ -2,6 +2,7 @@ pub mod Angle
 mod Valid
 mod Zero
 pub mod Rows
+pub mod Finite
 pub mod Extends
 pub mod Isotone
 pub mod Number

@@ -11,6 +11,7 @@ use lib.Ieee.{Float, ofBits}
 use lib.Ieee.Fits.{and-i}
 use lib.Ieee.Scale.{finite}
 use Rattle.float32.specs.Operators.{one}
+use Rattle.quaternion.specs.declared.Quaternion.{Quaternion}
 use Rattle.matrix4x4.specs.declared.Matrix4x4.{Matrix4x4}
 use Rattle.matrix4x4.specs.Rows.{Row, col, at, all, Matrix4x4·toRows, positiveZero}
 use Rattle.matrix4x4.specs.IsFinite.{Matrix4x4·isFinite}
@@ -21,7 +22,7 @@ use Rattle.interval.proofs.Contains.{contains-finite, point-encloses, point-ref
 use Rattle.formula.specs.Promise.{Pairwise}
 use Rattle.formula.proofs.Pairwise.{pairwise-append}
 use Rattle.pose_steps.specs.declared.IntervalMatrix.{IntervalMatrix}
-use Rattle.pose_steps.specs.Pose.{three, entries, Matrix4x4·list, bottomRow, allFinite}
+use Rattle.pose_steps.specs.Pose.{three, entries, Matrix4x4·list, bottomRow, Pose·scale, Pose·rotation, Pose·mul, allFinite}
 use Rattle.pose_steps.specs.Enclose.{IntervalRow·list, IntervalMatrix·list, IntervalMatrix·point}
 use Rattle.pose_steps.specs.Promise.{AllFinite, FiniteScale, EnclosesScale, RefinesScale, EnclosesMatrix, RefinesMatrix}
 
@@ -108,3 +109,16 @@ matrix-finite {M} m b e =
     (row-finite (m .r1) (enclosed-finite (IntervalRow·list (M .r1)) (entries (m .r1)) (e .r1)))
     (row-finite (m .r2) (enclosed-finite (IntervalRow·list (M .r2)) (entries (m .r2)) (e .r2)))
     (row-finite (m .r3) (rw b (zero-finite, (zero-finite, (zero-finite, (one-finite, tt))))))
+
+-- ---- the bottom rows are constants
+pub scale-bottom : (s0 s1 : Matrix4x4) (dt : Float) → Pose·scale s0 s1 dt .r3 ≡ bottomRow
+unfolding Pose·scale
+scale-bottom s0 s1 dt = refl
+
+pub rotation-bottom : (q : Quaternion) → Pose·rotation q .r3 ≡ bottomRow
+unfolding Pose·rotation
+rotation-bottom q = refl
+
+pub mul-bottom : (a b : Matrix4x4) → Pose·mul a b .r3 ≡ bottomRow
+unfolding Pose·mul
+mul-bottom a b = refl

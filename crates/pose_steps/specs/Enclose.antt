@@ -80,7 +80,7 @@ IntervalRow·point r = record { c0 = Interval·point (col r 0); c1 = Interval·p
 abbrev pub IntervalMatrix·point : Matrix4x4 → IntervalMatrix
 IntervalMatrix·point m = record { r0 = IntervalRow·point (m .r0); r1 = IntervalRow·point (m .r1); r2 = IntervalRow·point (m .r2) }
 
--- ---- the stages; m is the number met before
+-- ---- the stages, with the names of `Pose·translation` and its like; m is the number met before
 unfoldable pub Pose·encloseTranslation : ℕ → IntervalVector → IntervalVector → Interval → JudgedVector
 Pose·encloseTranslation m t0 t1 dt = JudgedVector·of (Program·enclose (enclosure m (IntervalVector·list t0 ++ IntervalVector·list t1 ++ dt ∷ [])) translationStage)
 
@@ -151,6 +151,7 @@ Pose·encloseMatrix a s0 s1 dt =
     let first = Pose·encloseMul (rotation .refusal) (IntervalMatrix·translation (trans .vector)) (rotation .matrix) in
     Pose·encloseMul (first .refusal) (first .matrix) (scale .matrix)
 
+-- The box that a box p of points is moved to.
 unfoldable pub Pose·enclosePoint : RigidMotion → Matrix4x4 → Matrix4x4 → Interval → IntervalVector → JudgedVector
 Pose·enclosePoint a s0 s1 dt p =
     let pose = Pose·encloseMatrix a s0 s1 dt in

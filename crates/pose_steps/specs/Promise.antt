@@ -30,10 +30,12 @@ use Rattle.pose_steps.specs.declared.JudgedMatrix.{JudgedMatrix}
 use Rattle.pose_steps.specs.Pose.{Vector3f·list, Quaternion·list, Point3f·list, three, entries}
 use Rattle.pose_steps.specs.Enclose.{IntervalVector·list, IntervalQuaternion·list, IntervalRow·list, IntervalRow·three}
 
+-- Every number of a list is finite.
 abbrev pub AllFinite : List Float → Type 0
 AllFinite [] = Unit {0}
 AllFinite (x ∷ l) = T (finite x) × AllFinite l
 
+-- Finite constants, and an angle from 0 to a quarter turn.
 pub record RigidMotion·Valid (a : RigidMotion) : Type 0 where
   pub t0 : AllFinite (Vector3f·list (a .t0))
   pub t1 : AllFinite (Vector3f·list (a .t1))
