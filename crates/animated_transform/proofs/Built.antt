@@ -5,7 +5,7 @@ use Prim.Native.Nat.{ℕ, suc}
 use native.Mathlib.Omega.{arith}
 use borrow.Author.Tests.{eqb-true, eqb-false}
 use lib.Dec.{T, eqb}
-use lib.Ieee.{Float, nan, inf, fin, ofBits, neg, lt}
+use lib.Ieee.{Float, nan, inf, fin, binary32, fits, ofBits, neg, lt}
 use lib.Ieee.Fits.{and-l, and-r}
 use lib.Ieee.Scale.{finite}
 use Rattle.float32.specs.Operators.{_⊖_}
@@ -76,13 +76,15 @@ times-passed t u = go (lt u t) (finite (u ⊖ t)) (λ h. h) (λ h. h)
 
 record PosePassed (p : Pose) : Type 0 where
   time : T (finite (p .time))
+  binary32-time : T (fits binary32 (p .time))
   matrix : T (Matrix4x4·isFinite (Matrix4x4·toRows (p .m)))
   affine : T (Matrix4x4·isAffine (Matrix4x4·toRows (p .m)))
 
-pose-passed : (p : Pose) → T (Pose·isFinite p) → T (Pose·isAffine p) → PosePassed p
+pose-passed : (p : Pose) → T (fits binary32 (p .time)) → T (Pose·isFinite p) → T (Pose·isAffine p) → PosePassed p
 unfolding Pose·isFinite Pose·isAffine
-pose-passed p f a = record {
+pose-passed p t f a = record {
   time = and-l (finite (p .time)) (Matrix4x4·isFinite (Matrix4x4·toRows (p .m))) f;
+  binary32-time = t;
   matrix = and-r (finite (p .time)) (Matrix4x4·isFinite (Matrix4x4·toRows (p .m))) f;
   affine = a;
 }
@@ -92,14 +94,14 @@ record PosesPassed (start end : Pose) : Type 0 where
   end-pose : PosePassed end
   times : Times (start .time) (end .time)
 
-poses-passed : (start end : Pose) → posesRefusal start end ≡ 0 → PosesPassed start end
+poses-passed : (start end : Pose) → T (fits binary32 (start .time)) → T (fits binary32 (end .time)) → posesRefusal start end ≡ 0 → PosesPassed start end
 unfolding posesRefusal
-poses-passed start end h =
+poses-passed start end t u h =
     let f = passed (Pose·isFinite start && Pose·isFinite end) 0 _ h in
     let a = passed (Pose·isAffine start && Pose·isAffine end) 1 _ (f .1) in
     record {
-      start-pose = pose-passed start (and-l (Pose·isFinite start) (Pose·isFinite end) (f .0)) (and-l (Pose·isAffine start) (Pose·isAffine end) (a .0));
-      end-pose = pose-passed end (and-r (Pose·isFinite start) (Pose·isFinite end) (f .0)) (and-r (Pose·isAffine start) (Pose·isAffine end) (a .0));
+      start-pose = pose-passed start t (and-l (Pose·isFinite start) (Pose·isFinite end) (f .0)) (and-l (Pose·isAffine start) (Pose·isAffine end) (a .0));
+      end-pose = pose-passed end u (and-r (Pose·isFinite start) (Pose·isFinite end) (f .0)) (and-r (Pose·isAffine start) (Pose·isAffine end) (a .0));
       times = times-passed (start .time) (end .time) (a .1);
     }
 
@@ -181,6 +183,8 @@ module _ (start end : Pose) (poses : PosesPassed start end) (a b : Transform) (s
       (record {
         start-time = poses .start-pose .time;
         end-time = poses .end-pose .time;
+        start-binary32 = poses .start-pose .binary32-time;
+        end-binary32 = poses .end-pose .binary32-time;
         times-rise = poses .times .rise;
         duration = poses .times .duration;
         start = sa .stored;
@@ -220,4 +224,4 @@ pub built-judged : {m : AnimatedTransform} → Built m → AnimatedTransform·Ju
 unfolding AnimatedTransform·new
 built-judged {m} b =
     let g = not-refused (posesRefusal (b .start) (b .end)) (work (b .start) (b .end)) m (b .accepted) in
-    work-judged (b .start) (b .end) (poses-passed (b .start) (b .end) (g .0)) m (g .1)
+    work-judged (b .start) (b .end) (poses-passed (b .start) (b .end) (b .start-binary32) (b .end-binary32) (g .0)) m (g .1)

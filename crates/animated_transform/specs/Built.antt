@@ -2,7 +2,7 @@
 use mathlib.Core.Path.{_≡_}
 use mathlib.Core.Bool.{not}
 use lib.Dec.{T}
-use lib.Ieee.{lt}
+use lib.Ieee.{binary32, fits, lt}
 use lib.Ieee.Scale.{finite}
 use Rattle.float32.specs.Operators.{_⊖_}
 use Rattle.rounding.specs.Order.{_≼_}
@@ -21,10 +21,12 @@ use Rattle.pose_pair.specs.declared.Pose.{Pose}
 use Rattle.animated_transform.specs.declared.AnimatedTransform.{AnimatedTransform}
 use Rattle.animated_transform.specs.New.{AnimatedTransform·new}
 
--- document 01, Cover: "A move is built .. when the call with its arguments gives no refusal"
+-- document 01, Cover: "A move is built .. when the call with its arguments gives no refusal"; "Float is 32-bit IEEE 754 throughout", which of the times is needed
 pub record Built (m : AnimatedTransform) : Type 0 where
   pub start : Pose
   pub end : Pose
+  pub start-binary32 : T (fits binary32 (start .time))
+  pub end-binary32 : T (fits binary32 (end .time))
   pub accepted : AnimatedTransform·new start end ≡ record { value = m; refusal = 0 }
 
 abbrev pub MatrixFinite : Matrix4x4 → Type 0
@@ -40,6 +42,8 @@ pub record StoredPose (t : Transform) : Type 0 where
 pub record AnimatedTransform·Judged (m : AnimatedTransform) : Type 0 where
   pub start-time : T (finite (m .«start_time»))
   pub end-time : T (finite (m .«end_time»))
+  pub start-binary32 : T (fits binary32 (m .«start_time»))
+  pub end-binary32 : T (fits binary32 (m .«end_time»))
   pub times-rise : T (not (lt (m .«end_time») (m .«start_time»)))
   pub duration : T (finite (m .«end_time» ⊖ m .«start_time»))
   pub start : StoredPose (m .«start_transform»)

@@ -1,3 +1,4 @@
 pub mod New
+pub mod AtTime
 pub mod Built
 pub mod Computing

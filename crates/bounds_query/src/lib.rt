@@ -1,0 +1,39 @@
+// Queries about a box: what is asked of the box, and unions of two answers, of which the first refusal stands.
+use bounds3::Bounds3f;
+use transform::BoundsAnswer;
+ghost use mathlib.Core.Path.{_≡_};
+ghost use Rattle.bounds_query.specs.Query.{Bounds3f·isOrdered, Bounds3f·refusal, BoundsAnswer·unionBounds};
+
+// Whether no least coordinate is above its greatest.
+pub fn is_ordered(b: Bounds3f) -> bool
+    ensures value { λ r. ⌜ r ≡ Bounds3f·isOrdered b ⌝ }
+{
+    let l = b.p_min;
+    let h = b.p_max;
+    !((l.x > h.x) | (l.y > h.y) | (l.z > h.z))
+}
+
+// 6 for a coordinate that isn't finite, then 7 for a least corner above its greatest, 0 for neither.
+pub fn refusal(b: Bounds3f) -> u8
+    ensures value { λ r. ⌜ r ≡ Bounds3f·refusal b ⌝ }
+{
+    if !b.is_finite() {
+        return 6;
+    }
+    if !is_ordered(b) {
+        return 7;
+    }
+    0
+}
+
+pub fn union_bounds(r: BoundsAnswer, s: BoundsAnswer) -> BoundsAnswer
+    ensures value { λ u. ⌜ u ≡ BoundsAnswer·unionBounds r s ⌝ }
+{
+    match r {
+        BoundsAnswer::Bounds(a) => match s {
+            BoundsAnswer::Bounds(b) => BoundsAnswer::Bounds(a.union_bounds(b)),
+            BoundsAnswer::Refused(n) => BoundsAnswer::Refused(n),
+        },
+        BoundsAnswer::Refused(n) => BoundsAnswer::Refused(n),
+    }
+}
