@@ -1,1 +1,3 @@
 pub mod TransformPoint
+pub mod Answer
+pub mod Computing
