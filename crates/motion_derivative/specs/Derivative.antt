@@ -17,10 +17,14 @@ positiveZero = ofBits binary32 0
 unfoldable pub affine : Float → Float → Interval → Interval
 affine a b i = Interval·add (Interval·point a) (Interval·mul (Interval·point b) i)
 
--- I::from(c1) + (I::from(c2) + I::from(c3) * i) * c.cos() + (I::from(c4) + I::from(c5) * i) * c.sin(), with c = I::from(2.0 * theta) * i
+-- c = I::from(2.0 * theta) * i
+abbrev pub MotionDerivative·angles : MotionDerivative → Interval → Interval
+MotionDerivative·angles f i = Interval·mul (Interval·point (two ⊗ f .theta)) i
+
+-- I::from(c1) + (I::from(c2) + I::from(c3) * i) * c.cos() + (I::from(c4) + I::from(c5) * i) * c.sin()
 unfoldable pub MotionDerivative·range : MotionDerivative → Interval → Interval
 MotionDerivative·range f i =
-    let c = Interval·mul (Interval·point (two ⊗ f .theta)) i in
+    let c = MotionDerivative·angles f i in
     Interval·add
     (Interval·add (Interval·point (f .c1)) (Interval·mul (affine (f .c2) (f .c3) i) (Interval·cos c)))
     (Interval·mul (affine (f .c4) (f .c5) i) (Interval·sin c))
