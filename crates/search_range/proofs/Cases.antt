@@ -1,0 +1,42 @@
+-- Cases of the definitions, by computing: the limit's bits; for t - 1/2, the intervals of a search at depth 1, and those of the whole search for a constant; angles at which the
+-- assertions hold, and at which each fails.
+use mathlib.Core.Path.{_≡_, refl}
+use mathlib.Core.Bool.{true, false}
+use mathlib.Core.List.{[], _∷_}
+use lib.Ieee.{Float, binary32, ofBits, neg}
+use Rattle.float32.specs.Operators.{one, two, four, half}
+use Rattle.interval.specs.Interval.{Interval·new}
+use Rattle.motion_derivative.specs.declared.MotionDerivative.{MotionDerivative}
+use Rattle.motion_derivative.specs.Derivative.{positiveZero, MotionDerivative·angles}
+use Rattle.zero_search.specs.Search.{Zeros·empty, unitInterval}
+use Rattle.zero_search.specs.Computing.{computing}
+use Rattle.search_range.specs.Examined.{searchIntervals, examinedIntervals}
+use Rattle.search_range.specs.Assertions.{rangeLimit, Interval·asserted}
+
+limit-bits : rangeLimit ≡ ofBits binary32 0x40c9126d
+unfolding computing
+limit-bits = refl
+
+-- a + b t
+abbrev line : Float → Float → Float → MotionDerivative
+line a b theta = record { c1 = a; c2 = positiveZero; c3 = b; c4 = positiveZero; c5 = positiveZero; theta = theta }
+
+halves-examined : searchIntervals 1 false (line (neg half) one positiveZero) unitInterval (Zeros·empty 0) ≡ unitInterval ∷ Interval·new positiveZero half ∷ Interval·new half one ∷ []
+unfolding computing searchIntervals
+halves-examined = refl
+
+constant-examined : examinedIntervals (line one positiveZero positiveZero) ≡ unitInterval ∷ []
+unfolding computing searchIntervals examinedIntervals
+constant-examined = refl
+
+angles-hold : Interval·asserted (MotionDerivative·angles (line one positiveZero two) unitInterval) ≡ true
+unfolding computing
+angles-hold = refl
+
+angles-beyond : Interval·asserted (MotionDerivative·angles (line one positiveZero four) unitInterval) ≡ false
+unfolding computing
+angles-beyond = refl
+
+angles-below : Interval·asserted (MotionDerivative·angles (line one positiveZero (neg one)) unitInterval) ≡ false
+unfolding computing
+angles-below = refl

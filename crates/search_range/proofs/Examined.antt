@@ -1,0 +1,120 @@
+-- Every interval that a zero search examines lies in 0 to 1, its ends in order: `examined-unit`. The midpoint of such an interval lies in 0 to 1, since rounding keeps
+-- the order, so that its halves are again such. There are as many as zero_search counts: `searchIntervals-count`, `examinedIntervals-count`.
+use mathlib.Core.Path.{_≡_, refl, sym, ap, subst, _∙_}
+use mathlib.Core.Bool.{Bool, true, false, cond}
+use mathlib.Core.Logic.{inl, inr}
+use mathlib.Core.List.{List, [], List·Memᴰ, List·Memᴰ·not-nil, List·Memᴰ·cases-cons, List·Memᴰ·append-cases, List·Memᴰ·eq-of-singleton}
+use Prim.Native.Nat.{ℕ, zero, suc}
+use native.Mathlib.Omega.{arith}
+use lib.Dec.{eqb}
+use lib.ListN.{length, length-append}
+use lib.Ieee.{Float, ofBits, add, mul, round, lt, le, isNan}
+use Rattle.float32.specs.MinMax.{minNum, maxNum}
+use Rattle.float32.specs.Operators.{half}
+use Rattle.interval.specs.declared.Interval.{Interval}
+use Rattle.interval.specs.Contains.{Contains, Subset, Finite, Encloses}
+use Rattle.interval.specs.Interval.{Interval·new, Interval·point, Interval·hull, Interval·ofFour}
+use Rattle.interval.specs.Enclosure.{Interval·addEnclosure, Interval·mulEnclosure}
+use Rattle.interval.proofs.Contains.{subset-low, subset-high, point-encloses, new-subset}
+use Rattle.interval.proofs.Extends.{add-contains, mul-contains}
+use Rattle.unit_interval.specs.Unit.{unitInterval}
+use Rattle.pose_steps.proofs.Angle.{unit-finite}
+use Rattle.motion_derivative.specs.declared.MotionDerivative.{MotionDerivative}
+use Rattle.motion_derivative.specs.Derivative.{MotionDerivative·excludesZero}
+use Rattle.zero_search.specs.declared.Zeros.{Zeros}
+use Rattle.zero_search.specs.Search as search
+use Rattle.zero_search.specs.Search.{midpoint, lowerHalf, upperHalf, findZeros, searchExamined, examined, maxDepth, Zeros·empty}
+use Rattle.search_range.specs.Examined.{searchIntervals, examinedIntervals, Examined}
+
+-- ---- the halves of an interval in 0 to 1
+sums : Interval
+sums = Interval·addEnclosure unitInterval unitInterval
+
+sums-finite : Finite sums
+unfolding sums Interval·addEnclosure add round ofBits
+sums-finite = record { low = tt; high = tt }
+
+half-encloses : Encloses (Interval·point half) half
+half-encloses = point-encloses half (unfold ofBits in tt)
+
+-- From 0 to 1 and 0 to 1, halved.
+halves-unit : Interval·mulEnclosure sums (Interval·point half) ≡ unitInterval
+unfolding sums Interval·mulEnclosure Interval·addEnclosure Interval·ofFour Interval·hull Interval·new minNum maxNum isNan add mul round lt ofBits
+halves-unit = refl
+
+pub midpoint-unit : {i : Interval} → Subset i unitInterval → Contains unitInterval (midpoint i)
+unfolding sums
+midpoint-unit {i} s =
+    subst (λ (X : Interval). Contains X (midpoint i)) halves-unit
+    (mul-contains sums-finite (half-encloses .finite) (add-contains unit-finite unit-finite (subset-low s) (subset-high s)) (half-encloses .contains))
+
+pub lower-unit : {i : Interval} → Subset i unitInterval → Subset (lowerHalf i) unitInterval
+lower-unit s = new-subset (subset-low s) (midpoint-unit s)
+
+pub upper-unit : {i : Interval} → Subset i unitInterval → Subset (upperHalf i) unitInterval
+upper-unit s = new-subset (midpoint-unit s) (subset-high s)
+
+-- ---- what a search examines
+equal-unit : {i j : Interval} → j ≡ i → Subset i unitInterval → Subset j unitInterval
+equal-unit e s = subst (λ (X : Interval). Subset X unitInterval) (sym e) s
+
+cond-member : (b : Bool) (l : List Interval) (j : Interval) → List·Memᴰ j (cond b l []) → List·Memᴰ j l
+cond-member true l j m = m
+cond-member false l j m = absurd (List·Memᴰ·not-nil m)
+
+pub search-unit : (d : ℕ) (b : Bool) (f : MotionDerivative) (i : Interval) (z : Zeros) → Subset i unitInterval
+    → (j : Interval) → List·Memᴰ j (searchIntervals d b f i z) → Subset j unitInterval
+unfolding searchIntervals
+search-unit zero true f i z s j m = equal-unit (List·Memᴰ·eq-of-singleton m) s
+search-unit (suc d) true f i z s j m = equal-unit (List·Memᴰ·eq-of-singleton m) s
+search-unit zero false f i z s j m = equal-unit (List·Memᴰ·eq-of-singleton m) s
+search-unit (suc d) false f i z s j m =
+    let lower = findZeros d f (lowerHalf i) z in
+    let below = searchIntervals d (MotionDerivative·excludesZero f (lowerHalf i)) f (lowerHalf i) z in
+    elim (List·Memᴰ·cases-cons m) [
+      | inl e ↦ equal-unit e s
+      | inr n ↦ elim (List·Memᴰ·append-cases below n) [
+        | inl k ↦ search-unit d (MotionDerivative·excludesZero f (lowerHalf i)) f (lowerHalf i) z (lower-unit s) j k
+        | inr k ↦
+            search-unit d (MotionDerivative·excludesZero f (upperHalf i)) f (upperHalf i) lower (upper-unit s) j
+            (cond-member (eqb (lower .refusal) 0) _ j k)
+      ]
+    ]
+
+-- The whole search begins with 0 to 1 itself.
+whole-unit : Subset search.unitInterval unitInterval
+unfolding Interval·new minNum maxNum isNan lt le ofBits
+whole-unit = record { low = record { holds = tt }; proper = record { holds = tt }; high = record { holds = tt } }
+
+pub examined-unit : (f : MotionDerivative) (j : Interval) → Examined f j → Subset j unitInterval
+unfolding examinedIntervals
+examined-unit f j m = search-unit maxDepth (MotionDerivative·excludesZero f search.unitInterval) f search.unitInterval (Zeros·empty 0) whole-unit j m
+
+-- ---- how many there are
+cond-length : (b : Bool) (l : List Interval) → length (cond b l []) ≡ cond b (length l) 0
+cond-length true l = refl
+cond-length false l = refl
+
+pub searchIntervals-count : (d : ℕ) (b : Bool) (f : MotionDerivative) (i : Interval) (z : Zeros) → length (searchIntervals d b f i z) ≡ searchExamined d b f i z
+unfolding searchIntervals searchExamined
+searchIntervals-count zero true f i z = refl
+searchIntervals-count (suc d) true f i z = refl
+searchIntervals-count zero false f i z = refl
+searchIntervals-count (suc d) false f i z =
+    let lower : Zeros = findZeros d f (lowerHalf i) z in
+    let l : List Interval = searchIntervals d (MotionDerivative·excludesZero f (lowerHalf i)) f (lowerHalf i) z in
+    let u : List Interval = searchIntervals d (MotionDerivative·excludesZero f (upperHalf i)) f (upperHalf i) lower in
+    let b : Bool = eqb (lower .refusal) 0 in
+    omega (
+      arith,
+      length-append l (cond b u []),
+      cond-length b u ∙ ap (λ (n : ℕ). cond b n 0) (searchIntervals-count d (MotionDerivative·excludesZero f (upperHalf i)) f (upperHalf i) lower),
+      searchIntervals-count d (MotionDerivative·excludesZero f (lowerHalf i)) f (lowerHalf i) z,
+    )
+
+pub examinedIntervals-count : (c1 c2 c3 c4 c5 theta : Float)
+    → length (examinedIntervals (record { c1 = c1; c2 = c2; c3 = c3; c4 = c4; c5 = c5; theta = theta })) ≡ examined c1 c2 c3 c4 c5 theta
+unfolding examinedIntervals examined
+examinedIntervals-count c1 c2 c3 c4 c5 theta =
+    let f : MotionDerivative = record { c1 = c1; c2 = c2; c3 = c3; c4 = c4; c5 = c5; theta = theta } in
+    searchIntervals-count maxDepth (MotionDerivative·excludesZero f search.unitInterval) f search.unitInterval (Zeros·empty 0)

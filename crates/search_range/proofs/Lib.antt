@@ -1,0 +1,4 @@
+pub mod Examined
+pub mod Assertions
+pub mod Built
+mod Cases
