@@ -1,0 +1,2 @@
+-- Laws of queries about a box.
+pub mod Accepted
