@@ -1,2 +1,3 @@
 -- Laws of queries about a box.
 pub mod Accepted
+pub mod Union

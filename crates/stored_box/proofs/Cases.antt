@@ -16,7 +16,7 @@ use Rattle.transform.specs.Computing as transform
 use Rattle.bounds_query.specs.Computing as query
 use Rattle.pose_steps.specs.Enclose.{IntervalVector·bounds}
 use Rattle.pose_steps.specs.Computing as pose
-use Rattle.stored_box.specs.EncloseBounds.{Transform·encloseBounds}
+use Rattle.stored_box.specs.EnclosePoints.{Transform·enclosePoints}
 use Rattle.stored_box.proofs.StoredBox.{stored-box-same}
 
 abbrev whole : ℕ → Float
@@ -48,10 +48,10 @@ box = record { «p_min» = record { x = whole 1; y = whole 2; z = whole 3 }; «p
 abbrev sheared : Bounds3f
 sheared = record { «p_min» = record { x = neg (whole 2); y = neg (whole 6); z = whole 0 }; «p_max» = record { x = whole 7; y = whole 9; z = whole 6 } }
 
-shear-same : Subset (IntervalVector·bounds (Transform·encloseBounds shear box .vector)) sheared × Subset sheared (IntervalVector·bounds (Transform·encloseBounds shear box .vector))
+shear-same : Subset (IntervalVector·bounds (Transform·enclosePoints shear box .vector)) sheared × Subset sheared (IntervalVector·bounds (Transform·enclosePoints shear box .vector))
 unfolding transform.computing query.computing pose.computing Matrix4x4·isAffine
 shear-same = stored-box-same shear box tt tt refl sheared refl refl
 
-stretch-refused : (Transform·encloseBounds stretch box .refusal ≡ 5) × (Transform·transformBounds stretch box ≡ Refused 5)
+stretch-refused : (Transform·enclosePoints stretch box .refusal ≡ 5) × (Transform·transformBounds stretch box ≡ Refused 5)
 unfolding transform.computing query.computing pose.computing
 stretch-refused = (refl, refl)

@@ -32,7 +32,7 @@ use Rattle.pose_steps.specs.declared.JudgedVector.{JudgedVector}
 use Rattle.pose_steps.specs.Stages.{row, vector, moved}
 use Rattle.pose_steps.specs.Pose.{Pose·transformPoint}
 use Rattle.pose_steps.specs.Enclose.{IntervalRow·list, IntervalRow·point, IntervalVector·list, IntervalVector·bounds, IntervalMatrix·point, Pose·encloseTransformPoint}
-use Rattle.stored_box.specs.EncloseBounds.{StoredNumber}
+use Rattle.stored_box.specs.EnclosePoints.{StoredNumber}
 
 -- The high end where e is true.
 abbrev pub end : Bool → Interval → Float

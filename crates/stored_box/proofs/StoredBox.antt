@@ -34,7 +34,7 @@ use Rattle.pose_steps.proofs.Rows.{enclosed-finite}
 use Rattle.pose_steps.proofs.Finite.{stored-encloses}
 use Rattle.pose_steps.proofs.Extends.{transformPoint-extends}
 use Rattle.pose_steps.proofs.Box.{inside-encloses, encloses-inside}
-use Rattle.stored_box.specs.EncloseBounds.{Transform·encloseBounds, StoredNumber}
+use Rattle.stored_box.specs.EnclosePoints.{Transform·enclosePoints, StoredNumber}
 use Rattle.stored_box.proofs.Row.{end, end-picks, corner, rows-subset, rows-accepted, rows-number}
 use Rattle.stored_box.proofs.Corners.{All, Hull, Spans, movedCorner, movedCorners, corners-all, corners-each, corners-span}
 
@@ -60,7 +60,7 @@ end-between X o e =
     end-picks (λ v. (X .low ≼ v) × (v ≼ X .high)) X (≼-refl (X .low) (number-left o), o) (o, ≼-refl (X .high) (number-right o)) e
 
 -- ---- the interval steps over a box, and `transform_bounds`
-pub stored-box-number : (t : Transform) (b : Bounds3f) → StoredNumber (Transform·encloseBounds t b .refusal)
+pub stored-box-number : (t : Transform) (b : Bounds3f) → StoredNumber (Transform·enclosePoints t b .refusal)
 stored-box-number t b = rows-number 0 (t .m) (Bounds3f·intervals b) (inl refl)
 
 module _ (t : Transform) (b : Bounds3f) (affine : T (Matrix4x4·isAffine (Matrix4x4·toRows (t .m)))) (stored : T (Matrix4x4·isFinite (Matrix4x4·toRows (t .m))))
@@ -71,23 +71,23 @@ module _ (t : Transform) (b : Bounds3f) (affine : T (Matrix4x4·isAffine (Matrix
       let B = Bounds3f·intervals b in
       record { x = end-between (B .x) x i; y = end-between (B .y) y j; z = end-between (B .z) z k }
 
-  corner-enclosed : Transform·encloseBounds t b .refusal ≡ 0 → (i j k : Bool)
-      → Pairwise Encloses (IntervalVector·list (Transform·encloseBounds t b .vector)) (Point3f·list (movedCorner t b i j k))
+  corner-enclosed : Transform·enclosePoints t b .refusal ≡ 0 → (i j k : Bool)
+      → Pairwise Encloses (IntervalVector·list (Transform·enclosePoints t b .vector)) (Point3f·list (movedCorner t b i j k))
   corner-enclosed z i j k = transformPoint-extends 0 (stored-encloses (t .m) stored) (inside-encloses b (refusal-accepted b accepted .0) (corner-inside i j k)) z
 
-  corner-finite : Transform·encloseBounds t b .refusal ≡ 0 → (i j k : Bool) → Finite (movedCorner t b i j k)
+  corner-finite : Transform·enclosePoints t b .refusal ≡ 0 → (i j k : Bool) → Finite (movedCorner t b i j k)
   corner-finite z i j k =
-      let W = IntervalVector·list (Transform·encloseBounds t b .vector) in
+      let W = IntervalVector·list (Transform·enclosePoints t b .vector) in
       let (x, (y, (w, e))) = enclosed-finite W (Point3f·list (movedCorner t b i j k)) (corner-enclosed z i j k) in
       record { x = x; y = y; z = w }
 
   spans : Spans (movedCorners t b) (Transform·transformBounds t b)
   spans = corners-span t b affine (refusal-accepted b accepted .0)
 
-  pub stored-box-same : (c : Bounds3f) → Transform·encloseBounds t b .refusal ≡ 0 → Transform·transformBounds t b ≡ Bounds c
-      → Subset (IntervalVector·bounds (Transform·encloseBounds t b .vector)) c × Subset c (IntervalVector·bounds (Transform·encloseBounds t b .vector))
+  pub stored-box-same : (c : Bounds3f) → Transform·enclosePoints t b .refusal ≡ 0 → Transform·transformBounds t b ≡ Bounds c
+      → Subset (IntervalVector·bounds (Transform·enclosePoints t b .vector)) c × Subset c (IntervalVector·bounds (Transform·enclosePoints t b .vector))
   stored-box-same c z e =
-      let W = Transform·encloseBounds t b .vector in
+      let W = Transform·enclosePoints t b .vector in
       let d = IntervalVector·bounds W in
       let h = answer-hull (movedCorners t b) (Transform·transformBounds t b) c spans e in (
         rows-subset 0 (t .m) (Bounds3f·intervals b) c (corners-each t b (Inside c) (h .inside)),
@@ -95,14 +95,14 @@ module _ (t : Transform) (b : Bounds3f) (affine : T (Matrix4x4·isAffine (Matrix
       )
 
   -- Where the interval steps are accepted, so is `transform_bounds`.
-  pub stored-box-accepted : Transform·encloseBounds t b .refusal ≡ 0 → (c : Bounds3f) × (Transform·transformBounds t b ≡ Bounds c)
+  pub stored-box-accepted : Transform·enclosePoints t b .refusal ≡ 0 → (c : Bounds3f) × (Transform·transformBounds t b ≡ Bounds c)
   stored-box-accepted z = answer-accepted (movedCorners t b) (Transform·transformBounds t b) spans (corners-all t b Finite (corner-finite z))
 
-  steps-accepted : BoundsAnswer·refusal (Transform·transformBounds t b) ≡ 0 → Transform·encloseBounds t b .refusal ≡ 0
+  steps-accepted : BoundsAnswer·refusal (Transform·transformBounds t b) ≡ 0 → Transform·enclosePoints t b .refusal ≡ 0
   steps-accepted z =
       rows-accepted 0 (t .m) (Bounds3f·intervals b) refl
       (corners-each t b Finite (answer-finite (movedCorners t b) (Transform·transformBounds t b) spans z))
 
-  pub stored-box-refusal : Transform·encloseBounds t b .refusal ≡ BoundsAnswer·refusal (Transform·transformBounds t b)
+  pub stored-box-refusal : Transform·enclosePoints t b .refusal ≡ BoundsAnswer·refusal (Transform·transformBounds t b)
   stored-box-refusal =
       same-number (stored-box-number t b) (transform-bounds-judged t b .number) (λ z. ap BoundsAnswer·refusal (stored-box-accepted z .1)) steps-accepted

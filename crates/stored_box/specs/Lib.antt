@@ -1,1 +1,1 @@
-pub mod EncloseBounds
+pub mod EnclosePoints

@@ -8,8 +8,8 @@ use Rattle.pose_steps.specs.declared.JudgedVector.{JudgedVector}
 use Rattle.pose_steps.specs.Enclose.{IntervalMatrix·point, Pose·encloseTransformPoint, Bounds3f·intervals}
 
 -- document 01, Cover: "the start transform over the box, by the interval steps below"; "constants as equal ends, x, y, z from the box"
-abbrev pub Transform·encloseBounds : Transform → Bounds3f → JudgedVector
-Transform·encloseBounds t b = Pose·encloseTransformPoint 0 (IntervalMatrix·point (t .m)) (Bounds3f·intervals b)
+abbrev pub Transform·enclosePoints : Transform → Bounds3f → JudgedVector
+Transform·enclosePoints t b = Pose·encloseTransformPoint 0 (IntervalMatrix·point (t .m)) (Bounds3f·intervals b)
 
 -- The numbers that it can give.
 abbrev pub StoredNumber : ℕ → Type 0
