@@ -1,0 +1,5 @@
+pub mod Contains
+pub mod Times
+pub mod Number
+pub mod Proper
+pub mod Stored

@@ -1,0 +1,85 @@
+-- The numbers that a cover can give are 5, 6, 7, 8 and 10, for all structs and arguments: `cover-number`. A union's is one of its parts'.
+use Prim.Native.Nat.{ℕ, zero, suc, _^_}
+use mathlib.Core.Path.{refl}
+use mathlib.Core.Bool.{Bool, true, false, not, cond}
+use mathlib.Core.Logic.{inl, inr}
+use lib.Dec.{eqb, ltb}
+use Rattle.bounds3.specs.declared.Bounds3f.{Bounds3f}
+use Rattle.bounds3.specs.Finite.{Bounds3f·isFinite}
+use Rattle.interval.specs.declared.Interval.{Interval}
+use Rattle.transform.specs.declared.Transform.{Transform}
+use Rattle.transform.specs.declared.BoundsAnswer.{BoundsAnswer}
+use Rattle.transform.specs.declared.BoundsAnswer.the-variants.{Bounds, Refused}
+use Rattle.transform.specs.Answer.{BoundsAnswer·refusal}
+use Rattle.bounds_query.specs.Query.{Bounds3f·isOrdered, Bounds3f·refusal, BoundsAnswer·unionBounds}
+use Rattle.unit_interval.specs.Unit.{slice}
+use Rattle.pose_steps.specs.declared.RigidMotion.{RigidMotion}
+use Rattle.pose_steps.specs.declared.JudgedVector.{JudgedVector}
+use Rattle.pose_steps.specs.Enclose.{IntervalMatrix·point, Pose·enclosePoint, Bounds3f·intervals, IntervalVector·bounds}
+use Rattle.pose_steps.specs.Promise.{SliceNumber}
+use Rattle.pose_steps.proofs.Number.{transformPoint-number, point-number}
+use Rattle.stored_box.specs.EnclosePoints.{Transform·enclosePoints}
+use Rattle.animated_transform.specs.declared.AnimatedTransform.{AnimatedTransform}
+use Rattle.motion_point.specs.TransformPoint.{AnimatedTransform·rigidMotion}
+use Rattle.motion_cover.specs.Cover.{BoundsAnswer·fromEnclosure, Transform·encloseBounds, AnimatedTransform·encloseBounds, AnimatedTransform·encloseEnds, unionSlices, AnimatedTransform·encloseMotion, maxDepth, coverRefusal, AnimatedTransform·cover}
+use Rattle.motion_cover.specs.Answer.{CoverNumber}
+
+enclosure-number : (j : JudgedVector) → SliceNumber (j .refusal) → SliceNumber (BoundsAnswer·refusal (BoundsAnswer·fromEnclosure j))
+unfolding BoundsAnswer·fromEnclosure
+enclosure-number j n = go (eqb (j .refusal) 0)
+  where
+    go : (b : Bool) → SliceNumber (BoundsAnswer·refusal (cond b (Bounds (IntervalVector·bounds (j .vector))) (Refused (j .refusal))))
+    go true = inl refl
+    go false = n
+
+stored-number : (t : Transform) (b : Bounds3f) → SliceNumber (BoundsAnswer·refusal (Transform·encloseBounds t b))
+unfolding Transform·encloseBounds
+stored-number t b =
+    enclosure-number (Transform·enclosePoints t b)
+    (transformPoint-number 0 (IntervalMatrix·point (t .m)) (Bounds3f·intervals b) (inl refl))
+
+piece-number : (m : AnimatedTransform) (a : RigidMotion) (D : Interval) (b : Bounds3f) → SliceNumber (BoundsAnswer·refusal (AnimatedTransform·encloseBounds m a D b))
+unfolding AnimatedTransform·encloseBounds
+piece-number m a D b = enclosure-number (Pose·enclosePoint a (m .s0) (m .s1) D (Bounds3f·intervals b)) (point-number a (m .s0) (m .s1) D (Bounds3f·intervals b))
+
+union-number : (r s : BoundsAnswer) → SliceNumber (BoundsAnswer·refusal r) → SliceNumber (BoundsAnswer·refusal s) → SliceNumber (BoundsAnswer·refusal (BoundsAnswer·unionBounds r s))
+unfolding BoundsAnswer·unionBounds
+union-number (Bounds a) (Bounds b) n k = inl refl
+union-number (Bounds a) (Refused s) n k = k
+union-number (Refused r) s n k = n
+
+slices-number : (m : AnimatedTransform) (a : RigidMotion) (b : Bounds3f) (d : ℕ) (r : BoundsAnswer) → SliceNumber (BoundsAnswer·refusal r)
+    → (k : ℕ) → SliceNumber (BoundsAnswer·refusal (unionSlices m a b d r k))
+unfolding unionSlices
+slices-number m a b d r n zero = n
+slices-number m a b d r n (suc k) =
+    union-number (unionSlices m a b d r k) (AnimatedTransform·encloseBounds m a (slice d k) b) (slices-number m a b d r n k) (piece-number m a (slice d k) b)
+
+motion-number : (m : AnimatedTransform) (b : Bounds3f) (d : ℕ) → SliceNumber (BoundsAnswer·refusal (AnimatedTransform·encloseMotion m b d))
+unfolding AnimatedTransform·encloseMotion AnimatedTransform·encloseEnds
+motion-number m b d = go (m .«actually_animated»)
+  where
+    go : (c : Bool) → SliceNumber (BoundsAnswer·refusal (cond c (unionSlices m (AnimatedTransform·rigidMotion m) b d (AnimatedTransform·encloseEnds m b) (2 ^ d)) (Transform·encloseBounds (m .«start_transform») b)))
+    go true =
+        slices-number m (AnimatedTransform·rigidMotion m) b d (AnimatedTransform·encloseEnds m b)
+        (union-number (Transform·encloseBounds (m .«start_transform») b) (Transform·encloseBounds (m .«end_transform») b) (stored-number (m .«start_transform») b) (stored-number (m .«end_transform») b))
+        (2 ^ d)
+    go false = stored-number (m .«start_transform») b
+
+arguments-number : (b : Bounds3f) (d : ℕ) → CoverNumber (coverRefusal b d)
+unfolding coverRefusal Bounds3f·refusal
+arguments-number b d = go (Bounds3f·isFinite b) (Bounds3f·isOrdered b) (ltb maxDepth d)
+  where
+    go : (f o l : Bool) → CoverNumber (let n : ℕ = cond (not f) 6 (cond (not o) 7 0) in cond (eqb n 0) (cond l 8 0) n)
+    go true true true = inr (inr (inl refl))
+    go true true false = inr (inr (inr (inl refl)))
+    go true false l = inr (inl refl)
+    go false o l = inl refl
+
+pub cover-number : (m : AnimatedTransform) (b : Bounds3f) (d : ℕ) → CoverNumber (BoundsAnswer·refusal (AnimatedTransform·cover m b d))
+unfolding AnimatedTransform·cover
+cover-number m b d = go (eqb (coverRefusal b d) 0)
+  where
+    go : (c : Bool) → CoverNumber (BoundsAnswer·refusal (cond c (AnimatedTransform·encloseMotion m b d) (Refused (coverRefusal b d))))
+    go true = inr (inr (inr (motion-number m b d)))
+    go false = arguments-number b d

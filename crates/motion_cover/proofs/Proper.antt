@@ -1,0 +1,147 @@
+-- The corners of an accepted cover of a built move are finite and in order on each axis: `cover-proper`. An interval step narrows from its own intervals to themselves, so that
+-- what it gives is not empty; a union of boxes in order is in order.
+use Prim.Native.Nat.{ℕ, zero, suc, _≤_, _^_}
+use mathlib.Core.Path.{_≡_, refl, sym, subst}
+use mathlib.Core.Bool.{Bool, true, false}
+use native.Mathlib.Omega.{arith}
+use lib.Dec.{T}
+use lib.Ieee.Scale.{finite}
+use Rattle.rounding.specs.Order.{_≼_}
+use Rattle.rounding.proofs.Order.{≼-trans, ≼-refl, number-left, number-right, finite-number}
+use Rattle.interval.specs.declared.Interval.{Interval}
+use Rattle.interval.specs.Contains.{Subset, Refines}
+use Rattle.bounds3.specs.declared.Bounds3f.{Bounds3f}
+use Rattle.bounds3.specs.Bounds3f.{Bounds3f·unionBounds}
+use Rattle.bounds3.specs.Finite.{Bounds3f·isFinite}
+use Rattle.bounds3.specs.Inside.{Inside}
+use Rattle.bounds3.proofs.Finite.{low-finite, box-finite, union-finite}
+use Rattle.bounds3.proofs.Union.{union-inside-left}
+use Rattle.matrix4x4.specs.declared.Matrix4x4.{Matrix4x4}
+use Rattle.transform.specs.declared.Transform.{Transform}
+use Rattle.transform.specs.declared.BoundsAnswer.{BoundsAnswer}
+use Rattle.transform.specs.declared.BoundsAnswer.the-variants.{Bounds}
+use Rattle.bounds_query.specs.Query.{Bounds3f·refusal, BoundsAnswer·unionBounds}
+use Rattle.bounds_query.proofs.Union.{union-accepted}
+use Rattle.bounds_query.proofs.Accepted.{refusal-accepted}
+use Rattle.unit_interval.specs.Unit.{unitInterval, slice}
+use Rattle.unit_interval.proofs.Slices.{slice-unit}
+use Rattle.formula.specs.Promise.{Pairwise}
+use Rattle.pose_steps.specs.declared.IntervalVector.{IntervalVector}
+use Rattle.pose_steps.specs.declared.JudgedVector.{JudgedVector}
+use Rattle.pose_steps.specs.Pose.{entries, allFinite}
+use Rattle.pose_steps.specs.Enclose.{IntervalVector·list, IntervalMatrix·point, Pose·encloseTransformPoint, Pose·enclosePoint, Bounds3f·intervals, IntervalVector·bounds}
+use Rattle.pose_steps.specs.Promise.{RefinesMatrix, InOrder}
+use Rattle.pose_steps.proofs.Rows.{points-refine}
+use Rattle.pose_steps.proofs.Finite.{matrix-each}
+use Rattle.pose_steps.proofs.Isotone.{transformPoint-isotone, point-isotone}
+use Rattle.pose_steps.proofs.Box.{subset-refines, refines-order, order-refl}
+use Rattle.animated_transform.specs.declared.AnimatedTransform.{AnimatedTransform}
+use Rattle.animated_transform.specs.Built.{StoredPose, Built}
+use Rattle.animated_transform.proofs.Built.{built-judged}
+use Rattle.motion_point.specs.TransformPoint.{AnimatedTransform·rigidMotion}
+use Rattle.motion_point.proofs.Built.{built-valid, built-scales}
+use Rattle.motion_cover.specs.Cover.{BoundsAnswer·fromEnclosure, Transform·encloseBounds, AnimatedTransform·encloseBounds, AnimatedTransform·encloseEnds, unionSlices, AnimatedTransform·encloseMotion, AnimatedTransform·cover}
+use Rattle.motion_cover.specs.Answer.{Proper}
+use Rattle.motion_cover.proofs.Contains.{from-enclosure-accepted, motion-stored, motion-slices, cover-accepted, cover-box}
+
+-- ---- an enclosure
+refines-finite : (W : IntervalVector) → Pairwise Refines (IntervalVector·list W) (IntervalVector·list W) → T (Bounds3f·isFinite (IntervalVector·bounds W))
+refines-finite W (x, (y, (z, e))) =
+    box-finite (IntervalVector·bounds W)
+    (record { x = x .finite .low; y = y .finite .low; z = z .finite .low })
+    (record { x = x .finite .high; y = y .finite .high; z = z .finite .high })
+
+enclosure-proper : (j : JudgedVector) → (j .refusal ≡ 0 → Pairwise Refines (IntervalVector·list (j .vector)) (IntervalVector·list (j .vector))) → Proper (BoundsAnswer·fromEnclosure j)
+enclosure-proper j f = record {
+  finite = λ box e. let g = from-enclosure-accepted j box e in subst (λ (b : Bounds3f). T (Bounds3f·isFinite b)) (g .bounds) (refines-finite (j .vector) (f (g .accepted)));
+  order = λ box e. let g = from-enclosure-accepted j box e in subst InOrder (g .bounds) (refines-order (j .vector) (j .vector) (f (g .accepted)));
+}
+
+-- ---- unions
+union-order : (a b : Bounds3f) → T (Bounds3f·isFinite a) → InOrder a → InOrder (Bounds3f·unionBounds a b)
+union-order a b f o =
+    let l = low-finite a f in
+    let p = a .«p_min» in
+    let i : Inside a p = record {
+      x = (≼-refl (p .x) (finite-number (p .x) (l .x)), o .x);
+      y = (≼-refl (p .y) (finite-number (p .y) (l .y)), o .y);
+      z = (≼-refl (p .z) (finite-number (p .z) (l .z)), o .z);
+    } in
+    let u = union-inside-left b i in
+    record { x = ≼-trans (u .x .0) (u .x .1); y = ≼-trans (u .y .0) (u .y .1); z = ≼-trans (u .z .0) (u .z .1) }
+
+union-proper : (r s : BoundsAnswer) → Proper r → Proper s → Proper (BoundsAnswer·unionBounds r s)
+union-proper r s f g = record {
+  finite = λ box e.
+      let j = union-accepted r s box e in
+      subst (λ (b : Bounds3f). T (Bounds3f·isFinite b)) (j .union)
+      (union-finite (j .left) (j .right) (f .finite (j .left) (j .left-accepted)) (g .finite (j .right) (j .right-accepted)));
+  order = λ box e.
+      let j = union-accepted r s box e in
+      subst InOrder (j .union) (union-order (j .left) (j .right) (f .finite (j .left) (j .left-accepted)) (f .order (j .left) (j .left-accepted)));
+}
+
+-- ---- an interval in another lies in itself
+subset-self : {D E : Interval} → Subset D E → Subset D D
+subset-self {D} u = record { low = ≼-refl (D .low) (number-left (u .proper)); proper = u .proper; high = ≼-refl (D .high) (number-right (u .proper)) }
+
+-- ---- the parts of a cover, for a box that has passed its tests
+abbrev BoxRefines : Bounds3f → Type 0
+BoxRefines b = Pairwise Refines (IntervalVector·list (Bounds3f·intervals b)) (IntervalVector·list (Bounds3f·intervals b))
+
+box-refines : (b : Bounds3f) → Bounds3f·refusal b ≡ 0 → BoxRefines b
+box-refines b e =
+    let (f, x, y, z) = refusal-accepted b e in
+    let o : InOrder b = record { x = x; y = y; z = z } in
+    subset-refines b o f (order-refl o)
+
+stored-refines : (m : Matrix4x4) → T (allFinite m) → RefinesMatrix (IntervalMatrix·point m) (IntervalMatrix·point m)
+stored-refines m h =
+    let (p, q, r) = matrix-each m h in
+    record { r0 = points-refine (entries (m .r0)) p; r1 = points-refine (entries (m .r1)) q; r2 = points-refine (entries (m .r2)) r }
+
+stored-proper : (t : Transform) → StoredPose t → (b : Bounds3f) → BoxRefines b → Proper (Transform·encloseBounds t b)
+unfolding Transform·encloseBounds
+stored-proper t s b r =
+    let B = Bounds3f·intervals b in
+    let M = IntervalMatrix·point (t .m) in
+    enclosure-proper (Pose·encloseTransformPoint 0 M B) (λ z. transformPoint-isotone 0 refl B B (stored-refines (t .m) (s .matrix)) r z .1)
+
+module _ {m : AnimatedTransform} (built : Built m) (b : Bounds3f) (r : BoxRefines b) where
+  piece-proper : (D : Interval) → Subset D unitInterval → Subset D D → Proper (AnimatedTransform·encloseBounds m (AnimatedTransform·rigidMotion m) D b)
+  unfolding AnimatedTransform·encloseBounds
+  piece-proper D u w =
+      let B = Bounds3f·intervals b in
+      let (s0, s1) = built-scales built in
+      enclosure-proper (Pose·enclosePoint (AnimatedTransform·rigidMotion m) (m .s0) (m .s1) D B) (λ z. point-isotone (built-valid built) s0 s1 u w B B r z .1)
+
+  ends-proper : Proper (AnimatedTransform·encloseEnds m b)
+  unfolding AnimatedTransform·encloseEnds
+  ends-proper =
+      let j = built-judged built in
+      union-proper (Transform·encloseBounds (m .«start_transform») b) (Transform·encloseBounds (m .«end_transform») b)
+      (stored-proper (m .«start_transform») (j .start) b r) (stored-proper (m .«end_transform») (j .end) b r)
+
+  slices-proper : (d n : ℕ) → n ≤ 2 ^ d → Proper (unionSlices m (AnimatedTransform·rigidMotion m) b d (AnimatedTransform·encloseEnds m b) n)
+  unfolding unionSlices
+  slices-proper d zero l = ends-proper
+  slices-proper d (suc n) l =
+      let u = slice-unit d n (omega (arith, l)) in
+      union-proper (unionSlices m (AnimatedTransform·rigidMotion m) b d (AnimatedTransform·encloseEnds m b) n) (AnimatedTransform·encloseBounds m (AnimatedTransform·rigidMotion m) (slice d n) b)
+      (slices-proper d n (omega (arith, l))) (piece-proper (slice d n) u (subset-self u))
+
+  motion-proper : (d : ℕ) → Proper (AnimatedTransform·encloseMotion m b d)
+  motion-proper d = go (m .«actually_animated») refl
+    where
+      go : (x : Bool) → m .«actually_animated» ≡ x → Proper (AnimatedTransform·encloseMotion m b d)
+      go false e = subst Proper (sym (motion-stored m b d e)) (stored-proper (m .«start_transform») (built-judged built .start) b r)
+      go true e = subst Proper (sym (motion-slices m b d e)) (slices-proper d (2 ^ d) (omega arith))
+
+pub cover-proper : {m : AnimatedTransform} → Built m → (b : Bounds3f) (d : ℕ) → Proper (AnimatedTransform·cover m b d)
+cover-proper {m} built b d =
+    let refines : (box : Bounds3f) → AnimatedTransform·cover m b d ≡ Bounds box → BoxRefines b =
+    λ box e. box-refines b (cover-box b d (cover-accepted m b d box e .arguments)) in
+    record {
+      finite = λ box e. motion-proper built b (refines box e) d .finite box (cover-accepted m b d box e .motion);
+      order = λ box e. motion-proper built b (refines box e) d .order box (cover-accepted m b d box e .motion);
+    }

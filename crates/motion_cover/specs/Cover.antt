@@ -1,0 +1,58 @@
+-- Document 01's 'Cover (added)': an interval enclosure of the motion of a box, from the steps of a pose read in intervals. Definitions only.
+-- A query is judged first: 6, 7, 8. Then start box, end box and slices are worked in rising order, and the first number met, 5 or 10, stands.
+use Prim.Native.Nat.{ℕ, zero, suc, _^_}
+use mathlib.Core.Bool.{cond}
+use lib.Dec.{eqb, ltb}
+use Rattle.bounds3.specs.declared.Bounds3f.{Bounds3f}
+use Rattle.transform.specs.declared.Transform.{Transform}
+use Rattle.transform.specs.declared.BoundsAnswer.{BoundsAnswer}
+use Rattle.transform.specs.declared.BoundsAnswer.the-variants.{Bounds, Refused}
+use Rattle.bounds_query.specs.Query.{Bounds3f·refusal, BoundsAnswer·unionBounds}
+use Rattle.interval.specs.declared.Interval.{Interval}
+use Rattle.unit_interval.specs.Unit.{slice}
+use Rattle.pose_steps.specs.declared.RigidMotion.{RigidMotion}
+use Rattle.pose_steps.specs.declared.JudgedVector.{JudgedVector}
+use Rattle.stored_box.specs.EnclosePoints.{Transform·enclosePoints}
+use Rattle.pose_steps.specs.Enclose.{Pose·enclosePoint, Bounds3f·intervals, IntervalVector·bounds}
+use Rattle.animated_transform.specs.declared.AnimatedTransform.{AnimatedTransform}
+use Rattle.motion_point.specs.TransformPoint.{AnimatedTransform·rigidMotion}
+
+-- Three intervals as a box, or the number that was met on the way.
+unfoldable pub BoundsAnswer·fromEnclosure : JudgedVector → BoundsAnswer
+BoundsAnswer·fromEnclosure j = cond (eqb (j .refusal) 0) (Bounds (IntervalVector·bounds (j .vector))) (Refused (j .refusal))
+
+-- A stored transform over a box, "by the interval steps".
+unfoldable pub Transform·encloseBounds : Transform → Bounds3f → BoundsAnswer
+Transform·encloseBounds t b = BoundsAnswer·fromEnclosure (Transform·enclosePoints t b)
+
+-- The poses over any interval of dt over a box, where a are the move's constants.
+unfoldable pub AnimatedTransform·encloseBounds : AnimatedTransform → RigidMotion → Interval → Bounds3f → BoundsAnswer
+AnimatedTransform·encloseBounds m a dt b = BoundsAnswer·fromEnclosure (Pose·enclosePoint a (m .s0) (m .s1) dt (Bounds3f·intervals b))
+
+-- "the start transform over the box, the end transform over the box"
+unfoldable pub AnimatedTransform·encloseEnds : AnimatedTransform → Bounds3f → BoundsAnswer
+AnimatedTransform·encloseEnds m b = BoundsAnswer·unionBounds (Transform·encloseBounds (m .«start_transform») b) (Transform·encloseBounds (m .«end_transform») b)
+
+-- "and 2^d slices of dt": r and the first k of them, in rising order.
+unfoldable pub unionSlices : AnimatedTransform → RigidMotion → Bounds3f → ℕ → BoundsAnswer → ℕ → BoundsAnswer
+unionSlices m a b d r zero = r
+unionSlices m a b d r (suc k) = BoundsAnswer·unionBounds (unionSlices m a b d r k) (AnimatedTransform·encloseBounds m a (slice d k) b)
+
+-- The work: "If the poses are equal by 000's own comparison it is the start transform over the box .. Otherwise it is the union".
+unfoldable pub AnimatedTransform·encloseMotion : AnimatedTransform → Bounds3f → ℕ → BoundsAnswer
+AnimatedTransform·encloseMotion m b d =
+    cond (m .«actually_animated»)
+    (unionSlices m (AnimatedTransform·rigidMotion m) b d (AnimatedTransform·encloseEnds m b) (2 ^ d))
+    (Transform·encloseBounds (m .«start_transform») b)
+
+-- "a depth d from 0 to 12"
+abbrev pub maxDepth : ℕ
+maxDepth = 12
+
+-- document 01, Refusals, "in this order": 6 and 7 of the box, 8 where "the depth is above 12"; 0 is none
+unfoldable pub coverRefusal : Bounds3f → ℕ → ℕ
+coverRefusal b d = let n = Bounds3f·refusal b in cond (eqb n 0) (cond (ltb maxDepth d) 8 0) n
+
+-- The cover query.
+unfoldable pub AnimatedTransform·cover : AnimatedTransform → Bounds3f → ℕ → BoundsAnswer
+AnimatedTransform·cover m b d = let n = coverRefusal b d in cond (eqb n 0) (AnimatedTransform·encloseMotion m b d) (Refused n)

@@ -1,0 +1,5 @@
+pub mod Cover
+pub mod Theorem
+pub mod Times
+pub mod Answer
+pub mod Computing
