@@ -245,3 +245,7 @@ cover-contains m b d box time p built e n i =
     let c = cover-accepted m b d box e in
     let f = refusal-accepted b (cover-box b d (c .arguments)) .0 in
     rw (query-accepted m b d box time p e n i) (motion-contains built b p f i d time n .holds box (c .motion))
+
+-- Both clauses of the query's contract, from the first.
+pub cover-clauses : {r : BoundsAnswer} (m : AnimatedTransform) (b : Bounds3f) (d : ℕ) → r ≡ AnimatedTransform·cover m b d → (r ≡ AnimatedTransform·cover m b d) × CoverContainsMotion m b r
+cover-clauses m b d e = (e, subst (CoverContainsMotion m b) (sym e) (cover-contains m b d))

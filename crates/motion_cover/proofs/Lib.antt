@@ -3,3 +3,4 @@ pub mod Times
 pub mod Number
 pub mod Proper
 pub mod Stored
+pub mod Slices
