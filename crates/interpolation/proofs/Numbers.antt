@@ -1,0 +1,90 @@
+-- The numbers that `interpolate` can give are 0, 4, 5 and 6 (`interpolate-refusal`), and after a refusal every entry is +0 (`interpolate-refused`).
+-- What holds of each answer that its tests choose from holds of the answer (`interpolate-cases`).
+use mathlib.Core.Path.{_≡_, refl}
+use mathlib.Core.Bool.{Bool, true, false, _&&_, cond}
+use mathlib.Core.Logic.{_⊎_, inl, inr}
+use Prim.Native.Nat.{ℕ}
+use lib.Dec.{eqb}
+use lib.Ieee.{Float, isNan}
+use Rattle.matrix4x4.specs.Rows.{Rows, Matrix4x4·toRows}
+use Rattle.matrix4x4.specs.IsFinite.{Matrix4x4·isFinite}
+use Rattle.vector3.specs.declared.Vector3f.{Vector3f}
+use Rattle.quaternion.specs.declared.Quaternion.{Quaternion}
+use Rattle.quaternion.specs.Slerp.{Quaternion·slerp}
+use Rattle.quaternion.specs.IsFinite.{Quaternion·isFinite}
+use Rattle.transform.specs.declared.Transform.{Transform}
+use Rattle.transform.specs.declared.TransformAnswer.{TransformAnswer}
+use Rattle.transform.specs.Transform.{TransformAnswer·refused, Transform·fromMatrix, Transform·translate, Transform·mul}
+use Rattle.transform.proofs.FromMatrix.{from-matrix-numbers}
+use Rattle.rotation.specs.FromQuaternion.{Transform·fromQuaternion}
+use Rattle.unit_interval.specs.Unit.{dt}
+use Rattle.pose_steps.specs.Composition.{lerpTranslation, lerpScale}
+use Rattle.animated_transform.specs.declared.AnimatedTransform.{AnimatedTransform}
+use Rattle.animated_transform.specs.AtTime.{atStart, atEnd}
+use Rattle.interpolation.specs.Interpolate.{Transform·isFinite, TransformAnswer·accepted, TransformAnswer·judged, scaled, composed, AnimatedTransform·poseAt, AnimatedTransform·interpolate}
+use Rattle.interpolation.specs.Promise.{InterpolationNumber}
+
+chosen : (P : TransformAnswer → Type 0) (b : Bool) (x y : TransformAnswer) → P x → P y → P (cond b x y)
+chosen P true x y p q = p
+chosen P false x y p q = q
+
+pub interpolate-cases : (P : TransformAnswer → Type 0) (m : AnimatedTransform) (time : Float) → P (TransformAnswer·refused 6)
+    → P (TransformAnswer·accepted (m .«start_transform»)) → P (TransformAnswer·accepted (m .«end_transform»))
+    → P (AnimatedTransform·poseAt m (dt (m .«start_time») (m .«end_time») time)) → P (AnimatedTransform·interpolate m time)
+unfolding AnimatedTransform·interpolate
+interpolate-cases P m time p q r s = chosen P (isNan time) _ _ p (chosen P (atStart m time) _ _ q (chosen P (atEnd m time) _ _ r s))
+
+-- An answer has one of the numbers, and is +0 throughout where that isn't 0.
+record Answered (a : TransformAnswer) : Type 0 where
+  number : InterpolationNumber (a .refusal)
+  zero : (a .refusal ≡ 0 → ⊥) → a ≡ TransformAnswer·refused (a .refusal)
+
+accepted-answered : (t : Transform) → Answered (TransformAnswer·accepted t)
+accepted-answered t = record { number = inl refl; zero = λ z. absurd (z refl) }
+
+refused-answered : (n : ℕ) → InterpolationNumber n → Answered (TransformAnswer·refused n)
+refused-answered n h = record { number = h; zero = λ _. refl }
+
+judged-answered : (t : Transform) → Answered (TransformAnswer·judged t)
+unfolding TransformAnswer·judged
+judged-answered t = chosen Answered (Transform·isFinite t) _ _ (accepted-answered t) (refused-answered 5 (inr (inr (inl refl))))
+
+inverse-number : (n : ℕ) → (n ≡ 0) ⊎ ((n ≡ 4) ⊎ (n ≡ 5)) → InterpolationNumber n
+inverse-number n (inl e) = inl e
+inverse-number n (inr (inl e)) = inr (inl e)
+inverse-number n (inr (inr e)) = inr (inr (inl e))
+
+scaled-answered : (first : Transform) (scale : Rows) → Answered (scaled first scale)
+unfolding scaled
+scaled-answered first scale =
+    let s = Transform·fromMatrix scale in
+    chosen Answered (eqb (s .refusal) 0) _ _ (judged-answered (Transform·mul first (s .transform))) (refused-answered (s .refusal) (inverse-number (s .refusal) (from-matrix-numbers scale)))
+
+composed-answered : (trans : Vector3f) (rotate : Quaternion) (scale : Rows) → Answered (composed trans rotate scale)
+unfolding composed
+composed-answered trans rotate scale =
+    let translation = Transform·translate trans in
+    let rotation = Transform·fromQuaternion rotate in
+    let first = Transform·mul translation rotation in
+    chosen Answered (Quaternion·isFinite rotate && Matrix4x4·isFinite scale && Transform·isFinite translation && Transform·isFinite rotation && Transform·isFinite first) _ _
+    (scaled-answered first scale)
+    (refused-answered 5 (inr (inr (inl refl))))
+
+pose-at-answered : (m : AnimatedTransform) (x : Float) → Answered (AnimatedTransform·poseAt m x)
+unfolding AnimatedTransform·poseAt
+pose-at-answered m x = composed-answered (lerpTranslation (m .t0) (m .t1) x) (Quaternion·slerp (m .r0) (m .r1) x) (lerpScale (Matrix4x4·toRows (m .s0)) (Matrix4x4·toRows (m .s1)) x)
+
+interpolate-answered : (m : AnimatedTransform) (time : Float) → Answered (AnimatedTransform·interpolate m time)
+interpolate-answered m time =
+    interpolate-cases Answered m time
+    (refused-answered 6 (inr (inr (inr refl))))
+    (accepted-answered (m .«start_transform»))
+    (accepted-answered (m .«end_transform»))
+    (pose-at-answered m _)
+
+pub interpolate-refusal : (m : AnimatedTransform) (time : Float) → InterpolationNumber (AnimatedTransform·interpolate m time .refusal)
+interpolate-refusal m time = interpolate-answered m time .number
+
+pub interpolate-refused : (m : AnimatedTransform) (time : Float) → (AnimatedTransform·interpolate m time .refusal ≡ 0 → ⊥)
+    → AnimatedTransform·interpolate m time ≡ TransformAnswer·refused (AnimatedTransform·interpolate m time .refusal)
+interpolate-refused m time = interpolate-answered m time .zero

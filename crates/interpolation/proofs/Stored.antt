@@ -1,0 +1,46 @@
+-- Which answer the time chooses: 6 for a NaN (`interpolate-nan`), the stored transforms at and outside the end times and where the poses are equal (`interpolate-start`,
+-- `interpolate-end`, `interpolate-equal`), and the work at dt between them (`interpolate-between`).
+use mathlib.Core.Path.{_≡_, refl, _∙_}
+use mathlib.Core.Bool.{Bool, true, false, not, _||_, cond}
+use lib.Dec.{T}
+use lib.Ieee.{Float, isNan, le}
+use Rattle.transform.specs.declared.TransformAnswer.{TransformAnswer}
+use Rattle.transform.specs.Transform.{TransformAnswer·refused, Transform·eq}
+use Rattle.unit_interval.specs.Unit.{dt}
+use Rattle.animated_transform.specs.declared.AnimatedTransform.{AnimatedTransform}
+use Rattle.animated_transform.specs.AtTime.{atStart, atEnd}
+use Rattle.animated_transform.specs.Built.{Built}
+use Rattle.animated_transform.proofs.Built.{built-judged}
+use Rattle.interpolation.specs.Interpolate.{TransformAnswer·accepted, AnimatedTransform·poseAt, AnimatedTransform·interpolate}
+use Rattle.interpolation.specs.Promise.{Between}
+
+taken : (b : Bool) (x y : TransformAnswer) → T b → cond b x y ≡ x
+taken true x y h = refl
+
+left : (b : Bool) (x y : TransformAnswer) → T (not b) → cond b x y ≡ y
+left false x y h = refl
+
+module _ (m : AnimatedTransform) (time : Float) where
+  pub interpolate-nan : T (isNan time) → AnimatedTransform·interpolate m time ≡ TransformAnswer·refused 6
+  unfolding AnimatedTransform·interpolate
+  interpolate-nan n = taken (isNan time) _ _ n
+
+  pub interpolate-start : T (not (isNan time)) → T (atStart m time) → AnimatedTransform·interpolate m time ≡ TransformAnswer·accepted (m .«start_transform»)
+  unfolding AnimatedTransform·interpolate
+  interpolate-start n s = left (isNan time) _ _ n ∙ taken (atStart m time) _ _ s
+
+  pub interpolate-end : T (not (isNan time)) → T (not (atStart m time)) → T (atEnd m time) → AnimatedTransform·interpolate m time ≡ TransformAnswer·accepted (m .«end_transform»)
+  unfolding AnimatedTransform·interpolate
+  interpolate-end n s e = left (isNan time) _ _ n ∙ left (atStart m time) _ _ s ∙ taken (atEnd m time) _ _ e
+
+  pub interpolate-between : Between m time → AnimatedTransform·interpolate m time ≡ AnimatedTransform·poseAt m (dt (m .«start_time») (m .«end_time») time)
+  unfolding AnimatedTransform·interpolate
+  interpolate-between b = left (isNan time) _ _ (b .number) ∙ left (atStart m time) _ _ (b .after) ∙ left (atEnd m time) _ _ (b .before)
+
+  pub interpolate-equal : Built m → T (not (isNan time)) → T (Transform·eq (m .«start_transform») (m .«end_transform»))
+      → AnimatedTransform·interpolate m time ≡ TransformAnswer·accepted (m .«start_transform»)
+  interpolate-equal b n e =
+      interpolate-start n (still (Transform·eq (m .«start_transform») (m .«end_transform»)) (m .«actually_animated») e (built-judged b .animated))
+    where
+      still : (e a : Bool) → T e → a ≡ not e → T (not a || le time (m .«start_time»))
+      still true a t p = rw p tt

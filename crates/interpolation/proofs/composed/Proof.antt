@@ -1,0 +1,65 @@
+-- `composed` meets its contract: the two products in the order of the definition, then one test.
+use Rattle.interpolation.specs.Interpolate.{composed}
+use borrow.Author.Needs.{needs}
+use Rattle.interpolation.proofs.composed.Statement.{statement}
+use Rattle.interpolation.proofs.composed.Tie as tie
+use Rattle.matrix4x4.proofs.is_finite.Reads as is-finite-reads′
+
+translate-requires : tie.Need-translate-requires
+translate-requires c κs = search needs
+
+transform-from-quaternion-requires : tie.Need-transform-from-quaternion-requires
+transform-from-quaternion-requires c κs = search needs
+
+mul-requires : tie.Need-mul-requires
+mul-requires c κs = search needs
+
+is-finite-requires : tie.Need-is-finite-requires
+is-finite-requires c κs = search needs
+
+to-rows-requires : tie.Need-to-rows-requires
+to-rows-requires c κs = search needs
+
+is-finite-requires-2 : tie.Need-is-finite-requires-2
+is-finite-requires-2 c κs = search needs
+
+is-finite-requires-3 : tie.Need-is-finite-requires-3
+is-finite-requires-3 c κs = search needs
+
+is-finite-requires-4 : tie.Need-is-finite-requires-4
+is-finite-requires-4 c κs = search needs
+
+is-finite-requires-5 : tie.Need-is-finite-requires-5
+is-finite-requires-5 c κs = search needs
+
+scaled-requires : tie.Need-scaled-requires
+scaled-requires c κs = search needs
+
+refused-requires : tie.Need-refused-requires
+refused-requires c κs = search needs
+
+returns : tie.Need-returns
+unfolding composed
+returns c = rw (c .scaled .ensures, ← c .before .before .before .before .before .before .before .before .before .before .translate .ensures, ← c .before .before .before .before .before .before .before .before .before .transform-from-quaternion .ensures, ← c .before .before .before .before .before .before .before .before .mul .ensures, ← c .before .before .before .before .before .before .before .is-finite .ensures, ← c .before .before .before .before .before .before .to-rows .ensures, ← c .before .before .before .before .before .is-finite2 .ensures, ← c .before .before .before .before .is-finite3 .ensures, ← c .before .before .before .is-finite4 .ensures, ← c .before .before .is-finite5 .ensures, c .before .if1 .taken)
+
+returns-2 : tie.Need-returns-2
+unfolding composed
+returns-2 c = rw (c .refused .ensures, ← c .before .before .before .before .before .before .before .before .before .before .translate .ensures, ← c .before .before .before .before .before .before .before .before .before .transform-from-quaternion .ensures, ← c .before .before .before .before .before .before .before .before .mul .ensures, ← c .before .before .before .before .before .before .before .is-finite .ensures, ← c .before .before .before .before .before .before .to-rows .ensures, ← c .before .before .before .before .before .is-finite2 .ensures, ← c .before .before .before .before .is-finite3 .ensures, ← c .before .before .before .is-finite4 .ensures, ← c .before .before .is-finite5 .ensures, c .before .if1 .left)
+
+pub composed-spec : {M : Type 1} → statement M
+composed-spec =
+    tie.close
+    (tie.spec
+    translate-requires
+    transform-from-quaternion-requires
+    mul-requires
+    is-finite-requires
+    to-rows-requires
+    is-finite-requires-2
+    is-finite-requires-3
+    is-finite-requires-4
+    is-finite-requires-5
+    scaled-requires
+    refused-requires
+    returns
+    returns-2)

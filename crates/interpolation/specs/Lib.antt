@@ -1,0 +1,3 @@
+pub mod Interpolate
+pub mod Promise
+pub mod Computing

@@ -1,0 +1,111 @@
+// pbrt's `AnimatedTransform::interpolate`: the transform of a move at a time, both halves, judged.
+// At and outside the end times, and where the two poses are equal, it is a stored transform; between them it is worked out, and refused by 4 or 5, whichever is met first.
+use animated_transform::AnimatedTransform;
+use matrix4x4::Matrix4x4;
+use quaternion::Quaternion;
+use transform::Transform;
+use transform::TransformAnswer;
+use vector3::Vector3f;
+ghost use mathlib.Core.Path.{_≡_};
+ghost use Rattle.matrix4x4.specs.Rows.{Matrix4x4·toRows};
+ghost use Rattle.transform.specs.Transform.{TransformAnswer·refused};
+ghost use Rattle.interpolation.specs.Interpolate.{Transform·isFinite, TransformAnswer·judged, scaled, composed, AnimatedTransform·poseAt, AnimatedTransform·interpolate};
+
+fn refused(refusal: u8) -> TransformAnswer
+    ensures value { λ r. ⌜ r ≡ TransformAnswer·refused refusal ⌝ }
+{
+    let z = Matrix4x4 {
+        r0: [0.0; 4],
+        r1: [0.0; 4],
+        r2: [0.0; 4],
+        r3: [0.0; 4],
+    };
+    let transform = Transform { m: z, m_inv: z };
+    TransformAnswer { transform, refusal }
+}
+
+// Both halves.
+fn is_finite(t: Transform) -> bool
+    ensures value { λ r. ⌜ r ≡ Transform·isFinite t ⌝ }
+{
+    matrix4x4::is_finite(t.m.to_rows()) & matrix4x4::is_finite(t.m_inv.to_rows())
+}
+
+fn judged(transform: Transform) -> TransformAnswer
+    ensures value { λ r. ⌜ r ≡ TransformAnswer·judged transform ⌝ }
+{
+    if is_finite(transform) {
+        TransformAnswer {
+            transform,
+            refusal: 0,
+        }
+    } else {
+        refused(5)
+    }
+}
+
+// The scale's inverse is met here, after the first product and before the last.
+fn scaled(first: Transform, scale: Matrix4x4) -> TransformAnswer
+    ensures value { λ r. ⌜ r ≡ scaled first (Matrix4x4·toRows scale) ⌝ }
+{
+    let s = Transform::from_matrix(scale.to_rows());
+    if s.refusal == 0 {
+        judged(first.mul(s.transform))
+    } else {
+        refused(s.refusal)
+    }
+}
+
+// pbrt's last line: Transform::translate(&trans) * rotate.into() * Transform::from_matrix(&scale).
+fn composed(trans: Vector3f, rotate: Quaternion, scale: Matrix4x4) -> TransformAnswer
+    ensures value { λ r. ⌜ r ≡ composed trans rotate (Matrix4x4·toRows scale) ⌝ }
+{
+    let translation = Transform::translate(trans);
+    let rotation = rotation::transform_from_quaternion(rotate);
+    let first = translation.mul(rotation);
+    let finite = rotate.is_finite()
+        & matrix4x4::is_finite(scale.to_rows())
+        & is_finite(translation)
+        & is_finite(rotation)
+        & is_finite(first);
+    if finite {
+        scaled(first, scale)
+    } else {
+        refused(5)
+    }
+}
+
+// The work between the two poses: dt runs from 0 to 1.
+fn pose_at(m: AnimatedTransform, dt: f32) -> TransformAnswer
+    ensures value { λ r. ⌜ r ≡ AnimatedTransform·poseAt m dt ⌝ }
+{
+    let trans = pose_parts::translation(m.t0, m.t1, dt);
+    let rotate = quaternion::slerp(m.r0, m.r1, dt);
+    let scale = pose_parts::scale(m.s0, m.s1, dt);
+    composed(trans, rotate, scale)
+}
+
+// Refused with 6 for a NaN time, and between the two poses with 4 or 5; pbrt goes on where this refuses.
+// Accuracy: each sum, difference, product and quotient is correctly rounded.
+pub fn interpolate(m: AnimatedTransform, time: f32) -> TransformAnswer
+    ensures value { λ r. ⌜ r ≡ AnimatedTransform·interpolate m time ⌝ }
+{
+    if time != time {
+        return refused(6);
+    }
+    if !m.actually_animated | (time <= m.start_time) {
+        let transform = m.start_transform;
+        return TransformAnswer {
+            transform,
+            refusal: 0,
+        };
+    }
+    if time >= m.end_time {
+        let transform = m.end_transform;
+        return TransformAnswer {
+            transform,
+            refusal: 0,
+        };
+    }
+    pose_at(m, (time - m.start_time) / (m.end_time - m.start_time))
+}
