@@ -1,3 +1,5 @@
 pub mod Numbers
 pub mod Stored
 pub mod Finite
+pub mod Pose
+pub mod Cases
