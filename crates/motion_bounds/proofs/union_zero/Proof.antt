@@ -1,0 +1,61 @@
+-- `union_zero` meets its contract: each arm is its case of `unionMoved`.
+use Rattle.transform.specs.TransformBounds.{BoundsAnswer·unionMoved}
+use Rattle.motion_bounds.specs.MotionBounds.{unionZero}
+use borrow.Author.Needs.{needs}
+use Rattle.motion_bounds.proofs.union_zero.Statement.{statement}
+use Rattle.motion_bounds.proofs.union_zero.Tie as tie
+
+enum-known-r : tie.Need-enum-known-r
+enum-known-r c = search needs
+
+lerp-requires : tie.Need-lerp-requires
+lerp-requires c κs = search needs
+
+moved-point-requires : tie.Need-moved-point-requires
+moved-point-requires c κs = search needs
+
+enum-known-q : tie.Need-enum-known-q
+enum-known-q c = search needs
+
+union-point-requires : tie.Need-union-point-requires
+union-point-requires c κs = search needs
+
+enum-known-q-2 : tie.Need-enum-known-q-2
+enum-known-q-2 c = search needs
+
+enum-told : tie.Need-enum-told
+enum-told c = search needs
+
+returns : tie.Need-returns
+unfolding unionZero BoundsAnswer·unionMoved
+returns c =
+    rw (
+      c .before .before .before .before .before .before .before .r .given .1,
+      ← c .before .before .before .before .before .lerp .ensures,
+      ← c .before .before .before .before .moved-point .ensures,
+      c .before .before .q .given .1,
+      c .union-point .ensures,
+    )
+
+returns-2 : tie.Need-returns-2
+unfolding unionZero BoundsAnswer·unionMoved
+returns-2 c = rw (c .before .before .before .before .before .before .r .given .1, ← c .before .before .before .before .lerp .ensures, ← c .before .before .before .moved-point .ensures, c .before .q2 .given .1)
+
+returns-3 : tie.Need-returns-3
+unfolding unionZero BoundsAnswer·unionMoved
+returns-3 c = rw (c .enum-told .given .1)
+
+pub union-zero-spec : {M : Type 1} → statement M
+union-zero-spec =
+    tie.close
+    (tie.spec
+    enum-known-r
+    lerp-requires
+    moved-point-requires
+    enum-known-q
+    union-point-requires
+    enum-known-q-2
+    enum-told
+    returns
+    returns-2
+    returns-3)

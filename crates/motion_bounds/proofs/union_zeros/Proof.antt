@@ -1,0 +1,58 @@
+-- `union_zeros` meets its contract. The invariant: the places below k are joined.
+use Prim.Native.Nat.{_≤_, _-_}
+use mathlib.Core.Path.{_≡_}
+use native.Mathlib.Omega.{arith}
+use lib.ListN.{getD}
+use lib.Ieee.{nan}
+use borrow.Author.Needs.{needs}
+use Rattle.matrix_inverse.specs.Loop.{loop}
+use Rattle.matrix_inverse.proofs.Loop.{loop-start, loop-next, loop-end}
+use Rattle.motion_bounds.specs.MotionBounds.{unionZero, unionZeros}
+use Rattle.motion_bounds.proofs.union_zeros.Statement.{statement}
+use Rattle.motion_bounds.proofs.union_zeros.Tie as tie
+
+abbrev Inv-loop : tie.InvT-loop
+Inv-loop m a p zeros s₀ k₀ s k = (k ≤ 8) × (s ≡ loop (λ j. unionZero m a p (getD zeros j nan)) k s₀)
+
+abbrev μ-loop : tie.MeasureT-loop
+μ-loop m a p zeros s₀ k₀ s k = 8 - k
+
+loop-holds : tie.Need-loop-holds Inv-loop μ-loop
+loop-holds c = (search needs, loop-start _ _)
+
+mul-union-zero : tie.Need-mul-union-zero Inv-loop μ-loop
+mul-union-zero c = search needs
+
+array-read-union-zero : tie.Need-array-read-union-zero Inv-loop μ-loop
+array-read-union-zero c = search needs
+
+union-zero-requires : tie.Need-union-zero-requires Inv-loop μ-loop
+union-zero-requires c κs = search needs
+
+add-k : tie.Need-add-k Inv-loop μ-loop
+add-k c = search needs
+
+loop-less : tie.Need-loop-less Inv-loop μ-loop
+loop-less c = search needs
+
+loop-again : tie.Need-loop-again Inv-loop μ-loop
+loop-again c = (search needs, loop-next _ _ _ _ _ (c .before .before .loop .inv .1) (c .union-zero .ensures))
+
+returns : tie.Need-returns Inv-loop μ-loop
+unfolding unionZeros
+returns c = loop-end _ _ 8 _ _ (omega arith) (c .before .loop .inv .1)
+
+pub union-zeros-spec : {M : Type 1} → statement M
+union-zeros-spec =
+    tie.close
+    (tie.spec
+    Inv-loop
+    μ-loop
+    loop-holds
+    mul-union-zero
+    array-read-union-zero
+    union-zero-requires
+    add-k
+    loop-less
+    loop-again
+    returns)
