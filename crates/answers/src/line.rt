@@ -1,6 +1,7 @@
 // The lines of the input. An empty line, or one that starts with #, has no answer.
 use crate::angles;
 use crate::matrices;
+use crate::moves;
 use crate::numbers;
 use crate::output::put_error;
 use crate::output::send;
@@ -9,15 +10,22 @@ use crate::question::Kind;
 use crate::question::Question;
 use crate::question::parse;
 use crate::text::part;
+use animated_transform::AnimatedTransformAnswer;
 
-// What lasts from line to line: how many bytes of the output are not sent yet.
+// What lasts from line to line: how many bytes of the output are not sent yet, and the last move that was asked for, none where it was refused.
 pub struct State {
     pub written: usize,
+    pub kept: AnimatedTransformAnswer,
 }
 
 impl State {
     pub fn at(mut self, end: usize) -> State {
         self.written = end;
+        self
+    }
+
+    pub fn keep(mut self, built: AnimatedTransformAnswer) -> State {
+        self.kept = built;
         self
     }
 }
@@ -71,5 +79,7 @@ fn answer(q: Question, out: &mut [u8], s: State) -> State {
         Kind::Angle(a) => s.at(angles::answer(a, q, out, at)),
         Kind::Matrix(m) => s.at(matrices::answer(m, q, out, at)),
         Kind::Part(p) => s.at(parts::answer(p, q, out, at)),
+        Kind::Build => moves::build(q, out, s),
+        Kind::Move(m) => s.at(moves::answer(m, out, at, s.kept)),
     }
 }

@@ -3,6 +3,7 @@
 mod angles;
 mod line;
 mod matrices;
+mod moves;
 mod numbers;
 mod output;
 mod parts;
@@ -31,7 +32,10 @@ fn main() {
     let mut b = Block {
         held: 0,
         more: true,
-        state: State { written: 0 },
+        state: State {
+            written: 0,
+            kept: moves::none(),
+        },
     };
     let mut turns = u64::MAX;
     while turns > 0 {

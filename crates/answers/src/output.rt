@@ -3,6 +3,7 @@ use crate::text::part;
 use bounds3::Bounds3f;
 use bounds3::Point3f;
 use quaternion::Quaternion;
+use vector3::Vector3f;
 
 // Sends the first bytes of the output.
 pub fn send(out: &[u8], written: usize) {
@@ -69,10 +70,20 @@ pub fn put_matrix(out: &mut [u8], at: usize, m: [[f32; 4]; 4]) -> usize {
 
 // The answer to a question that asks for a quaternion.
 pub fn put_ok_quaternion(out: &mut [u8], at: usize, q: Quaternion) -> usize {
-    let v = q.v;
     let ok = put_text(out, at, b"ok");
-    let end = put_row(out, ok, [v.x, v.y, v.z, q.w]);
+    let end = put_quaternion(out, ok, q);
     put(out, end, b'\n')
+}
+
+pub fn put_quaternion(out: &mut [u8], at: usize, q: Quaternion) -> usize {
+    let v = q.v;
+    put_row(out, at, [v.x, v.y, v.z, q.w])
+}
+
+pub fn put_vector(out: &mut [u8], at: usize, v: Vector3f) -> usize {
+    let x = put_float(out, at, v.x);
+    let y = put_float(out, x, v.y);
+    put_float(out, y, v.z)
 }
 
 // The answer to a question that asks for a box.

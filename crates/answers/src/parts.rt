@@ -2,11 +2,12 @@
 use crate::matrices::float_at;
 use crate::matrices::matrix_at;
 use crate::output::put;
-use crate::output::put_float;
 use crate::output::put_matrix;
+use crate::output::put_quaternion;
 use crate::output::put_refused;
 use crate::output::put_row;
 use crate::output::put_text;
+use crate::output::put_vector;
 use crate::question::Form;
 use crate::question::Kind;
 use crate::question::Question;
@@ -41,16 +42,11 @@ fn answer_decompose(words: [u32; 34], out: &mut [u8], at: usize) -> usize {
     if d.refusal != 0 {
         return put_refused(out, at, d.refusal);
     }
-    let t = d.t;
-    let r = d.r;
     let s = d.s;
     let ok = put_text(out, at, b"ok");
-    let x = put_float(out, ok, t.x);
-    let y = put_float(out, x, t.y);
-    let z = put_float(out, y, t.z);
-    let v = r.v;
-    let quaternion = put_row(out, z, [v.x, v.y, v.z, r.w]);
-    let end = put_matrix(out, quaternion, s.to_rows());
+    let translation = put_vector(out, ok, d.t);
+    let rotation = put_quaternion(out, translation, d.r);
+    let end = put_matrix(out, rotation, s.to_rows());
     put(out, end, b'\n')
 }
 

@@ -3,6 +3,8 @@ use crate::angles;
 use crate::angles::Angle;
 use crate::matrices;
 use crate::matrices::Matrix;
+use crate::moves;
+use crate::moves::Move;
 use crate::numbers;
 use crate::numbers::Number;
 use crate::parts;
@@ -17,6 +19,8 @@ pub enum Kind {
     Angle(Angle),
     Matrix(Matrix),
     Part(Part),
+    Build,
+    Move(Move),
 }
 
 // What comes after a name: a decimal number or none, then floats, at most 34.
@@ -63,7 +67,11 @@ fn form_of(name: &[u8]) -> Form {
     if is_known(matrix) {
         return matrix;
     }
-    parts::form_of(name)
+    let part = parts::form_of(name);
+    if is_known(part) {
+        return part;
+    }
+    moves::form_of(name)
 }
 
 fn is_known(f: Form) -> bool {

@@ -11,6 +11,9 @@ Inv-loop input₀ out₀ b₀ turns₀ input out b turns = (16384 ≡ length inp
 abbrev μ-loop : tie.MeasureT-loop
 μ-loop input₀ out₀ b₀ turns₀ input out b turns = turns
 
+none-requires : tie.Need-none-requires Inv-loop μ-loop
+none-requires c κs = search needs
+
 loop-holds : tie.Need-loop-holds Inv-loop μ-loop
 loop-holds c = search needs
 
@@ -44,6 +47,7 @@ main-spec =
     (tie.spec
     Inv-loop
     μ-loop
+    none-requires
     loop-holds
     slice-aggregate-answer-block
     slice-aggregate-answer-block-2
