@@ -3,7 +3,8 @@
 # Each group's expected values come from outside the libraries:
 #   numbers                  hardware float arithmetic   tools/number_vectors.rs
 #   angles                   exact fractions             tools/angle_vectors.py
-#   matrices, boxes, zeros   the original Rust           oracle/ (which says where it looks for pbrt-rust's sources)
+#   matrices, boxes, zeros,
+#   moves                    the original Rust           oracle/ (which says where it looks for pbrt-rust's sources)
 set -eu
 cd "$(dirname "$0")/.."
 made=$(mktemp -d)
@@ -17,6 +18,7 @@ cargo build --quiet --release --offline --manifest-path oracle/Cargo.toml --targ
 "$made/oracle/release/vectors" matrices 1500 1 >"$made/questions"
 "$made/oracle/release/vectors" boxes 500 1 >>"$made/questions"
 "$made/oracle/release/vectors" motion 500 1 | grep '^zeros' >>"$made/questions"
+"$made/oracle/release/vectors" moves 2350 1 | grep -i '^move\|^parts' >>"$made/questions"
 cat "$made/questions" >>"$made/stdin"
 "$made/oracle/release/answers" <"$made/questions" >>"$made/stdout"
 cp "$made/stdin" "$made/stdout" crates/answers/

@@ -27,6 +27,10 @@ const INFINITY: f32 = f32::INFINITY;
 const IDENTITY: [f32; 16] = [1., 0., 0., 0., 0., 1., 0., 0., 0., 0., 1., 0., 0., 0., 0., 1.];
 const ORIGIN: [f32; 6] = [0.0; 6];
 
+fn power_of_two(power: i32) -> f64 {
+    f64::from_bits(((power + 1023) as u64) << 52)
+}
+
 /// splitmix64.
 struct Random(u64);
 
@@ -76,7 +80,7 @@ impl Random {
             _ => self.next() as u32 & 0x7f_ffff,
         };
         let power = low + self.below((high - low + 1) as usize) as i32;
-        let size = f64::from(significand | 0x80_0000) / f64::from(0x80_0000) * f64::from_bits(((power + 1023) as u64) << 52);
+        let size = f64::from(significand | 0x80_0000) / f64::from(0x80_0000) * power_of_two(power);
         let size = size as f32;
         if self.one_in(2) {
             size
@@ -790,6 +794,28 @@ fn threshold_moves() -> Vec<Move> {
     moves
 }
 
+/// Poses at which building stops, each at another place of its work, and at last one that is built.
+fn stopping_poses() -> Vec<[f32; 16]> {
+    let p = power_of_two;
+    let linear = |rows| from_rows(rows, [0.0; 3]);
+    let far = (1.5 * p(127)) as f32;
+    vec![
+        // The inverse: 4, 5.
+        diagonal(1., 1., 0., 1.),
+        diagonal(1e-45, 1., 1., 1.),
+        // The inverse of the first polar round: 4, 5.
+        linear([[0., 0., p(-90)], [p(81), 0., p(88)], [0., 1., 0.]]),
+        linear([[p(80), 0., p(50)], [0., 1., p(-61)], [p(-80), p(-71), 0.]]),
+        // The inverse of a later round: 4.
+        linear([[1., 0., 0.], [p(115), p(124), p(88)], [1., 0., p(-119)]]),
+        // S, whose last column is the translation turned back: 5.
+        from_rows([[2., -2., 0.], [2., 2., 0.], [0., 0., 4.]], [far, far, 0.0]),
+        // The hundredth polar round is the last, and the first with a small norm.
+        linear([[0., 1., 0.], [0., 0., 1.], [p(-96), 0., 0.]]),
+        IDENTITY,
+    ]
+}
+
 fn fixed_moves<W: Write>(q: &mut Questions<W>) {
     // No move is kept yet.
     for question in
@@ -803,6 +829,8 @@ fn fixed_moves<W: Write>(q: &mut Questions<W>) {
         changed
     };
     let times = |m: Move, start: f32, end: f32| Move { times: [start, end], ..m };
+    let far = power_of_two(127) as f32;
+    let half_turn_about_x = [[1., 0., 0.], [0., -1., 0.], [0., 0., -1.]];
     let mut moves = vec![
         move_a(),
         move_b(),
@@ -835,8 +863,30 @@ fn fixed_moves<W: Write>(q: &mut Questions<W>) {
         Move { times: [0.0, 1.0], poses: [translated(f32::MAX, 0., 0.), translated(f32::MAX, 0., 0.)] },
         Move { times: [0.0, 1.0], poses: [translated(f32::MAX, 0., 0.), translated(f32::MIN, 1., 0.)] },
         ninth_zero().0,
+        // A mirror has a quaternion that is shorter than 1: parallel to the other one it leaves no perpendicular, 5.
+        Move { times: [0.0, 1.0], poses: [IDENTITY, diagonal(1., 1., -1., 1.)] },
+        Move { times: [0.0, 1.0], poses: [diagonal(-1., 1., 1., 1.), diagonal(1., -1., 1., 1.)] },
+        Move { times: [0.0, 1.0], poses: [diagonal(-1., -1., -1., 1.), diagonal(-1., -1., -1., 1.)] },
+        // Coefficients that are not finite, 5: of the translations alone, and of the linear parts alone. Without rotation there are none.
+        Move { times: [0.0, 1.0], poses: [translated(0., -far, 0.), from_rows(half_turn_about_x, [0.0, far, 0.0])] },
+        Move { times: [0.0, 1.0], poses: [translated(0., -far, 0.), translated(0., far, 0.)] },
+        Move {
+            times: [0.0, 1.0],
+            poses: [
+                from_rows([[0., power_of_two(127), 0.], [1., 0., 0.], [0., 0., 1.]], [0.0; 3]),
+                from_rows([[1., 0., 0.], [0., 0., 1.], [0., 1., 0.]], [0.0; 3]),
+            ],
+        },
+        // Every zero negative.
+        Move { times: [-0.0, -0.0], poses: [IDENTITY, IDENTITY].map(|pose| pose.map(|x| if x == 0.0 { -0.0 } else { x })) },
+        Move { times: [-0.0, 0.0], poses: quarter_turn().poses.map(|pose| pose.map(|x| if x == 0.0 { -0.0 } else { x })) },
     ];
     moves.extend(threshold_moves());
+    for start in stopping_poses() {
+        for end in stopping_poses() {
+            moves.push(Move { times: [0.0, 1.0], poses: [start, end] });
+        }
+    }
     for m in &moves {
         q.ask_move(m);
         q.ask("parts", &[]);
@@ -850,6 +900,14 @@ fn fixed_moves<W: Write>(q: &mut Questions<W>) {
             q.ask("point", &[&[0.5], &p]);
         }
     }
+    // A malformed line leaves the move that is kept.
+    q.ask_move(&move_a());
+    q.ask("move", &[&[0.0], &IDENTITY, &IDENTITY]);
+    q.ask("move", &[&[0.0], &IDENTITY, &[1.0], &IDENTITY, &[0.0]]);
+    for line in ["move", "parts ", "parts 00000000", "Parts", "point 00000000", "interp", "interp 0"] {
+        q.line(line);
+    }
+    q.ask("parts", &[]);
 }
 
 fn random_move<W: Write>(q: &mut Questions<W>, r: &mut Random) {
