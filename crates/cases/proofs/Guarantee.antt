@@ -1,0 +1,28 @@
+-- Move A meets the guarantee's hypotheses, by computing (`hypotheses-met`), and what the guarantee says of it (`midpoint-covered`).
+use mathlib.Core.Path.{refl}
+use lib.Ieee.{fits}
+use Rattle.rounding.specs.Order.{_≼_}
+use Rattle.animated_transform.specs.Computing as building
+use Rattle.motion_cover.specs.Computing as cover
+use Rattle.motion_cover.proofs.Contains.{cover-contains}
+use Rattle.cases.specs.Cases.{zero, one, half, identityAt, shiftedAt, origin, originBox, unitSegment}
+use Rattle.cases.specs.Guarantee.{moveA, HypothesesMet, MidpointCovered}
+
+zero-refl : zero ≼ zero
+unfolding building.computing
+zero-refl = record { holds = tt }
+
+pub hypotheses-met : HypothesesMet
+unfolding fits building.computing cover.computing
+hypotheses-met =
+    record {
+      built = record { start = identityAt zero; end = shiftedAt one; start-binary32 = tt; end-binary32 = tt; accepted = refl };
+      accepted = refl;
+      time = tt;
+      inside = record { x = (zero-refl, zero-refl); y = (zero-refl, zero-refl); z = (zero-refl, zero-refl) };
+    }
+
+pub midpoint-covered : MidpointCovered
+midpoint-covered =
+    let h = hypotheses-met in
+    cover-contains moveA originBox 1 unitSegment half origin (h .built) (h .accepted) (h .time) (h .inside)
