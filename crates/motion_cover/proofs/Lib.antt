@@ -4,3 +4,4 @@ pub mod Number
 pub mod Proper
 pub mod Stored
 pub mod Slices
+mod Cases
