@@ -52,9 +52,13 @@ axisZeros a p d =
     (DerivativeTerm·eval (d .c5) p) (a .theta)
 
 module _ (m : AnimatedTransform) (a : RigidMotion) (p : Point3f) where
-  -- bounds.union_point(&self.transform_point(lerp(*item, self.start_time, self.end_time), p))
+  -- let pz = self.transform_point(lerp(*item, self.start_time, self.end_time), p)
+  unfoldable pub pointAt : Float → PointAnswer
+  pointAt item = AnimatedTransform·movedPoint m a (lerp item (m .«start_time») (m .«end_time»)) p
+
+  -- bounds.union_point(&pz)
   unfoldable pub unionZero : Float → BoundsAnswer → BoundsAnswer
-  unionZero item r = BoundsAnswer·unionMoved r (AnimatedTransform·movedPoint m a (lerp item (m .«start_time») (m .«end_time»)) p)
+  unionZero item r = BoundsAnswer·unionMoved r (pointAt item)
 
   -- `for item in &zeros`, the first n of them
   unfoldable pub unionZeros : List Float → ℕ → BoundsAnswer → BoundsAnswer

@@ -11,7 +11,7 @@ use transform::PointAnswer;
 use zero_search::Zeros;
 ghost use mathlib.Core.Path.{_≡_};
 ghost use Rattle.transform.specs.TransformBounds.{BoundsAnswer·fromMoved};
-ghost use Rattle.motion_bounds.specs.MotionBounds.{DerivativeTerm·eval, BoundsAnswer·fromEnds, unionZero, unionZeros, allPlaces, axisZeros, unionAxis, AnimatedTransform·pointBounds, unionCorner, unionCorners, AnimatedTransform·boxBounds, AnimatedTransform·boundPointMotion, AnimatedTransform·motionBounds};
+ghost use Rattle.motion_bounds.specs.MotionBounds.{DerivativeTerm·eval, BoundsAnswer·fromEnds, pointAt, unionZero, unionZeros, allPlaces, axisZeros, unionAxis, AnimatedTransform·pointBounds, unionCorner, unionCorners, AnimatedTransform·boxBounds, AnimatedTransform·boundPointMotion, AnimatedTransform·motionBounds};
 
 // kc + kx * x + ky * y + kz * z. Accuracy: each operation is correctly rounded.
 fn eval(k: DerivativeTerm, p: Point3f) -> f32
@@ -43,6 +43,13 @@ fn from_ends(start: PointAnswer, end: PointAnswer) -> BoundsAnswer
     }
 }
 
+// The point at one zero's time, which may be an infinity: that means a stored pose.
+fn point_at(m: AnimatedTransform, a: RigidMotion, p: Point3f, zero: f32) -> PointAnswer
+    ensures value { λ r. ⌜ r ≡ pointAt m a p zero ⌝ }
+{
+    motion_point::moved_point(m, a, float32::lerp(zero, m.start_time, m.end_time), p)
+}
+
 // The box with the point at one zero's time; after a refusal nothing is worked out.
 fn union_zero(
     m: AnimatedTransform,
@@ -55,12 +62,7 @@ fn union_zero(
 {
     match r {
         BoundsAnswer::Bounds(b) => {
-            let q = motion_point::moved_point(
-                m,
-                a,
-                float32::lerp(zero, m.start_time, m.end_time),
-                p,
-            );
+            let q = point_at(m, a, p, zero);
             match q {
                 PointAnswer::Moved(pz) => BoundsAnswer::Bounds(b.union_point(pz)),
                 PointAnswer::Refused(n) => BoundsAnswer::Refused(n),

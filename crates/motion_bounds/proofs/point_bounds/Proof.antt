@@ -32,15 +32,15 @@ union-axis-requires-3 c κs = search needs
 returns-2 : tie.Need-returns-2
 unfolding AnimatedTransform·pointBounds
 returns-2 c =
-    rw (
-      c .before .before .before .before .before .before .if1 .left,
+    rw (c .before .before .before .before .before .before .if1 .left)
+    (cc (
       c .union-axis3 .ensures,
       c .before .union-axis2 .ensures,
       c .before .before .union-axis .ensures,
       c .before .before .before .before .from-ends .ensures,
       c .before .before .before .before .before .transform-point2 .ensures .0,
       c .before .before .before .before .before .before .before .before .transform-point .ensures .0,
-    )
+    ))
 
 pub point-bounds-spec : {M : Type 1} → statement M
 point-bounds-spec =

@@ -8,11 +8,8 @@ use Rattle.motion_bounds.proofs.union_zero.Tie as tie
 enum-known-r : tie.Need-enum-known-r
 enum-known-r c = search needs
 
-lerp-requires : tie.Need-lerp-requires
-lerp-requires c κs = search needs
-
-moved-point-requires : tie.Need-moved-point-requires
-moved-point-requires c κs = search needs
+point-at-requires : tie.Need-point-at-requires
+point-at-requires c κs = search needs
 
 enum-known-q : tie.Need-enum-known-q
 enum-known-q c = search needs
@@ -28,18 +25,11 @@ enum-told c = search needs
 
 returns : tie.Need-returns
 unfolding unionZero BoundsAnswer·unionMoved
-returns c =
-    rw (
-      c .before .before .before .before .before .before .before .r .given .1,
-      ← c .before .before .before .before .before .lerp .ensures,
-      ← c .before .before .before .before .moved-point .ensures,
-      c .before .before .q .given .1,
-      c .union-point .ensures,
-    )
+returns c = rw (c .before .before .before .before .before .before .r .given .1, ← c .before .before .before .before .point-at .ensures, c .before .before .q .given .1, c .union-point .ensures)
 
 returns-2 : tie.Need-returns-2
 unfolding unionZero BoundsAnswer·unionMoved
-returns-2 c = rw (c .before .before .before .before .before .before .r .given .1, ← c .before .before .before .before .lerp .ensures, ← c .before .before .before .moved-point .ensures, c .before .q2 .given .1)
+returns-2 c = rw (c .before .before .before .before .before .r .given .1, ← c .before .before .before .point-at .ensures, c .before .q2 .given .1)
 
 returns-3 : tie.Need-returns-3
 unfolding unionZero BoundsAnswer·unionMoved
@@ -50,8 +40,7 @@ union-zero-spec =
     tie.close
     (tie.spec
     enum-known-r
-    lerp-requires
-    moved-point-requires
+    point-at-requires
     enum-known-q
     union-point-requires
     enum-known-q-2
