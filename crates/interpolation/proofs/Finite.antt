@@ -1,4 +1,4 @@
--- What the tests on the way say where the work between the poses is not refused (`pose-at-accepted`), and that an answer of a built move that is not refused is finite in both halves
+-- What the tests on the way say where the work between the poses is not refused (`composed-accepted`), and that an answer of a built move that is not refused is finite in both halves
 -- (`interpolate-finite`).
 use mathlib.Core.Path.{_≡_, refl, _∙_}
 use mathlib.Core.Bool.{Bool, true, false, _&&_, cond}

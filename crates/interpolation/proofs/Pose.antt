@@ -1,5 +1,6 @@
 -- Between the two poses `interpolate` is pbrt's composition (`interpolate-composition`), and its matrix half is the matrix that the point query works, which is not refused there
--- (`interpolate-pose`); so the transform moves a finite point as the point query does (`interpolate-point`). The tests of `interpolate` are those of `Pose·matrix` on the same bits, stage by stage, and more on the inverse halves (`composed-passed`).
+-- (`interpolate-pose`); so the transform moves a finite point as the point query does (`interpolate-point`). The tests of `interpolate` are those of `Pose·matrix`, stage by stage on
+-- the same bits, and more on the inverse halves (`composed-passed`).
 use mathlib.Core.Path.{_≡_, refl, sym, ap, subst, _∙_}
 use mathlib.Core.Bool.{Bool, true, _&&_}
 use lib.Dec.{T}
