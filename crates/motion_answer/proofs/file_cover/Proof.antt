@@ -1,0 +1,51 @@
+-- `file_cover` meets its contract: the file's number and building's choose the case.
+use borrow.Author.Needs.{needs}
+use borrow.Author.Tests.{eq-eqb, ne-eqb}
+use Rattle.motion_answer.specs.Answer.{MoveFile·move, MoveFile·cover}
+use Rattle.motion_answer.proofs.file_cover.Statement.{statement}
+use Rattle.motion_answer.proofs.file_cover.Tie as tie
+
+returns : tie.Need-returns
+unfolding MoveFile·cover
+returns c = rw (ne-eqb _ 0 (c .if1 .taken))
+
+pose-requires : tie.Need-pose-requires
+pose-requires c κs = search needs
+
+pose-requires-2 : tie.Need-pose-requires-2
+pose-requires-2 c κs = search needs
+
+new-requires : tie.Need-new-requires
+new-requires c κs = search needs
+
+returns-2 : tie.Need-returns-2
+unfolding MoveFile·cover MoveFile·move
+returns-2 c =
+    rw
+    (eq-eqb _ 0 (c .before .before .before .before .before .before .before .if1 .left), ← c .before .before .before .before .pose .ensures, ← c .before .before .before .pose2 .ensures, ← c .before .before .new .ensures, ne-eqb _ 0 (c .if2 .taken))
+
+bounds-requires : tie.Need-bounds-requires
+bounds-requires c κs = search needs
+
+cover-requires : tie.Need-cover-requires
+cover-requires c κs = search needs
+
+returns-3 : tie.Need-returns-3
+unfolding MoveFile·cover MoveFile·move
+returns-3 c =
+    rw
+    (eq-eqb _ 0 (c .before .before .before .before .before .before .before .before .before .before .if1 .left), ← c .before .before .before .before .before .before .before .pose .ensures, ← c .before .before .before .before .before .before .pose2 .ensures, ← c .before .before .before .before .before .new .ensures, eq-eqb _ 0 (c .before .before .before .if2 .left), ← c .before .bounds .ensures)
+    (c .cover .ensures .0)
+
+pub file-cover-spec : {M : Type 1} → statement M
+file-cover-spec =
+    tie.close
+    (tie.spec
+    returns
+    pose-requires
+    pose-requires-2
+    new-requires
+    returns-2
+    bounds-requires
+    cover-requires
+    returns-3)

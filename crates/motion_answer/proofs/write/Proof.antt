@@ -1,0 +1,49 @@
+-- `write` meets its contract: each case of the answer has its text.
+use borrow.Author.Needs.{needs}
+use Rattle.motion_answer.specs.Answer.{BoundsAnswer·text}
+use Rattle.motion_answer.proofs.write.Statement.{statement}
+use Rattle.motion_answer.proofs.write.Tie as tie
+
+enum-known-cover : tie.Need-enum-known-cover
+enum-known-cover c = search needs
+
+values-requires : tie.Need-values-requires
+values-requires c κs = search needs
+
+write-bounds-requires : tie.Need-write-bounds-requires
+write-bounds-requires c κs = search needs
+
+enum-known-cover-2 : tie.Need-enum-known-cover-2
+enum-known-cover-2 c = search needs
+
+write-refusal-requires : tie.Need-write-refusal-requires
+write-refusal-requires c κs = search needs
+
+same-length : tie.Need-same-length
+same-length c = search needs
+
+returns : tie.Need-returns
+unfolding BoundsAnswer·text
+returns c =
+    rw (c .before .before .before .before .before .before .cover .given .1, ← c .before .before .before .before .values .ensures) (c .before .before .write-bounds .ensures)
+
+same-length-2 : tie.Need-same-length-2
+same-length-2 c = search needs
+
+returns-2 : tie.Need-returns-2
+unfolding BoundsAnswer·text
+returns-2 c = rw (c .before .before .before .before .before .cover2 .given .1) (c .before .before .write-refusal .ensures)
+
+pub write-spec : {M : Type 1} → statement M
+write-spec =
+    tie.close
+    (tie.spec
+    enum-known-cover
+    values-requires
+    write-bounds-requires
+    enum-known-cover-2
+    write-refusal-requires
+    same-length
+    returns
+    same-length-2
+    returns-2)
