@@ -2,6 +2,7 @@
 use Prim.Native.Nat.{_-_, _≤_}
 use mathlib.Core.Path.{sym}
 use native.Mathlib.Omega.{arith}
+use lib.Pow.{pow-lt}
 use borrow.Author.Needs.{needs}
 use Rattle.motion_cover.specs.Cover.{maxDepth}
 use Rattle.motion_cover.proofs.Slices.{slice-count, slice-end, Reached, reached-first, reached-next, slice-refused, reached-last}
@@ -53,8 +54,12 @@ returns c =
 union-bounds-requires : tie.Need-union-bounds-requires Inv-loop μ-loop
 union-bounds-requires c κs = search needs
 
+-- k stays below 2^13
 add-k : tie.Need-add-k Inv-loop μ-loop
-add-k c = search needs
+add-k c =
+    let d = c .before .before .before .before .before .before .before .before .before .args .d in
+    let h : d ≤ maxDepth = c .before .before .before .before .before .before .before .before .before .pre in
+    omega (arith, slice-count d h, pow-lt {i = d} {j = 13} (omega arith))
 
 loop-less : tie.Need-loop-less Inv-loop μ-loop
 loop-less c = search needs
