@@ -82,14 +82,14 @@ union-proper r s f g = record {
 }
 
 -- ---- an interval in another lies in itself
-subset-self : {D E : Interval} → Subset D E → Subset D D
+pub subset-self : {D E : Interval} → Subset D E → Subset D D
 subset-self {D} u = record { low = ≼-refl (D .low) (number-left (u .proper)); proper = u .proper; high = ≼-refl (D .high) (number-right (u .proper)) }
 
 -- ---- the parts of a cover, for a box that has passed its tests
-abbrev BoxRefines : Bounds3f → Type 0
+abbrev pub BoxRefines : Bounds3f → Type 0
 BoxRefines b = Pairwise Refines (IntervalVector·list (Bounds3f·intervals b)) (IntervalVector·list (Bounds3f·intervals b))
 
-box-refines : (b : Bounds3f) → Bounds3f·refusal b ≡ 0 → BoxRefines b
+pub box-refines : (b : Bounds3f) → Bounds3f·refusal b ≡ 0 → BoxRefines b
 box-refines b e =
     let (f, x, y, z) = refusal-accepted b e in
     let o : InOrder b = record { x = x; y = y; z = z } in
@@ -108,21 +108,21 @@ stored-proper t s b r =
     enclosure-proper (Pose·encloseTransformPoint 0 M B) (λ z. transformPoint-isotone 0 refl B B (stored-refines (t .m) (s .matrix)) r z .1)
 
 module _ {m : AnimatedTransform} (built : Built m) (b : Bounds3f) (r : BoxRefines b) where
-  piece-proper : (D : Interval) → Subset D unitInterval → Subset D D → Proper (AnimatedTransform·encloseBounds m (AnimatedTransform·rigidMotion m) D b)
+  pub piece-proper : (D : Interval) → Subset D unitInterval → Subset D D → Proper (AnimatedTransform·encloseBounds m (AnimatedTransform·rigidMotion m) D b)
   unfolding AnimatedTransform·encloseBounds
   piece-proper D u w =
       let B = Bounds3f·intervals b in
       let (s0, s1) = built-scales built in
       enclosure-proper (Pose·enclosePoint (AnimatedTransform·rigidMotion m) (m .s0) (m .s1) D B) (λ z. point-isotone (built-valid built) s0 s1 u w B B r z .1)
 
-  ends-proper : Proper (AnimatedTransform·encloseEnds m b)
+  pub ends-proper : Proper (AnimatedTransform·encloseEnds m b)
   unfolding AnimatedTransform·encloseEnds
   ends-proper =
       let j = built-judged built in
       union-proper (Transform·encloseBounds (m .«start_transform») b) (Transform·encloseBounds (m .«end_transform») b)
       (stored-proper (m .«start_transform») (j .start) b r) (stored-proper (m .«end_transform») (j .end) b r)
 
-  slices-proper : (d n : ℕ) → n ≤ 2 ^ d → Proper (unionSlices m (AnimatedTransform·rigidMotion m) b d (AnimatedTransform·encloseEnds m b) n)
+  pub slices-proper : (d n : ℕ) → n ≤ 2 ^ d → Proper (unionSlices m (AnimatedTransform·rigidMotion m) b d (AnimatedTransform·encloseEnds m b) n)
   unfolding unionSlices
   slices-proper d zero l = ends-proper
   slices-proper d (suc n) l =
@@ -130,7 +130,7 @@ module _ {m : AnimatedTransform} (built : Built m) (b : Bounds3f) (r : BoxRefine
       union-proper (unionSlices m (AnimatedTransform·rigidMotion m) b d (AnimatedTransform·encloseEnds m b) n) (AnimatedTransform·encloseBounds m (AnimatedTransform·rigidMotion m) (slice d n) b)
       (slices-proper d n (omega (arith, l))) (piece-proper (slice d n) u (subset-self u))
 
-  motion-proper : (d : ℕ) → Proper (AnimatedTransform·encloseMotion m b d)
+  pub motion-proper : (d : ℕ) → Proper (AnimatedTransform·encloseMotion m b d)
   motion-proper d = go (m .«actually_animated») refl
     where
       go : (x : Bool) → m .«actually_animated» ≡ x → Proper (AnimatedTransform·encloseMotion m b d)

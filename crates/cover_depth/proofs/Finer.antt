@@ -1,0 +1,136 @@
+-- A finer cover of a built move is never a wider one: `cover-finer`. A slice of a greater depth lies in the slice that it was cut from, so that it is accepted where that one is and
+-- its box lies in that one's (`piece-finer`); what lies in the coarse cover, part by part, has its union in it.
+use Prim.Native.Nat.{ℕ, zero, suc, _+_, _/_, _^_, _≤_, _<_}
+use mathlib.Core.Path.{_≡_, refl, sym, subst}
+use mathlib.Core.Bool.{Bool, true, false}
+use native.Mathlib.Omega.{arith}
+use lib.Dec.{eqb}
+use borrow.Author.Tests.{eqb-true, eqb-false, eq-eqb, le-ltb}
+use Rattle.bounds3.specs.declared.Bounds3f.{Bounds3f}
+use Rattle.bounds3.specs.Bounds3f.{Bounds3f·unionBounds}
+use Rattle.bounds3.specs.Inside.{Subset}
+use Rattle.bounds3.proofs.Union.{subset-trans, union-least, union-subset-left, union-subset-right}
+use Rattle.transform.specs.declared.BoundsAnswer.{BoundsAnswer}
+use Rattle.transform.specs.declared.BoundsAnswer.the-variants.{Bounds}
+use Rattle.bounds_query.specs.Query.{Bounds3f·refusal, BoundsAnswer·unionBounds}
+use Rattle.bounds_query.proofs.Union.{union-accepted}
+use Rattle.unit_interval.specs.Unit.{slice}
+use Rattle.unit_interval.proofs.Slices.{slice-unit, slice-finer, finer-lt}
+use Rattle.pose_steps.specs.declared.JudgedVector.{JudgedVector}
+use Rattle.pose_steps.specs.Enclose.{Pose·enclosePoint, Bounds3f·intervals, IntervalVector·bounds}
+use Rattle.pose_steps.proofs.Isotone.{point-isotone}
+use Rattle.pose_steps.proofs.Box.{refines-subset, order-refl}
+use Rattle.animated_transform.specs.declared.AnimatedTransform.{AnimatedTransform}
+use Rattle.animated_transform.specs.Built.{Built}
+use Rattle.motion_point.specs.TransformPoint.{AnimatedTransform·rigidMotion}
+use Rattle.motion_point.proofs.Built.{built-valid, built-scales}
+use Rattle.motion_cover.specs.Cover.{BoundsAnswer·fromEnclosure, AnimatedTransform·encloseBounds, AnimatedTransform·encloseEnds, unionSlices, AnimatedTransform·encloseMotion, maxDepth, coverRefusal, AnimatedTransform·cover}
+use Rattle.motion_cover.specs.Answer.{Proper}
+use Rattle.motion_cover.proofs.Contains.{from-enclosure-accepted, motion-stored, motion-slices, cover-accepted, cover-box}
+use Rattle.motion_cover.proofs.Proper.{BoxRefines, box-refines, piece-proper, ends-proper, slices-proper, subset-self, motion-proper}
+use Rattle.cover_depth.specs.Finer.{Within, CoverFiner}
+
+-- ---- answers within a box
+within-subset : {r : BoundsAnswer} {c c' : Bounds3f} → Within r c → Subset c c' → Within r c'
+within-subset w s = record { box = w .box; accepted = w .accepted; subset = subset-trans (w .subset) s }
+
+proper-within : (r : BoundsAnswer) (c : Bounds3f) → Proper r → r ≡ Bounds c → Within r c
+proper-within r c p e = record { box = c; accepted = e; subset = order-refl (p .order c e) }
+
+union-within : (r s : BoundsAnswer) {c : Bounds3f} → Within r c → Within s c → Within (BoundsAnswer·unionBounds r s) c
+unfolding BoundsAnswer·unionBounds
+union-within r s f g = record { box = Bounds3f·unionBounds (f .box) (g .box); accepted = rw (f .accepted, g .accepted); subset = union-least (f .subset) (g .subset) }
+
+-- Both parts of an accepted union lie in it.
+parts-within : (r s : BoundsAnswer) (c : Bounds3f) → Proper r → Proper s → BoundsAnswer·unionBounds r s ≡ Bounds c → Within r c × Within s c
+parts-within r s c p q e =
+    let j = union-accepted r s c e in (
+      record {
+        box = j .left;
+        accepted = j .left-accepted;
+        subset = subst (Subset (j .left)) (j .union) (union-subset-left (j .right) (order-refl (p .order (j .left) (j .left-accepted))));
+      },
+      record {
+        box = j .right;
+        accepted = j .right-accepted;
+        subset = subst (Subset (j .right)) (j .union) (union-subset-right (j .left) (order-refl (q .order (j .right) (j .right-accepted))));
+      },
+    )
+
+from-enclosure-box : (j : JudgedVector) → j .refusal ≡ 0 → BoundsAnswer·fromEnclosure j ≡ Bounds (IntervalVector·bounds (j .vector))
+unfolding BoundsAnswer·fromEnclosure
+from-enclosure-box j e = rw (eq-eqb (j .refusal) 0 e)
+
+module _ {m : AnimatedTransform} (built : Built m) (b : Bounds3f) (r : BoxRefines b) where
+  -- ---- a slice of a greater depth
+  piece-finer : (d n k : ℕ) (c : Bounds3f) → k < 2 ^ (d + n) → Within (AnimatedTransform·encloseBounds m (AnimatedTransform·rigidMotion m) (slice d (k / 2 ^ n)) b) c
+      → Within (AnimatedTransform·encloseBounds m (AnimatedTransform·rigidMotion m) (slice (d + n) k) b) c
+  unfolding AnimatedTransform·encloseBounds
+  piece-finer d n k c h w =
+      let B = Bounds3f·intervals b in
+      let a = AnimatedTransform·rigidMotion m in
+      let coarse = Pose·enclosePoint a (m .s0) (m .s1) (slice d (k / 2 ^ n)) B in
+      let fine = Pose·enclosePoint a (m .s0) (m .s1) (slice (d + n) k) B in
+      let g = from-enclosure-accepted coarse (w .box) (w .accepted) in
+      let (s0, s1) = built-scales built in
+      let (z, e) = point-isotone (built-valid built) s0 s1 (slice-unit d (k / 2 ^ n) (finer-lt d n k h)) (slice-finer d n k) B B r (g .accepted) in
+      record {
+        box = IntervalVector·bounds (fine .vector);
+        accepted = from-enclosure-box fine z;
+        subset = subset-trans (subst (Subset (IntervalVector·bounds (fine .vector))) (g .bounds) (refines-subset (fine .vector) (coarse .vector) e)) (w .subset);
+      }
+
+  -- ---- what an accepted union of ends and slices holds
+  slices-within : (d k : ℕ) (c : Bounds3f) → k ≤ 2 ^ d → unionSlices m (AnimatedTransform·rigidMotion m) b d (AnimatedTransform·encloseEnds m b) k ≡ Bounds c
+      → Within (AnimatedTransform·encloseEnds m b) c × ((i : ℕ) → i < k → Within (AnimatedTransform·encloseBounds m (AnimatedTransform·rigidMotion m) (slice d i) b) c)
+  unfolding unionSlices
+  slices-within d zero c l e = (proper-within (AnimatedTransform·encloseEnds m b) c (ends-proper built b r) e, λ i h. absurd (omega (arith, h)))
+  slices-within d (suc k) c l e =
+      let a = AnimatedTransform·rigidMotion m in
+      let before = unionSlices m a b d (AnimatedTransform·encloseEnds m b) k in
+      let u = slice-unit d k (omega (arith, l)) in
+      let (v, w) = parts-within before (AnimatedTransform·encloseBounds m a (slice d k) b) c (slices-proper built b r d k (omega (arith, l))) (piece-proper built b r (slice d k) u (subset-self u)) e in
+      let (ends, earlier) = slices-within d k (v .box) (omega (arith, l)) (v .accepted) in
+      (within-subset ends (v .subset), λ i h. go i (eqb i k) (eqb-true i k) (eqb-false i k) h w (λ (i' : ℕ) (h' : i' < k). within-subset (earlier i' h') (v .subset)))
+    where
+      go : (i : ℕ) (t : Bool) → (t ≡ true → i ≡ k) → (t ≡ false → i ≡ k → ⊥) → i < suc k
+          → Within (AnimatedTransform·encloseBounds m (AnimatedTransform·rigidMotion m) (slice d k) b) c
+          → ((j : ℕ) → j < k → Within (AnimatedTransform·encloseBounds m (AnimatedTransform·rigidMotion m) (slice d j) b) c)
+          → Within (AnimatedTransform·encloseBounds m (AnimatedTransform·rigidMotion m) (slice d i) b) c
+      go i true f g h w earlier = subst (λ (j : ℕ). Within (AnimatedTransform·encloseBounds m (AnimatedTransform·rigidMotion m) (slice d j) b) c) (sym (f refl)) w
+      go i false f g h w earlier = earlier i (omega (arith, h, g refl))
+
+  slices-finer : (d n : ℕ) (c : Bounds3f) → Within (AnimatedTransform·encloseEnds m b) c
+      → ((i : ℕ) → i < 2 ^ d → Within (AnimatedTransform·encloseBounds m (AnimatedTransform·rigidMotion m) (slice d i) b) c)
+      → (k : ℕ) → k ≤ 2 ^ (d + n) → Within (unionSlices m (AnimatedTransform·rigidMotion m) b (d + n) (AnimatedTransform·encloseEnds m b) k) c
+  unfolding unionSlices
+  slices-finer d n c ends pieces zero l = ends
+  slices-finer d n c ends pieces (suc k) l =
+      let h : k < 2 ^ (d + n) = omega (arith, l) in
+      union-within (unionSlices m (AnimatedTransform·rigidMotion m) b (d + n) (AnimatedTransform·encloseEnds m b) k) (AnimatedTransform·encloseBounds m (AnimatedTransform·rigidMotion m) (slice (d + n) k) b)
+      (slices-finer d n c ends pieces k (omega (arith, l)))
+      (piece-finer d n k c h (pieces (k / 2 ^ n) (finer-lt d n k h)))
+
+  motion-finer : (d n : ℕ) (c : Bounds3f) → AnimatedTransform·encloseMotion m b d ≡ Bounds c → Within (AnimatedTransform·encloseMotion m b (d + n)) c
+  motion-finer d n c e = go (m .«actually_animated») refl
+    where
+      go : (t : Bool) → m .«actually_animated» ≡ t → Within (AnimatedTransform·encloseMotion m b (d + n)) c
+      go false f = record { box = c; accepted = rw (motion-stored m b (d + n) f, ← motion-stored m b d f) e; subset = order-refl (motion-proper built b r d .order c e) }
+      go true f =
+          let (ends, pieces) = slices-within d (2 ^ d) c (omega arith) (rw (← motion-slices m b d f) e) in
+          subst (λ (x : BoundsAnswer). Within x c) (sym (motion-slices m b (d + n) f)) (slices-finer d n c ends pieces (2 ^ (d + n)) (omega arith))
+
+-- ---- the query
+arguments-finer : (b : Bounds3f) (d : ℕ) → Bounds3f·refusal b ≡ 0 → d ≤ maxDepth → coverRefusal b d ≡ 0
+unfolding coverRefusal
+arguments-finer b d e l = rw (e, le-ltb maxDepth d l)
+
+pub cover-finer : (m : AnimatedTransform) (b : Bounds3f) → CoverFiner m b
+unfolding AnimatedTransform·cover
+cover-finer m b d n c built l e =
+    let a = cover-accepted m b d c e in
+    let x = cover-box b d (a .arguments) in
+    subst (λ (r : BoundsAnswer). Within r c) (sym (accepted-cover (d + n) (arguments-finer b (d + n) x l))) (motion-finer built b (box-refines b x) d n c (a .motion))
+  where
+    accepted-cover : (k : ℕ) → coverRefusal b k ≡ 0 → AnimatedTransform·cover m b k ≡ AnimatedTransform·encloseMotion m b k
+    accepted-cover k z = unfold AnimatedTransform·cover in rw z

@@ -1,0 +1,1 @@
+// Laws only: a finer cover is never a wider one.
