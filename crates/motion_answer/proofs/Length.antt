@@ -1,0 +1,30 @@
+-- No text is longer than that of a box, so that 72 bytes hold the answer to every file: `answer-length`.
+use Prim.Native.Nat.{ℕ, _≤_}
+use native.Mathlib.Omega.{arith}
+use mathlib.Core.Path.{refl}
+use mathlib.Core.Bool.{Bool, true, false, cond}
+use mathlib.Core.List.{List}
+use lib.Dec.{ltb}
+use lib.ListN.{length}
+use Rattle.transform.specs.declared.BoundsAnswer.{BoundsAnswer}
+use Rattle.transform.specs.declared.BoundsAnswer.the-variants.{Bounds, Refused}
+use Rattle.motion_file.specs.Layout.{MoveFile·read}
+use Rattle.motion_text.specs.Answer.{zerosInFront}
+use Rattle.motion_text.proofs.Written.{length-bounds, length-refusal}
+use Rattle.motion_answer.specs.Answer.{Bounds3f·values, MoveFile·cover, BoundsAnswer·text, answerText}
+
+zeros-few : (n : ℕ) → zerosInFront n ≤ 2
+zeros-few n = go (ltb n 10) (ltb n 100)
+  where
+    go : (a b : Bool) → cond a 2 (cond b 1 0) ≤ 2
+    go true b = omega arith
+    go false true = omega arith
+    go false false = omega arith
+
+pub answer-length : (bytes : List ℕ) → length (answerText bytes) ≤ 72
+unfolding answerText BoundsAnswer·text
+answer-length bytes = go (MoveFile·cover (MoveFile·read bytes))
+  where
+    go : (c : BoundsAnswer) → length (BoundsAnswer·text c) ≤ 72
+    go (Bounds box) = omega (arith, length-bounds (Bounds3f·values box) refl)
+    go (Refused n) = omega (arith, length-refusal n (zerosInFront n) refl (zeros-few n))
