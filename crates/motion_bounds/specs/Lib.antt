@@ -1,1 +1,5 @@
+-- Definitions of motion boxes.
 pub mod MotionBounds
+pub mod Answer
+pub mod Book
+pub mod Computing

@@ -39,9 +39,11 @@ BoundsAnswer·fromEnds (point.Moved p1) (point.Moved p2) = Bounds (Bounds3f·fro
 BoundsAnswer·fromEnds (point.Moved p1) (point.Refused n) = Refused n
 BoundsAnswer·fromEnds (point.Refused n) a = Refused n
 
+-- 000's `for item in &zeros`: all eight, of which the unused are 0.0
 abbrev pub allPlaces : Zeros → ℕ
 allPlaces z = 8
 
+-- the book's loop, below the count of zeros
 abbrev pub storedPlaces : Zeros → ℕ
 storedPlaces z = z .count
 
@@ -73,8 +75,8 @@ module _ (places : Zeros → ℕ) (m : AnimatedTransform) (a : RigidMotion) wher
       cond (eqb (z .refusal) 0) (unionZeros m a p (z .zeros) (places z) (Bounds b)) (Refused (z .refusal))
 
   -- the work of `bound_point_motion`
-  unfoldable pub AnimatedTransform·pointBounds : Point3f → BoundsAnswer
-  AnimatedTransform·pointBounds p =
+  unfoldable pub pointBounds : Point3f → BoundsAnswer
+  pointBounds p =
       let start = Transform·transformPoint (m .«start_transform») p in
       let end = Transform·transformPoint (m .«end_transform») p in
       let c = m .coefficients in
@@ -83,27 +85,32 @@ module _ (places : Zeros → ℕ) (m : AnimatedTransform) (a : RigidMotion) wher
 
   -- bounds.union_bounds(&self.bound_point_motion(&b.corner(i)))
   unfoldable pub unionCorner : Bounds3f → ℕ → BoundsAnswer → BoundsAnswer
-  unionCorner b i r = BoundsAnswer·unionBounds r (AnimatedTransform·pointBounds (Bounds3f·corner b i))
+  unionCorner b i r = BoundsAnswer·unionBounds r (pointBounds (Bounds3f·corner b i))
 
   -- `for i in 0..8`, the first n of them
   unfoldable pub unionCorners : Bounds3f → ℕ → BoundsAnswer
   unionCorners b n = loop (unionCorner b) n (Bounds Bounds3f·default)
 
--- the work of `motion_bounds`
-unfoldable pub AnimatedTransform·boxBounds : (Zeros → ℕ) → AnimatedTransform → Bounds3f → BoundsAnswer
-AnimatedTransform·boxBounds places m b =
-    let start = Transform·transformBounds (m .«start_transform») b in
-    let end = Transform·transformBounds (m .«end_transform») b in
-    cond (not (m .«actually_animated»)) start
-    (cond (not (m .«has_rotation»)) (BoundsAnswer·unionBounds start end) (unionCorners places m (AnimatedTransform·rigidMotion m) b 8))
+module _ (places : Zeros → ℕ) (m : AnimatedTransform) where
+  -- the work of `motion_bounds`
+  unfoldable pub boxBounds : Bounds3f → BoundsAnswer
+  boxBounds b =
+      let start = Transform·transformBounds (m .«start_transform») b in
+      let end = Transform·transformBounds (m .«end_transform») b in
+      cond (not (m .«actually_animated»)) start
+      (cond (not (m .«has_rotation»)) (BoundsAnswer·unionBounds start end) (unionCorners places m (AnimatedTransform·rigidMotion m) b 8))
 
--- document 01, Refusals: 6 where "a coordinate is not finite"
-unfoldable pub AnimatedTransform·boundPointMotion : AnimatedTransform → Point3f → BoundsAnswer
-AnimatedTransform·boundPointMotion m p =
-    cond (not (Point3f·isFinite p)) (Refused 6) (AnimatedTransform·pointBounds allPlaces m (AnimatedTransform·rigidMotion m) p)
+  -- document 01, Refusals: 6 where "a coordinate is not finite"
+  unfoldable pub boundPointMotion : Point3f → BoundsAnswer
+  boundPointMotion p = cond (not (Point3f·isFinite p)) (Refused 6) (pointBounds places m (AnimatedTransform·rigidMotion m) p)
 
--- document 01, Refusals: 6 and 7 of the box, in this order
-unfoldable pub AnimatedTransform·motionBounds : AnimatedTransform → Bounds3f → BoundsAnswer
-AnimatedTransform·motionBounds m b =
-    let n = Bounds3f·refusal b in
-    cond (eqb n 0) (AnimatedTransform·boxBounds allPlaces m b) (Refused n)
+  -- document 01, Refusals: 6 and 7 of the box, in this order
+  unfoldable pub motionBounds : Bounds3f → BoundsAnswer
+  motionBounds b = let n = Bounds3f·refusal b in cond (eqb n 0) (boxBounds b) (Refused n)
+
+-- `bound_point_motion` and `motion_bounds` of 000
+abbrev pub AnimatedTransform·boundPointMotion : AnimatedTransform → Point3f → BoundsAnswer
+AnimatedTransform·boundPointMotion = boundPointMotion allPlaces
+
+abbrev pub AnimatedTransform·motionBounds : AnimatedTransform → Bounds3f → BoundsAnswer
+AnimatedTransform·motionBounds = motionBounds allPlaces

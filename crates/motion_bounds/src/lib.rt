@@ -11,7 +11,7 @@ use transform::PointAnswer;
 use zero_search::Zeros;
 ghost use mathlib.Core.Path.{_≡_};
 ghost use Rattle.transform.specs.TransformBounds.{BoundsAnswer·fromMoved};
-ghost use Rattle.motion_bounds.specs.MotionBounds.{DerivativeTerm·eval, BoundsAnswer·fromEnds, pointAt, unionZero, unionZeros, allPlaces, axisZeros, unionAxis, AnimatedTransform·pointBounds, unionCorner, unionCorners, AnimatedTransform·boxBounds, AnimatedTransform·boundPointMotion, AnimatedTransform·motionBounds};
+ghost use Rattle.motion_bounds.specs.MotionBounds.{DerivativeTerm·eval, BoundsAnswer·fromEnds, pointAt, unionZero, unionZeros, allPlaces, axisZeros, unionAxis, pointBounds, unionCorner, unionCorners, boxBounds, AnimatedTransform·boundPointMotion, AnimatedTransform·motionBounds};
 
 // kc + kx * x + ky * y + kz * z. Accuracy: each operation is correctly rounded.
 fn eval(k: DerivativeTerm, p: Point3f) -> f32
@@ -128,7 +128,7 @@ fn union_axis(
 
 // The work of `bound_point_motion`, with the move's constants at hand. Accuracy: heuristic.
 fn point_bounds(m: AnimatedTransform, a: RigidMotion, p: Point3f) -> BoundsAnswer
-    ensures value { λ r. ⌜ r ≡ AnimatedTransform·pointBounds allPlaces m a p ⌝ }
+    ensures value { λ r. ⌜ r ≡ pointBounds allPlaces m a p ⌝ }
 {
     let start = m.start_transform.transform_point(p);
     if !m.actually_animated {
@@ -170,7 +170,7 @@ fn union_corners(m: AnimatedTransform, a: RigidMotion, b: Bounds3f) -> BoundsAns
 
 // The work of `motion_bounds`. Accuracy: heuristic.
 fn box_bounds(m: AnimatedTransform, b: Bounds3f) -> BoundsAnswer
-    ensures value { λ r. ⌜ r ≡ AnimatedTransform·boxBounds allPlaces m b ⌝ }
+    ensures value { λ r. ⌜ r ≡ boxBounds allPlaces m b ⌝ }
 {
     let start = m.start_transform.transform_bounds(b);
     if !m.actually_animated {

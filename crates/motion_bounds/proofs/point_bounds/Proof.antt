@@ -1,5 +1,5 @@
 -- `point_bounds` meets its contract: one test, then the axes in turn.
-use Rattle.motion_bounds.specs.MotionBounds.{AnimatedTransform·pointBounds}
+use Rattle.motion_bounds.specs.MotionBounds.{pointBounds}
 use borrow.Author.Needs.{needs}
 use Rattle.motion_bounds.proofs.point_bounds.Statement.{statement}
 use Rattle.motion_bounds.proofs.point_bounds.Tie as tie
@@ -11,7 +11,7 @@ from-moved-requires : tie.Need-from-moved-requires
 from-moved-requires c κs = search needs
 
 returns : tie.Need-returns
-unfolding AnimatedTransform·pointBounds
+unfolding pointBounds
 returns c = rw (c .before .if1 .taken, c .from-moved .ensures, c .before .before .before .transform-point .ensures .0)
 
 transform-point-requires-2 : tie.Need-transform-point-requires-2
@@ -30,7 +30,7 @@ union-axis-requires-3 : tie.Need-union-axis-requires-3
 union-axis-requires-3 c κs = search needs
 
 returns-2 : tie.Need-returns-2
-unfolding AnimatedTransform·pointBounds
+unfolding pointBounds
 returns-2 c =
     rw (c .before .before .before .before .before .before .if1 .left)
     (cc (

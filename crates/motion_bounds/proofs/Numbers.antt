@@ -1,0 +1,150 @@
+-- The numbers that a motion box gives are 5, 6, 7 and 9, those of a point's motion 5, 6 and 9, and what isn't refused is finite: `motion-bounds-numbers`,
+-- `bound-point-motion-numbers`, for all structs and arguments. Rests on `moved-point-judged` and on what a search's refusal can be, `intervalFindZeros-stored`.
+use Prim.Native.Nat.{ℕ}
+use mathlib.Core.Path.{_≡_, refl}
+use mathlib.Core.Bool.{not}
+use mathlib.Core.Logic.{_⊎_, inl, inr}
+use mathlib.Core.List.{List, [], _∷_}
+use lib.Dec.{T, eqb}
+use lib.ListN.{getD}
+use lib.Ieee.{Float, nan, ofBits, neg}
+use Rattle.bounds3.specs.declared.Point3f.{Point3f}
+use Rattle.bounds3.specs.declared.Bounds3f.{Bounds3f}
+use Rattle.bounds3.specs.Bounds3f.{Bounds3f·default, Bounds3f·fromPoint, Bounds3f·corner}
+use Rattle.bounds3.specs.Finite.{Point3f·isFinite, Bounds3f·isFinite}
+use Rattle.bounds3.proofs.Finite.{test-finite, box-finite, union-point-finite, union-finite}
+use Rattle.matrix_inverse.proofs.Loop.{loop-keeps, cond-keeps}
+use Rattle.transform.specs.declared.PointAnswer.{PointAnswer}
+use Rattle.transform.specs.declared.PointAnswer.the-variants as point
+use Rattle.transform.specs.declared.BoundsAnswer.{BoundsAnswer}
+use Rattle.transform.specs.declared.BoundsAnswer.the-variants.{Bounds, Refused}
+use Rattle.transform.specs.Answer.{origin, PointAnswer·Judged, BoundsAnswer·Judged}
+use Rattle.transform.specs.TransformBounds.{BoundsAnswer·fromMoved, BoundsAnswer·unionMoved}
+use Rattle.transform.proofs.Judged.{transform-point-judged, transform-bounds-judged}
+use Rattle.bounds_query.specs.Query.{Bounds3f·isOrdered, Bounds3f·refusal, BoundsAnswer·unionBounds}
+use Rattle.coefficients.specs.declared.Derivative.{Derivative}
+use Rattle.zero_search.specs.Stored.{Stored}
+use Rattle.zero_search.proofs.Stored.{intervalFindZeros-stored}
+use Rattle.pose_steps.specs.declared.RigidMotion.{RigidMotion}
+use Rattle.animated_transform.specs.declared.AnimatedTransform.{AnimatedTransform}
+use Rattle.motion_point.specs.TransformPoint.{AnimatedTransform·rigidMotion}
+use Rattle.motion_point.proofs.Query.{moved-point-judged}
+use Rattle.motion_bounds.specs.MotionBounds.{axisZeros, pointAt, unionZero, unionZeros, allPlaces, unionAxis, pointBounds, unionCorner, unionCorners, boxBounds, boundPointMotion, motionBounds, AnimatedTransform·boundPointMotion, AnimatedTransform·motionBounds}
+use Rattle.motion_bounds.proofs.Ends.{from-ends-union}
+use Rattle.motion_bounds.specs.Answer.{OneOf, BoundsAnswer·Answered}
+
+-- the numbers that the work can meet
+abbrev Worked : BoundsAnswer → Type 0
+Worked = BoundsAnswer·Answered (0 ∷ 5 ∷ 9 ∷ [])
+
+-- ---- one step
+refused-finite : T (Bounds3f·isFinite (Bounds3f·fromPoint origin))
+unfolding Bounds3f·isFinite Point3f·isFinite ofBits
+refused-finite = tt
+
+refused-answered : {numbers : List ℕ} (n : ℕ) → OneOf n numbers → BoundsAnswer·Answered numbers (Refused n)
+refused-answered n i = record { number = i; values = refused-finite }
+
+five : {n : ℕ} → (n ≡ 0) ⊎ (n ≡ 5) → OneOf n (0 ∷ 5 ∷ 9 ∷ [])
+five (inl e) = inl e
+five (inr e) = inr (inl e)
+
+judged-worked : {r : BoundsAnswer} → BoundsAnswer·Judged r → Worked r
+judged-worked j = record { number = five (j .number); values = j .values }
+
+from-moved-worked : (a : PointAnswer) → PointAnswer·Judged a → Worked (BoundsAnswer·fromMoved a)
+unfolding BoundsAnswer·fromMoved
+from-moved-worked (point.Moved p) j =
+    let f = test-finite p (j .values) in
+    record { number = inl refl; values = box-finite (Bounds3f·fromPoint p) f f }
+from-moved-worked (point.Refused n) j = refused-answered n (five (j .number))
+
+union-moved-worked : (r : BoundsAnswer) (a : PointAnswer) → Worked r → PointAnswer·Judged a → Worked (BoundsAnswer·unionMoved r a)
+unfolding BoundsAnswer·unionMoved
+union-moved-worked (Bounds b) (point.Moved p) w j = record { number = inl refl; values = union-point-finite b p (w .values) (j .values) }
+union-moved-worked (Bounds b) (point.Refused n) w j = refused-answered n (five (j .number))
+union-moved-worked (Refused n) a w j = w
+
+union-worked : (r s : BoundsAnswer) → Worked r → Worked s → Worked (BoundsAnswer·unionBounds r s)
+unfolding BoundsAnswer·unionBounds
+union-worked (Bounds a) (Bounds b) w v = record { number = inl refl; values = union-finite a b (w .values) (v .values) }
+union-worked (Bounds a) (Refused n) w v = v
+union-worked (Refused n) s w v = w
+
+-- ---- a point's motion
+pub axis-zeros-stored : (a : RigidMotion) (p : Point3f) (d : Derivative) → Stored (axisZeros a p d)
+unfolding axisZeros
+axis-zeros-stored a p d = intervalFindZeros-stored _ _ _ _ _ _
+
+module _ (m : AnimatedTransform) (a : RigidMotion) (p : Point3f) where
+  zeros-worked : (zeros : List Float) (n : ℕ) (r : BoundsAnswer) → Worked r → Worked (unionZeros m a p zeros n r)
+  unfolding unionZeros unionZero pointAt
+  zeros-worked zeros n r w =
+      loop-keeps (λ _. Worked) (λ k. unionZero m a p (getD zeros k nan)) n (λ k s _ v. union-moved-worked s (pointAt m a p (getD zeros k nan)) v (moved-point-judged m a _ p)) r w
+
+  axis-worked : (d : Derivative) (r : BoundsAnswer) → Worked r → Worked (unionAxis allPlaces m a p d r)
+  unfolding unionAxis
+  axis-worked d (Refused n) w = w
+  axis-worked d (Bounds b) w =
+      let z = axisZeros a p d in
+      cond-keeps Worked (eqb (z .refusal) 0) _ _ (zeros-worked (z .zeros) 8 (Bounds b) w) (refused-answered (z .refusal) (nine (axis-zeros-stored a p d .refusal)))
+    where
+      nine : {n k : ℕ} → (n ≡ 0) ⊎ ((n ≡ 9) × (k ≡ 0)) → OneOf n (0 ∷ 5 ∷ 9 ∷ [])
+      nine (inl e) = inl e
+      nine (inr (e, _)) = inr (inr (inl e))
+
+  point-worked : Worked (pointBounds allPlaces m a p)
+  unfolding pointBounds
+  point-worked =
+      let start = transform-point-judged (m .«start_transform») p in
+      let end = transform-point-judged (m .«end_transform») p in
+      let c = m .coefficients in
+      cond-keeps Worked (not (m .«actually_animated»)) _ _ (from-moved-worked _ start)
+      (axis-worked (c .z) _ (axis-worked (c .y) _ (axis-worked (c .x) _ (rw (from-ends-union _ _) (union-moved-worked _ _ (from-moved-worked _ start) end)))))
+
+-- ---- a box's motion
+pub default-finite : T (Bounds3f·isFinite Bounds3f·default)
+unfolding Bounds3f·isFinite Point3f·isFinite ofBits neg
+default-finite = tt
+
+corners-worked : (m : AnimatedTransform) (a : RigidMotion) (b : Bounds3f) (n : ℕ) → Worked (unionCorners allPlaces m a b n)
+unfolding unionCorners unionCorner
+corners-worked m a b n =
+    loop-keeps (λ _. Worked) (unionCorner allPlaces m a b) n (λ c r _ w. union-worked r _ w (point-worked m a (Bounds3f·corner b c))) (Bounds Bounds3f·default)
+    (record { number = inl refl; values = default-finite })
+
+box-worked : (m : AnimatedTransform) (b : Bounds3f) → Worked (boxBounds allPlaces m b)
+unfolding boxBounds
+box-worked m b =
+    let start = judged-worked (transform-bounds-judged (m .«start_transform») b) in
+    let end = judged-worked (transform-bounds-judged (m .«end_transform») b) in
+    cond-keeps Worked (not (m .«actually_animated»)) _ _ start
+    (cond-keeps Worked (not (m .«has_rotation»)) _ _ (union-worked _ _ start end) (corners-worked m (AnimatedTransform·rigidMotion m) b 8))
+
+-- ---- the queries
+pub bound-point-motion-numbers : (m : AnimatedTransform) (p : Point3f) → BoundsAnswer·Answered (0 ∷ 5 ∷ 6 ∷ 9 ∷ []) (AnimatedTransform·boundPointMotion m p)
+unfolding boundPointMotion
+bound-point-motion-numbers m p =
+    let w = point-worked m (AnimatedTransform·rigidMotion m) p in
+    cond-keeps (BoundsAnswer·Answered (0 ∷ 5 ∷ 6 ∷ 9 ∷ [])) (not (Point3f·isFinite p)) _ _ (refused-answered 6 (inr (inr (inl refl)))) (record { number = widen (w .number); values = w .values })
+  where
+    widen : {n : ℕ} → OneOf n (0 ∷ 5 ∷ 9 ∷ []) → OneOf n (0 ∷ 5 ∷ 6 ∷ 9 ∷ [])
+    widen (inl e) = inl e
+    widen (inr (inl e)) = inr (inl e)
+    widen (inr (inr i)) = inr (inr (inr i))
+
+pub motion-bounds-numbers : (m : AnimatedTransform) (b : Bounds3f) → BoundsAnswer·Answered (0 ∷ 5 ∷ 6 ∷ 7 ∷ 9 ∷ []) (AnimatedTransform·motionBounds m b)
+unfolding motionBounds
+motion-bounds-numbers m b =
+    let w = box-worked m b in
+    cond-keeps (BoundsAnswer·Answered (0 ∷ 5 ∷ 6 ∷ 7 ∷ 9 ∷ [])) (eqb (Bounds3f·refusal b) 0) _ _ (record { number = widen (w .number); values = w .values })
+    (refused-answered (Bounds3f·refusal b) asked)
+  where
+    widen : {n : ℕ} → OneOf n (0 ∷ 5 ∷ 9 ∷ []) → OneOf n (0 ∷ 5 ∷ 6 ∷ 7 ∷ 9 ∷ [])
+    widen (inl e) = inl e
+    widen (inr (inl e)) = inr (inl e)
+    widen (inr (inr i)) = inr (inr (inr (inr i)))
+
+    asked : OneOf (Bounds3f·refusal b) (0 ∷ 5 ∷ 6 ∷ 7 ∷ 9 ∷ [])
+    asked = unfold Bounds3f·refusal in cond-keeps (λ (n : ℕ). OneOf n (0 ∷ 5 ∷ 6 ∷ 7 ∷ 9 ∷ [])) (not (Bounds3f·isFinite b)) _ _ (inr (inr (inl refl)))
+        (cond-keeps (λ (n : ℕ). OneOf n (0 ∷ 5 ∷ 6 ∷ 7 ∷ 9 ∷ [])) (not (Bounds3f·isOrdered b)) _ _ (inr (inr (inr (inl refl)))) (inl refl))
