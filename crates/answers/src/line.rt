@@ -80,6 +80,6 @@ fn answer(q: Question, out: &mut [u8], s: State) -> State {
         Kind::Matrix(m) => s.at(matrices::answer(m, q, out, at)),
         Kind::Part(p) => s.at(parts::answer(p, q, out, at)),
         Kind::Build => moves::build(q, out, s),
-        Kind::Move(m) => s.at(moves::answer(m, out, at, s.kept)),
+        Kind::Move(m) => s.at(moves::answer(m, q, out, at, s.kept)),
     }
 }

@@ -141,7 +141,7 @@ fn quaternion_at(words: [u32; 34], i: usize) -> Quaternion {
     Quaternion { v, w: r[3] }
 }
 
-fn point_at(words: [u32; 34], i: usize) -> Point3f {
+pub fn point_at(words: [u32; 34], i: usize) -> Point3f {
     let r = row_at(words, i);
     Point3f {
         x: r[0],

@@ -1,11 +1,13 @@
-// Questions about a move: move T0 M0 T1 M1 builds one and keeps it for the questions after it, of which each is an error where none is kept: parts.
+// Questions about a move: move T0 M0 T1 M1 builds one and keeps it for the questions after it, each of which is an error where none is kept: parts, point T X Y Z.
 // `parts` asks whether it is animated and whether it rotates, for start and end t, r, S and the inverse, then c1 to c5, each on the axes x y z, each kc kx ky kz.
 use crate::line::State;
 use crate::matrices::float_at;
 use crate::matrices::matrix_at;
+use crate::matrices::point_at;
 use crate::output::put;
 use crate::output::put_error;
 use crate::output::put_matrix;
+use crate::output::put_ok_point;
 use crate::output::put_quaternion;
 use crate::output::put_refused;
 use crate::output::put_row;
@@ -23,12 +25,14 @@ use coefficients::DerivativeTerm;
 use matrix4x4::Matrix4x4;
 use pose_pair::Pose;
 use quaternion::Quaternion;
+use transform::PointAnswer;
 use transform::Transform;
 use vector3::Vector3f;
 
 // What is asked of a kept move.
 pub enum Move {
     Parts,
+    Point,
 }
 
 pub fn form_of(name: &[u8]) -> Form {
@@ -37,6 +41,9 @@ pub fn form_of(name: &[u8]) -> Form {
     }
     if same(name, b"parts") {
         return floats(Kind::Move(Move::Parts), 0);
+    }
+    if same(name, b"point") {
+        return floats(Kind::Move(Move::Point), 4);
     }
     floats(Kind::Malformed, 0)
 }
@@ -71,12 +78,29 @@ pub fn build(q: Question, out: &mut [u8], s: State) -> State {
     s.keep(built).at(put_text(out, at, b"ok\n"))
 }
 
-pub fn answer(m: Move, out: &mut [u8], at: usize, kept: AnimatedTransformAnswer) -> usize {
+pub fn answer(
+    m: Move,
+    q: Question,
+    out: &mut [u8],
+    at: usize,
+    kept: AnimatedTransformAnswer,
+) -> usize {
     if kept.refusal != 0 {
         return put_error(out, at);
     }
+    let words = q.words;
+    let value = kept.value;
     match m {
-        Move::Parts => answer_parts(out, at, kept.value),
+        Move::Parts => answer_parts(out, at, value),
+        Move::Point => answer_point(words, out, at, value),
+    }
+}
+
+fn answer_point(words: [u32; 34], out: &mut [u8], at: usize, m: AnimatedTransform) -> usize {
+    let moved = motion_point::transform_point(m, float_at(words, 0), point_at(words, 1));
+    match moved {
+        PointAnswer::Moved(p) => put_ok_point(out, at, p),
+        PointAnswer::Refused(n) => put_refused(out, at, n),
     }
 }
 

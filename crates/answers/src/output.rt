@@ -86,6 +86,13 @@ pub fn put_vector(out: &mut [u8], at: usize, v: Vector3f) -> usize {
     put_float(out, y, v.z)
 }
 
+// The answer to a question that asks for a point.
+pub fn put_ok_point(out: &mut [u8], at: usize, p: Point3f) -> usize {
+    let ok = put_text(out, at, b"ok");
+    let end = put_point(out, ok, p);
+    put(out, end, b'\n')
+}
+
 // The answer to a question that asks for a box.
 pub fn put_ok_bounds(out: &mut [u8], at: usize, b: Bounds3f) -> usize {
     let ok = put_text(out, at, b"ok");
