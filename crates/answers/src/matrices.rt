@@ -1,6 +1,6 @@
 // Questions about matrices and quaternions: inverse M, mul M M, quat M, rotation Q, dot Q Q, normalize Q, slerp T Q Q, bounds M BOX.
 // A matrix is 16 floats by rows, a quaternion x y z w, a box x0 y0 z0 x1 y1 z1; `bounds` is what `transform_bounds` makes of the box.
-use crate::output::put_ok_bounds;
+use crate::output::put_bounds_answer;
 use crate::output::put_ok_float;
 use crate::output::put_ok_matrix;
 use crate::output::put_ok_quaternion;
@@ -15,7 +15,6 @@ use check::same;
 use hexadecimal::float_of_bits;
 use matrix4x4::Matrix4x4;
 use quaternion::Quaternion;
-use transform::BoundsAnswer;
 use transform::Transform;
 use vector3::Vector3f;
 
@@ -150,15 +149,18 @@ pub fn point_at(words: [u32; 34], i: usize) -> Point3f {
     }
 }
 
+pub fn bounds_at(words: [u32; 34], i: usize) -> Bounds3f {
+    if i < 28 {
+        return Bounds3f {
+            p_min: point_at(words, i),
+            p_max: point_at(words, i + 3),
+        };
+    }
+    Bounds3f::from_point(point_at(words, i))
+}
+
 fn answer_bounds(words: [u32; 34], out: &mut [u8], at: usize) -> usize {
     let m = matrix_at(words, 0);
-    let b = Bounds3f {
-        p_min: point_at(words, 16),
-        p_max: point_at(words, 19),
-    };
-    let moved = Transform::from_matrices(m, m).transform_bounds(b);
-    match moved {
-        BoundsAnswer::Bounds(r) => put_ok_bounds(out, at, r),
-        BoundsAnswer::Refused(n) => put_refused(out, at, n),
-    }
+    let moved = Transform::from_matrices(m, m).transform_bounds(bounds_at(words, 16));
+    put_bounds_answer(out, at, moved)
 }

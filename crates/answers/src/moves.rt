@@ -1,10 +1,13 @@
-// Questions about a move: move T0 M0 T1 M1 builds one and keeps it for the questions after it, each of which is an error where none is kept: parts, point T X Y Z.
+// Questions about a move: move T0 M0 T1 M1 builds one and keeps it for the questions after it, each of which is an error where none is kept:
+// parts, point T X Y Z, interp T (both halves of the transform), motion BOX, pmotion X Y Z (`bound_point_motion`), cover D BOX, with a depth D.
 // `parts` asks whether it is animated and whether it rotates, for start and end t, r, S and the inverse, then c1 to c5, each on the axes x y z, each kc kx ky kz.
 use crate::line::State;
+use crate::matrices::bounds_at;
 use crate::matrices::float_at;
 use crate::matrices::matrix_at;
 use crate::matrices::point_at;
 use crate::output::put;
+use crate::output::put_bounds_answer;
 use crate::output::put_error;
 use crate::output::put_matrix;
 use crate::output::put_ok_point;
@@ -27,12 +30,17 @@ use pose_pair::Pose;
 use quaternion::Quaternion;
 use transform::PointAnswer;
 use transform::Transform;
+use transform::TransformAnswer;
 use vector3::Vector3f;
 
 // What is asked of a kept move.
 pub enum Move {
     Parts,
     Point,
+    Interpolate,
+    Bounds,
+    PointBounds,
+    Cover,
 }
 
 pub fn form_of(name: &[u8]) -> Form {
@@ -44,6 +52,22 @@ pub fn form_of(name: &[u8]) -> Form {
     }
     if same(name, b"point") {
         return floats(Kind::Move(Move::Point), 4);
+    }
+    if same(name, b"interp") {
+        return floats(Kind::Move(Move::Interpolate), 1);
+    }
+    if same(name, b"motion") {
+        return floats(Kind::Move(Move::Bounds), 6);
+    }
+    if same(name, b"pmotion") {
+        return floats(Kind::Move(Move::PointBounds), 3);
+    }
+    if same(name, b"cover") {
+        return Form {
+            kind: Kind::Move(Move::Cover),
+            decimal: true,
+            floats: 6,
+        };
     }
     floats(Kind::Malformed, 0)
 }
@@ -93,6 +117,22 @@ pub fn answer(
     match m {
         Move::Parts => answer_parts(out, at, value),
         Move::Point => answer_point(words, out, at, value),
+        Move::Interpolate => {
+            let pose = interpolation::interpolate(value, float_at(words, 0));
+            put_transform_answer(out, at, pose)
+        }
+        Move::Bounds => {
+            let moved = motion_bounds::motion_bounds(value, bounds_at(words, 0));
+            put_bounds_answer(out, at, moved)
+        }
+        Move::PointBounds => {
+            let moved = motion_bounds::bound_point_motion(value, point_at(words, 0));
+            put_bounds_answer(out, at, moved)
+        }
+        Move::Cover => {
+            let c = motion_cover::cover(value, bounds_at(words, 0), depth(q.decimal));
+            put_bounds_answer(out, at, c)
+        }
     }
 }
 
@@ -102,6 +142,23 @@ fn answer_point(words: [u32; 34], out: &mut [u8], at: usize, m: AnimatedTransfor
         PointAnswer::Moved(p) => put_ok_point(out, at, p),
         PointAnswer::Refused(n) => put_refused(out, at, n),
     }
+}
+
+fn put_transform_answer(out: &mut [u8], at: usize, a: TransformAnswer) -> usize {
+    if a.refusal != 0 {
+        return put_refused(out, at, a.refusal);
+    }
+    let m = a.transform.m;
+    let m_inv = a.transform.m_inv;
+    let ok = put_text(out, at, b"ok");
+    let matrix = put_matrix(out, ok, m.to_rows());
+    let inverse = put_matrix(out, matrix, m_inv.to_rows());
+    put(out, inverse, b'\n')
+}
+
+// A depth as the cover takes it: one of 2^32 or more is as much above 12 as the greatest below.
+fn depth(n: u64) -> u32 {
+    if n < 4294967296 { n as u32 } else { u32::MAX }
 }
 
 fn answer_parts(out: &mut [u8], at: usize, m: AnimatedTransform) -> usize {

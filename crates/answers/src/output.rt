@@ -3,6 +3,7 @@ use crate::text::part;
 use bounds3::Bounds3f;
 use bounds3::Point3f;
 use quaternion::Quaternion;
+use transform::BoundsAnswer;
 use vector3::Vector3f;
 
 // Sends the first bytes of the output.
@@ -93,8 +94,15 @@ pub fn put_ok_point(out: &mut [u8], at: usize, p: Point3f) -> usize {
     put(out, end, b'\n')
 }
 
-// The answer to a question that asks for a box.
-pub fn put_ok_bounds(out: &mut [u8], at: usize, b: Bounds3f) -> usize {
+// The answer to a question that asks for a box, or its refusal.
+pub fn put_bounds_answer(out: &mut [u8], at: usize, a: BoundsAnswer) -> usize {
+    match a {
+        BoundsAnswer::Bounds(b) => put_ok_bounds(out, at, b),
+        BoundsAnswer::Refused(n) => put_refused(out, at, n),
+    }
+}
+
+fn put_ok_bounds(out: &mut [u8], at: usize, b: Bounds3f) -> usize {
     let ok = put_text(out, at, b"ok");
     let least = put_point(out, ok, b.p_min);
     let end = put_point(out, least, b.p_max);
