@@ -1,10 +1,9 @@
 #!/usr/bin/env bash
 # Makes crates/answers/stdin and crates/answers/stdout: the questions of each group and their expected answer lines, in this order.
 # Each group's expected values come from outside the libraries:
-#   numbers                  hardware float arithmetic   tools/number_vectors.rs
-#   angles                   exact fractions             tools/angle_vectors.py
-#   matrices, boxes, zeros,
-#   moves                    the original Rust           oracle/ (which says where it looks for pbrt-rust's sources)
+#   numbers                                        hardware float arithmetic   tools/number_vectors.rs
+#   angles                                         exact fractions             tools/angle_vectors.py
+#   matrices, boxes, zeros, moves, their queries   the original Rust, and for covers a second implementation beside it   oracle/ (which says where it looks for pbrt-rust's sources)
 set -eu
 cd "$(dirname "$0")/.."
 made=$(mktemp -d)
@@ -15,10 +14,20 @@ for group in "$made/number_vectors" "python3 tools/angle_vectors.py"; do
     $group --answers >>"$made/stdout"
 done
 cargo build --quiet --release --offline --manifest-path oracle/Cargo.toml --target-dir "$made/oracle"
-"$made/oracle/release/vectors" matrices 1500 1 >"$made/questions"
-"$made/oracle/release/vectors" boxes 500 1 >>"$made/questions"
-"$made/oracle/release/vectors" motion 500 1 | grep '^zeros' >>"$made/questions"
-"$made/oracle/release/vectors" moves 2350 1 | grep -i '^move\|^parts' >>"$made/questions"
+vectors=$made/oracle/release/vectors
+{
+    "$vectors" matrices 1500 1
+    "$vectors" boxes 500 1
+    "$vectors" moves 930 1
+    "$vectors" motion 600 1
+    "$vectors" bounds 100 1
+    "$vectors" covers 470 1
+} | awk '
+    # The parts of a move that comes again are asked for once.
+    $1 == "move" { asked = $0 }
+    $0 == "parts" && seen[asked]++ { next }
+    { print }
+' >"$made/questions"
 cat "$made/questions" >>"$made/stdin"
 "$made/oracle/release/answers" <"$made/questions" >>"$made/stdout"
 cp "$made/stdin" "$made/stdout" crates/answers/

@@ -154,8 +154,12 @@ impl<W: Write> Questions<W> {
         }
     }
 
-    fn ask_move(&mut self, m: &Move) {
+    /// A move and its parts. Tells whether it is built, so that there is something to ask of it.
+    fn ask_move(&mut self, m: &Move) -> bool {
         self.ask("move", &[&[m.times[0]], &m.poses[0], &[m.times[1]], &m.poses[1]]);
+        self.ask("parts", &[]);
+        let [start, end] = m.poses.map(|pose| Matrix4x4::from_row_slice(&pose));
+        judged::build(m.times[0], &start, m.times[1], &end).is_ok()
     }
 }
 
@@ -816,12 +820,30 @@ fn stopping_poses() -> Vec<[f32; 16]> {
     ]
 }
 
+/// Each question of a move, where none is kept.
+fn ask_none<W: Write>(q: &mut Questions<W>) {
+    q.ask("parts", &[]);
+    q.ask("point", &[&[0.0; 4]]);
+    q.ask("interp", &[&[0.0]]);
+    q.ask("motion", &[&ORIGIN]);
+    q.ask("pmotion", &[&[0.0; 3]]);
+    q.ask("cover 0", &[&ORIGIN]);
+}
+
+/// A move's poses and points at times.
+fn ask_at<W: Write>(q: &mut Questions<W>, times: &[f32]) {
+    for time in times {
+        q.ask("point", &[&[*time], &[0.0, 0.0, 0.0]]);
+        q.ask("point", &[&[*time], &[1.0, -2.0, 3.5]]);
+        q.ask("interp", &[&[*time]]);
+    }
+}
+
 fn fixed_moves<W: Write>(q: &mut Questions<W>) {
     // No move is kept yet.
-    for question in
-        ["parts", "point 00000000 00000000 00000000 00000000", "interp 00000000", "nothing", "move", "sin", "sin 0", "sin 00000000 00000000", "whole x"]
-    {
-        q.line(question);
+    ask_none(q);
+    for line in ["nothing", "move", "sin", "sin 0", "sin 00000000 00000000", "whole x"] {
+        q.line(line);
     }
     let poses = |m: Move, pose: usize, entry: usize, x: f32| {
         let mut changed = m;
@@ -831,7 +853,7 @@ fn fixed_moves<W: Write>(q: &mut Questions<W>) {
     let times = |m: Move, start: f32, end: f32| Move { times: [start, end], ..m };
     let far = power_of_two(127) as f32;
     let half_turn_about_x = [[1., 0., 0.], [0., -1., 0.], [0., 0., -1.]];
-    let mut moves = vec![
+    let moves = vec![
         move_a(),
         move_b(),
         quarter_turn(),
@@ -881,25 +903,35 @@ fn fixed_moves<W: Write>(q: &mut Questions<W>) {
         Move { times: [-0.0, -0.0], poses: [IDENTITY, IDENTITY].map(|pose| pose.map(|x| if x == 0.0 { -0.0 } else { x })) },
         Move { times: [-0.0, 0.0], poses: quarter_turn().poses.map(|pose| pose.map(|x| if x == 0.0 { -0.0 } else { x })) },
     ];
-    moves.extend(threshold_moves());
-    for start in stopping_poses() {
-        for end in stopping_poses() {
-            moves.push(Move { times: [0.0, 1.0], poses: [start, end] });
-        }
-    }
+    let between = |m: &Move| [m.times[0].next_up(), 0.5 * (m.times[0] + m.times[1]), m.times[1].next_down()];
     for m in &moves {
-        q.ask_move(m);
-        q.ask("parts", &[]);
-        let [start, end] = m.times;
-        for time in [start, end, 0.5 * (start + end), -INFINITY, INFINITY, NAN, start.next_up(), end.next_down(), f32::from_bits(1)] {
-            q.ask("point", &[&[time], &[0.0, 0.0, 0.0]]);
-            q.ask("point", &[&[time], &[1.0, -2.0, 3.5]]);
-            q.ask("interp", &[&[time]]);
+        if !q.ask_move(m) {
+            continue;
         }
-        for p in [[NAN, 0.0, 0.0], [0.0, INFINITY, 0.0], [0.0, 0.0, -INFINITY], [f32::MAX, f32::MAX, f32::MAX], [-0.0, -0.0, -0.0]] {
+        let [start, end] = m.times;
+        ask_at(q, &[-INFINITY, start - 1.0, start]);
+        ask_at(q, &between(m));
+        ask_at(q, &[end, end + 1.0, INFINITY, NAN, f32::from_bits(1)]);
+        for p in [[NAN, 0.0, 0.0], [0.0, INFINITY, 0.0], [0.0, 0.0, -INFINITY], [f32::MAX; 3], [f32::from_bits(1); 3], [-0.0; 3]] {
             q.ask("point", &[&[0.5], &p]);
         }
     }
+    for m in &threshold_moves() {
+        q.ask_move(m);
+        ask_at(q, &between(m));
+    }
+    for start in stopping_poses() {
+        for end in stopping_poses() {
+            q.ask_move(&Move { times: [0.0, 1.0], poses: [start, end] });
+        }
+    }
+    // One row is so much greater than the others that S has no inverse on the way, 4; a point is still answered.
+    let [a, b, c] =
+        [[0x5a4f052f, 0xd8c2f967, 0xd9bcebc1], [0xbf639b01, 0x415e971e, 0xc0b136c6], [0x40ca9f61, 0x40ac0cd1, 0x4147d6d8]].map(|row| row.map(f32::from_bits));
+    let end = from_rows([a, b, c].map(|row| row.map(f64::from)), [0.75, -1.0, 4.0]);
+    q.ask_move(&Move { times: [0.0, 1.0], poses: [diagonal(0.996934, 0.995557, 0.990563, 1.), end] });
+    q.ask("interp", &[&[0.6575561]]);
+    q.ask("point", &[&[0.6575561], &[1.0, 2.0, 3.0]]);
     // A malformed line leaves the move that is kept.
     q.ask_move(&move_a());
     q.ask("move", &[&[0.0], &IDENTITY, &IDENTITY]);
@@ -907,17 +939,21 @@ fn fixed_moves<W: Write>(q: &mut Questions<W>) {
     for line in ["move", "parts ", "parts 00000000", "Parts", "point 00000000", "interp", "interp 0"] {
         q.line(line);
     }
-    q.ask("parts", &[]);
+    q.ask("point", &[&[0.5], &[0.0; 3]]);
+    // A refused one does not.
+    q.ask_move(&times(move_a(), 0.0, -1.0));
+    ask_none(q);
 }
 
 fn random_move<W: Write>(q: &mut Questions<W>, r: &mut Random) {
     let m = r.any_move();
-    q.ask_move(&m);
-    q.ask("parts", &[]);
-    for _ in 0..4 {
+    if !q.ask_move(&m) {
+        return;
+    }
+    for _ in 0..7 {
         q.ask("point", &[&[r.time_of(&m)], &r.point()]);
     }
-    for _ in 0..2 {
+    if !r.one_in(4) {
         q.ask("interp", &[&[r.time_of(&m)]]);
     }
 }
@@ -933,6 +969,7 @@ const BOXES: &[[f32; 6]] = &[
     [1., 0., 0., 0., INFINITY, 1.],
     [f32::MIN, f32::MIN, f32::MIN, f32::MAX, f32::MAX, f32::MAX],
     [0., 0., 0., 1e38, 1e38, 1e38],
+    [3e38, 0., 0., 3e38, 0., 0.], // carried by a turn, its terms of the derivative are not finite
     [0., 7., 0., 0., 7.5, 0.],
 ];
 
@@ -956,14 +993,15 @@ fn random_bounds<W: Write>(q: &mut Questions<W>, r: &mut Random) {
     if r.one_in(3) {
         m.poses[1] = m.poses[0];
     }
-    q.ask_move(&m);
+    if !q.ask_move(&m) {
+        return;
+    }
     q.ask("motion", &[&r.bounds()]);
     q.ask("motion", &[&r.bounds()]);
     q.ask("pmotion", &[&r.point()]);
 }
 
 fn fixed_motion<W: Write>(q: &mut Questions<W>) {
-    q.line("motion 00000000 00000000 00000000 00000000 00000000 00000000");
     let (nine, p) = ninth_zero();
     q.ask_move(&nine);
     q.ask("pmotion", &[&p]);
@@ -990,23 +1028,6 @@ fn fixed_motion<W: Write>(q: &mut Questions<W>) {
 }
 
 fn random_motion<W: Write>(q: &mut Questions<W>, r: &mut Random) {
-    let (m, p) = match r.below(8) {
-        0 => r.returning_move(),
-        1 => r.flat_move(),
-        2 => r.ninth_zero_move(),
-        3 => (r.any_move(), r.point()),
-        _ => (r.plain_move(true), r.point()),
-    };
-    q.ask_move(&m);
-    q.ask("pmotion", &[&p]);
-    q.ask("pmotion", &[&r.point()]);
-    if r.one_in(4) {
-        // The point is a corner of the box.
-        let other: [f32; 3] = r.numbers(|r| r.unit().abs());
-        q.ask("motion", &[&p, &std::array::from_fn::<f32, 3, _>(|i| p[i] + other[i])]);
-    } else {
-        q.ask("motion", &[&r.bounds()]);
-    }
     let c: [f32; 5] = match r.below(4) {
         0 => r.numbers(Random::number),
         1 => r.numbers(|r| r.size(-20, 20)),
@@ -1019,6 +1040,25 @@ fn random_motion<W: Write>(q: &mut Questions<W>, r: &mut Random) {
         _ => r.unit().abs() * 1.5707964,
     };
     q.ask("zeros", &[&c, &[theta]]);
+    let (m, p) = match r.below(8) {
+        0 => r.returning_move(),
+        1 => r.flat_move(),
+        2 => r.ninth_zero_move(),
+        3 => (r.any_move(), r.point()),
+        _ => (r.plain_move(true), r.point()),
+    };
+    if !q.ask_move(&m) {
+        return;
+    }
+    q.ask("pmotion", &[&p]);
+    q.ask("pmotion", &[&r.point()]);
+    if r.one_in(4) {
+        // The point is a corner of the box.
+        let other: [f32; 3] = r.numbers(|r| r.unit().abs());
+        q.ask("motion", &[&p, &std::array::from_fn::<f32, 3, _>(|i| p[i] + other[i])]);
+    } else {
+        q.ask("motion", &[&r.bounds()]);
+    }
 }
 
 fn ask_cover<W: Write>(q: &mut Questions<W>, depth: u64, b: &[f32]) {
@@ -1026,7 +1066,6 @@ fn ask_cover<W: Write>(q: &mut Questions<W>, depth: u64, b: &[f32]) {
 }
 
 fn fixed_covers<W: Write>(q: &mut Questions<W>) {
-    ask_cover(q, 0, &ORIGIN);
     for m in [move_a(), move_b(), quarter_turn(), Move { times: [2.0, 2.0], ..move_a() }, Move { times: [2.0, 2.0], ..quarter_turn() }, ninth_zero().0] {
         q.ask_move(&m);
         for b in BOXES {
@@ -1041,6 +1080,13 @@ fn fixed_covers<W: Write>(q: &mut Questions<W>) {
             ask_cover(q, depth, BOXES[2].as_slice());
         }
     }
+    q.ask_move(&quarter_turn());
+    for depth in (0..=13).chain([1 << 32, (1 << 32) + 1, u64::MAX]) {
+        ask_cover(q, depth, BOXES[1].as_slice());
+    }
+    for depth in ["", "x", "-1", "+1", "007", "18446744073709551616"] {
+        q.ask(&format!("cover {depth}"), &[&ORIGIN]);
+    }
 }
 
 fn random_cover<W: Write>(q: &mut Questions<W>, r: &mut Random) {
@@ -1049,7 +1095,9 @@ fn random_cover<W: Write>(q: &mut Questions<W>, r: &mut Random) {
         1 => r.returning_move().0,
         _ => r.plain_move(true),
     };
-    q.ask_move(&m);
+    if !q.ask_move(&m) {
+        return;
+    }
     let b = r.bounds();
     let depth = r.below(5) as u64;
     ask_cover(q, depth, &b);
