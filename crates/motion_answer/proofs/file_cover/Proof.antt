@@ -1,4 +1,5 @@
--- `file_cover` meets its contract: the file's number and building's choose the case.
+-- `file_cover` meets its contract: the file's number and building's choose the case. The move that is built is the file's (`move`).
+use mathlib.Core.Path.{_≡_}
 use borrow.Author.Needs.{needs}
 use borrow.Author.Tests.{eq-eqb, ne-eqb}
 use Rattle.motion_answer.specs.Answer.{MoveFile·move, MoveFile·cover}
@@ -21,8 +22,9 @@ new-requires c κs = search needs
 returns-2 : tie.Need-returns-2
 unfolding MoveFile·cover MoveFile·move
 returns-2 c =
-    rw
-    (eq-eqb _ 0 (c .before .before .before .before .before .before .before .if1 .left), ← c .before .before .before .before .pose .ensures, ← c .before .before .before .pose2 .ensures, ← c .before .before .new .ensures, ne-eqb _ 0 (c .if2 .taken))
+    let file = c .before .before .before .before .before .before .before .before .before .args .file in
+    let move : c .before .before .new .result ≡ MoveFile·move file = cc in
+    rw (eq-eqb (file .refusal) 0 (c .before .before .before .before .before .before .before .if1 .left), ← move, ne-eqb _ 0 (c .if2 .taken))
 
 bounds-requires : tie.Need-bounds-requires
 bounds-requires c κs = search needs
@@ -33,9 +35,9 @@ cover-requires c κs = search needs
 returns-3 : tie.Need-returns-3
 unfolding MoveFile·cover MoveFile·move
 returns-3 c =
-    rw
-    (eq-eqb _ 0 (c .before .before .before .before .before .before .before .before .before .before .if1 .left), ← c .before .before .before .before .before .before .before .pose .ensures, ← c .before .before .before .before .before .before .pose2 .ensures, ← c .before .before .before .before .before .new .ensures, eq-eqb _ 0 (c .before .before .before .if2 .left), ← c .before .bounds .ensures)
-    (c .cover .ensures .0)
+    let file = c .before .before .before .before .before .before .before .before .before .before .before .before .args .file in
+    let move : c .before .before .before .before .before .new .result ≡ MoveFile·move file = cc in
+    rw (eq-eqb (file .refusal) 0 (c .before .before .before .before .before .before .before .before .before .before .if1 .left), ← move, eq-eqb _ 0 (c .before .before .before .if2 .left), ← c .before .bounds .ensures) (c .cover .ensures .0)
 
 pub file-cover-spec : {M : Type 1} → statement M
 file-cover-spec =
