@@ -1,6 +1,6 @@
 #!/usr/bin/env bash
-# The test command of README.md: `rt ci`, and before its verdict what refused each must-fail edit.
-# An edit that is refused only because a proof file no longer fits the code fails the run.
+# The test command of README.md: `rt ci`, and before its verdict what refused each must-fail edit and what `cover` prints for the examples.
+# An edit that is refused only because a proof file no longer fits the code fails the run, and so does an example whose box is not the expected one.
 set -u
 cd "$(dirname "$0")/.." || exit 2
 command -v rt >/dev/null || { echo "rt, the Rattle toolchain's command, is not on the PATH"; echo "0 passed, 1 failed"; exit 2; }
@@ -10,6 +10,8 @@ RT_JOBS=${RT_JOBS:-4} rt ci >"$log" 2>&1
 status=$?
 verdict=$(tail -n 1 "$log")
 sed '$d' "$log"
-tools/why.sh || { echo "tools/why.sh: an edit above shows nothing"; [ "$status" -ne 0 ] || { verdict="0 passed, 1 failed"; status=1; }; }
+fail() { echo "$1"; [ "$status" -ne 0 ] || { verdict="0 passed, 1 failed"; status=1; }; }
+tools/why.sh || fail "tools/why.sh: an edit above shows nothing"
+tools/examples.sh || fail "tools/examples.sh: an example above differs"
 echo "$verdict"
 exit "$status"
