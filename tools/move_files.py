@@ -1,11 +1,12 @@
 #!/usr/bin/env python3
 """Makes move files, good and damaged, and says what document 01's layout asks for each.
 
-  move_files.py stream COUNT SEED      the files one after the other, each behind its length as eight hexadecimal digits and a line feed
-  move_files.py answers COUNT SEED     a line for each: the 32 values as lower-case bits, every NaN as 7fc00000, or `refused 11`
-  move_files.py write DIR COUNT SEED   the files as DIR/0000.txt and so on, the answers as DIR/answers
-  move_files.py read FILE              the answer for one file
+  move_files.py stream COUNT SEED [-]      the files one after the other, each behind its length as eight hexadecimal digits and a line feed
+  move_files.py answers COUNT SEED [-]     a line for each: the 32 values as lower-case bits, every NaN as 7fc00000, or `refused 11`
+  move_files.py write DIR COUNT SEED [-]   the files as DIR/0000.txt and so on, the answers as DIR/answers
+  move_files.py read FILE                  the answer for one file
 
+With - each file holds the next line of standard input, 32 values as `answers` prints them, and not values of chance.
 The reader below goes by regular expressions over whole lines and shares nothing with the proved one.
 """
 import os
@@ -82,8 +83,8 @@ def line(rng, words):
 
 
 def good_lines(rng):
-    rows = [13, 13, 6]
-    rows = [line(rng, [word(rng, value(rng)) for _ in range(n)]) for n in rows]
+    values = iter(rng.given) if rng.given else (value(rng) for _ in range(32))
+    rows = [line(rng, [word(rng, next(values)) for _ in range(n)]) for n in [13, 13, 6]]
     return [line(rng, POSE.split()), rows[0], rows[1], line(rng, BOX.split()), rows[2]]
 
 
@@ -216,10 +217,11 @@ def damages():
 DAMAGES = damages()
 
 
-def files(count, seed):
-    """Every damage in turn, and a good file after each third."""
+def files(count, seed, given):
+    """Every damage in turn, and a good file after each third. `given` are rows of 32 values to be held in turn, or none."""
     rng = random.Random(seed)
     for i in range(count):
+        rng.given = given[i % len(given)] if given else None
         if i % 4 == 3:
             yield joined(good_lines(rng))
         else:
@@ -232,16 +234,18 @@ def main(argv):
         with open(rest[0], "rb") as f:
             print(answer(f.read()))
         return
+    folder, rest = (rest[0], rest[1:]) if verb == "write" else (None, rest)
+    given = [[int(w, 16) for w in row.split()] for row in sys.stdin] if rest[2:] == ["-"] else []
+    made = files(int(rest[0]), int(rest[1]), given)
     if verb == "write":
-        folder, rest = rest[0], rest[1:]
         os.makedirs(folder, exist_ok=True)
         with open(os.path.join(folder, "answers"), "w") as answers:
-            for i, data in enumerate(files(int(rest[0]), int(rest[1]))):
+            for i, data in enumerate(made):
                 with open(os.path.join(folder, "%04d.txt" % i), "wb") as f:
                     f.write(data)
                 answers.write(answer(data) + "\n")
         return
-    for data in files(int(rest[0]), int(rest[1])):
+    for data in made:
         if verb == "stream":
             sys.stdout.buffer.write(b"%08x\n" % len(data) + data)
         else:

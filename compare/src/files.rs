@@ -1,0 +1,102 @@
+//! Move files, good and damaged: what the program `cover` prints for each, against what the oracle says of it.
+//! tools/move_files.py makes the files, around the moves and boxes of `vectors covers`, and reads their layout; the oracle builds the move and covers the box at depth 10.
+
+use crate::answer::{is_whole_move, lines, same, text, words};
+use crate::program::{give_up, output_of, run, Programs};
+use crate::report::Report;
+use std::path::Path;
+
+const BOX: &[u8] = b"x0 y0 z0 x1 y1 z1";
+
+/// A row of 32 values for each move that is asked for a cover: both times with the upper three rows of their poses, and the last box.
+fn values(programs: &Programs, count: usize, seed: u64) -> Vec<u8> {
+    let asked = output_of(&programs.vectors, &["covers", &count.to_string(), &seed.to_string()], b"");
+    let mut rows = Vec::new();
+    let mut pose: Option<Vec<&[u8]>> = None;
+    let mut asked = lines(&asked).peekable();
+    while let Some(line) = asked.next() {
+        let words: Vec<&[u8]> = words(line).skip(1).collect();
+        let last = asked.peek().is_none_or(|next| is_whole_move(next));
+        if is_whole_move(line) {
+            pose = Some([&words[..13], &words[17..30]].concat());
+        } else if let (Some(pose), true, 7) = (&pose, last, words.len()) {
+            rows.push([pose.as_slice(), &words[1..]].concat().join(&b' '));
+        }
+    }
+    // The fixed rows come first.
+    rows[rows.len().saturating_sub(count)..].join(&b'\n')
+}
+
+/// The files of the stream, each behind its length as eight hexadecimal digits and a line feed.
+fn split(mut stream: &[u8]) -> Vec<&[u8]> {
+    let mut files = Vec::new();
+    while let Some((length, rest)) = stream.split_at_checked(9) {
+        let length = usize::from_str_radix(text(length).trim_end(), 16).unwrap_or_else(|e| give_up(&format!("move_files.py: a length: {e}")));
+        let (file, rest) = rest.split_at_checked(length).unwrap_or_else(|| give_up("move_files.py: a file is cut short"));
+        files.push(file);
+        stream = rest;
+    }
+    files
+}
+
+/// The two questions that a good file's values ask.
+fn questions_of(values: &[u8]) -> Vec<u8> {
+    let values: Vec<&[u8]> = words(values).collect();
+    let bottom: [&[u8]; 4] = [b"00000000", b"00000000", b"00000000", b"3f800000"];
+    let build = [&[b"move".as_slice()], &values[..13], &bottom, &values[13..26], &bottom].concat().join(&b' ');
+    let cover = [&[b"cover".as_slice(), b"10"], &values[26..]].concat().join(&b' ');
+    [build, cover, vec![]].join(&b'\n')
+}
+
+/// What document 01 has the program print for an answer of the oracle.
+fn printed(answer: &[u8]) -> Vec<u8> {
+    match answer.strip_prefix(b"ok ") {
+        Some(values) => [BOX, values, b""].join(&b'\n'),
+        None => [b"refused".as_slice(), answer.strip_prefix(b"refused ").unwrap_or(answer), b""].join(&b'\n'),
+    }
+}
+
+/// The same text, but for the signs of the box's zeros.
+fn same_text(a: &[u8], b: &[u8]) -> bool {
+    let split = |text: &[u8]| text.split(|byte| *byte == b'\n').map(<[u8]>::to_vec).collect::<Vec<_>>();
+    let (a, b) = (split(a), split(b));
+    a.len() == b.len() && a.iter().zip(&b).all(|(a, b)| same(true, a, b))
+}
+
+pub fn compare(programs: &Programs, count: usize, seed: u64, report: &mut Report) {
+    let rows = values(programs, count, seed);
+    let make =
+        |verb: &str| output_of(Path::new("python3"), &[&programs.move_files.display().to_string(), verb, &count.to_string(), &seed.to_string(), "-"], &rows);
+    let (stream, layout) = (make("stream"), make("answers"));
+    let (files, layout): (Vec<&[u8]>, Vec<&[u8]>) = (split(&stream), lines(&layout).collect());
+    if files.len() != count || layout.len() != count {
+        give_up("move_files.py: not as many files as asked for");
+    }
+    let is_good = |answer: &&&[u8]| !answer.starts_with(b"refused");
+    let asked: Vec<u8> = layout.iter().filter(is_good).flat_map(|values| questions_of(values)).collect();
+    let answers = output_of(&programs.oracle, &[], &asked);
+    let mut answers = lines(&answers);
+    for (i, (file, layout)) in files.iter().zip(&layout).enumerate() {
+        let expected = if is_good(&layout) {
+            let mut next = || answers.next().unwrap_or_else(|| give_up("the oracle has too few answers for the files"));
+            let (built, cover) = (next(), next());
+            if built == b"ok" {
+                cover
+            } else {
+                built
+            }
+        } else {
+            layout
+        };
+        let run = run(&programs.cover, &[], file);
+        let is_same = run.ended_well && same_text(&run.output, &printed(expected));
+        report.compared("move file, to the program `cover`", expected, is_same);
+        if !is_same {
+            let kept = format!("compare/target/different-{seed}-{i}.txt");
+            std::fs::write(&kept, file).unwrap_or_else(|e| give_up(&format!("{kept}: {e}")));
+            let status = if run.ended_well { "" } else { "ended by a failure" };
+            report
+                .found("cover, the program", &[("file:", kept.as_bytes()), ("project:", &run.output), ("project:", status.as_bytes()), ("oracle:", expected)]);
+        }
+    }
+}

@@ -1,0 +1,131 @@
+//! The guarantee, tested from outside: each point of the box, asked at any time, is answered, and lies inside the cover that was accepted.
+
+use crate::answer::{accepted, floats, is_whole_move, lines, questions, text, words, write_float};
+use crate::program::{run_both, Programs};
+use crate::random::Random;
+use crate::report::Report;
+
+/// An accepted cover: the lines that ask and answer it, and their numbers.
+struct Cover<'a> {
+    built: &'a [u8],
+    question: &'a [u8],
+    answer: &'a [u8],
+    times: [f32; 2],
+    depth: u32,
+    asked: [f32; 6],
+    cover: [f32; 6],
+}
+
+/// How many borders of slices are asked at, and how many times between.
+const BORDERS: usize = 4;
+const BETWEEN: usize = 8;
+
+fn accepted_covers<'a>(asked: &'a [u8], answers: &'a [u8]) -> Vec<Cover<'a>> {
+    let mut covers = Vec::new();
+    let mut built: &[u8] = b"";
+    for (question, answer) in questions(asked).zip(lines(answers)) {
+        if is_whole_move(question) {
+            built = question;
+        }
+        let mut values = words(question);
+        let (Some(b"cover"), Some(depth), Some(cover)) = (values.next(), values.next(), accepted(answer)) else { continue };
+        let (Some(asked), Some(poses)) = (floats(values), floats::<34>(words(built).skip(1))) else { continue };
+        let Ok(depth) = text(depth).parse() else { continue };
+        covers.push(Cover { built, question, answer, times: [poses[0], poses[17]], depth, asked, cover });
+    }
+    covers
+}
+
+/// Before, at and after the ends, and the infinities; some borders of slices and their neighbours; others between.
+fn times(cover: &Cover, random: &mut Random) -> Vec<f32> {
+    let [start, end] = cover.times;
+    let mut times = vec![f32::NEG_INFINITY, f32::MIN, start - 1.0, start.next_down(), start, start.next_up()];
+    times.extend([end.next_down(), end, end.next_up(), end + 1.0, f32::MAX, f32::INFINITY]);
+    let at = |part: f64| (f64::from(start) + part * (f64::from(end) - f64::from(start))) as f32;
+    // An accepted depth is 12 at most.
+    let slices = 1u64 << cover.depth.min(12);
+    for _ in 0..BORDERS {
+        let border = at(random.below(slices + 1) as f64 / slices as f64);
+        times.extend([border.next_down(), border, border.next_up()]);
+    }
+    times.extend((0..BETWEEN).map(|_| at(random.unit())));
+    times
+}
+
+enum Place {
+    Corner,
+    FaceCentre,
+    Inside,
+    /// On each axis an end, the middle or anywhere.
+    Mixed,
+}
+use Place::*;
+
+fn point(cover: &Cover, place: Place, random: &mut Random) -> [f32; 3] {
+    let face = random.below(3) as usize;
+    std::array::from_fn(|axis| {
+        let (end, inside) = (random.pick(&[0.0, 1.0]), random.unit());
+        let part = match place {
+            Corner => end,
+            FaceCentre if axis == face => end,
+            FaceCentre => 0.5,
+            Inside => inside,
+            Mixed => random.pick(&[end, 0.5, inside]),
+        };
+        let (low, high) = (cover.asked[axis], cover.asked[axis + 3]);
+        let x = (f64::from(low) + part * (f64::from(high) - f64::from(low))) as f32;
+        x.max(low).min(high)
+    })
+}
+
+/// Asks at each time for a corner and for a point at another place. How many questions that makes.
+fn ask(questions: &mut Vec<u8>, cover: &Cover, random: &mut Random) -> usize {
+    let times = times(cover, random);
+    for time in &times {
+        let other = [FaceCentre, Inside, Mixed].into_iter().nth(random.below(3) as usize).unwrap();
+        for place in [Corner, other] {
+            questions.extend_from_slice(b"point");
+            write_float(questions, *time);
+            point(cover, place, random).iter().for_each(|x| write_float(questions, *x));
+            questions.push(b'\n');
+        }
+    }
+    2 * times.len()
+}
+
+/// Tests every cover that the project accepted in its answers to a batch. The points are compared with the oracle's too.
+pub fn test(programs: &Programs, asked: &[u8], answers: &[u8], random: &mut Random, report: &mut Report) {
+    let covers = accepted_covers(asked, answers);
+    let mut text = Vec::new();
+    let mut counts = Vec::new();
+    for cover in &covers {
+        text.extend_from_slice(cover.built);
+        text.push(b'\n');
+        counts.push(ask(&mut text, cover, random));
+    }
+    let runs = run_both(programs, &text);
+    let row = |question: &[u8]| if question.starts_with(b"move") { "move of an accepted cover" } else { "point of an accepted cover" };
+    report.compare(&text, &runs, row);
+    let mut pairs = questions(&text).zip(lines(&runs[0].output));
+    for (cover, count) in covers.iter().zip(counts) {
+        report.guarantee.covers += 1;
+        // The answer to `move`.
+        pairs.next();
+        for (question, answer) in pairs.by_ref().take(count) {
+            report.guarantee.points += 1;
+            let told = [("", cover.built), ("", cover.question), ("project:", cover.answer), ("", question), ("project:", answer)];
+            let Some(p) = accepted::<3>(answer) else {
+                report.guarantee.refused += 1;
+                report.found("guarantee: a point of an accepted cover is not answered", &told);
+                continue;
+            };
+            let (low, high) = (&cover.cover[..3], &cover.cover[3..]);
+            if !(0..3).all(|axis| low[axis] <= p[axis] && p[axis] <= high[axis]) {
+                report.guarantee.outside += 1;
+                report.found("guarantee: a point leaves its accepted cover", &told);
+            } else if (0..3).any(|axis| low[axis] == p[axis] || p[axis] == high[axis]) {
+                report.guarantee.touching += 1;
+            }
+        }
+    }
+}

@@ -1,0 +1,179 @@
+//! What was compared and what was found, in numbers and in words.
+
+use crate::answer::{answers_a_box, lines, questions, same, text, words};
+use crate::program::Run;
+use std::fmt::Write;
+
+/// The answers to one kind of question, as the oracle has them.
+#[derive(Default)]
+struct Count {
+    answers: u64,
+    refused: [u64; 12],
+    malformed: u64,
+    different: u64,
+}
+
+/// The points by which accepted covers were tested.
+#[derive(Default)]
+pub struct Guarantee {
+    pub covers: u64,
+    pub points: u64,
+    /// On a face of the cover, which belongs to it.
+    pub touching: u64,
+    pub refused: u64,
+    pub outside: u64,
+}
+
+#[derive(Default)]
+pub struct Report {
+    pub moves: u64,
+    pub guarantee: Guarantee,
+    rows: Vec<(&'static str, Count)>,
+    found: Vec<String>,
+}
+
+/// No report of one batch tells more than these.
+const MOST_FOUND: usize = 100;
+
+#[rustfmt::skip]
+const NAMES: &[&str] = &[
+    "move", "parts", "point", "interp", "motion", "pmotion", "cover", "zeros", "sin", "cos", "acos", "abs", "root", "least", "greatest", "lerp", "clamp", "whole",
+    "inverse", "mul", "quat", "rotation", "dot", "normalize", "slerp", "decompose", "bounds",
+];
+
+/// The question's first word; every line that starts otherwise is `another line`.
+pub fn name_of(question: &[u8]) -> &'static str {
+    let first = words(question).next().unwrap_or(b"");
+    NAMES.iter().find(|name| name.as_bytes() == first).unwrap_or(&"another line")
+}
+
+/// A number with commas.
+pub fn grouped(n: u64) -> String {
+    let digits = n.to_string();
+    let mut out = String::new();
+    for (i, digit) in digits.chars().enumerate() {
+        if i > 0 && (digits.len() - i).is_multiple_of(3) {
+            out.push(',');
+        }
+        out.push(digit);
+    }
+    out
+}
+
+impl Report {
+    fn row(&mut self, name: &'static str) -> &mut Count {
+        let place = self.rows.iter().position(|(row, _)| *row == name).unwrap_or_else(|| {
+            self.rows.push((name, Count::default()));
+            self.rows.len() - 1
+        });
+        &mut self.rows[place].1
+    }
+
+    /// One comparison more, with the oracle's answer.
+    pub fn compared(&mut self, row: &'static str, answer: &[u8], is_same: bool) {
+        let count = self.row(row);
+        count.answers += 1;
+        count.different += u64::from(!is_same);
+        if answer == b"error" {
+            count.malformed += 1;
+        } else if let Some(number) = answer.strip_prefix(b"refused ").and_then(|n| text(n).parse::<usize>().ok()) {
+            count.refused[number.min(11)] += 1;
+        }
+    }
+
+    /// Something that should not be, with what it takes to ask again.
+    pub fn found(&mut self, title: &str, parts: &[(&str, &[u8])]) {
+        if self.found.len() < MOST_FOUND {
+            let mut told = format!("DIFFERENT {title}\n");
+            for (label, line) in parts.iter().filter(|(_, line)| !line.is_empty()) {
+                let space = if label.is_empty() { "" } else { " " };
+                writeln!(told, "{label}{space}{}", text(line)).unwrap();
+            }
+            self.found.push(told);
+        }
+    }
+
+    /// Compares two programs' answers to the same questions, line by line. `row` tells the row of a question.
+    pub fn compare(&mut self, asked: &[u8], [project, oracle]: &[Run; 2], row: fn(&[u8]) -> &'static str) {
+        let mut kept: &[u8] = b"";
+        let (mut ours, mut theirs) = (lines(&project.output), lines(&oracle.output));
+        for question in questions(asked) {
+            let (name, row) = (name_of(question), row(question));
+            let before = if name == "move" { b"" } else { kept };
+            let (Some(a), Some(b)) = (ours.next(), theirs.next()) else {
+                self.row(row).different += 1;
+                let end = |run: &Run| {
+                    format!("{} answers and a status {}", lines(&run.output).count(), if run.ended_well { "of 0" } else { "that tells of a failure" })
+                };
+                let (a, b) = (end(project), end(oracle));
+                self.found("no answer", &[("", before), ("", question), ("project:", a.as_bytes()), ("oracle:", b.as_bytes())]);
+                return;
+            };
+            let is_same = same(answers_a_box(question), a, b);
+            if !is_same {
+                self.found(name, &[("", before), ("", question), ("project:", a), ("oracle:", b)]);
+            }
+            self.compared(row, b, is_same);
+            if name == "move" && b != b"error" {
+                kept = question;
+            }
+        }
+        for (who, rest, run) in [("project", ours.next(), project), ("oracle", theirs.next(), oracle)] {
+            if rest.is_some() || !run.ended_well {
+                self.row("end of answers").different += 1;
+                let why = if rest.is_some() { "has an answer too many" } else { "ends by a failure after its last answer" };
+                self.found(&format!("the {who} {why}"), &[("", rest.unwrap_or(b""))]);
+            }
+        }
+    }
+
+    pub fn different(&self) -> u64 {
+        self.rows.iter().map(|(_, count)| count.different).sum::<u64>() + self.guarantee.refused + self.guarantee.outside
+    }
+
+    pub fn answers(&self) -> u64 {
+        self.rows.iter().map(|(_, count)| count.answers).sum()
+    }
+
+    /// What was found is told and forgotten.
+    pub fn take_found(&mut self) -> Vec<String> {
+        std::mem::take(&mut self.found)
+    }
+
+    pub fn merge(&mut self, other: Report) {
+        for (name, count) in other.rows {
+            let row = self.row(name);
+            row.answers += count.answers;
+            row.malformed += count.malformed;
+            row.different += count.different;
+            row.refused.iter_mut().zip(count.refused).for_each(|(all, more)| *all += more);
+        }
+        let (all, more) = (&mut self.guarantee, other.guarantee);
+        all.covers += more.covers;
+        all.points += more.points;
+        all.touching += more.touching;
+        all.refused += more.refused;
+        all.outside += more.outside;
+        self.moves += other.moves;
+    }
+
+    /// The counts as tables of Markdown.
+    pub fn tables(&self) -> String {
+        let mut out = String::from("| question | answers | of them refused, by number | of them `error` | different |\n|---|---|---|---|---|\n");
+        let mut rows: Vec<_> = self.rows.iter().collect();
+        // Other rows than the questions' come last, in their own order.
+        rows.sort_by_key(|(row, _)| NAMES.iter().position(|name| name == row).unwrap_or(NAMES.len()));
+        for (name, count) in rows {
+            let numbers: Vec<String> = (1..12).filter(|n| count.refused[*n] > 0).map(|n| format!("{n}: {}", grouped(count.refused[n]))).collect();
+            let (answers, malformed, different) = (grouped(count.answers), grouped(count.malformed), grouped(count.different));
+            writeln!(out, "| {name} | {answers} | {} | {malformed} | {different} |", numbers.join(", ")).unwrap();
+        }
+        let g = &self.guarantee;
+        if g.covers > 0 {
+            out += "\n| accepted covers | points of them, at a time | on a face of the cover | not answered | outside |\n|---|---|---|---|---|\n";
+            let cells = [g.covers, g.points, g.touching, g.refused, g.outside].map(grouped);
+            writeln!(out, "| {} |", cells.join(" | ")).unwrap();
+        }
+        out
+    }
+}
