@@ -37,12 +37,12 @@ within-subset w s = record { box = w .box; accepted = w .accepted; subset = subs
 proper-within : (r : BoundsAnswer) (c : Bounds3f) → Proper r → r ≡ Bounds c → Within r c
 proper-within r c p e = record { box = c; accepted = e; subset = order-refl (p .order c e) }
 
-union-within : (r s : BoundsAnswer) {c : Bounds3f} → Within r c → Within s c → Within (BoundsAnswer·unionBounds r s) c
+pub union-within : (r s : BoundsAnswer) {c : Bounds3f} → Within r c → Within s c → Within (BoundsAnswer·unionBounds r s) c
 unfolding BoundsAnswer·unionBounds
 union-within r s f g = record { box = Bounds3f·unionBounds (f .box) (g .box); accepted = rw (f .accepted, g .accepted); subset = union-least (f .subset) (g .subset) }
 
 -- Both parts of an accepted union lie in it.
-parts-within : (r s : BoundsAnswer) (c : Bounds3f) → Proper r → Proper s → BoundsAnswer·unionBounds r s ≡ Bounds c → Within r c × Within s c
+pub parts-within : (r s : BoundsAnswer) (c : Bounds3f) → Proper r → Proper s → BoundsAnswer·unionBounds r s ≡ Bounds c → Within r c × Within s c
 parts-within r s c p q e =
     let j = union-accepted r s c e in (
       record {
@@ -63,7 +63,7 @@ from-enclosure-box j e = rw (eq-eqb (j .refusal) 0 e)
 
 module _ {m : AnimatedTransform} (built : Built m) (b : Bounds3f) (r : BoxRefines b) where
   -- ---- a slice of a greater depth
-  piece-finer : (d n k : ℕ) (c : Bounds3f) → k < 2 ^ (d + n) → Within (AnimatedTransform·encloseBounds m (AnimatedTransform·rigidMotion m) (slice d (k / 2 ^ n)) b) c
+  pub piece-finer : (d n k : ℕ) (c : Bounds3f) → k < 2 ^ (d + n) → Within (AnimatedTransform·encloseBounds m (AnimatedTransform·rigidMotion m) (slice d (k / 2 ^ n)) b) c
       → Within (AnimatedTransform·encloseBounds m (AnimatedTransform·rigidMotion m) (slice (d + n) k) b) c
   unfolding AnimatedTransform·encloseBounds
   piece-finer d n k c h w =
