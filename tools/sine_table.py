@@ -3,7 +3,7 @@
 
 T[i] is 2^30 times the sine's Taylor sum through the 15th power at x = i * Q / 2048 units of 2^-28, plus a half, rounded down; Q is a quarter turn.
 
-    tools/sine_table.py            prints the constant of src/lib.rt, then the list of proofs/Table.antt
+    tools/sine_table.py            prints the constant of src/lib.rt, then the list of proofs/Entries.antt
     tools/sine_table.py --check    compares both files with the table, and with its ends and its strict rise
 """
 import os
@@ -47,8 +47,8 @@ def check(table):
         faults.append("the table's ends or its rise")
     if numbers("src/lib.rt", "const SINE_TABLE: [u32; %d] = [" % ENTRIES, "]") != table:
         faults.append("src/lib.rt")
-    if numbers("proofs/Table.antt", "\ntable =", "[]") != table:
-        faults.append("proofs/Table.antt")
+    if numbers("proofs/Entries.antt", "\ntable =", "[]") != table:
+        faults.append("proofs/Entries.antt")
     for fault in faults:
         print("wrong: " + fault)
     if not faults:

@@ -1,7 +1,8 @@
--- Document 01's table of sines over a quarter turn: `quarterTurn` (Q), the rule of an entry, `sineEntry`, and what the whole table keeps to, `SineTable`.
+-- Document 01's table of sines over a quarter turn: `quarterTurn` (Q), the rule of an entry, `sineEntry`, all 2,049 of them, `sineTable` (T),
+-- and what the whole table keeps to, `SineTable`.
 -- An angle is a whole number of units of 2 ^ -28, a sine one of units of 2 ^ -30. The Taylor sum is exact: all its terms stand over one denominator.
 use mathlib.Core.Path.{_≡_}
-use mathlib.Core.List.{List}
+use mathlib.Core.List.{List, [], _∷_}
 use Prim.Native.Nat.{ℕ, zero, suc, _+_, _-_, _*_, _/_, _^_, _<_}
 use lib.ListN.{length, getD}
 
@@ -30,6 +31,15 @@ taylorSum i =
 -- T[i]: 2 ^ 30 times the Taylor sum, plus a half, rounded down.
 unfoldable pub sineEntry : ℕ → ℕ
 sineEntry i = (2 ^ 31 * taylorSum i + taylorDenominator) / (2 * taylorDenominator)
+
+-- T[i] and the n - 1 entries after it.
+unfoldable pub entries : ℕ → ℕ → List ℕ
+entries zero i = []
+entries (suc n) i = sineEntry i ∷ entries n (suc i)
+
+-- T.
+unfoldable pub sineTable : List ℕ
+sineTable = entries 2049 0
 
 -- A table of 2,049 entries that has those ends, rises strictly and follows the rule at every entry.
 pub record SineTable (t : List ℕ) : Type 0 where

@@ -1,14 +1,11 @@
 // The sine over a quarter turn: a table of 2,049 entries, and the straight line between them.
 // Angles are in units of 2^-28, sines in units of 2^-30.
 ghost use mathlib.Core.Path.{_≡_};
-ghost use Prim.Native.Nat.{_+_, _-_, _*_, _^_, _≤_, _<_, min};
-ghost use Rattle.sine_table.specs.Table.{quarterTurn, sineEntry};
-ghost use Rattle.sine_table.specs.QuarterSine.{line, quarterSine};
+ghost use Prim.Native.Nat.{_<_, min};
+ghost use Rattle.sine_table.specs.Table.{quarterTurn, sineTable, SineTable};
+ghost use Rattle.sine_table.specs.QuarterSine.{line, quarterSineIn, quarterSine};
 
 const QUARTER_TURN: u64 = 421657428;
-
-// The sine of a quarter turn, in units.
-const ONE: u64 = 1073741824;
 
 // Document 01's T, made by tools/sine_table.py.
 const SINE_TABLE: [u32; 2049] = [
@@ -2063,39 +2060,40 @@ const SINE_TABLE: [u32; 2049] = [
     1073741824,
 ];
 
-// Two entries side by side.
-struct Pair {
-    low: u32,
-    high: u32,
-}
-
-// The table is copied at each use of the constant, so both are read from one copy.
-fn neighbours(i: usize) -> Pair
-    requires { ⌜ i < 2048 ⌝ }
-    ensures value { λ r. ⌜ (r .low ≡ sineEntry i) × (r .high ≡ sineEntry (i + 1)) ⌝ }
+// Document 01's T. A constant is copied whole at each use, so a copy is handed out here, and serves as many sines as are read from it.
+pub fn table() -> [u32; 2049]
+    ensures value { λ r. ⌜ r ≡ sineTable ⌝ }
+    ensures rule { λ r. ⌜ SineTable r ⌝ }
 {
-    let table = SINE_TABLE;
-    Pair {
-        low: table[i],
-        high: table[i + 1],
-    }
+    SINE_TABLE
 }
 
-fn interpolate(a: u64, b: u64, r: u64) -> u64
-    requires { ⌜ a ≤ b ⌝ ∗ ⌜ b ≤ 2 ^ 30 ⌝ ∗ ⌜ (b - a) * r ≤ 2 ^ 60 ⌝ }
+fn interpolate(a: u32, b: u32, r: u64) -> u64
+    requires { ⌜ r < quarterTurn ⌝ }
     ensures value { λ s. ⌜ s ≡ line a b r ⌝ }
 {
-    a + (b - a) * r / QUARTER_TURN
+    if b < a {
+        return a as u64;
+    }
+    a as u64 + (b - a) as u64 * r / QUARTER_TURN
+}
+
+// Document 01's H over a table; from a quarter turn on, the last entry. Accuracy: exact.
+pub fn quarter_sine_in(table: &[u32; 2049], v: u64) -> u64
+    ensures value { λ r. ⌜ r ≡ quarterSineIn (now (table .entry)) (min v quarterTurn) ⌝ }
+{
+    if v >= QUARTER_TURN {
+        // The last entry has no next one.
+        return interpolate(table[2048], table[2048], 0);
+    }
+    let i = (v * 2048 / QUARTER_TURN) as usize;
+    interpolate(table[i], table[i + 1], v * 2048 % QUARTER_TURN)
 }
 
 // Document 01's H; from a quarter turn on, its value there. Accuracy: exact.
 pub fn quarter_sine(v: u64) -> u64
     ensures value { λ r. ⌜ r ≡ quarterSine (min v quarterTurn) ⌝ }
 {
-    if v >= QUARTER_TURN {
-        return ONE;
-    }
-    let i = v * 2048 / QUARTER_TURN;
-    let n = neighbours(i as usize);
-    interpolate(n.low as u64, n.high as u64, v * 2048 % QUARTER_TURN)
+    let table = table();
+    quarter_sine_in(&table, v)
 }

@@ -1,7 +1,7 @@
 -- The table as a list is document 01's, `table-right`: its size, its ends, its strict rise and the Taylor rule at every entry come from one test that is
 -- computed over the whole table, `table-passes`, and one law that turns the test into what it says of each entry, `passes-at`.
--- From it the same of `sineEntry`, which is at most 2 ^ 30 and is the whole number nearest to 2 ^ 30 times the Taylor sum.
-use mathlib.Core.Path.{_≡_, sym, ap, subst, subst₂, _∙_}
+-- So it is T, `table-entries`. From it the same of `sineEntry`, which is at most 2 ^ 30 and is the whole number nearest to 2 ^ 30 times the Taylor sum.
+use mathlib.Core.Path.{_≡_, refl, sym, ap, subst, subst₂, _∙_}
 use mathlib.Core.Bool.{Bool, true, _&&_}
 use mathlib.Core.List.{List, [], _∷_}
 use Prim.Native.Nat.{ℕ, zero, suc, _+_, _*_, _/_, _^_, _≤_, _<_}
@@ -11,7 +11,7 @@ use native.Mathlib.Omega.{arith}
 use lib.Dec.{T, eqb, ltb, eqb→eq, ltb→lt, lit<}
 use lib.ListN.{length, getD}
 use lib.Ieee.Fits.{and-l, and-r}
-use Rattle.sine_table.specs.Table.{taylorDenominator, taylorSum, sineEntry, SineTable}
+use Rattle.sine_table.specs.Table.{taylorDenominator, taylorSum, sineEntry, entries, sineTable, SineTable}
 
 -- ---- the test
 
@@ -40,6 +40,13 @@ passes-at i (x ∷ xs) t zero h =
 passes-at i (x ∷ xs) t (suc k) h =
     let r = passes-at (suc i) xs (and-r (eqb x (sineEntry i) && below x xs) (passes (suc i) xs) t) k (le-of-suc-le-suc h) in
     (r .0 ∙ ap sineEntry (let e : suc i + k ≡ i + suc k = omega arith in e), λ l. r .1 (le-of-suc-le-suc l))
+
+passes-entries : (i : ℕ) (xs : List ℕ) → T (passes i xs) → xs ≡ entries (length xs) i
+unfolding entries
+passes-entries i [] t = refl
+passes-entries i (x ∷ xs) t =
+    ap (λ (y : ℕ). y ∷ xs) (eqb→eq x (sineEntry i) (and-l (eqb x (sineEntry i)) (below x xs) (and-l (eqb x (sineEntry i) && below x xs) (passes (suc i) xs) t)))
+    ∙ ap (λ (ys : List ℕ). sineEntry i ∷ ys) (passes-entries (suc i) xs (and-r (eqb x (sineEntry i) && below x xs) (passes (suc i) xs) t))
 
 -- ---- the table
 
@@ -180,6 +187,9 @@ table-passes : T (eqb (length table) 2049 && eqb (getD table 0 0) 0 && eqb (getD
 unfolding table sineEntry taylorSum
 table-passes = tt
 
+table-follows : T (passes 0 table)
+table-follows = and-r (eqb (length table) 2049 && eqb (getD table 0 0) 0 && eqb (getD table 2048 0) (2 ^ 30)) (passes 0 table) table-passes
+
 pub table-right : SineTable table
 table-right =
     let size : length table ≡ 2049 = eqb→eq (length table) 2049 (and-l (eqb (length table) 2049) (eqb (getD table 0 0) 0) ends-l) in
@@ -187,18 +197,19 @@ table-right =
       size = size;
       first = eqb→eq (getD table 0 0) 0 (and-r (eqb (length table) 2049) (eqb (getD table 0 0) 0) ends-l);
       last = eqb→eq (getD table 2048 0) (2 ^ 30) (and-r (eqb (length table) 2049 && eqb (getD table 0 0) 0) (eqb (getD table 2048 0) (2 ^ 30)) ends);
-      rises = λ i h. passes-at 0 table entries i (rw size (omega arith)) .1 (rw size (omega arith));
-      rule = λ i h. passes-at 0 table entries i (rw size (omega arith)) .0 ∙ ap sineEntry (zero-add i);
+      rises = λ i h. passes-at 0 table table-follows i (rw size (omega arith)) .1 (rw size (omega arith));
+      rule = λ i h. passes-at 0 table table-follows i (rw size (omega arith)) .0 ∙ ap sineEntry (zero-add i);
     }
   where
     ends : T (eqb (length table) 2049 && eqb (getD table 0 0) 0 && eqb (getD table 2048 0) (2 ^ 30))
     ends = and-l (eqb (length table) 2049 && eqb (getD table 0 0) 0 && eqb (getD table 2048 0) (2 ^ 30)) (passes 0 table) table-passes
 
-    entries : T (passes 0 table)
-    entries = and-r (eqb (length table) 2049 && eqb (getD table 0 0) 0 && eqb (getD table 2048 0) (2 ^ 30)) (passes 0 table) table-passes
-
     ends-l : T (eqb (length table) 2049 && eqb (getD table 0 0) 0)
     ends-l = and-l (eqb (length table) 2049 && eqb (getD table 0 0) 0) (eqb (getD table 2048 0) (2 ^ 30)) ends
+
+pub table-entries : table ≡ sineTable
+unfolding sineTable
+table-entries = passes-entries 0 table table-follows ∙ ap (λ (n : ℕ). entries n 0) (table-right .size)
 
 -- ---- the rule
 
