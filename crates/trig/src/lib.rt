@@ -4,6 +4,7 @@ ghost use mathlib.Core.Path.{_≡_};
 ghost use mathlib.Core.Bool.{true};
 ghost use Prim.Native.Nat.{_*_, _/_, _^_, _≤_, _<_, min};
 ghost use lib.Ieee.{minus};
+ghost use Rattle.sine_table.specs.Table.{SineTable};
 ghost use Rattle.trig.specs.Units.{angleUnits, nearestFloat, withSign};
 ghost use Rattle.trig.specs.SinCos.{sin, cos};
 ghost use Rattle.trig.specs.Acos.{inDomain, leastAngle, floorUnits, acos};
@@ -20,21 +21,22 @@ const ONE: u64 = 1073741824;
 const FAR: f32 = 16777216.0;
 
 // The sine of u, biased.
-fn biased_sin(u: u64) -> u64
+fn biased_sin(table: &[u32; 2049], u: u64) -> u64
+    requires { ⌜ SineTable (now table) ⌝ }
     ensures value { λ r. ⌜ r ≡ biasedSin u ⌝ }
 {
     let k = u / QUARTER_TURN % 4;
     let v = u % QUARTER_TURN;
     if k == 0 {
-        return ONE + sine_table::quarter_sine(v);
+        return ONE + sine_table::quarter_sine_in(table, v);
     }
     if k == 1 {
-        return ONE + sine_table::quarter_sine(QUARTER_TURN - v);
+        return ONE + sine_table::quarter_sine_in(table, QUARTER_TURN - v);
     }
     if k == 2 {
-        return ONE - sine_table::quarter_sine(v);
+        return ONE - sine_table::quarter_sine_in(table, v);
     }
-    ONE - sine_table::quarter_sine(QUARTER_TURN - v)
+    ONE - sine_table::quarter_sine_in(table, QUARTER_TURN - v)
 }
 
 // The float nearest to n biased units, negated where the sign says so; a zero is +0.
@@ -78,29 +80,46 @@ pub fn angle_units(a: f32) -> u64
     shifted(d.significand << 28, d.exponent)
 }
 
-// Document 01's sine; of a far angle 0. Accuracy: heuristic, the float nearest to a straight line between the table's entries.
-pub fn sin(a: f32) -> f32
+fn sin_in(table: &[u32; 2049], a: f32) -> f32
+    requires { ⌜ SineTable (now table) ⌝ }
     ensures value { λ r. ⌜ r ≡ sin a ⌝ }
 {
     if float32::abs(a) < FAR {
         let d = float_bits::integer_decode(a);
-        return biased_float(d.negative, biased_sin(angle_units(a)));
+        return biased_float(d.negative, biased_sin(table, angle_units(a)));
     }
     0.0
+}
+
+fn cos_in(table: &[u32; 2049], a: f32) -> f32
+    requires { ⌜ SineTable (now table) ⌝ }
+    ensures value { λ r. ⌜ r ≡ cos a ⌝ }
+{
+    if float32::abs(a) < FAR {
+        return biased_float(false, biased_sin(table, angle_units(a) + QUARTER_TURN));
+    }
+    1.0
+}
+
+// Document 01's sine; of a far angle 0. Accuracy: heuristic, the float nearest to a straight line between the table's entries.
+pub fn sin(a: f32) -> f32
+    ensures value { λ r. ⌜ r ≡ sin a ⌝ }
+{
+    let table = sine_table::table();
+    sin_in(&table, a)
 }
 
 // Document 01's cosine, the sine a quarter turn on; of a far angle 1. Accuracy: heuristic, as the sine's.
 pub fn cos(a: f32) -> f32
     ensures value { λ r. ⌜ r ≡ cos a ⌝ }
 {
-    if float32::abs(a) < FAR {
-        return biased_float(false, biased_sin(angle_units(a) + QUARTER_TURN));
-    }
-    1.0
+    let table = sine_table::table();
+    cos_in(&table, a)
 }
 
 // The least angle in 0 to a half turn whose cosine is at most w, both biased.
-fn least_angle(w: u64) -> u64
+fn least_angle(table: &[u32; 2049], w: u64) -> u64
+    requires { ⌜ SineTable (now table) ⌝ }
     ensures value { λ r. ⌜ r ≡ leastAngle (minus w (2 ^ 30)) ⌝ }
 {
     // The cosine of 0 is 1.
@@ -112,7 +131,7 @@ fn least_angle(w: u64) -> u64
     let mut high: u64 = HALF_TURN;
     while high - low > 1 {
         let middle = (low + high) / 2;
-        if biased_sin(middle + QUARTER_TURN) > w {
+        if biased_sin(table, middle + QUARTER_TURN) > w {
             low = middle;
         } else {
             high = middle;
@@ -139,7 +158,8 @@ pub fn acos(c: f32) -> f32
     ensures value { λ r. ⌜ r ≡ acos c ⌝ }
 {
     if (-1.0 <= c) & (c <= 1.0) {
-        return float_bits::from_fixed(least_angle(biased_floor(c)), 28);
+        let table = sine_table::table();
+        return float_bits::from_fixed(least_angle(&table, biased_floor(c)), 28);
     }
     0.0 / 0.0
 }

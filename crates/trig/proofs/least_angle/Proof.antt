@@ -5,15 +5,12 @@ use borrow.Author.Needs.{needs}
 use Rattle.trig.proofs.Least.{Halving, halving-starts, halving-raises, halving-lowers, halving-ends, least-zero}
 use Rattle.trig.proofs.least_angle.Statement.{statement}
 use Rattle.trig.proofs.least_angle.Tie as tie
-use Rattle.trig.proofs.least_angle.Reads as reads
-use Rattle.trig.proofs.least_angle.Lts as lts
-use Rattle.trig.proofs.biased_sin.Reads as biased-sin-reads
 
 abbrev Inv-loop : tie.InvT-loop
-Inv-loop w low₀ high₀ low high = Halving w low high
+Inv-loop table w low₀ high₀ low high = Halving w low high
 
 abbrev μ-loop : tie.MeasureT-loop
-μ-loop w low₀ high₀ low high = high - low
+μ-loop table w low₀ high₀ low high = high - low
 
 mul-if1 : tie.Need-mul-if1 Inv-loop μ-loop
 mul-if1 c = search needs
