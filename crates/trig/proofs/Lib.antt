@@ -2,4 +2,4 @@ pub mod Units
 pub mod Least
 pub mod Shift
 pub mod Fixed
-pub mod SinCos
+pub mod Values

@@ -20,6 +20,20 @@ const ONE: u64 = 1073741824;
 // 2^24: from here on an angle is far.
 const FAR: f32 = 16777216.0;
 
+// The sine and the cosine of an angle.
+pub struct SinCos {
+    pub sin: f32,
+    pub cos: f32,
+}
+
+// Those of two angles, x and y.
+pub struct SinCosPair {
+    pub sin_x: f32,
+    pub cos_x: f32,
+    pub sin_y: f32,
+    pub cos_y: f32,
+}
+
 // The sine of u, biased.
 fn biased_sin(table: &[u32; 2049], u: u64) -> u64
     requires { ⌜ SineTable (now table) ⌝ }
@@ -115,6 +129,30 @@ pub fn cos(a: f32) -> f32
 {
     let table = sine_table::table();
     cos_in(&table, a)
+}
+
+// The sine and the cosine of an angle, from one copy of the table. Accuracy: heuristic, as theirs.
+pub fn sin_cos(a: f32) -> SinCos
+    ensures value { λ r. ⌜ (r .sin ≡ sin a) × (r .cos ≡ cos a) ⌝ }
+{
+    let table = sine_table::table();
+    SinCos {
+        sin: sin_in(&table, a),
+        cos: cos_in(&table, a),
+    }
+}
+
+// The sines and the cosines of two angles, likewise.
+pub fn sin_cos_pair(x: f32, y: f32) -> SinCosPair
+    ensures value { λ r. ⌜ (r .«sin_x» ≡ sin x) × (r .«cos_x» ≡ cos x) × (r .«sin_y» ≡ sin y) × (r .«cos_y» ≡ cos y) ⌝ }
+{
+    let table = sine_table::table();
+    SinCosPair {
+        sin_x: sin_in(&table, x),
+        cos_x: cos_in(&table, x),
+        sin_y: sin_in(&table, y),
+        cos_y: cos_in(&table, y),
+    }
 }
 
 // The least angle in 0 to a half turn whose cosine is at most w, both biased.

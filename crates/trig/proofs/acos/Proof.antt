@@ -1,5 +1,5 @@
 -- The calls in turn (`acos-value`); outside -1 to 1, and at a NaN, 0 / 0.
-use Rattle.trig.proofs.SinCos.{acos-value, acos-outside}
+use Rattle.trig.proofs.Values.{acos-value, acos-outside}
 use borrow.Author.Needs.{needs}
 use Rattle.trig.proofs.acos.Statement.{statement}
 use Rattle.trig.proofs.acos.Tie as tie

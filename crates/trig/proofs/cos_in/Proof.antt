@@ -1,6 +1,6 @@
 -- Near, the calls in turn (`cos-value`); far, what `farCos` says.
 use mathlib.Core.Bool.{true, false}
-use Rattle.trig.proofs.SinCos.{near-test, cos-value, cos-far}
+use Rattle.trig.proofs.Values.{near-test, cos-value, cos-far}
 use borrow.Author.Needs.{needs}
 use Rattle.trig.proofs.cos_in.Statement.{statement}
 use Rattle.trig.proofs.cos_in.Tie as tie

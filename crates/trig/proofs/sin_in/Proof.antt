@@ -1,6 +1,6 @@
 -- Near, the calls in turn (`sin-value`); far, what `farSin` says.
 use mathlib.Core.Bool.{true, false}
-use Rattle.trig.proofs.SinCos.{near-test, sin-value, sin-far}
+use Rattle.trig.proofs.Values.{near-test, sin-value, sin-far}
 use borrow.Author.Needs.{needs}
 use Rattle.trig.proofs.sin_in.Statement.{statement}
 use Rattle.trig.proofs.sin_in.Tie as tie
