@@ -4,6 +4,7 @@ ghost use mathlib.Core.Path.{_≡_};
 ghost use Prim.Native.Nat.{_^_, _<_};
 ghost use mathlib.Core.Bool.{cond};
 ghost use Rattle.trig.specs.Units.{angleUnits};
+ghost use Rattle.trig.specs.SinCos.{sin, cos};
 ghost use Rattle.trig_laws.specs.Range.{lies};
 ghost use Rattle.interval.specs.Interval.{Interval·new, Interval·point, Interval·hull, Interval·ofFour, Interval·add, Interval·sub, Interval·mul, Interval·straddles, Interval·sin, Interval·cos};
 ghost use Rattle.interval.specs.Enclosure.{first, notFinite, notPositive, Judged·judge, Judged·addEnclosure, Judged·subEnclosure, Judged·mulEnclosure, Judged·divEnclosure, Judged·sqrtEnclosure, Judged·sinEnclosure, Judged·cosEnclosure};
@@ -30,6 +31,18 @@ pub struct Interval {
 pub struct Judged {
     pub interval: Interval,
     pub refusal: u8,
+}
+
+// The sine and the cosine of an interval.
+pub struct IntervalSinCos {
+    pub sin: Interval,
+    pub cos: Interval,
+}
+
+// The same, judged: the cosine first, as in `slerp`.
+pub struct JudgedSinCos {
+    pub cos: Judged,
+    pub sin: Judged,
 }
 
 impl Interval {
@@ -101,12 +114,11 @@ impl Interval {
         (self.low < x) & (x < self.high)
     }
 
-    // pbrt's sine of an interval of angles from 0 to a full turn; its assertions of that range are not carried over. Accuracy: heuristic.
-    pub fn sin(self) -> Self
+    // pbrt's sine, by the sines of the ends.
+    fn sin_between(self, a: f32, b: f32) -> Self
+        requires { ⌜ a ≡ sin (self .low) ⌝ ∗ ⌜ b ≡ sin (self .high) ⌝ }
         ensures value { λ r. ⌜ r ≡ Interval·sin self ⌝ }
     {
-        let a = trig::sin(self.low);
-        let b = trig::sin(self.high);
         let low = select(a > b, b, a);
         let high = select(a > b, a, b);
         Interval::new(
@@ -115,15 +127,39 @@ impl Interval {
         )
     }
 
+    // pbrt's cosine, by the cosines of the ends.
+    fn cos_between(self, a: f32, b: f32) -> Self
+        requires { ⌜ a ≡ cos (self .low) ⌝ ∗ ⌜ b ≡ cos (self .high) ⌝ }
+        ensures value { λ r. ⌜ r ≡ Interval·cos self ⌝ }
+    {
+        let low = select(a > b, b, a);
+        let high = select(a > b, a, b);
+        Interval::new(select(self.straddles(PI), -1.0, low), high)
+    }
+
+    // pbrt's sine and cosine of an interval of angles from 0 to a full turn, from one copy of the table of sines; its assertions of that range are not carried
+    // over. Accuracy: heuristic.
+    pub fn sin_cos(self) -> IntervalSinCos
+        ensures value { λ r. ⌜ (r .sin ≡ Interval·sin self) × (r .cos ≡ Interval·cos self) ⌝ }
+    {
+        let ends = trig::sin_cos_pair(self.low, self.high);
+        let sin = self.sin_between(ends.sin_x, ends.sin_y);
+        let cos = self.cos_between(ends.cos_x, ends.cos_y);
+        IntervalSinCos { sin, cos }
+    }
+
+    // pbrt's sine, likewise. Accuracy: heuristic.
+    pub fn sin(self) -> Self
+        ensures value { λ r. ⌜ r ≡ Interval·sin self ⌝ }
+    {
+        self.sin_cos().sin
+    }
+
     // pbrt's cosine, likewise. Accuracy: heuristic.
     pub fn cos(self) -> Self
         ensures value { λ r. ⌜ r ≡ Interval·cos self ⌝ }
     {
-        let a = trig::cos(self.low);
-        let b = trig::cos(self.high);
-        let low = select(a > b, b, a);
-        let high = select(a > b, a, b);
-        Interval::new(select(self.straddles(PI), -1.0, low), high)
+        self.sin_cos().cos
     }
 
     // 5 where an end is not finite.
@@ -245,12 +281,11 @@ impl Judged {
         Judged::judge(first(m, x.not_positive()), roots)
     }
 
-    // The sine. Accuracy: encloses, for angles from 0 to a full turn.
-    pub fn sin_enclosure(m: u8, x: Interval) -> Self
+    // The sine, by the sines of the ends.
+    fn sin_between(m: u8, x: Interval, a: f32, b: f32) -> Self
+        requires { ⌜ a ≡ sin (x .low) ⌝ ∗ ⌜ b ≡ sin (x .high) ⌝ }
         ensures value { λ r. ⌜ r ≡ Judged·sinEnclosure m x ⌝ }
     {
-        let a = trig::sin(x.low);
-        let b = trig::sin(x.high);
         let range = Interval {
             low: select(
                 lies(THREE_QUARTERS, x.low, x.high),
@@ -262,12 +297,11 @@ impl Judged {
         Judged::judge(m, range)
     }
 
-    // The cosine. Accuracy: encloses, for angles from 0 to a full turn.
-    pub fn cos_enclosure(m: u8, x: Interval) -> Self
+    // The cosine, by the cosines of the ends.
+    fn cos_between(m: u8, x: Interval, a: f32, b: f32) -> Self
+        requires { ⌜ a ≡ cos (x .low) ⌝ ∗ ⌜ b ≡ cos (x .high) ⌝ }
         ensures value { λ r. ⌜ r ≡ Judged·cosEnclosure m x ⌝ }
     {
-        let a = trig::cos(x.low);
-        let b = trig::cos(x.high);
         let range = Interval {
             low: select(lies(HALF_TURN, x.low, x.high), -1.0, float32::min(a, b)),
             high: select(
@@ -277,5 +311,31 @@ impl Judged {
             ),
         };
         Judged::judge(m, range)
+    }
+
+    // The sine. Accuracy: encloses, for angles from 0 to a full turn.
+    pub fn sin_enclosure(m: u8, x: Interval) -> Self
+        ensures value { λ r. ⌜ r ≡ Judged·sinEnclosure m x ⌝ }
+    {
+        let ends = trig::sin_cos_pair(x.low, x.high);
+        Judged::sin_between(m, x, ends.sin_x, ends.sin_y)
+    }
+
+    // The cosine. Accuracy: encloses, for angles from 0 to a full turn.
+    pub fn cos_enclosure(m: u8, x: Interval) -> Self
+        ensures value { λ r. ⌜ r ≡ Judged·cosEnclosure m x ⌝ }
+    {
+        let ends = trig::sin_cos_pair(x.low, x.high);
+        Judged::cos_between(m, x, ends.cos_x, ends.cos_y)
+    }
+
+    // The cosine, then the sine with the number that the cosine hands on, from one copy of the table of sines. Accuracy: encloses, likewise.
+    pub fn sin_cos_enclosure(m: u8, x: Interval) -> JudgedSinCos
+        ensures value { λ r. ⌜ (r .cos ≡ Judged·cosEnclosure m x) × (r .sin ≡ Judged·sinEnclosure (r .cos .refusal) x) ⌝ }
+    {
+        let ends = trig::sin_cos_pair(x.low, x.high);
+        let cos = Judged::cos_between(m, x, ends.cos_x, ends.cos_y);
+        let sin = Judged::sin_between(cos.refusal, x, ends.sin_x, ends.sin_y);
+        JudgedSinCos { cos, sin }
     }
 }

@@ -1,7 +1,7 @@
--- `Interval::cos` meets its contract: its calls in turn, from the last to the first.
+-- `Interval::cos_between` meets its contract: its calls in turn, from the last to the first.
 use Rattle.interval.specs.Interval.{Interval·cos}
-use Rattle.interval.proofs.Interval.cos.Statement.{statement}
-use Rattle.interval.proofs.Interval.cos.Tie as tie
+use Rattle.interval.proofs.Interval.cos_between.Statement.{statement}
+use Rattle.interval.proofs.Interval.cos_between.Tie as tie
 
 returns : tie.Need-returns
 unfolding Interval·cos
@@ -11,9 +11,9 @@ returns c = rw (
   c .before .before .straddles .ensures,
   c .before .before .before .select2 .ensures,
   c .before .before .before .before .select .ensures,
-  c .before .before .before .before .before .cos2 .ensures,
-  c .before .before .before .before .before .before .cos .ensures,
+  c .before .before .before .before .before .pre .1,
+  c .before .before .before .before .before .pre .0,
 )
 
-pub cos-spec : {M : Type 1} → statement M
-cos-spec = tie.close (tie.spec (λ c κs. tt) (λ c κs. tt) (λ c κs. tt) (λ c κs. tt) (λ c κs. tt) (λ c κs. tt) (λ c κs. tt) returns)
+pub cos-between-spec : {M : Type 1} → statement M
+cos-between-spec = tie.close (tie.spec (λ c κs. tt) (λ c κs. tt) (λ c κs. tt) (λ c κs. tt) (λ c κs. tt) returns)

@@ -1,7 +1,7 @@
--- `Interval::sin` meets its contract: its calls in turn, from the last to the first.
+-- `Interval::sin_between` meets its contract: its calls in turn, from the last to the first.
 use Rattle.interval.specs.Interval.{Interval·sin}
-use Rattle.interval.proofs.Interval.sin.Statement.{statement}
-use Rattle.interval.proofs.Interval.sin.Tie as tie
+use Rattle.interval.proofs.Interval.sin_between.Statement.{statement}
+use Rattle.interval.proofs.Interval.sin_between.Tie as tie
 
 returns : tie.Need-returns
 unfolding Interval·sin
@@ -13,9 +13,9 @@ returns c = rw (
   c .before .before .before .before .straddles .ensures,
   c .before .before .before .before .before .select2 .ensures,
   c .before .before .before .before .before .before .select .ensures,
-  c .before .before .before .before .before .before .before .sin2 .ensures,
-  c .before .before .before .before .before .before .before .before .sin .ensures,
+  c .before .before .before .before .before .before .before .pre .1,
+  c .before .before .before .before .before .before .before .pre .0,
 )
 
-pub sin-spec : {M : Type 1} → statement M
-sin-spec = tie.close (tie.spec (λ c κs. tt) (λ c κs. tt) (λ c κs. tt) (λ c κs. tt) (λ c κs. tt) (λ c κs. tt) (λ c κs. tt) (λ c κs. tt) (λ c κs. tt) returns)
+pub sin-between-spec : {M : Type 1} → statement M
+sin-between-spec = tie.close (tie.spec (λ c κs. tt) (λ c κs. tt) (λ c κs. tt) (λ c κs. tt) (λ c κs. tt) (λ c κs. tt) (λ c κs. tt) returns)

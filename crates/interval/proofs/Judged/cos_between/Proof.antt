@@ -1,9 +1,9 @@
--- `Judged::cos_enclosure` meets its contract: its calls in turn, from the last to the first.
+-- `Judged::cos_between` meets its contract: its calls in turn, from the last to the first.
 use native.Mathlib.Omega.{arith}
 use Rattle.trig_laws.specs.Range.{cosLow, cosHigh}
 use Rattle.interval.specs.Enclosure.{Interval·cosEnclosure, Judged·cosEnclosure}
-use Rattle.interval.proofs.Judged.cos_enclosure.Statement.{statement}
-use Rattle.interval.proofs.Judged.cos_enclosure.Tie as tie
+use Rattle.interval.proofs.Judged.cos_between.Statement.{statement}
+use Rattle.interval.proofs.Judged.cos_between.Tie as tie
 
 returns : tie.Need-returns
 unfolding cosLow cosHigh Interval·cosEnclosure Judged·cosEnclosure
@@ -16,9 +16,9 @@ returns c = rw (
   c .before .before .before .before .before .select .ensures,
   c .before .before .before .before .before .before .min .ensures,
   c .before .before .before .before .before .before .before .lies .ensures,
-  c .before .before .before .before .before .before .before .before .cos2 .ensures,
-  c .before .before .before .before .before .before .before .before .before .cos .ensures,
+  c .before .before .before .before .before .before .before .before .pre .1,
+  c .before .before .before .before .before .before .before .before .pre .0,
 )
 
-pub cos-enclosure-spec : {M : Type 1} → statement M
-cos-enclosure-spec = tie.close (tie.spec (λ c κs. tt) (λ c κs. tt) (λ c κs. omega arith) (λ c κs. tt) (λ c κs. tt) (λ c κs. omega arith) (λ c κs. omega arith) (λ c κs. tt) (λ c κs. tt) (λ c κs. tt) returns)
+pub cos-between-spec : {M : Type 1} → statement M
+cos-between-spec = tie.close (tie.spec (λ c κs. omega arith) (λ c κs. tt) (λ c κs. tt) (λ c κs. omega arith) (λ c κs. omega arith) (λ c κs. tt) (λ c κs. tt) (λ c κs. tt) returns)

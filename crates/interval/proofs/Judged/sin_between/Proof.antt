@@ -1,9 +1,9 @@
--- `Judged::sin_enclosure` meets its contract: its calls in turn, from the last to the first.
+-- `Judged::sin_between` meets its contract: its calls in turn, from the last to the first.
 use native.Mathlib.Omega.{arith}
 use Rattle.trig_laws.specs.Range.{sinLow, sinHigh}
 use Rattle.interval.specs.Enclosure.{Interval·sinEnclosure, Judged·sinEnclosure}
-use Rattle.interval.proofs.Judged.sin_enclosure.Statement.{statement}
-use Rattle.interval.proofs.Judged.sin_enclosure.Tie as tie
+use Rattle.interval.proofs.Judged.sin_between.Statement.{statement}
+use Rattle.interval.proofs.Judged.sin_between.Tie as tie
 
 returns : tie.Need-returns
 unfolding sinLow sinHigh Interval·sinEnclosure Judged·sinEnclosure
@@ -15,9 +15,9 @@ returns c = rw (
   c .before .before .before .before .select .ensures,
   c .before .before .before .before .before .min .ensures,
   c .before .before .before .before .before .before .lies .ensures,
-  c .before .before .before .before .before .before .before .sin2 .ensures,
-  c .before .before .before .before .before .before .before .before .sin .ensures,
+  c .before .before .before .before .before .before .before .pre .1,
+  c .before .before .before .before .before .before .before .pre .0,
 )
 
-pub sin-enclosure-spec : {M : Type 1} → statement M
-sin-enclosure-spec = tie.close (tie.spec (λ c κs. tt) (λ c κs. tt) (λ c κs. omega arith) (λ c κs. tt) (λ c κs. tt) (λ c κs. omega arith) (λ c κs. tt) (λ c κs. tt) (λ c κs. tt) returns)
+pub sin-between-spec : {M : Type 1} → statement M
+sin-between-spec = tie.close (tie.spec (λ c κs. omega arith) (λ c κs. tt) (λ c κs. tt) (λ c κs. omega arith) (λ c κs. tt) (λ c κs. tt) (λ c κs. tt) returns)
