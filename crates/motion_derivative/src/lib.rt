@@ -26,8 +26,9 @@ impl MotionDerivative {
         ensures value { λ r. ⌜ r ≡ MotionDerivative·range self i ⌝ }
     {
         let c = Interval::point(2.0 * self.theta).mul(i);
-        let cosines = affine(self.c2, self.c3, i).mul(c.cos());
-        let sines = affine(self.c4, self.c5, i).mul(c.sin());
+        let angle = c.sin_cos();
+        let cosines = affine(self.c2, self.c3, i).mul(angle.cos);
+        let sines = affine(self.c4, self.c5, i).mul(angle.sin);
         Interval::point(self.c1).add(cosines).add(sines)
     }
 
@@ -43,19 +44,17 @@ impl MotionDerivative {
     pub fn value(self, t: f32) -> f32
         ensures value { λ r. ⌜ r ≡ MotionDerivative·value self t ⌝ }
     {
-        let cos = trig::cos(2.0 * self.theta * t);
-        let sin = trig::sin(2.0 * self.theta * t);
-        self.c1 + (self.c2 + self.c3 * t) * cos + (self.c4 + self.c5 * t) * sin
+        let angle = trig::sin_cos(2.0 * self.theta * t);
+        self.c1 + (self.c2 + self.c3 * t) * angle.cos + (self.c4 + self.c5 * t) * angle.sin
     }
 
     // The derivative of the value. Accuracy: heuristic.
     pub fn slope(self, t: f32) -> f32
         ensures value { λ r. ⌜ r ≡ MotionDerivative·slope self t ⌝ }
     {
-        let cos = trig::cos(2.0 * t * self.theta);
-        let sin = trig::sin(2.0 * t * self.theta);
-        (self.c3 + 2.0 * (self.c4 + self.c5 * t) * self.theta) * cos
-            + (self.c5 - 2.0 * (self.c2 + self.c3 * t) * self.theta) * sin
+        let angle = trig::sin_cos(2.0 * t * self.theta);
+        (self.c3 + 2.0 * (self.c4 + self.c5 * t) * self.theta) * angle.cos
+            + (self.c5 - 2.0 * (self.c2 + self.c3 * t) * self.theta) * angle.sin
     }
 }
 

@@ -10,14 +10,14 @@ returns c = rw (
   c .before .add .ensures,
   c .before .before .point2 .ensures,
   c .before .before .before .mul3 .ensures,
-  c .before .before .before .before .sin .ensures,
-  c .before .before .before .before .before .affine2 .ensures,
-  c .before .before .before .before .before .before .mul2 .ensures,
-  c .before .before .before .before .before .before .before .cos .ensures,
-  c .before .before .before .before .before .before .before .before .affine .ensures,
-  c .before .before .before .before .before .before .before .before .before .mul .ensures,
-  c .before .before .before .before .before .before .before .before .before .before .point .ensures,
+  c .before .before .before .before .affine2 .ensures,
+  c .before .before .before .before .before .mul2 .ensures,
+  c .before .before .before .before .before .before .affine .ensures,
+  c .before .before .before .before .before .before .before .sin-cos .ensures .0,
+  c .before .before .before .before .before .before .before .sin-cos .ensures .1,
+  c .before .before .before .before .before .before .before .before .mul .ensures,
+  c .before .before .before .before .before .before .before .before .before .point .ensures,
 )
 
 pub range-spec : {M : Type 1} → statement M
-range-spec = tie.close (tie.spec (λ c κs. tt) (λ c κs. tt) (λ c κs. tt) (λ c κs. tt) (λ c κs. tt) (λ c κs. tt) (λ c κs. tt) (λ c κs. tt) (λ c κs. tt) (λ c κs. tt) (λ c κs. tt) returns)
+range-spec = tie.close (tie.spec (λ c κs. tt) (λ c κs. tt) (λ c κs. tt) (λ c κs. tt) (λ c κs. tt) (λ c κs. tt) (λ c κs. tt) (λ c κs. tt) (λ c κs. tt) (λ c κs. tt) returns)

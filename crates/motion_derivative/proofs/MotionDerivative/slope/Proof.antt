@@ -5,9 +5,7 @@ use Rattle.motion_derivative.proofs.MotionDerivative.slope.Tie as tie
 
 returns : tie.Need-returns
 unfolding MotionDerivative·slope
-returns c =
-    let sines = c .before .before .before .before .before .before .before .before in
-    rw (sines .sin .ensures, sines .before .before .cos .ensures)
+returns c = cc
 
 pub slope-spec : {M : Type 1} → statement M
-slope-spec = tie.close (tie.spec (λ c κs. tt) (λ c κs. tt) returns)
+slope-spec = tie.close (tie.spec (λ c κs. tt) returns)

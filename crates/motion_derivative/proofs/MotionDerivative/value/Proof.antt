@@ -8,4 +8,4 @@ unfolding MotionDerivative·value
 returns c = cc
 
 pub value-spec : {M : Type 1} → statement M
-value-spec = tie.close (tie.spec (λ c κs. tt) (λ c κs. tt) returns)
+value-spec = tie.close (tie.spec (λ c κs. tt) returns)
