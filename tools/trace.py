@@ -5,7 +5,7 @@ An interval function works one judged operation per statement, `let d = Judged::
 formula has them, and may copy fields, `let x = d.interval;`. Its proof is one application of `traced` (crates/formula/proofs/Trace.antt) to the contracts of
 those calls. In crates/CRATE/proofs/FUNCTION/Proof.antt this writes anew
   ARGS   the way from the return to the arguments: `c .before .. .args`
-  CALLS  the contracts, in working order: `_ (c .before .. .mul-enclosure .ensures)`
+  CALLS  the contracts, in working order: `_ (c .before .. .mul-enclosure .ensures)`; `sin_cos_enclosure` has two, `.ensures .0` of its cosine and `.ensures .1` of its sine
   NEEDS  what the calls require, which is nothing: `(λ c κs. tt)` for each
 whether the file still has these words or what an earlier run wrote in their places.
 """
@@ -38,10 +38,13 @@ def back(count):
     return "c" + " .before" * count
 
 
-calls = [f"_ ({back(len(steps) - 1 - i)} .{name} .ensures)" for i, name in enumerate(steps) if name]
+calls = [(i, name) for i, name in enumerate(steps) if name]
+contracts = [
+    f"_ ({back(len(steps) - 1 - i)} .{name} .ensures{part})" for i, name in calls for part in ([" .0", " .1"] if name.startswith("sin-cos-enclosure") else [""])
+]
 proof = open(proof_path).read()
 proof = re.sub(r"c(?: \.before)* \.args|\bARGS\b", f"{back(len(steps))} .args", proof)
-proof = re.sub(r"(?:_ \(c[ .\w-]* \.ensures\)\s*)+(?=\))|\bCALLS\b", "\n    ".join(calls), proof)
+proof = re.sub(r"(?:_ \(c[ .\w-]* \.ensures(?: \.\d)?\)\s*)+(?=\))|\bCALLS\b", "\n    ".join(contracts), proof)
 proof = re.sub(r"(?:\(λ c κs\. tt\) ?)+|\bNEEDS ", "(λ c κs. tt) " * len(calls), proof)
 open(proof_path, "w").write(proof)
 print(f"{proof_path}: {len(calls)} calls")

@@ -53,8 +53,9 @@ pub fn slerp_far(q1: Quaternion, q2: Quaternion, cos_theta: f32, theta: f32, t: 
     let z = q2.v.z - q1.v.z * cos_theta;
     let w = q2.w - q1.w * cos_theta;
     let n = square_root::sqrt(x * x + y * y + z * z + w * w);
-    let c = trig::cos(thetap);
-    let s = trig::sin(thetap);
+    let angle = trig::sin_cos(thetap);
+    let c = angle.cos;
+    let s = angle.sin;
     let v = Vector3f {
         x: q1.v.x * c + x / n * s,
         y: q1.v.y * c + y / n * s,
@@ -162,8 +163,9 @@ pub fn slerp_far_enclosure(
     let ny = Judged::div_enclosure(nx.refusal, y.interval, n.interval);
     let nz = Judged::div_enclosure(ny.refusal, z.interval, n.interval);
     let nw = Judged::div_enclosure(nz.refusal, w.interval, n.interval);
-    let c = Judged::cos_enclosure(nw.refusal, thetap.interval);
-    let s = Judged::sin_enclosure(c.refusal, thetap.interval);
+    let angle = Judged::sin_cos_enclosure(nw.refusal, thetap.interval);
+    let c = angle.cos;
+    let s = angle.sin;
     let ax = Judged::mul_enclosure(s.refusal, q1.x, c.interval);
     let bx = Judged::mul_enclosure(ax.refusal, nx.interval, s.interval);
     let rx = Judged::add_enclosure(bx.refusal, ax.interval, bx.interval);

@@ -7,15 +7,14 @@ use Rattle.pose_slerp.proofs.slerp_far.Tie as tie
 sqrt-requires : tie.Need-sqrt-requires
 sqrt-requires c κs = search needs
 
-cos-requires : tie.Need-cos-requires
-cos-requires c κs = search needs
-
-sin-requires : tie.Need-sin-requires
-sin-requires c κs = search needs
+sin-cos-requires : tie.Need-sin-cos-requires
+sin-cos-requires c κs = search needs
 
 returns : tie.Need-returns
 unfolding Pose·slerpFar
-returns c = cc
+returns c =
+    let angle = c .before .before .before .before in
+    rw (angle .sin-cos .ensures .0, angle .sin-cos .ensures .1, angle .before .sqrt .ensures)
 
 pub slerp-far-spec : {M : Type 1} → statement M
-slerp-far-spec = tie.close (tie.spec sqrt-requires cos-requires sin-requires returns)
+slerp-far-spec = tie.close (tie.spec sqrt-requires sin-cos-requires returns)
