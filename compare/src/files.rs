@@ -8,22 +8,20 @@ use std::path::Path;
 
 const BOX: &[u8] = b"x0 y0 z0 x1 y1 z1";
 
-/// A row of 32 values for each move that is asked for a cover: both times with the upper three rows of their poses, and the last box.
+/// A row of 32 values for each move, refused ones too: both times with the upper three rows of their poses, and the last box that was asked for before.
 fn values(programs: &Programs, count: usize, seed: u64) -> Vec<u8> {
     let asked = output_of(&programs.vectors, &["covers", &count.to_string(), &seed.to_string()], b"");
     let mut rows = Vec::new();
-    let mut pose: Option<Vec<&[u8]>> = None;
-    let mut asked = lines(&asked).peekable();
-    while let Some(line) = asked.next() {
-        let words: Vec<&[u8]> = words(line).skip(1).collect();
-        let last = asked.peek().is_none_or(|next| is_whole_move(next));
+    let mut bounds: Vec<&[u8]> = vec![b"00000000"; 6];
+    for line in lines(&asked) {
+        let values: Vec<&[u8]> = words(line).skip(1).collect();
         if is_whole_move(line) {
-            pose = Some([&words[..13], &words[17..30]].concat());
-        } else if let (Some(pose), true, 7) = (&pose, last, words.len()) {
-            rows.push([pose.as_slice(), &words[1..]].concat().join(&b' '));
+            rows.push([&values[..13], &values[17..30], &bounds].concat().join(&b' '));
+        } else if line.starts_with(b"cover ") && values.len() == 7 {
+            bounds = values[1..].to_vec();
         }
     }
-    // The fixed rows come first.
+    // The fixed moves come first.
     rows[rows.len().saturating_sub(count)..].join(&b'\n')
 }
 
