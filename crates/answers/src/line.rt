@@ -52,7 +52,7 @@ pub fn answer_lines(text: &[u8], out: &mut [u8], s: State) -> Lines {
     Lines { next: at, state }
 }
 
-// Answers a line. Half of the output is free for it, which is more than the longest answer has.
+// Answers a line.
 pub fn answer_line(line: &[u8], out: &mut [u8], s: State) -> State {
     if line.len() == 0 {
         return s;
@@ -61,12 +61,18 @@ pub fn answer_line(line: &[u8], out: &mut [u8], s: State) -> State {
         return s;
     }
     let q = parse(line);
+    let room = make_room(out, s);
+    answer(q, out, room)
+}
+
+// Half of the output is free after this, which is more than the longest answer has.
+fn make_room(out: &[u8], s: State) -> State {
     let written = s.written;
     if out.len() / 2 < written {
         send(out, written);
-        return answer(q, out, s.at(0));
+        return s.at(0);
     }
-    answer(q, out, s)
+    s
 }
 
 // Answers a question by the function of its group.

@@ -95,11 +95,15 @@ fn new(words: [u32; 34]) -> AnimatedTransformAnswer {
 pub fn build(q: Question, out: &mut [u8], s: State) -> State {
     let words = q.words;
     let built = new(words);
-    let at = s.written;
-    if built.refusal != 0 {
-        return s.keep(built).at(put_refused(out, at, built.refusal));
+    let end = put_built(out, s.written, built.refusal);
+    s.keep(built).at(end)
+}
+
+fn put_built(out: &mut [u8], at: usize, refusal: u8) -> usize {
+    if refusal != 0 {
+        return put_refused(out, at, refusal);
     }
-    s.keep(built).at(put_text(out, at, b"ok\n"))
+    put_text(out, at, b"ok\n")
 }
 
 pub fn answer(
