@@ -1,0 +1,28 @@
+-- `jellyplain_build` meets its contract: the library's building of the two poses, and what it leaves holds the move (`build-holds`).
+use Rattle.api.specs.Arrays.{Pose·fromRows}
+use Rattle.api.proofs.Kept.{build-holds}
+use borrow.Author.Needs.{needs}
+use Rattle.api.proofs.jellyplain_build.Statement.{statement}
+use Rattle.api.proofs.jellyplain_build.Tie as tie
+
+pose-requires : tie.Need-pose-requires
+pose-requires c κs = search needs
+
+pose-requires-2 : tie.Need-pose-requires-2
+pose-requires-2 c κs = search needs
+
+new-requires : tie.Need-new-requires
+new-requires c κs = search needs
+
+put-motion-requires : tie.Need-put-motion-requires
+put-motion-requires c κs = search needs
+
+returns : tie.Need-returns
+returns c =
+    let s = c .before .before .before .before .before in
+    let a = s .args in
+    (cc, (cc, λ e. build-holds (Pose·fromRows (a .start-time) (a .start .now)) (Pose·fromRows (a .end-time) (a .end .now)) _ (a .motion .now) (s .good .0 .1) (s .good .1 .1 .0 .1) (cc) (cc)))
+
+pub jellyplain-build-spec : {M : Type 1} → statement M
+jellyplain-build-spec =
+    tie.close (tie.spec pose-requires pose-requires-2 new-requires put-motion-requires returns)

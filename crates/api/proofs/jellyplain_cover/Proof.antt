@@ -1,0 +1,28 @@
+-- `jellyplain_cover` meets its contract: the library's cover of what the rows hold, and the guarantee of it (`kept-cover-contains`).
+use Rattle.api.specs.Arrays.{Bounds3f·ofList}
+use Rattle.api.proofs.Kept.{kept-cover-contains}
+use borrow.Author.Needs.{needs}
+use Rattle.api.proofs.jellyplain_cover.Statement.{statement}
+use Rattle.api.proofs.jellyplain_cover.Tie as tie
+
+from-rows-requires : tie.Need-from-rows-requires
+from-rows-requires c κs = search needs
+
+bounds-requires : tie.Need-bounds-requires
+bounds-requires c κs = search needs
+
+cover-requires : tie.Need-cover-requires
+cover-requires c κs = search needs
+
+put-bounds-requires : tie.Need-put-bounds-requires
+put-bounds-requires c κs = search needs
+
+returns : tie.Need-returns
+returns c =
+    let a = c .before .before .before .before .before .args in
+    (cc, (cc, kept-cover-contains (a .motion .now) (Bounds3f·ofList (a .b .now)) (a .depth)))
+
+pub jellyplain-cover-spec : {M : Type 1} → statement M
+jellyplain-cover-spec =
+    tie.close
+    (tie.spec from-rows-requires bounds-requires cover-requires put-bounds-requires returns)

@@ -1,0 +1,20 @@
+-- `put_bounds` meets its contract: each arm is its case of the definition.
+use mathlib.Core.Path.{refl}
+use borrow.Author.Needs.{needs}
+use Rattle.api.proofs.put_bounds.Statement.{statement}
+use Rattle.api.proofs.put_bounds.Tie as tie
+
+enum-known-answer : tie.Need-enum-known-answer
+enum-known-answer c = search needs
+
+enum-known-answer-2 : tie.Need-enum-known-answer-2
+enum-known-answer-2 c = search needs
+
+returns : tie.Need-returns
+returns c = rw (c .before .before .before .before .answer .given .1) (refl, refl)
+
+returns-2 : tie.Need-returns-2
+returns-2 c = search needs
+
+pub put-bounds-spec : {M : Type 1} → statement M
+put-bounds-spec = tie.close (tie.spec enum-known-answer enum-known-answer-2 returns returns-2)

@@ -1,0 +1,43 @@
+-- `rigid_motion_from_rows` meets its contract.
+use Rattle.motion_rows.specs.Rows.{RigidMotion·fromRows}
+use borrow.Author.Needs.{needs}
+use Rattle.motion_rows.proofs.rigid_motion_from_rows.Statement.{statement}
+use Rattle.motion_rows.proofs.rigid_motion_from_rows.Tie as tie
+
+element-copy-out-last : tie.Need-element-copy-out-last
+element-copy-out-last c = search needs
+
+vector-at-requires : tie.Need-vector-at-requires
+vector-at-requires c κs = search needs
+
+vector-at-requires-2 : tie.Need-vector-at-requires-2
+vector-at-requires-2 c κs = search needs
+
+quaternion-at-requires : tie.Need-quaternion-at-requires
+quaternion-at-requires c κs = search needs
+
+quaternion-at-requires-2 : tie.Need-quaternion-at-requires-2
+quaternion-at-requires-2 c κs = search needs
+
+array-read-t12 : tie.Need-array-read-t12
+array-read-t12 c = search needs
+
+array-read-t15 : tie.Need-array-read-t15
+array-read-t15 c = search needs
+
+returns : tie.Need-returns
+unfolding RigidMotion·fromRows
+returns c = cc
+
+pub rigid-motion-from-rows-spec : {M : Type 1} → statement M
+rigid-motion-from-rows-spec =
+    tie.close
+    (tie.spec
+    element-copy-out-last
+    vector-at-requires
+    vector-at-requires-2
+    quaternion-at-requires
+    quaternion-at-requires-2
+    array-read-t12
+    array-read-t15
+    returns)
