@@ -1,0 +1,132 @@
+//! A move by two poses: where a point of it stands at a time, and which box holds a box of it at every time. Safe functions over the library `api`, whose contracts are proved
+//! (`crates/api`); this package itself is not. It needs `rt staticlib api`, run once in the repository's root.
+//!
+//! A move is built once and asked many times:
+//!
+//! ```
+//! use jellyplain::{Bounds, Move, Pose, Refusal, IDENTITY};
+//!
+//! let mut end = IDENTITY;
+//! end[0][3] = 1.0; // one metre along x
+//! let m = Move::new(&Pose { time: 0.0, matrix: IDENTITY }, &Pose { time: 1.0, matrix: end })?;
+//! assert_eq!(m.point(0.5, [0.0; 3])?, [0.5, 0.0, 0.0]);
+//!
+//! // The box that is reserved: every point of `boom` is inside `cover` at every time.
+//! let boom = Bounds { p_min: [0.0; 3], p_max: [0.0, 2.0, 0.0] };
+//! let cover = m.cover(&boom, 10)?;
+//! assert!(cover.contains(m.point(0.75, [0.0, 1.5, 0.0])?));
+//!
+//! assert_eq!(m.cover(&boom, 13), Err(Refusal::Depth));
+//! # Ok::<(), Refusal>(())
+//! ```
+//!
+//! Any floats may be handed in, NaN and infinities included; what can't be worked with is refused, and nothing panics.
+
+mod library;
+mod refusal;
+
+pub use refusal::Refusal;
+
+/// Four rows of four numbers.
+pub type Matrix = [[f32; 4]; 4];
+
+pub const IDENTITY: Matrix = [[1.0, 0.0, 0.0, 0.0], [0.0, 1.0, 0.0, 0.0], [0.0, 0.0, 1.0, 0.0], [0.0, 0.0, 0.0, 1.0]];
+
+/// A matrix at a time.
+#[derive(Clone, Copy, Debug, PartialEq)]
+pub struct Pose {
+    pub time: f32,
+    pub matrix: Matrix,
+}
+
+/// A box: its least corner and its greatest.
+#[derive(Clone, Copy, Debug, PartialEq)]
+pub struct Bounds {
+    pub p_min: [f32; 3],
+    pub p_max: [f32; 3],
+}
+
+impl Bounds {
+    /// Whether a point is inside on all three axes, the faces included.
+    pub fn contains(&self, p: [f32; 3]) -> bool {
+        (0..3).all(|i| self.p_min[i] <= p[i] && p[i] <= self.p_max[i])
+    }
+
+    fn to_array(self) -> [f32; 6] {
+        let ([x0, y0, z0], [x1, y1, z1]) = (self.p_min, self.p_max);
+        [x0, y0, z0, x1, y1, z1]
+    }
+
+    fn from_array([x0, y0, z0, x1, y1, z1]: [f32; 6]) -> Bounds {
+        Bounds { p_min: [x0, y0, z0], p_max: [x1, y1, z1] }
+    }
+}
+
+/// A matrix and its inverse, the second half of pbrt's `Transform`.
+#[derive(Clone, Copy, Debug, PartialEq)]
+pub struct Transform {
+    pub matrix: Matrix,
+    pub inverse: Matrix,
+}
+
+/// A built move. It is only made by [`Move::new`], so that the guarantee of [`Move::cover`] holds of every value of this type.
+#[derive(Clone, Copy, Debug)]
+pub struct Move {
+    rows: library::Rows,
+}
+
+fn answered<T>(number: u8, value: T) -> Result<T, Refusal> {
+    if number == 0 {
+        Ok(value)
+    } else {
+        Err(Refusal::from_number(number).expect("the contracts name every number that the library gives"))
+    }
+}
+
+impl Move {
+    /// The move from one pose to another: pbrt's `AnimatedTransform::new`. Refused with numbers 1 to 5.
+    pub fn new(start: &Pose, end: &Pose) -> Result<Move, Refusal> {
+        let mut rows = library::EMPTY;
+        let number = unsafe { library::jellyplain_build(start.time, &start.matrix, end.time, &end.matrix, &mut rows) };
+        answered(number, Move { rows })
+    }
+
+    /// Where a point stands at a time; before the start and after the end, where that pose has it. Refused with [`Refusal::Query`] and [`Refusal::NotFinite`].
+    pub fn point(&self, time: f32, p: [f32; 3]) -> Result<[f32; 3], Refusal> {
+        let mut moved = [0.0; 3];
+        let number = unsafe { library::jellyplain_point(&self.rows, time, &p, &mut moved) };
+        answered(number, moved)
+    }
+
+    /// The transform at a time. Refused with [`Refusal::Query`], [`Refusal::ZeroPivot`] and [`Refusal::NotFinite`].
+    pub fn interpolate(&self, time: f32) -> Result<Transform, Refusal> {
+        let mut halves = [[0.0; 4]; 8];
+        let number = unsafe { library::jellyplain_interpolate(&self.rows, time, &mut halves) };
+        let [a, b, c, d, e, f, g, h] = halves;
+        answered(number, Transform { matrix: [a, b, c, d], inverse: [e, f, g, h] })
+    }
+
+    /// pbrt's motion box of a point: where the two poses take it, and where it is at the times that the zero search found. It is no cover.
+    /// Refused with [`Refusal::Query`], [`Refusal::NotFinite`] and [`Refusal::NinthZero`].
+    pub fn bound_point_motion(&self, p: [f32; 3]) -> Result<Bounds, Refusal> {
+        let mut bounds = [0.0; 6];
+        let number = unsafe { library::jellyplain_bound_point_motion(&self.rows, &p, &mut bounds) };
+        answered(number, Bounds::from_array(bounds))
+    }
+
+    /// pbrt's motion box of a box. It is no cover. Refused as that of a point, and with [`Refusal::Corners`].
+    pub fn motion_bounds(&self, b: &Bounds) -> Result<Bounds, Refusal> {
+        let mut bounds = [0.0; 6];
+        let number = unsafe { library::jellyplain_motion_bounds(&self.rows, &b.to_array(), &mut bounds) };
+        answered(number, Bounds::from_array(bounds))
+    }
+
+    /// A box that holds every point of `b` at every time but NaN: [`Move::point`] answers a point inside it. It is worked from 2^depth slices of the move, `depth` from 0 to 12;
+    /// a greater depth costs twice as much and never gives a larger box. Refused with [`Refusal::Query`], [`Refusal::Corners`], [`Refusal::Depth`], [`Refusal::NotFinite`]
+    /// and [`Refusal::SquaredLength`].
+    pub fn cover(&self, b: &Bounds, depth: u32) -> Result<Bounds, Refusal> {
+        let mut bounds = [0.0; 6];
+        let number = unsafe { library::jellyplain_cover(&self.rows, &b.to_array(), depth, &mut bounds) };
+        answered(number, Bounds::from_array(bounds))
+    }
+}

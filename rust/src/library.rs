@@ -1,0 +1,60 @@
+//! The functions of the archive libapi.a, as crates/api/src/lib.rt exports them and c/jellyplain.h declares them. A reference to an array crosses as a thin pointer, so that
+//! no length can be wrong; references to be written are borrowed apart from all others.
+
+/// A built move as its caller keeps it. What stands in it is the library's own business.
+pub type Rows = [[f32; 4]; 44];
+
+pub const EMPTY: Rows = [[0.0; 4]; 44];
+
+extern "C" {
+    pub fn jellyplain_build(start_time: f32, start: &[[f32; 4]; 4], end_time: f32, end: &[[f32; 4]; 4], motion: &mut Rows) -> u8;
+    pub fn jellyplain_point(motion: &Rows, time: f32, p: &[f32; 3], moved: &mut [f32; 3]) -> u8;
+    pub fn jellyplain_interpolate(motion: &Rows, time: f32, transform: &mut [[f32; 4]; 8]) -> u8;
+    pub fn jellyplain_bound_point_motion(motion: &Rows, p: &[f32; 3], out: &mut [f32; 6]) -> u8;
+    pub fn jellyplain_motion_bounds(motion: &Rows, b: &[f32; 6], out: &mut [f32; 6]) -> u8;
+    pub fn jellyplain_cover(motion: &Rows, b: &[f32; 6], depth: u32, out: &mut [f32; 6]) -> u8;
+}
+
+#[cfg(test)]
+mod tests {
+    use super::*;
+    use crate::IDENTITY;
+
+    fn built() -> Rows {
+        let mut end = IDENTITY;
+        end[0][3] = 1.0;
+        let mut rows = EMPTY;
+        assert_eq!(unsafe { jellyplain_build(0.0, &IDENTITY, 1.0, &end, &mut rows) }, 0);
+        rows
+    }
+
+    #[test]
+    fn refused_arrays_stay_as_they_were() {
+        let rows = built();
+        let mut kept = rows;
+        let mut flat = IDENTITY;
+        flat[2] = [0.0; 4];
+        assert_eq!(unsafe { jellyplain_build(0.0, &flat, 1.0, &IDENTITY, &mut kept) }, 4);
+        assert_eq!(kept, rows);
+
+        let (origin, mut three, mut six, mut eight) = ([0.0; 3], [7.0; 3], [7.0; 6], [[7.0; 4]; 8]);
+        assert_eq!(unsafe { jellyplain_point(&rows, f32::NAN, &origin, &mut three) }, 6);
+        assert_eq!(three, [7.0; 3]);
+        assert_eq!(unsafe { jellyplain_interpolate(&rows, f32::NAN, &mut eight) }, 6);
+        assert_eq!(eight, [[7.0; 4]; 8]);
+        assert_eq!(unsafe { jellyplain_bound_point_motion(&rows, &[f32::INFINITY, 0.0, 0.0], &mut six) }, 6);
+        assert_eq!(unsafe { jellyplain_motion_bounds(&rows, &[1.0, 0.0, 0.0, 0.0, 0.0, 0.0], &mut six) }, 7);
+        assert_eq!(unsafe { jellyplain_cover(&rows, &[0.0; 6], 0, &mut six) }, 10);
+        assert_eq!(six, [7.0; 6]);
+    }
+
+    /// Rows that no building made are answered too: here a move at rest whose matrices are all zeros, so that a point's wp is zero.
+    #[test]
+    fn rows_that_were_not_built() {
+        let mut moved = [7.0; 3];
+        assert_eq!(unsafe { jellyplain_point(&EMPTY, 0.0, &[1.0; 3], &mut moved) }, 5);
+        assert_eq!(moved, [7.0; 3]);
+        let nan = [[f32::NAN; 4]; 44];
+        assert_eq!(unsafe { jellyplain_cover(&nan, &[0.0; 6], 12, &mut [0.0; 6]) }, 5);
+    }
+}

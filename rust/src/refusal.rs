@@ -1,0 +1,77 @@
+use std::fmt;
+
+/// Why a move or a query is refused. The numbers are those that the library and the program `cover` give.
+#[derive(Clone, Copy, Debug, PartialEq, Eq, Hash)]
+#[repr(u8)]
+pub enum Refusal {
+    /// A matrix entry or a time of a pose isn't finite.
+    PoseNotFinite = 1,
+    /// A bottom row isn't 0, 0, 0, 1.
+    BottomRow = 2,
+    /// The end time is below the start time, or the difference of the two isn't finite.
+    Times = 3,
+    /// A pose, or a scale on the way, flattens space: a chosen pivot of its inverse is zero.
+    ZeroPivot = 4,
+    /// Numbers leave the range of floats on the way.
+    NotFinite = 5,
+    /// The time of a query is NaN, or a coordinate isn't finite.
+    Query = 6,
+    /// A least corner is above its greatest corner on some axis.
+    Corners = 7,
+    /// The depth is above 12.
+    Depth = 8,
+    /// The search of a motion box finds more than eight zeros on an axis. A cover has no such limit.
+    NinthZero = 9,
+    /// The slices of a cover are too wide for the rotation in them: ask with a greater depth.
+    SquaredLength = 10,
+    /// A move file departs from its layout. Only the program `cover` reads files; no function here gives it.
+    File = 11,
+}
+
+impl Refusal {
+    const ALL: [Refusal; 11] = {
+        use Refusal::*;
+        [PoseNotFinite, BottomRow, Times, ZeroPivot, NotFinite, Query, Corners, Depth, NinthZero, SquaredLength, File]
+    };
+
+    pub fn number(self) -> u8 {
+        self as u8
+    }
+
+    /// The refusal of a number from 1 to 11.
+    pub fn from_number(number: u8) -> Option<Refusal> {
+        Refusal::ALL.into_iter().find(|refusal| refusal.number() == number)
+    }
+}
+
+impl fmt::Display for Refusal {
+    fn fmt(&self, f: &mut fmt::Formatter<'_>) -> fmt::Result {
+        let reason = match self {
+            Refusal::PoseNotFinite => "a matrix entry or a time isn't finite",
+            Refusal::BottomRow => "a bottom row isn't 0 0 0 1",
+            Refusal::Times => "the end time is below the start time, or too far from it",
+            Refusal::ZeroPivot => "a pose or a scale on the way flattens space",
+            Refusal::NotFinite => "numbers leave the range of floats",
+            Refusal::Query => "the time is NaN, or a coordinate isn't finite",
+            Refusal::Corners => "a least corner is above its greatest corner",
+            Refusal::Depth => "the depth is above 12",
+            Refusal::NinthZero => "the motion box's search finds more than eight zeros",
+            Refusal::SquaredLength => "the slices are too wide for the rotation in them",
+            Refusal::File => "the file departs from its layout",
+        };
+        write!(f, "refused with {}: {reason}", self.number())
+    }
+}
+
+impl std::error::Error for Refusal {}
+
+#[cfg(test)]
+mod tests {
+    use super::*;
+
+    #[test]
+    fn numbers() {
+        assert!((1..=11).all(|number| Refusal::from_number(number).unwrap().number() == number));
+        assert_eq!((Refusal::from_number(0), Refusal::from_number(12)), (None, None));
+    }
+}
