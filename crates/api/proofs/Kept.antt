@@ -3,21 +3,21 @@
 use Prim.Native.Nat.{ℕ}
 use mathlib.Core.Path.{_≡_, ap, sym, subst}
 use mathlib.Core.Bool.{true}
+use mathlib.Core.List.{List}
 use lib.Dec.{T}
 use lib.Ieee.{Float, binary32, fits}
 use Rattle.matrix4x4.specs.Rows.{Rows}
 use Rattle.bounds3.specs.declared.Point3f.{Point3f}
-use Rattle.bounds3.specs.declared.Bounds3f.{Bounds3f}
 use Rattle.pose_pair.specs.declared.Pose.{Pose}
 use Rattle.animated_transform.specs.declared.AnimatedTransform.{AnimatedTransform}
 use Rattle.animated_transform.specs.New.{AnimatedTransform·new}
 use Rattle.motion_point.specs.TransformPoint.{AnimatedTransform·transformPoint}
-use Rattle.motion_cover.specs.Cover.{AnimatedTransform·cover}
 use Rattle.motion_cover.proofs.Contains.{cover-contains}
-use Rattle.motion_rows.specs.Rows.{AnimatedTransform·toRows, AnimatedTransform·fromRows}
+use Rattle.lent_arrays.specs.Arrays.{Bounds3f·ofList}
+use Rattle.motion_rows.specs.Rows.{AnimatedTransform·toRows, AnimatedTransformAnswer·left}
 use Rattle.motion_rows.proofs.RoundTrip.{from-rows-inverse, constants-inverse}
-use Rattle.api.specs.Arrays.{AnimatedTransformAnswer·left}
-use Rattle.api.specs.Kept.{judgedPoint, Rows·transformPoint, Rows·Holds, KeptCoverContainsMotion}
+use Rattle.api.specs.Answers.{Rows·transformPoint, Rows·cover}
+use Rattle.api.specs.Kept.{Rows·Holds, KeptCoverContainsMotion}
 
 pub build-holds : (s e : Pose) (rows old : Rows) → fits binary32 (s .time) ≡ true → fits binary32 (e .time) ≡ true
     → rows ≡ AnimatedTransformAnswer·left (AnimatedTransform·new s e) old → AnimatedTransform·new s e .refusal ≡ 0
@@ -37,10 +37,10 @@ build-holds s e rows old start end left accepted =
 
 pub kept-point : (rows : Rows) (m : AnimatedTransform) (time : Float) (p : Point3f) → rows ≡ AnimatedTransform·toRows m
     → Rows·transformPoint rows time p ≡ AnimatedTransform·transformPoint m time p
-unfolding Rows·transformPoint judgedPoint AnimatedTransform·transformPoint
+unfolding Rows·transformPoint AnimatedTransform·transformPoint
 kept-point rows m time p e = rw (e, from-rows-inverse m, constants-inverse m)
 
-pub kept-cover-contains : (rows : Rows) (b : Bounds3f) (d : ℕ) → KeptCoverContainsMotion rows b (AnimatedTransform·cover (AnimatedTransform·fromRows rows) b d)
+pub kept-cover-contains : (rows : Rows) (b : List Float) (d : ℕ) → KeptCoverContainsMotion rows b (Rows·cover rows b d)
 kept-cover-contains rows b d m box time p holds accepted number inside =
     rw (kept-point rows m time p (holds .same))
-    (cover-contains m b d box time p (holds .built) (rw (holds .same, from-rows-inverse m) at accepted) number inside)
+    (cover-contains m (Bounds3f·ofList b) d box time p (holds .built) (rw (holds .same, from-rows-inverse m) at accepted) number inside)

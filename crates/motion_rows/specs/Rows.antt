@@ -4,6 +4,7 @@
 use Prim.Native.Nat.{ℕ, _+_}
 use mathlib.Core.Bool.{Bool, cond}
 use mathlib.Core.List.{[], _∷_, _++_}
+use lib.Dec.{eqb}
 use lib.Ieee.{Float, eq}
 use Rattle.float32.specs.Operators.{one}
 use Rattle.matrix4x4.specs.declared.Matrix4x4.{Matrix4x4}
@@ -11,11 +12,13 @@ use Rattle.matrix4x4.specs.Rows.{Row, Rows, row, at, positiveZero, Matrix4x4·t
 use Rattle.vector3.specs.declared.Vector3f.{Vector3f}
 use Rattle.quaternion.specs.declared.Quaternion.{Quaternion}
 use Rattle.transform.specs.declared.Transform.{Transform}
+use Rattle.lent_arrays.specs.Arrays.{transformRows}
 use Rattle.coefficients.specs.declared.DerivativeTerm.{DerivativeTerm}
 use Rattle.coefficients.specs.declared.Derivative.{Derivative}
 use Rattle.coefficients.specs.declared.Coefficients.{Coefficients}
 use Rattle.pose_steps.specs.declared.RigidMotion.{RigidMotion}
 use Rattle.animated_transform.specs.declared.AnimatedTransform.{AnimatedTransform}
+use Rattle.animated_transform.specs.declared.AnimatedTransformAnswer.{AnimatedTransformAnswer}
 use Rattle.motion_point.specs.TransformPoint.{AnimatedTransform·rigidMotion}
 
 -- ---- to rows
@@ -30,9 +33,6 @@ quaternionRow q = vectorRow (q .v) (q .w)
 
 abbrev pub termRow : DerivativeTerm → Row
 termRow k = k .kc ∷ k .kx ∷ k .ky ∷ k .kz ∷ []
-
-abbrev pub transformRows : Transform → Rows
-transformRows t = Matrix4x4·toRows (t .m) ++ Matrix4x4·toRows (t .«m_inv»)
 
 abbrev pub derivativeRows : Derivative → Rows
 derivativeRows d = termRow (d .c1) ∷ termRow (d .c2) ∷ termRow (d .c3) ∷ termRow (d .c4) ∷ termRow (d .c5) ∷ []
@@ -53,6 +53,10 @@ fieldsRows m last =
 
 unfoldable pub AnimatedTransform·toRows : AnimatedTransform → Rows
 AnimatedTransform·toRows m = fieldsRows m (constantsRow m)
+
+-- a lent array after building: `old` is what stood in it, and stands in it after a refusal
+unfoldable pub AnimatedTransformAnswer·left : AnimatedTransformAnswer → Rows → Rows
+AnimatedTransformAnswer·left a old = cond (eqb (a .refusal) 0) (AnimatedTransform·toRows (a .value)) old
 
 -- ---- from rows
 abbrev pub vectorAt : Rows → ℕ → Vector3f

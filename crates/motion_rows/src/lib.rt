@@ -1,16 +1,20 @@
 // A move as 44 rows of four floats, and back: the form in which a caller of the library keeps a built move, with the constants that a point query needs worked out once.
 use animated_transform::AnimatedTransform;
+use animated_transform::AnimatedTransformAnswer;
+use bounds3::Point3f;
 use coefficients::Coefficients;
 use coefficients::Derivative;
 use coefficients::DerivativeTerm;
 use matrix4x4::Matrix4x4;
 use pose_steps::RigidMotion;
 use quaternion::Quaternion;
+use transform::PointAnswer;
 use transform::Transform;
 use vector3::Vector3f;
 ghost use Prim.Native.Nat.{_+_, _<_};
 ghost use mathlib.Core.Path.{_≡_};
-ghost use Rattle.motion_rows.specs.Rows.{flag, transformRows, constantsRow, fieldsRows, vectorAt, quaternionAt, matrixAt, transformAt, termAt, derivativeAt, coefficientsAt, AnimatedTransform·toRows, AnimatedTransform·fromRows, RigidMotion·fromRows};
+ghost use Rattle.motion_point.specs.TransformPoint.{AnimatedTransform·movedPoint};
+ghost use Rattle.motion_rows.specs.Rows.{flag, constantsRow, fieldsRows, vectorAt, quaternionAt, matrixAt, transformAt, termAt, derivativeAt, coefficientsAt, AnimatedTransform·toRows, AnimatedTransformAnswer·left, AnimatedTransform·fromRows, RigidMotion·fromRows};
 
 fn flag(b: bool) -> f32
     ensures value { λ r. ⌜ r ≡ flag b ⌝ }
@@ -141,27 +145,21 @@ fn fields_rows(m: AnimatedTransform, last: [f32; 4]) -> [[f32; 4]; 44]
 }
 
 // Accuracy: exact.
-pub fn to_rows(m: AnimatedTransform) -> [[f32; 4]; 44]
+fn to_rows(m: AnimatedTransform) -> [[f32; 4]; 44]
     ensures value { λ r. ⌜ r ≡ AnimatedTransform·toRows m ⌝ }
 {
     fields_rows(m, constants_row(m))
 }
 
-// A transform's matrix and its inverse. Accuracy: exact.
-pub fn transform_rows(t: Transform) -> [[f32; 4]; 8]
-    ensures value { λ r. ⌜ r ≡ transformRows t ⌝ }
+// A built move is put into a lent array; after a refusal the array is as it was. Gives the number of the refusal, 0 for none.
+pub fn put_motion(answer: AnimatedTransformAnswer, out: &mut [[f32; 4]; 44]) -> u8
+    ensures refusal { λ r. ⌜ r ≡ answer .refusal ⌝ }
+    ensures left { λ _. ⌜ now (out .exit) ≡ AnimatedTransformAnswer·left answer (now (out .entry)) ⌝ }
 {
-    let m = t.m;
-    let m_inv = t.m_inv;
-    let a0 = m.r0;
-    let a1 = m.r1;
-    let a2 = m.r2;
-    let a3 = m.r3;
-    let b0 = m_inv.r0;
-    let b1 = m_inv.r1;
-    let b2 = m_inv.r2;
-    let b3 = m_inv.r3;
-    [a0, a1, a2, a3, b0, b1, b2, b3]
+    if answer.refusal == 0 {
+        *out = to_rows(answer.value);
+    }
+    answer.refusal
 }
 
 fn vector_at(rows: &[[f32; 4]; 44], i: usize) -> Vector3f
@@ -278,7 +276,7 @@ pub fn from_rows(rows: &[[f32; 4]; 44]) -> AnimatedTransform
 }
 
 // The constants of the pose between, which are kept beside the move.
-pub fn rigid_motion_from_rows(rows: &[[f32; 4]; 44]) -> RigidMotion
+fn rigid_motion_from_rows(rows: &[[f32; 4]; 44]) -> RigidMotion
     ensures value { λ r. ⌜ r ≡ RigidMotion·fromRows (now (rows .entry)) ⌝ }
 {
     let last = rows[43];
@@ -294,4 +292,26 @@ pub fn rigid_motion_from_rows(rows: &[[f32; 4]; 44]) -> RigidMotion
         cos_theta: last[2],
         theta: last[3],
     }
+}
+
+// The work of the point query of a kept move, `motion_point::moved_point`, which reads the rows that it needs and no others. Accuracy: each operation is correctly rounded.
+pub fn moved_point(rows: &[[f32; 4]; 44], time: f32, p: Point3f) -> PointAnswer
+    ensures value { λ r. ⌜ r ≡ AnimatedTransform·movedPoint (AnimatedTransform·fromRows (now (rows .entry))) (RigidMotion·fromRows (now (rows .entry))) time p ⌝ }
+{
+    let start = rows[16];
+    let end = rows[17];
+    let last = rows[43];
+    if !(last[0] == 1.0) | (time <= start[3]) {
+        return transform_at(rows, 0).transform_point(p);
+    }
+    if time >= end[3] {
+        return transform_at(rows, 8).transform_point(p);
+    }
+    pose::moved_point(
+        rigid_motion_from_rows(rows),
+        matrix_at(rows, 20),
+        matrix_at(rows, 24),
+        (time - start[3]) / (end[3] - start[3]),
+        p,
+    )
 }

@@ -1,4 +1,4 @@
--- `jellyplain_bound_point_motion` meets its contract.
+-- `jellyplain_bound_point_motion` meets its contract: the motion box of a point, for the move in the rows.
 use borrow.Author.Needs.{needs}
 use Rattle.api.proofs.jellyplain_bound_point_motion.Statement.{statement}
 use Rattle.api.proofs.jellyplain_bound_point_motion.Tie as tie

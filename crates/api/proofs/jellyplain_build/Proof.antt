@@ -1,5 +1,5 @@
--- `jellyplain_build` meets its contract: the library's building of the two poses, and what it leaves holds the move (`build-holds`).
-use Rattle.api.specs.Arrays.{Pose·fromRows}
+-- `jellyplain_build` meets its contract: the building of the two poses, and what it leaves holds the move (`build-holds`).
+use Rattle.api.specs.Answers.{Pose·fromRows}
 use Rattle.api.proofs.Kept.{build-holds}
 use borrow.Author.Needs.{needs}
 use Rattle.api.proofs.jellyplain_build.Statement.{statement}
@@ -21,7 +21,9 @@ returns : tie.Need-returns
 returns c =
     let s = c .before .before .before .before .before in
     let a = s .args in
-    (cc, (cc, λ e. build-holds (Pose·fromRows (a .start-time) (a .start .now)) (Pose·fromRows (a .end-time) (a .end .now)) _ (a .motion .now) (s .good .0 .1) (s .good .1 .1 .0 .1) (cc) (cc)))
+    let start = Pose·fromRows (a .start-time) (a .start .now) in
+    let end = Pose·fromRows (a .end-time) (a .end .now) in
+    (cc, (cc, λ e. build-holds start end _ (a .motion .now) (s .good .0 .1) (s .good .1 .1 .0 .1) (cc) (cc)))
 
 pub jellyplain-build-spec : {M : Type 1} → statement M
 jellyplain-build-spec =

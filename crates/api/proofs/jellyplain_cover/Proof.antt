@@ -1,5 +1,4 @@
--- `jellyplain_cover` meets its contract: the library's cover of what the rows hold, and the guarantee of it (`kept-cover-contains`).
-use Rattle.api.specs.Arrays.{Bounds3f·ofList}
+-- `jellyplain_cover` meets its contract: the cover of the move in the rows, and the guarantee of it (`kept-cover-contains`).
 use Rattle.api.proofs.Kept.{kept-cover-contains}
 use borrow.Author.Needs.{needs}
 use Rattle.api.proofs.jellyplain_cover.Statement.{statement}
@@ -20,7 +19,7 @@ put-bounds-requires c κs = search needs
 returns : tie.Need-returns
 returns c =
     let a = c .before .before .before .before .before .args in
-    (cc, (cc, kept-cover-contains (a .motion .now) (Bounds3f·ofList (a .b .now)) (a .depth)))
+    (cc, (cc, kept-cover-contains (a .motion .now) (a .b .now) (a .depth)))
 
 pub jellyplain-cover-spec : {M : Type 1} → statement M
 jellyplain-cover-spec =

@@ -1,4 +1,4 @@
--- `jellyplain_interpolate` meets its contract.
+-- `jellyplain_interpolate` meets its contract: the transform of the move in the rows.
 use borrow.Author.Needs.{needs}
 use Rattle.api.proofs.jellyplain_interpolate.Statement.{statement}
 use Rattle.api.proofs.jellyplain_interpolate.Tie as tie

@@ -1,4 +1,4 @@
--- `jellyplain_motion_bounds` meets its contract.
+-- `jellyplain_motion_bounds` meets its contract: the motion box of a box, for the move in the rows.
 use borrow.Author.Needs.{needs}
 use Rattle.api.proofs.jellyplain_motion_bounds.Statement.{statement}
 use Rattle.api.proofs.jellyplain_motion_bounds.Tie as tie

@@ -1,8 +1,8 @@
 -- `put_point` meets its contract: each arm is its case of the definition.
 use mathlib.Core.Path.{refl}
 use borrow.Author.Needs.{needs}
-use Rattle.api.proofs.put_point.Statement.{statement}
-use Rattle.api.proofs.put_point.Tie as tie
+use Rattle.lent_arrays.proofs.put_point.Statement.{statement}
+use Rattle.lent_arrays.proofs.put_point.Tie as tie
 
 enum-known-answer : tie.Need-enum-known-answer
 enum-known-answer c = search needs

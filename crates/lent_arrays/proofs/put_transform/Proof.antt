@@ -1,10 +1,10 @@
 -- `put_transform` meets its contract: the test for 0 is the definition's.
 use mathlib.Core.Path.{refl}
 use borrow.Author.Tests.{eq-eqb, ne-eqb}
-use Rattle.api.specs.Arrays.{TransformAnswer·left}
+use Rattle.lent_arrays.specs.Arrays.{TransformAnswer·left}
 use borrow.Author.Needs.{needs}
-use Rattle.api.proofs.put_transform.Statement.{statement}
-use Rattle.api.proofs.put_transform.Tie as tie
+use Rattle.lent_arrays.proofs.put_transform.Statement.{statement}
+use Rattle.lent_arrays.proofs.put_transform.Tie as tie
 
 transform-rows-requires : tie.Need-transform-rows-requires
 transform-rows-requires c κs = search needs

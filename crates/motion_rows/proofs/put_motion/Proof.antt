@@ -1,10 +1,10 @@
 -- `put_motion` meets its contract: the test for 0 is the definition's.
 use mathlib.Core.Path.{refl}
 use borrow.Author.Tests.{eq-eqb, ne-eqb}
-use Rattle.api.specs.Arrays.{AnimatedTransformAnswer·left}
+use Rattle.motion_rows.specs.Rows.{AnimatedTransformAnswer·left}
 use borrow.Author.Needs.{needs}
-use Rattle.api.proofs.put_motion.Statement.{statement}
-use Rattle.api.proofs.put_motion.Tie as tie
+use Rattle.motion_rows.proofs.put_motion.Statement.{statement}
+use Rattle.motion_rows.proofs.put_motion.Tie as tie
 
 to-rows-requires : tie.Need-to-rows-requires
 to-rows-requires c κs = search needs

@@ -1,23 +1,17 @@
--- What crosses the boundary to Rust and C as arrays of floats: poses, points and boxes that come in, and what each kind of answer leaves in a lent array. Definitions only.
+-- Boxes and transforms in arrays of floats, and what each kind of answer leaves in a lent array: `PointAnswer·left`, `BoundsAnswer·left`, `TransformAnswer·left`. Definitions only.
 use mathlib.Core.Bool.{cond}
 use mathlib.Core.List.{List, _++_}
 use lib.Dec.{eqb}
 use lib.Ieee.{Float}
-use Rattle.matrix4x4.specs.Rows.{Rows, col, Matrix4x4·fromRows}
+use Rattle.matrix4x4.specs.Rows.{Rows, col, Matrix4x4·toRows}
 use Rattle.bounds3.specs.declared.Bounds3f.{Bounds3f}
+use Rattle.transform.specs.declared.Transform.{Transform}
 use Rattle.transform.specs.declared.TransformAnswer.{TransformAnswer}
 use Rattle.transform.specs.declared.PointAnswer.{PointAnswer}
 use Rattle.transform.specs.declared.PointAnswer.the-variants as point
 use Rattle.transform.specs.declared.BoundsAnswer.{BoundsAnswer}
 use Rattle.transform.specs.declared.BoundsAnswer.the-variants as bounds
-use Rattle.pose_pair.specs.declared.Pose.{Pose}
 use Rattle.pose_steps.specs.Pose.{Point3f·list}
-use Rattle.animated_transform.specs.declared.AnimatedTransformAnswer.{AnimatedTransformAnswer}
-use Rattle.motion_rows.specs.Rows.{AnimatedTransform·toRows, transformRows}
-
--- a time and the four rows of a matrix
-abbrev pub Pose·fromRows : Float → Rows → Pose
-Pose·fromRows time m = record { time = time; m = Matrix4x4·fromRows m }
 
 -- least corner, greatest corner
 abbrev pub Bounds3f·ofList : List Float → Bounds3f
@@ -30,6 +24,10 @@ Bounds3f·ofList l =
 abbrev pub Bounds3f·list : Bounds3f → List Float
 Bounds3f·list b = Point3f·list (b .«p_min») ++ Point3f·list (b .«p_max»)
 
+-- the matrix, row by row, and its inverse
+abbrev pub transformRows : Transform → Rows
+transformRows t = Matrix4x4·toRows (t .m) ++ Matrix4x4·toRows (t .«m_inv»)
+
 -- ---- a lent array after an answer: `old` is what stood in it, and stands in it after a refusal
 abbrev pub PointAnswer·left : PointAnswer → List Float → List Float
 PointAnswer·left (point.Moved p) old = Point3f·list p
@@ -41,6 +39,3 @@ BoundsAnswer·left (bounds.Refused n) old = old
 
 unfoldable pub TransformAnswer·left : TransformAnswer → Rows → Rows
 TransformAnswer·left a old = cond (eqb (a .refusal) 0) (transformRows (a .transform)) old
-
-unfoldable pub AnimatedTransformAnswer·left : AnimatedTransformAnswer → Rows → Rows
-AnimatedTransformAnswer·left a old = cond (eqb (a .refusal) 0) (AnimatedTransform·toRows (a .value)) old

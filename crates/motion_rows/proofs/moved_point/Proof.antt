@@ -1,0 +1,109 @@
+-- `moved_point` meets its contract: the tests and the three poses are those of the move that the rows hold (`moved-point-start`, `moved-point-end`, `moved-point-between`).
+use mathlib.Core.Path.{sym}
+use lib.Ieee.{div}
+use Rattle.unit_interval.specs.Unit.{dt}
+use Rattle.motion_point.proofs.Query.{moved-point-start, moved-point-end, moved-point-between}
+use Rattle.motion_rows.specs.Rows.{AnimatedTransform·fromRows, RigidMotion·fromRows}
+use borrow.Author.Needs.{needs}
+use Rattle.motion_rows.proofs.moved_point.Statement.{statement}
+use Rattle.motion_rows.proofs.moved_point.Tie as tie
+
+element-copy-out-start : tie.Need-element-copy-out-start
+element-copy-out-start c = search needs
+
+element-copy-out-end : tie.Need-element-copy-out-end
+element-copy-out-end c = search needs
+
+element-copy-out-last : tie.Need-element-copy-out-last
+element-copy-out-last c = search needs
+
+array-read-if1 : tie.Need-array-read-if1
+array-read-if1 c = search needs
+
+array-read-if1-2 : tie.Need-array-read-if1-2
+array-read-if1-2 c = search needs
+
+transform-at-requires : tie.Need-transform-at-requires
+transform-at-requires c κs = search needs
+
+transform-point-requires : tie.Need-transform-point-requires
+transform-point-requires c κs = search needs
+
+returns : tie.Need-returns
+unfolding AnimatedTransform·fromRows
+returns c =
+    let a = c .before .before .before .before .before .before .args in
+    let m = AnimatedTransform·fromRows (a .rows .now) in
+    rw (c .transform-point .ensures .0, c .before .transform-at .ensures)
+    (sym (moved-point-start m (RigidMotion·fromRows (a .rows .now)) (a .time) (a .p) (c .before .before .if1 .taken)))
+
+array-read-if2 : tie.Need-array-read-if2
+array-read-if2 c = search needs
+
+transform-at-requires-2 : tie.Need-transform-at-requires-2
+transform-at-requires-2 c κs = search needs
+
+transform-point-requires-2 : tie.Need-transform-point-requires-2
+transform-point-requires-2 c κs = search needs
+
+returns-2 : tie.Need-returns-2
+unfolding AnimatedTransform·fromRows
+returns-2 c =
+    let a = c .before .before .before .before .before .before .before .args in
+    let m = AnimatedTransform·fromRows (a .rows .now) in
+    rw (c .transform-point2 .ensures .0, c .before .transform-at2 .ensures)
+    (sym (moved-point-end m (RigidMotion·fromRows (a .rows .now)) (a .time) (a .p) (c .before .before .before .if1 .left) (c .before .before .if2 .taken)))
+
+rigid-motion-from-rows-requires : tie.Need-rigid-motion-from-rows-requires
+rigid-motion-from-rows-requires c κs = search needs
+
+matrix-at-requires : tie.Need-matrix-at-requires
+matrix-at-requires c κs = search needs
+
+matrix-at-requires-2 : tie.Need-matrix-at-requires-2
+matrix-at-requires-2 c κs = search needs
+
+array-read-moved-point : tie.Need-array-read-moved-point
+array-read-moved-point c = search needs
+
+array-read-moved-point-2 : tie.Need-array-read-moved-point-2
+array-read-moved-point-2 c = search needs
+
+array-read-moved-point-3 : tie.Need-array-read-moved-point-3
+array-read-moved-point-3 c = search needs
+
+moved-point-requires : tie.Need-moved-point-requires
+moved-point-requires c κs = search needs
+
+returns-3 : tie.Need-returns-3
+unfolding AnimatedTransform·fromRows div dt
+returns-3 c =
+    let a = c .before .before .before .before .before .before .before .before .before .args in
+    let m = AnimatedTransform·fromRows (a .rows .now) in
+    rw (c .moved-point .ensures, c .before .matrix-at2 .ensures, c .before .before .matrix-at .ensures, c .before .before .before .rigid-motion-from-rows .ensures)
+    (sym (moved-point-between m (RigidMotion·fromRows (a .rows .now)) (a .time) (a .p) (c .before .before .before .before .before .if1 .left) (c .before .before .before .before .if2 .left)))
+
+pub moved-point-spec : {M : Type 1} → statement M
+moved-point-spec =
+    tie.close
+    (tie.spec
+    element-copy-out-start
+    element-copy-out-end
+    element-copy-out-last
+    array-read-if1
+    array-read-if1-2
+    transform-at-requires
+    transform-point-requires
+    returns
+    array-read-if2
+    transform-at-requires-2
+    transform-point-requires-2
+    returns-2
+    rigid-motion-from-rows-requires
+    matrix-at-requires
+    matrix-at-requires-2
+    array-read-moved-point
+    array-read-moved-point-2
+    array-read-moved-point-3
+    moved-point-requires
+    returns-3)
