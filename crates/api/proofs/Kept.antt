@@ -1,4 +1,4 @@
--- A kept move is the move that was built: what building leaves holds it (`build-holds`), the point query of the rows is the move's (`kept-point`), and the cover of the rows
+-- A kept move is the move that was built: what building leaves holds it (`build-clauses`), the point query of the rows is the move's (`kept-point`), and the cover of the rows
 -- holds what the point query of the rows answers (`kept-cover-contains`).
 use Prim.Native.Nat.{ℕ}
 use mathlib.Core.Path.{_≡_, ap, sym, subst}
@@ -19,21 +19,26 @@ use Rattle.motion_rows.proofs.RoundTrip.{from-rows-inverse, constants-inverse}
 use Rattle.api.specs.Answers.{Rows·transformPoint, Rows·cover}
 use Rattle.api.specs.Kept.{Rows·Holds, KeptCoverContainsMotion}
 
-pub build-holds : (s e : Pose) (rows old : Rows) → fits binary32 (s .time) ≡ true → fits binary32 (e .time) ≡ true
-    → rows ≡ AnimatedTransformAnswer·left (AnimatedTransform·new s e) old → AnimatedTransform·new s e .refusal ≡ 0
-    → Rows·Holds rows (AnimatedTransform·new s e .value)
+-- Of two poses whose times are binary32: the number that building gives, what it leaves, and that this holds the move where the number is 0.
+pub build-clauses : (s e : Pose) (r : ℕ) (rows old : Rows) → fits binary32 (s .time) ≡ true → fits binary32 (e .time) ≡ true
+    → r ≡ AnimatedTransform·new s e .refusal → rows ≡ AnimatedTransformAnswer·left (AnimatedTransform·new s e) old
+    → (r ≡ AnimatedTransform·new s e .refusal) × ((rows ≡ AnimatedTransformAnswer·left (AnimatedTransform·new s e) old) × (r ≡ 0 → Rows·Holds rows (AnimatedTransform·new s e .value)))
 unfolding AnimatedTransformAnswer·left
-build-holds s e rows old start end left accepted =
-    record {
-      built = record {
-        start = s;
-        end = e;
-        start-binary32 = subst T (sym start) tt;
-        end-binary32 = subst T (sym end) tt;
-        accepted = ap (λ (n : ℕ). record { value = AnimatedTransform·new s e .value; refusal = n }) accepted;
-      };
-      same = rw left (rw accepted);
-    }
+build-clauses s e r rows old start end number left = (number, (left, holds))
+  where
+    holds : r ≡ 0 → Rows·Holds rows (AnimatedTransform·new s e .value)
+    holds none =
+        let accepted : AnimatedTransform·new s e .refusal ≡ 0 = cc in
+        record {
+          built = record {
+            start = s;
+            end = e;
+            start-binary32 = subst T (sym start) tt;
+            end-binary32 = subst T (sym end) tt;
+            accepted = ap (λ (n : ℕ). record { value = AnimatedTransform·new s e .value; refusal = n }) accepted;
+          };
+          same = rw left (rw accepted);
+        }
 
 pub kept-point : (rows : Rows) (m : AnimatedTransform) (time : Float) (p : Point3f) → rows ≡ AnimatedTransform·toRows m
     → Rows·transformPoint rows time p ≡ AnimatedTransform·transformPoint m time p

@@ -16,7 +16,7 @@ put-bounds-requires : tie.Need-put-bounds-requires
 put-bounds-requires c κs = search needs
 
 returns : tie.Need-returns
-returns c = (cc, cc)
+returns c = (rw (c .put-bounds .ensures .0, c .before .before .bound-point-motion .ensures, c .before .before .before .point .ensures, c .before .before .before .before .from-rows .ensures), rw (c .put-bounds .ensures .1, c .before .before .bound-point-motion .ensures, c .before .before .before .point .ensures, c .before .before .before .before .from-rows .ensures))
 
 pub jellyplain-bound-point-motion-spec : {M : Type 1} → statement M
 jellyplain-bound-point-motion-spec =

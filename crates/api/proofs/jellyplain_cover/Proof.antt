@@ -19,7 +19,7 @@ put-bounds-requires c κs = search needs
 returns : tie.Need-returns
 returns c =
     let a = c .before .before .before .before .before .args in
-    (cc, (cc, kept-cover-contains (a .motion .now) (a .b .now) (a .depth)))
+    (rw (c .put-bounds .ensures .0, c .before .before .cover .ensures .0, c .before .before .before .bounds .ensures, c .before .before .before .before .from-rows .ensures), (rw (c .put-bounds .ensures .1, c .before .before .cover .ensures .0, c .before .before .before .bounds .ensures, c .before .before .before .before .from-rows .ensures), kept-cover-contains (a .motion .now) (a .b .now) (a .depth)))
 
 pub jellyplain-cover-spec : {M : Type 1} → statement M
 jellyplain-cover-spec =

@@ -13,7 +13,7 @@ put-transform-requires : tie.Need-put-transform-requires
 put-transform-requires c κs = search needs
 
 returns : tie.Need-returns
-returns c = (cc, cc)
+returns c = (rw (c .put-transform .ensures .0, c .before .before .interpolate .ensures, c .before .before .before .from-rows .ensures), rw (c .put-transform .ensures .1, c .before .before .interpolate .ensures, c .before .before .before .from-rows .ensures))
 
 pub jellyplain-interpolate-spec : {M : Type 1} → statement M
 jellyplain-interpolate-spec =

@@ -18,7 +18,7 @@ put-point-requires c κs = search needs
 returns : tie.Need-returns
 returns c =
     let a = c .before .before .before .before .args in
-    (cc, (cc, λ (m : AnimatedTransform). kept-point (a .motion .now) m (a .time) (Point3f·ofList (a .p .now))))
+    (rw (c .put-point .ensures .0, c .before .before .transform-point .ensures, c .before .before .before .point .ensures), (rw (c .put-point .ensures .1, c .before .before .transform-point .ensures, c .before .before .before .point .ensures), λ (m : AnimatedTransform). kept-point (a .motion .now) m (a .time) (Point3f·ofList (a .p .now))))
 
 pub jellyplain-point-spec : {M : Type 1} → statement M
 jellyplain-point-spec =
