@@ -62,7 +62,7 @@ impl Bounds {
     }
 }
 
-/// A matrix and its inverse, the second half of pbrt's `Transform`.
+/// A matrix and its inverse, the two halves of pbrt's `Transform`.
 #[derive(Clone, Copy, Debug, PartialEq)]
 pub struct Transform {
     pub matrix: Matrix,

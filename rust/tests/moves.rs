@@ -66,7 +66,7 @@ fn equal_times() {
     assert_eq!(jump.point(1e-30, [0.0; 3]), Ok([1.0, 0.0, 0.0]));
 }
 
-/// Rows of pbrt's `interpolate` at a point query's time move a point alike; the inverse half takes it back.
+/// The transform at a time moves a point as the point query does, and its inverse half takes it back.
 #[test]
 fn interpolate_and_point_agree() {
     let m = quarter_turn();
@@ -99,7 +99,7 @@ fn moved_points_are_inside_the_cover() {
     }
 }
 
-/// Every time that a cover's box and a motion box are asked for the same box, the ends are inside both.
+/// A motion box holds where the two poses take the corners, and the motion box of each corner.
 #[test]
 fn motion_boxes_hold_the_ends() {
     let m = quarter_turn();
