@@ -1,5 +1,5 @@
 /* A move by one metre along x, asked from C. In the repository's root:
- *     rt staticlib api && cc -Wall -Wextra -I c c/example.c target/staticlib/libapi.a -o /tmp/example && /tmp/example
+ *     rt staticlib api && cc -Wall -Wextra -I c c/example.c target/staticlib/libapi.a -o target/example && target/example
  */
 #include <stdio.h>
 
