@@ -1,0 +1,2 @@
+mod NonZero
+pub mod Numbers

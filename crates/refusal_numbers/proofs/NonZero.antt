@@ -1,0 +1,200 @@
+-- No query answers a refusal by 0: `point-nonzero`, `point-motion-nonzero`, `motion-nonzero`, `cover-nonzero`. A number is refused only after the test that it isn't 0, and a union
+-- keeps one of its parts' numbers.
+use Prim.Native.Nat.{ℕ, zero, suc, _^_}
+use mathlib.Core.Path.{_≡_, refl}
+use mathlib.Core.Bool.{Bool, true, false, not, _&&_, _||_, cond}
+use mathlib.Core.List.{List}
+use native.Mathlib.Omega.{arith}
+use lib.Dec.{eqb}
+use lib.ListN.{getD}
+use lib.Ieee.{Float, nan, isNan}
+use borrow.Author.Tests.{eqb-false}
+use Rattle.bounds3.specs.declared.Point3f.{Point3f}
+use Rattle.bounds3.specs.declared.Bounds3f.{Bounds3f}
+use Rattle.bounds3.specs.Bounds3f.{Bounds3f·default, Bounds3f·corner}
+use Rattle.bounds3.specs.Finite.{Point3f·isFinite}
+use Rattle.matrix4x4.specs.Rows.{Matrix4x4·toRows}
+use Rattle.matrix_inverse.specs.Loop.{loop}
+use Rattle.transform.specs.declared.Transform.{Transform}
+use Rattle.transform.specs.declared.PointAnswer.{PointAnswer}
+use Rattle.transform.specs.declared.PointAnswer.the-variants as point
+use Rattle.transform.specs.declared.BoundsAnswer.{BoundsAnswer}
+use Rattle.transform.specs.declared.BoundsAnswer.the-variants as bounds
+use Rattle.transform.specs.TransformPoint.{movedPoint, judged, Transform·transformPoint}
+use Rattle.transform.specs.TransformBounds as transform
+use Rattle.bounds_query.specs.Query.{Bounds3f·refusal, BoundsAnswer·unionBounds}
+use Rattle.coefficients.specs.declared.Derivative.{Derivative}
+use Rattle.unit_interval.specs.Unit.{slice, dt}
+use Rattle.pose_steps.specs.declared.RigidMotion.{RigidMotion}
+use Rattle.pose_steps.specs.declared.JudgedVector.{JudgedVector}
+use Rattle.pose_steps.specs.Pose.{Pose·matrix, Pose·transformPoint, Pose·movedPoint}
+use Rattle.pose_steps.specs.Enclose.{Pose·enclosePoint, Bounds3f·intervals, IntervalVector·bounds}
+use Rattle.stored_box.specs.EnclosePoints.{Transform·enclosePoints}
+use Rattle.animated_transform.specs.declared.AnimatedTransform.{AnimatedTransform}
+use Rattle.animated_transform.specs.AtTime.{atStart, atEnd}
+use Rattle.motion_point.specs.TransformPoint.{AnimatedTransform·rigidMotion, AnimatedTransform·movedPoint, AnimatedTransform·transformPoint}
+use Rattle.motion_bounds.specs.MotionBounds.{BoundsAnswer·fromEnds, allPlaces, axisZeros, pointAt, unionZero, unionZeros, unionAxis, pointBounds, unionCorner, unionCorners, boxBounds, boundPointMotion, motionBounds, AnimatedTransform·boundPointMotion, AnimatedTransform·motionBounds}
+use Rattle.motion_cover.specs.Cover.{BoundsAnswer·fromEnclosure, Transform·encloseBounds, AnimatedTransform·encloseBounds, AnimatedTransform·encloseEnds, unionSlices, AnimatedTransform·encloseMotion, coverRefusal, AnimatedTransform·cover}
+
+abbrev pub PointAnswer·NonZero : PointAnswer → Type 0
+PointAnswer·NonZero (point.Moved p) = Unit {0}
+PointAnswer·NonZero (point.Refused n) = n ≡ 0 → ⊥
+
+abbrev pub BoundsAnswer·NonZero : BoundsAnswer → Type 0
+BoundsAnswer·NonZero (bounds.Bounds b) = Unit {0}
+BoundsAnswer·NonZero (bounds.Refused n) = n ≡ 0 → ⊥
+
+-- ---- points
+either : (b : Bool) (x y : PointAnswer) → PointAnswer·NonZero x → PointAnswer·NonZero y → PointAnswer·NonZero (cond b x y)
+either true x y p q = p
+either false x y p q = q
+
+five : PointAnswer·NonZero (point.Refused 5)
+five e = absurd (omega (arith, e))
+
+six : PointAnswer·NonZero (point.Refused 6)
+six e = absurd (omega (arith, e))
+
+transform-point-nonzero : (t : Transform) (p : Point3f) → PointAnswer·NonZero (Transform·transformPoint t p)
+unfolding Transform·transformPoint judged
+transform-point-nonzero t p = let q = movedPoint (Matrix4x4·toRows (t .m)) p in either (Point3f·isFinite q) (point.Moved q) (point.Refused 5) tt five
+
+pose-nonzero : (a : RigidMotion) (m : AnimatedTransform) (t : Float) (p : Point3f) → PointAnswer·NonZero (Pose·movedPoint a (m .s0) (m .s1) t p)
+unfolding Pose·movedPoint
+pose-nonzero a m t p =
+    let pose = Pose·matrix a (m .s0) (m .s1) t in
+    let q = Pose·transformPoint (pose .m) p in
+    either (eqb (pose .refusal) 0 && Point3f·isFinite q) (point.Moved q) (point.Refused 5) tt five
+
+moved-point-nonzero : (m : AnimatedTransform) (a : RigidMotion) (time : Float) (p : Point3f) → PointAnswer·NonZero (AnimatedTransform·movedPoint m a time p)
+unfolding AnimatedTransform·movedPoint
+moved-point-nonzero m a time p =
+    either (atStart m time) _ _ (transform-point-nonzero (m .«start_transform») p)
+    (either (atEnd m time) _ _ (transform-point-nonzero (m .«end_transform») p) (pose-nonzero a m (dt (m .«start_time») (m .«end_time») time) p))
+
+pub point-nonzero : (m : AnimatedTransform) (time : Float) (p : Point3f) → PointAnswer·NonZero (AnimatedTransform·transformPoint m time p)
+unfolding AnimatedTransform·transformPoint
+point-nonzero m time p =
+    either (isNan time || not (Point3f·isFinite p)) (point.Refused 6) _ six (moved-point-nonzero m (AnimatedTransform·rigidMotion m) time p)
+
+-- ---- boxes
+choose : (b : Bool) (x y : BoundsAnswer) → BoundsAnswer·NonZero x → BoundsAnswer·NonZero y → BoundsAnswer·NonZero (cond b x y)
+choose true x y p q = p
+choose false x y p q = q
+
+-- A number that was tested.
+tested : (n : ℕ) (r : BoundsAnswer) → BoundsAnswer·NonZero r → BoundsAnswer·NonZero (cond (eqb n 0) r (bounds.Refused n))
+tested n r p = go (eqb n 0) (eqb-false n 0)
+  where
+    go : (b : Bool) → (b ≡ false → n ≡ 0 → ⊥) → BoundsAnswer·NonZero (cond b r (bounds.Refused n))
+    go true f = p
+    go false f = f refl
+
+from-moved-nonzero : (a : PointAnswer) → PointAnswer·NonZero a → BoundsAnswer·NonZero (transform.BoundsAnswer·fromMoved a)
+unfolding transform.BoundsAnswer·fromMoved
+from-moved-nonzero (point.Moved p) h = tt
+from-moved-nonzero (point.Refused n) h = h
+
+union-moved-nonzero : (r : BoundsAnswer) (a : PointAnswer) → BoundsAnswer·NonZero r → PointAnswer·NonZero a → BoundsAnswer·NonZero (transform.BoundsAnswer·unionMoved r a)
+unfolding transform.BoundsAnswer·unionMoved
+union-moved-nonzero (bounds.Bounds b) (point.Moved p) h k = tt
+union-moved-nonzero (bounds.Bounds b) (point.Refused n) h k = k
+union-moved-nonzero (bounds.Refused n) a h k = h
+
+union-nonzero : (r s : BoundsAnswer) → BoundsAnswer·NonZero r → BoundsAnswer·NonZero s → BoundsAnswer·NonZero (BoundsAnswer·unionBounds r s)
+unfolding BoundsAnswer·unionBounds
+union-nonzero (bounds.Bounds a) (bounds.Bounds b) h k = tt
+union-nonzero (bounds.Bounds a) (bounds.Refused n) h k = k
+union-nonzero (bounds.Refused n) s h k = h
+
+from-ends-nonzero : (a b : PointAnswer) → PointAnswer·NonZero a → PointAnswer·NonZero b → BoundsAnswer·NonZero (BoundsAnswer·fromEnds a b)
+unfolding BoundsAnswer·fromEnds
+from-ends-nonzero (point.Moved p) (point.Moved q) h k = tt
+from-ends-nonzero (point.Moved p) (point.Refused n) h k = k
+from-ends-nonzero (point.Refused n) b h k = h
+
+loop-nonzero : (body : ℕ → BoundsAnswer → BoundsAnswer) → ((k : ℕ) (r : BoundsAnswer) → BoundsAnswer·NonZero r → BoundsAnswer·NonZero (body k r))
+    → (n : ℕ) (r : BoundsAnswer) → BoundsAnswer·NonZero r → BoundsAnswer·NonZero (loop body n r)
+unfolding loop
+loop-nonzero body f zero r h = h
+loop-nonzero body f (suc n) r h = f n (loop body n r) (loop-nonzero body f n r h)
+
+-- ---- a stored transform over a box, corner by corner
+corner-nonzero : (t : Transform) (r : BoundsAnswer) (x y z : Float) → BoundsAnswer·NonZero r → BoundsAnswer·NonZero (transform.unionCorner t r x y z)
+unfolding transform.unionCorner
+corner-nonzero t r x y z h = union-moved-nonzero r _ h (transform-point-nonzero t (record { x = x; y = y; z = z }))
+
+transform-bounds-nonzero : (t : Transform) (b : Bounds3f) → BoundsAnswer·NonZero (transform.Transform·transformBounds t b)
+unfolding transform.Transform·transformBounds
+transform-bounds-nonzero t b =
+    corner-nonzero t _ _ _ _ (corner-nonzero t _ _ _ _ (corner-nonzero t _ _ _ _ (corner-nonzero t _ _ _ _ (corner-nonzero t _ _ _ _ (corner-nonzero t _ _ _ _ (corner-nonzero t _ _ _ _
+    (from-moved-nonzero _ (transform-point-nonzero t (b .«p_min»)))))))))
+
+-- ---- the motion box
+zeros-nonzero : (m : AnimatedTransform) (a : RigidMotion) (p : Point3f) (zeros : List Float) (n : ℕ) (r : BoundsAnswer) → BoundsAnswer·NonZero r → BoundsAnswer·NonZero (unionZeros m a p zeros n r)
+unfolding unionZeros
+zeros-nonzero m a p zeros = loop-nonzero (λ k. unionZero m a p (getD zeros k nan)) (λ k r h. one (getD zeros k nan) r h)
+  where
+    one : (x : Float) (r : BoundsAnswer) → BoundsAnswer·NonZero r → BoundsAnswer·NonZero (unionZero m a p x r)
+    one x r h = unfold unionZero pointAt in union-moved-nonzero r _ h (moved-point-nonzero m a _ p)
+
+axis-nonzero : (m : AnimatedTransform) (a : RigidMotion) (p : Point3f) (d : Derivative) (r : BoundsAnswer) → BoundsAnswer·NonZero r → BoundsAnswer·NonZero (unionAxis allPlaces m a p d r)
+unfolding unionAxis
+axis-nonzero m a p d (bounds.Refused n) h = h
+axis-nonzero m a p d (bounds.Bounds b) h = let z = axisZeros a p d in tested (z .refusal) _ (zeros-nonzero m a p (z .zeros) 8 (bounds.Bounds b) tt)
+
+point-bounds-nonzero : (m : AnimatedTransform) (a : RigidMotion) (p : Point3f) → BoundsAnswer·NonZero (pointBounds allPlaces m a p)
+unfolding pointBounds
+point-bounds-nonzero m a p =
+    let c = m .coefficients in
+    let start = transform-point-nonzero (m .«start_transform») p in
+    choose (not (m .«actually_animated»)) _ _ (from-moved-nonzero _ start)
+    (axis-nonzero m a p (c .z) _ (axis-nonzero m a p (c .y) _ (axis-nonzero m a p (c .x) _ (from-ends-nonzero _ _ start (transform-point-nonzero (m .«end_transform») p)))))
+
+corners-nonzero : (m : AnimatedTransform) (a : RigidMotion) (b : Bounds3f) (n : ℕ) → BoundsAnswer·NonZero (unionCorners allPlaces m a b n)
+unfolding unionCorners
+corners-nonzero m a b n = loop-nonzero (unionCorner allPlaces m a b) one n (bounds.Bounds Bounds3f·default) tt
+  where
+    one : (k : ℕ) (r : BoundsAnswer) → BoundsAnswer·NonZero r → BoundsAnswer·NonZero (unionCorner allPlaces m a b k r)
+    one k r h = unfold unionCorner in union-nonzero r _ h (point-bounds-nonzero m a (Bounds3f·corner b k))
+
+box-bounds-nonzero : (m : AnimatedTransform) (b : Bounds3f) → BoundsAnswer·NonZero (boxBounds allPlaces m b)
+unfolding boxBounds
+box-bounds-nonzero m b =
+    let start = transform-bounds-nonzero (m .«start_transform») b in
+    choose (not (m .«actually_animated»)) _ _ start
+    (choose (not (m .«has_rotation»)) _ _ (union-nonzero _ _ start (transform-bounds-nonzero (m .«end_transform») b)) (corners-nonzero m (AnimatedTransform·rigidMotion m) b 8))
+
+pub point-motion-nonzero : (m : AnimatedTransform) (p : Point3f) → BoundsAnswer·NonZero (AnimatedTransform·boundPointMotion m p)
+unfolding boundPointMotion
+point-motion-nonzero m p = choose (not (Point3f·isFinite p)) (bounds.Refused 6) _ (λ e. absurd (omega (arith, e))) (point-bounds-nonzero m (AnimatedTransform·rigidMotion m) p)
+
+pub motion-nonzero : (m : AnimatedTransform) (b : Bounds3f) → BoundsAnswer·NonZero (AnimatedTransform·motionBounds m b)
+unfolding motionBounds
+motion-nonzero m b = tested (Bounds3f·refusal b) _ (box-bounds-nonzero m b)
+
+-- ---- the cover
+enclosure-nonzero : (j : JudgedVector) → BoundsAnswer·NonZero (BoundsAnswer·fromEnclosure j)
+unfolding BoundsAnswer·fromEnclosure
+enclosure-nonzero j = tested (j .refusal) (bounds.Bounds (IntervalVector·bounds (j .vector))) tt
+
+stored-nonzero : (t : Transform) (b : Bounds3f) → BoundsAnswer·NonZero (Transform·encloseBounds t b)
+unfolding Transform·encloseBounds
+stored-nonzero t b = enclosure-nonzero (Transform·enclosePoints t b)
+
+slices-nonzero : (m : AnimatedTransform) (a : RigidMotion) (b : Bounds3f) (d : ℕ) (r : BoundsAnswer) → BoundsAnswer·NonZero r → (k : ℕ) → BoundsAnswer·NonZero (unionSlices m a b d r k)
+unfolding unionSlices AnimatedTransform·encloseBounds
+slices-nonzero m a b d r h zero = h
+slices-nonzero m a b d r h (suc k) =
+    union-nonzero (unionSlices m a b d r k) _ (slices-nonzero m a b d r h k) (enclosure-nonzero (Pose·enclosePoint a (m .s0) (m .s1) (slice d k) (Bounds3f·intervals b)))
+
+enclose-motion-nonzero : (m : AnimatedTransform) (b : Bounds3f) (d : ℕ) → BoundsAnswer·NonZero (AnimatedTransform·encloseMotion m b d)
+unfolding AnimatedTransform·encloseMotion AnimatedTransform·encloseEnds
+enclose-motion-nonzero m b d =
+    let start = stored-nonzero (m .«start_transform») b in
+    choose (m .«actually_animated») _ _
+    (slices-nonzero m (AnimatedTransform·rigidMotion m) b d _ (union-nonzero _ _ start (stored-nonzero (m .«end_transform») b)) (2 ^ d)) start
+
+pub cover-nonzero : (m : AnimatedTransform) (b : Bounds3f) (d : ℕ) → BoundsAnswer·NonZero (AnimatedTransform·cover m b d)
+unfolding AnimatedTransform·cover
+cover-nonzero m b d = tested (coverRefusal b d) _ (enclose-motion-nonzero m b d)

@@ -1,0 +1,1 @@
+// Laws only: which refusal numbers building and each query can give.
