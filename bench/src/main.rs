@@ -1,9 +1,11 @@
-//! The port, through the package `jellyplain`, beside the original Rust with document 01's angles, and its cover beside the second implementation: the same inputs, one run, one
-//! thread. Rounds of both sides alternate, so that what else the machine does falls on both; what is printed are medians over the rounds.
+//! The port, through the package `jellyplain`, beside the original Rust with document 01's angles, and its cover beside the second implementation and Boost.Interval: the same inputs,
+//! one run, one thread. A round asks every side, and the next starts with another, so that what else the machine does falls on all; what is printed are medians over the rounds.
 //!
 //!     bench                      every comparison, and how the cover's cost grows with its depth
 //!     bench profile OP SECONDS   the port alone, for a profiler: OP is build, point, interpolate, motion or cover
 
+#[cfg(boost)]
+mod boost;
 mod inputs;
 
 use inputs::{array, cases, original_bounds, original_matrix, original_point, Case, Kind, Random, CALLS};
@@ -47,28 +49,32 @@ fn nanoseconds(work: &mut dyn FnMut()) -> f64 {
     thread_nanoseconds() - start
 }
 
+/// Nanoseconds per call of each side, a list of as many rounds for each. Which side a round starts with goes round.
+fn measure(rounds: usize, calls: usize, sides: &mut [&mut dyn FnMut()]) -> Vec<Vec<f64>> {
+    sides.iter_mut().for_each(|side| side());
+    let mut times = vec![vec![]; sides.len()];
+    for round in 0..rounds {
+        for turn in 0..sides.len() {
+            let side = (round + turn) % sides.len();
+            times[side].push(nanoseconds(sides[side]) / calls as f64);
+        }
+    }
+    times
+}
+
+/// The ratio of two sides in each round.
+fn ratios(a: &[f64], b: &[f64]) -> Vec<f64> {
+    a.iter().zip(b).map(|(a, b)| a / b).collect()
+}
+
 /// Time per call of both sides and their ratio: medians, and the ratio's quartiles.
 fn compare(name: &str, rounds: usize, calls: usize, port: &mut dyn FnMut(), other: &mut dyn FnMut()) {
-    nanoseconds(port);
-    nanoseconds(other);
-    let (mut ports, mut others, mut ratios) = (vec![], vec![], vec![]);
-    for round in 0..rounds {
-        let (p, o);
-        if round % 2 == 0 {
-            p = nanoseconds(port);
-            o = nanoseconds(other);
-        } else {
-            o = nanoseconds(other);
-            p = nanoseconds(port);
-        }
-        ports.push(p / calls as f64);
-        others.push(o / calls as f64);
-        ratios.push(p / o);
-    }
+    let mut times = measure(rounds, calls, &mut [port, other]);
+    let mut ratios = ratios(&times[0], &times[1]);
     println!(
         "{name:32} {:>12.0} {:>12.0} {:>8.2}   {:.2} to {:.2}",
-        median(&mut ports),
-        median(&mut others),
+        median(&mut times[0]),
+        median(&mut times[1]),
         median(&mut ratios),
         quantile(&mut ratios, 0.25),
         quantile(&mut ratios, 0.75)
@@ -147,6 +153,9 @@ fn second_cover(cases: &[Case], depth: u32) {
     }
 }
 
+/// The depths of the covers, with how many rounds of how many cases are enough.
+const COVERS: [(u32, usize, usize); 3] = [(8, 100, 8), (10, 60, 4), (12, 40, 2)];
+
 fn compare_all(kind: &str, cases: &[Case]) {
     let many = cases.len();
     let calls = many * CALLS;
@@ -154,10 +163,25 @@ fn compare_all(kind: &str, cases: &[Case]) {
     compare(&format!("point, {kind}"), 300, calls, &mut || point(cases), &mut || original_point_query(cases));
     compare(&format!("interpolate, {kind}"), 300, calls, &mut || interpolate(cases), &mut || original_interpolate(cases));
     compare(&format!("motion box, {kind}"), 300, many, &mut || motion_bounds(cases), &mut || original_motion_bounds(cases));
-    for (depth, rounds, some) in [(8, 100, 8), (10, 60, 4), (12, 40, 2)] {
+    for (depth, rounds, some) in COVERS {
         let some = &cases[..some];
         compare(&format!("cover of depth {depth}, {kind}"), rounds, some.len(), &mut || port_cover(some, depth), &mut || second_cover(some, depth));
     }
+}
+
+#[cfg(boost)]
+fn compare_boost(kinds: &[(&str, &[Case])]) {
+    println!("\n{:32} {:>12} {:>12} {:>12}", "extents, Boost.Interval to port", "moves", "median", "greatest");
+    kinds.iter().for_each(|(kind, cases)| boost::hold(kind, cases));
+    let columns = ["port", "Boost", "affine", "second"].map(|side| format!(" {side:>10}")).concat();
+    let ratios = ["port/Boost", "port/affine", "Boost/second", "affine/second"].map(|ratio| format!("   {ratio:20}")).concat();
+    println!("\n{:32}{columns}{}", "nanoseconds a call, medians", ratios.trim_end());
+    kinds.iter().for_each(|(kind, cases)| boost::compare(kind, cases));
+}
+
+#[cfg(not(boost))]
+fn compare_boost(_: &[(&str, &[Case])]) {
+    println!("\ncovers beside Boost.Interval: left out, since g++ finds no boost/numeric/interval.hpp");
 }
 
 /// The port's cover at every depth: time for a cover, for a slice of it, and against the depth before. A round goes through all depths.
@@ -204,5 +228,6 @@ fn main() {
     println!("{:32} {:>12} {:>12} {:>8}   quartiles", "nanoseconds a call, medians", "port", "other", "ratio");
     compare_all("turning", &turning);
     compare_all("shifting", &shifting);
+    compare_boost(&[("turning", &turning), ("shifting", &shifting)]);
     growth("turning", &turning[..2]);
 }
