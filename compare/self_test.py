@@ -7,6 +7,7 @@ With WRONG in the environment it is itself the program that answers: the one beh
 """
 import os
 import re
+import struct
 import subprocess
 import sys
 import tempfile
@@ -43,7 +44,13 @@ def other_digit(answer):
     return answer[:-1] + (b"1" if answer[-1:] == b"0" else b"0")
 
 
-def changed(change, word, answer):
+def float_bits(x):
+    return struct.pack(">f", x).hex().encode()
+
+
+def changed(change, question, answer):
+    values = question.decode(errors="replace").split(" ")
+    word = values[0]
     if change == word and answer.startswith(b"ok ") and answer[-8:] != b"7fc00000":
         return other_digit(answer) if first_time(change) else answer
     if change == "built" and word == "move" and answer == b"ok":
@@ -59,8 +66,12 @@ def changed(change, word, answer):
     if change == "nan_bits":
         return answer.replace(b"7fc00000", b"ffc12345")
     if change == "narrow" and word == "cover" and answer.startswith(b"ok"):
-        values = answer.split()
-        return b" ".join(values[:4] + values[1:4])
+        corner = answer.split()[1:4]
+        return b" ".join([b"ok"] + corner + corner)
+    if change == "growing" and word == "cover" and answer.startswith(b"ok"):
+        return b"ok ff7fffff ff7fffff ff7fffff 7f7fffff 7f7fffff " + float_bits(3.3e38 + 1e35 * int(values[1]))
+    if change == "shallow" and word == "cover" and answer.startswith(b"ok") and int(values[1]) > 2:
+        return b"refused 10"
     return answer
 
 
@@ -69,7 +80,7 @@ def answers(changes):
     asked = [line for line in text.split(b"\n") if line and not line.startswith(b"#")]
     given = subprocess.run([ORACLE], input=text, stdout=subprocess.PIPE, check=True).stdout.splitlines()
     for change in changes:
-        given = [changed(change, question.split(b" ")[0].decode(errors="replace"), answer) for question, answer in zip(asked, given)]
+        given = [changed(change, question, answer) for question, answer in zip(asked, given)]
     if "missing" in changes and first_time("missing"):
         given.pop()
     if "too_many" in changes and first_time("too_many"):
@@ -124,6 +135,8 @@ def main():
         trial("a failure at the end", "angles", ["failure"], 1, ["the project ends by a failure"]),
         trial("covers too small, on both sides", "covers", ["narrow"], None, ["guarantee: a point leaves"], ("--answers", "--oracle")),
         trial("points refused, on both sides", "covers", ["unanswered"], None, ["guarantee: a point of an accepted cover is not answered"], ("--answers", "--oracle")),
+        trial("covers that grow on one axis with the depth, on both sides", "covers", ["growing"], None, ["a finer cover is wider"], ("--answers", "--oracle")),
+        trial("covers refused above depth 2, on both sides", "covers", ["shallow"], None, ["a finer cover is refused"], ("--answers", "--oracle")),
         trial("files as they are", "files", [], 0, moves=4000, sides=()),
         trial("a digit of one file's box and of one file's refusal", "files", ["program"], 2, ["cover, the program"], ("--cover",), moves=4000),
     ]

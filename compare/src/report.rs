@@ -13,7 +13,7 @@ struct Count {
     different: u64,
 }
 
-/// The points by which accepted covers were tested.
+/// The points and the greater depths by which accepted covers were tested.
 #[derive(Default)]
 pub struct Guarantee {
     pub covers: u64,
@@ -22,6 +22,22 @@ pub struct Guarantee {
     pub touching: u64,
     pub refused: u64,
     pub outside: u64,
+    pub finer: u64,
+    pub finer_refused: u64,
+    pub finer_wider: u64,
+}
+
+impl Guarantee {
+    fn different(&self) -> u64 {
+        self.refused + self.outside + self.finer_refused + self.finer_wider
+    }
+
+    fn finer_line(&self) -> String {
+        match (self.finer_refused, self.finer_wider) {
+            (0, 0) => format!("finer covers: {}, none wider", grouped(self.finer)),
+            (refused, wider) => format!("finer covers: {}, {} wider, {} refused", grouped(self.finer), grouped(wider), grouped(refused)),
+        }
+    }
 }
 
 #[derive(Default)]
@@ -128,7 +144,7 @@ impl Report {
     }
 
     pub fn different(&self) -> u64 {
-        self.rows.iter().map(|(_, count)| count.different).sum::<u64>() + self.guarantee.refused + self.guarantee.outside
+        self.rows.iter().map(|(_, count)| count.different).sum::<u64>() + self.guarantee.different()
     }
 
     pub fn answers(&self) -> u64 {
@@ -154,6 +170,9 @@ impl Report {
         all.touching += more.touching;
         all.refused += more.refused;
         all.outside += more.outside;
+        all.finer += more.finer;
+        all.finer_refused += more.finer_refused;
+        all.finer_wider += more.finer_wider;
         self.moves += other.moves;
     }
 
@@ -172,7 +191,7 @@ impl Report {
         if g.covers > 0 {
             out += "\n| accepted covers | points of them, at a time | on a face of the cover | not answered | outside |\n|---|---|---|---|---|\n";
             let cells = [g.covers, g.points, g.touching, g.refused, g.outside].map(grouped);
-            writeln!(out, "| {} |", cells.join(" | ")).unwrap();
+            writeln!(out, "| {} |\n\n{}", cells.join(" | "), g.finer_line()).unwrap();
         }
         out
     }
