@@ -87,8 +87,9 @@ fn slerp_far(q1: Quaternion, q2: Quaternion, t: f32, cos_theta: f32) -> Quaterni
     let theta = trig::acos(float32::clamp(cos_theta, -1.0, 1.0));
     let thetap = theta * t;
     let qperp = q2.sub(q1.mul(cos_theta)).normalize();
-    let a = q1.mul(trig::cos(thetap));
-    let b = qperp.mul(trig::sin(thetap));
+    let angle = trig::sin_cos(thetap);
+    let a = q1.mul(angle.cos);
+    let b = qperp.mul(angle.sin);
     a.add(b)
 }
 

@@ -1,4 +1,4 @@
--- `slerp_far` meets its contract: a chain of ten calls.
+-- `slerp_far` meets its contract: a chain of nine calls.
 use Rattle.quaternion.specs.Slerp.{slerpFar}
 use borrow.Author.Needs.{needs}
 use Rattle.quaternion.proofs.slerp_far.Statement.{statement}
@@ -19,14 +19,11 @@ sub-requires c κs = search needs
 normalize-requires : tie.Need-normalize-requires
 normalize-requires c κs = search needs
 
-cos-requires : tie.Need-cos-requires
-cos-requires c κs = search needs
+sin-cos-requires : tie.Need-sin-cos-requires
+sin-cos-requires c κs = search needs
 
 mul-requires-2 : tie.Need-mul-requires-2
 mul-requires-2 c κs = search needs
-
-sin-requires : tie.Need-sin-requires
-sin-requires c κs = search needs
 
 mul-requires-3 : tie.Need-mul-requires-3
 mul-requires-3 c κs = search needs
@@ -40,14 +37,14 @@ returns c =
     rw (
       c .add .ensures,
       c .before .mul3 .ensures,
-      c .before .before .sin .ensures,
-      c .before .before .before .mul2 .ensures,
-      c .before .before .before .before .cos .ensures,
-      c .before .before .before .before .before .normalize .ensures,
-      c .before .before .before .before .before .before .sub .ensures,
-      c .before .before .before .before .before .before .before .mul .ensures,
-      c .before .before .before .before .before .before .before .before .acos .ensures,
-      c .before .before .before .before .before .before .before .before .before .clamp .ensures,
+      c .before .before .mul2 .ensures,
+      c .before .before .before .sin-cos .ensures .0,
+      c .before .before .before .sin-cos .ensures .1,
+      c .before .before .before .before .normalize .ensures,
+      c .before .before .before .before .before .sub .ensures,
+      c .before .before .before .before .before .before .mul .ensures,
+      c .before .before .before .before .before .before .before .acos .ensures,
+      c .before .before .before .before .before .before .before .before .clamp .ensures,
     )
 
 pub slerp-far-spec : {M : Type 1} → statement M
@@ -59,9 +56,8 @@ slerp-far-spec =
     mul-requires
     sub-requires
     normalize-requires
-    cos-requires
+    sin-cos-requires
     mul-requires-2
-    sin-requires
     mul-requires-3
     add-requires
     returns)
