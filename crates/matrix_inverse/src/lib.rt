@@ -67,18 +67,16 @@ fn search(m: [[f32; 4]; 4], ipiv: [u32; 4]) -> Pivot
     best
 }
 
-fn swap_rows(m: [[f32; 4]; 4], i: usize, k: usize) -> [[f32; 4]; 4]
+// In place, as in pbrt: of copies the compiler stores and loads different parts, and each such load waits for its stores.
+fn swap_rows(m: &mut [[f32; 4]; 4], i: usize, k: usize)
     requires { ⌜ (i < 4) × (k < 4) ⌝ }
-    ensures value { λ r. ⌜ r ≡ swapRows m i k ⌝ }
+    ensures value { λ _. ⌜ now (m .exit) ≡ swapRows (now (m .entry)) i k ⌝ }
 {
-    if i == k {
-        return m;
+    if i != k {
+        let swap = m[i];
+        m[i] = m[k];
+        m[k] = swap;
     }
-    let mut r = m;
-    let swap = r[i];
-    r[i] = r[k];
-    r[k] = swap;
-    r
 }
 
 fn select(b: bool, x: f32, y: f32) -> f32
@@ -122,29 +120,23 @@ fn clear_row(r: [f32; 4], p: [f32; 4], k: usize) -> [f32; 4]
     ]
 }
 
-fn clear_at(m: [[f32; 4]; 4], k: usize, j: usize) -> [[f32; 4]; 4]
+fn clear_at(m: &mut [[f32; 4]; 4], k: usize, j: usize)
     requires { ⌜ (k < 4) × (j < 4) ⌝ }
-    ensures value { λ r. ⌜ r ≡ clearAt k j m ⌝ }
+    ensures value { λ _. ⌜ now (m .exit) ≡ clearAt k j (now (m .entry)) ⌝ }
 {
-    if j == k {
-        return m;
+    if j != k {
+        m[j] = clear_row(m[j], m[k], k);
     }
-    let mut r = m;
-    r[j] = clear_row(m[j], m[k], k);
-    r
 }
 
-fn eliminate(m: [[f32; 4]; 4], k: usize) -> [[f32; 4]; 4]
+fn eliminate(m: &mut [[f32; 4]; 4], k: usize)
     requires { ⌜ k < 4 ⌝ }
-    ensures value { λ r. ⌜ r ≡ eliminate m k ⌝ }
+    ensures value { λ _. ⌜ now (m .exit) ≡ eliminate (now (m .entry)) k ⌝ }
 {
-    let mut r = m;
-    r[k] = scale_row(m[k], k);
+    m[k] = scale_row(m[k], k);
     for j in 0..4 {
-        let s = clear_at(r, k, j);
-        r = s;
+        clear_at(m, k, j);
     }
-    r
 }
 
 fn swap_entries(r: [f32; 4], a: usize, b: usize) -> [f32; 4]
@@ -238,16 +230,15 @@ pub fn inverse(m: [[f32; 4]; 4]) -> InverseAnswer
         let p = search(minv, ipiv);
         let irow = p.irow;
         let icol = p.icol;
-        let s = swap_rows(minv, irow, icol);
+        swap_rows(&mut minv, irow, icol);
         // Departs from pbrt: a zero pivot is refused, before the division (docs/DECISIONS.md, 1).
-        if s[icol][icol] == 0.0 {
+        if minv[icol][icol] == 0.0 {
             return refused(4);
         }
         ipiv[icol] += 1;
         indxr[i] = irow;
         indxc[i] = icol;
-        let e = eliminate(s, icol);
-        minv = e;
+        eliminate(&mut minv, icol);
     }
     judged(restore_columns(minv, indxr, indxc))
 }

@@ -5,45 +5,45 @@ use borrow.Author.Needs.{needs}
 use Rattle.matrix_inverse.proofs.clear_at.Statement.{statement}
 use Rattle.matrix_inverse.proofs.clear_at.Tie as tie
 
-returns : tie.Need-returns
-unfolding clearAt
-returns c = rw (eq-eqb _ _ (c .if1 .taken))
-
 mul-clear-row : tie.Need-mul-clear-row
 mul-clear-row c = search needs
 
-array-copy-out-clear-row : tie.Need-array-copy-out-clear-row
-array-copy-out-clear-row c = search needs
+element-copy-out-clear-row : tie.Need-element-copy-out-clear-row
+element-copy-out-clear-row c = search needs
 
 mul-clear-row-2 : tie.Need-mul-clear-row-2
 mul-clear-row-2 c = search needs
 
-array-copy-out-clear-row-2 : tie.Need-array-copy-out-clear-row-2
-array-copy-out-clear-row-2 c = search needs
+element-copy-out-clear-row-2 : tie.Need-element-copy-out-clear-row-2
+element-copy-out-clear-row-2 c = search needs
 
 clear-row-requires : tie.Need-clear-row-requires
 clear-row-requires c κs = search needs
 
-mul-r : tie.Need-mul-r
-mul-r c = search needs
+mul-t14 : tie.Need-mul-t14
+mul-t14 c = search needs
 
-array-set-from-r : tie.Need-array-set-from-r
-array-set-from-r c = search needs
+element-set-from-m : tie.Need-element-set-from-m
+element-set-from-m c = search needs
+
+returns : tie.Need-returns
+unfolding clearAt
+returns c = rw (ne-eqb _ _ (c .before .before .before .if1 .taken), c .clear-row .ensures)
 
 returns-2 : tie.Need-returns-2
 unfolding clearAt
-returns-2 c = rw (ne-eqb _ _ (c .before .before .before .if1 .left), c .clear-row .ensures)
+returns-2 c = rw (eq-eqb _ _ (c .if1 .left))
 
 pub clear-at-spec : {M : Type 1} → statement M
 clear-at-spec =
     tie.close
     (tie.spec
-    returns
     mul-clear-row
-    array-copy-out-clear-row
+    element-copy-out-clear-row
     mul-clear-row-2
-    array-copy-out-clear-row-2
+    element-copy-out-clear-row-2
     clear-row-requires
-    mul-r
-    array-set-from-r
+    mul-t14
+    element-set-from-m
+    returns
     returns-2)

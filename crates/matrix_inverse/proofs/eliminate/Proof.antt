@@ -5,30 +5,30 @@ use native.Mathlib.Omega.{arith}
 use Rattle.matrix_inverse.specs.Loop.{loop}
 use Rattle.matrix_inverse.specs.Eliminate.{clearAt, eliminate}
 use Rattle.matrix_inverse.proofs.Loop.{loop-start, loop-next, loop-end}
+use borrow.Author.Needs.{needs}
 use Rattle.matrix_inverse.proofs.eliminate.Statement.{statement}
 use Rattle.matrix_inverse.proofs.eliminate.Tie as tie
-use borrow.Author.Needs.{needs}
 
 abbrev Inv-loop : tie.InvT-loop
-Inv-loop k r₀ j₀ r j = (j ≤ 4) × (r ≡ loop (clearAt k) j r₀)
+Inv-loop m₀ k j₀ m j = (j ≤ 4) × (m ≡ loop (clearAt k) j m₀)
 
 abbrev μ-loop : tie.MeasureT-loop
-μ-loop k r₀ j₀ r j = 4 - j
+μ-loop m₀ k j₀ m j = 4 - j
 
 mul-scale-row : tie.Need-mul-scale-row Inv-loop μ-loop
 mul-scale-row c = search needs
 
-array-copy-out-scale-row : tie.Need-array-copy-out-scale-row Inv-loop μ-loop
-array-copy-out-scale-row c = search needs
+element-copy-out-scale-row : tie.Need-element-copy-out-scale-row Inv-loop μ-loop
+element-copy-out-scale-row c = search needs
 
 scale-row-requires : tie.Need-scale-row-requires Inv-loop μ-loop
 scale-row-requires c κs = search needs
 
-mul-r : tie.Need-mul-r Inv-loop μ-loop
-mul-r c = search needs
+mul-t9 : tie.Need-mul-t9 Inv-loop μ-loop
+mul-t9 c = search needs
 
-array-set-from-r : tie.Need-array-set-from-r Inv-loop μ-loop
-array-set-from-r c = search needs
+element-set-from-m : tie.Need-element-set-from-m Inv-loop μ-loop
+element-set-from-m c = search needs
 
 loop-holds : tie.Need-loop-holds Inv-loop μ-loop
 loop-holds c = (search needs, loop-start _ _)
@@ -43,7 +43,7 @@ loop-less : tie.Need-loop-less Inv-loop μ-loop
 loop-less c = search needs
 
 loop-again : tie.Need-loop-again Inv-loop μ-loop
-loop-again c = (search needs, loop-next _ _ _ _ _ (c .before .before .loop .inv .1) (c .clear-at .ensures))
+loop-again c = (search needs, loop-next _ _ _ _ _ (c .before .before .before .loop .inv .1) (c .clear-at .ensures))
 
 returns : tie.Need-returns Inv-loop μ-loop
 unfolding eliminate
@@ -56,10 +56,10 @@ eliminate-spec =
     Inv-loop
     μ-loop
     mul-scale-row
-    array-copy-out-scale-row
+    element-copy-out-scale-row
     scale-row-requires
-    mul-r
-    array-set-from-r
+    mul-t9
+    element-set-from-m
     loop-holds
     clear-at-requires
     add-j
