@@ -1,2 +1,4 @@
+mod Table
 pub mod Entries
+mod BlockEntries
 pub mod QuarterSine

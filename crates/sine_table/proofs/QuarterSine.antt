@@ -1,15 +1,12 @@
 -- H never falls, `quarterSine-mono`, from 0 at 0 (`quarterSine-zero`) to 2 ^ 30 at a quarter turn (`quarterSine-one`): within two neighbours by the
--- straight line, across entries by the table's rise. H over a table that keeps to document 01's rule is H, `quarterSineIn-table`.
-use mathlib.Core.Path.{_≡_, refl, sym, subst, _∙_}
-use mathlib.Core.Logic.{inl, inr}
-use mathlib.Core.List.{List}
+-- straight line, across entries by the table's rise.
+use mathlib.Core.Path.{_≡_, refl, subst}
 use Prim.Native.Nat.{ℕ, _+_, _-_, _*_, _/_, _%_, _^_, _≤_, _<_}
-use native.Mathlib.Nat.{le-refl, le-trans, eq-or-lt-of-le, mul-le-mul-left}
+use native.Mathlib.Nat.{le-refl, le-trans, mul-le-mul-left}
 use native.Mathlib.Decide.{decLt}
 use native.Mathlib.Omega.{arith}
-use lib.ListN.{getD}
-use Rattle.sine_table.specs.Table.{quarterTurn, sineEntry, SineTable}
-use Rattle.sine_table.specs.QuarterSine.{line, quarterSineIn, quarterSine, computing}
+use Rattle.sine_table.specs.Table.{quarterTurn, sineEntry}
+use Rattle.sine_table.specs.QuarterSine.{line, quarterSine, computing}
 use Rattle.sine_table.proofs.Entries.{entry-mono}
 
 line-ge : (a b r : ℕ) → a ≤ line a b r
@@ -55,18 +52,3 @@ quarterSine-one = refl
 
 pub quarterSine-le-one : (v : ℕ) → v ≤ quarterTurn → quarterSine v ≤ 2 ^ 30
 quarterSine-le-one v h = subst (λ (n : ℕ). quarterSine v ≤ n) quarterSine-one (quarterSine-mono v quarterTurn h (le-refl quarterTurn))
-
--- ---- H over a table
-
-pub quarterSineIn-one : (t : List ℕ) → getD t 2048 0 ≡ quarterSineIn t quarterTurn
-unfolding quarterSineIn
-quarterSineIn-one t = start (getD t 2048 0) (getD t 2049 0)
-  where
-    start : (a b : ℕ) → a ≡ line a b 0
-    start a b = omega arith
-
-pub quarterSineIn-table : (t : List ℕ) → SineTable t → (v : ℕ) → v ≤ quarterTurn → quarterSineIn t v ≡ quarterSine v
-quarterSineIn-table t s v h = elim (eq-or-lt-of-le h) [
-  | inl e ↦ rw e (sym (quarterSineIn-one t) ∙ s .last ∙ sym quarterSine-one)
-  | inr l ↦ unfold quarterSineIn quarterSine in rw (s .rule (v * 2048 / quarterTurn) (omega arith), s .rule (v * 2048 / quarterTurn + 1) (omega arith))
-]

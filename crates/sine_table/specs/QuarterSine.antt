@@ -1,7 +1,5 @@
--- Document 01's H: the sine over a quarter turn, in a straight line from each entry of the table to the next; and the same over any table, `quarterSineIn`.
-use mathlib.Core.List.{List}
+-- Document 01's H: the sine over a quarter turn, in a straight line from each entry of the table to the next.
 use Prim.Native.Nat.{ℕ, _+_, _-_, _*_, _/_, _%_}
-use lib.ListN.{getD}
 use Rattle.sine_table.specs.Table.{quarterTurn, taylorSum, sineEntry}
 
 -- The exact straight line from a to b, r of Q parts along it, rounded down; a itself where b is below it.
@@ -11,10 +9,6 @@ line a b r = a + (b - a) * r / quarterTurn
 -- H(v): the neighbours stand Q / 2048 units apart, so v is v * 2048 % Q parts of Q past the entry v * 2048 / Q.
 unfoldable pub quarterSine : ℕ → ℕ
 quarterSine v = let i = v * 2048 / quarterTurn in line (sineEntry i) (sineEntry (i + 1)) (v * 2048 % quarterTurn)
-
--- The same over the table t. Over T itself it is H (`quarterSineIn-table`).
-unfoldable pub quarterSineIn : List ℕ → ℕ → ℕ
-quarterSineIn t v = let i = v * 2048 / quarterTurn in line (getD t i 0) (getD t (i + 1) 0) (v * 2048 % quarterTurn)
 
 -- What has to unfold for H of a given angle to compute, as one group: a case says `unfolding computing`.
 unfoldable pub computing : Unit {0}

@@ -3,7 +3,6 @@
 -- The cosine is the sine a quarter turn on: it falls to 2 Q, rises to 4 Q and falls again, `cos-..` likewise. All rest on the rise of `quarterSine`.
 use mathlib.Core.Path.{_≡_, refl, sym, ap, ap₂, subst₂, _∙_}
 use mathlib.Core.Logic.{_⊎_, inl, inr}
-use mathlib.Core.List.{List}
 use Prim.Native.Nat.{ℕ, zero, suc, _+_, _-_, _*_, _/_, _%_, _^_, _≤_, _<_, min}
 use native.Mathlib.Nat.{le-trans, eq-or-lt-of-le}
 use native.Mathlib.Decide.{decLt}
@@ -12,9 +11,9 @@ use borrow.Author.Tests.{le-leb, lt-leb}
 use mathlib.Core.Bool.{Bool, cond}
 use lib.IntN.{pos, negsuc, negℤ}
 use lib.Ieee.{minus}
-use Rattle.sine_table.specs.Table.{quarterTurn, SineTable}
-use Rattle.sine_table.specs.QuarterSine.{quarterSine, quarterSineIn}
-use Rattle.sine_table.proofs.QuarterSine.{quarterSine-mono, quarterSine-zero, quarterSine-le-one, quarterSineIn-table}
+use Rattle.sine_table.specs.Table.{quarterTurn}
+use Rattle.sine_table.specs.QuarterSine.{quarterSine}
+use Rattle.sine_table.proofs.QuarterSine.{quarterSine-mono, quarterSine-zero, quarterSine-le-one}
 use Rattle.trig.specs.Units.{sinQuarter, sinUnits, cosUnits}
 use Rattle.trig.specs.Biased.{biased, biasedSin}
 use Rattle.trig.specs.Computing.{computing}
@@ -65,9 +64,9 @@ pub record Read (v r : ℕ) : Type 0 where
   pub small : r ≤ 2 ^ 30
   pub value : r ≡ quarterSine v
 
-pub read : (t : List ℕ) → SineTable t → (v r : ℕ) → v ≤ quarterTurn → r ≡ quarterSineIn t (min v quarterTurn) → Read v r
-read t s v r h e =
-    let f : r ≡ quarterSine v = e ∙ ap (quarterSineIn t) (let z : min v quarterTurn ≡ v = omega arith in z) ∙ quarterSineIn-table t s v h in
+pub read : (v r : ℕ) → v ≤ quarterTurn → r ≡ quarterSine (min v quarterTurn) → Read v r
+read v r h e =
+    let f : r ≡ quarterSine v = e ∙ ap quarterSine (let z : min v quarterTurn ≡ v = omega arith in z) in
     record { small = rw f (quarterSine-le-one v h); value = f }
 
 pub sin-unbiased : (u : ℕ) → minus (biasedSin u) (2 ^ 30) ≡ sinUnits u

@@ -4,7 +4,6 @@ ghost use mathlib.Core.Path.{_≡_};
 ghost use mathlib.Core.Bool.{true};
 ghost use Prim.Native.Nat.{_*_, _/_, _^_, _≤_, _<_, min};
 ghost use lib.Ieee.{minus};
-ghost use Rattle.sine_table.specs.Table.{SineTable};
 ghost use Rattle.trig.specs.Units.{angleUnits, nearestFloat, withSign};
 ghost use Rattle.trig.specs.SinCos.{sin, cos};
 ghost use Rattle.trig.specs.Acos.{inDomain, leastAngle, floorUnits, acos};
@@ -35,22 +34,21 @@ pub struct SinCosPair {
 }
 
 // The sine of u, biased.
-fn biased_sin(table: &[u32; 2049], u: u64) -> u64
-    requires { ⌜ SineTable (now table) ⌝ }
+fn biased_sin(u: u64) -> u64
     ensures value { λ r. ⌜ r ≡ biasedSin u ⌝ }
 {
     let k = u / QUARTER_TURN % 4;
     let v = u % QUARTER_TURN;
     if k == 0 {
-        return ONE + sine_table::quarter_sine_in(table, v);
+        return ONE + sine_table::quarter_sine(v);
     }
     if k == 1 {
-        return ONE + sine_table::quarter_sine_in(table, QUARTER_TURN - v);
+        return ONE + sine_table::quarter_sine(QUARTER_TURN - v);
     }
     if k == 2 {
-        return ONE - sine_table::quarter_sine_in(table, v);
+        return ONE - sine_table::quarter_sine(v);
     }
-    ONE - sine_table::quarter_sine_in(table, QUARTER_TURN - v)
+    ONE - sine_table::quarter_sine(QUARTER_TURN - v)
 }
 
 // The float nearest to n biased units, negated where the sign says so; a zero is +0.
@@ -94,51 +92,34 @@ pub fn angle_units(a: f32) -> u64
     shifted(d.significand << 28, d.exponent)
 }
 
-fn sin_in(table: &[u32; 2049], a: f32) -> f32
-    requires { ⌜ SineTable (now table) ⌝ }
-    ensures value { λ r. ⌜ r ≡ sin a ⌝ }
-{
-    if float32::abs(a) < FAR {
-        let d = float_bits::integer_decode(a);
-        return biased_float(d.negative, biased_sin(table, angle_units(a)));
-    }
-    0.0
-}
-
-fn cos_in(table: &[u32; 2049], a: f32) -> f32
-    requires { ⌜ SineTable (now table) ⌝ }
-    ensures value { λ r. ⌜ r ≡ cos a ⌝ }
-{
-    if float32::abs(a) < FAR {
-        return biased_float(false, biased_sin(table, angle_units(a) + QUARTER_TURN));
-    }
-    1.0
-}
-
 // Document 01's sine; of a far angle 0. Accuracy: heuristic, the float nearest to a straight line between the table's entries.
 pub fn sin(a: f32) -> f32
     ensures value { λ r. ⌜ r ≡ sin a ⌝ }
 {
-    let table = sine_table::table();
-    sin_in(&table, a)
+    if float32::abs(a) < FAR {
+        let d = float_bits::integer_decode(a);
+        return biased_float(d.negative, biased_sin(angle_units(a)));
+    }
+    0.0
 }
 
 // Document 01's cosine, the sine a quarter turn on; of a far angle 1. Accuracy: heuristic, as the sine's.
 pub fn cos(a: f32) -> f32
     ensures value { λ r. ⌜ r ≡ cos a ⌝ }
 {
-    let table = sine_table::table();
-    cos_in(&table, a)
+    if float32::abs(a) < FAR {
+        return biased_float(false, biased_sin(angle_units(a) + QUARTER_TURN));
+    }
+    1.0
 }
 
-// The sine and the cosine of an angle, from one copy of the table. Accuracy: heuristic, as theirs.
+// The sine and the cosine of an angle. Accuracy: heuristic, as theirs.
 pub fn sin_cos(a: f32) -> SinCos
     ensures value { λ r. ⌜ (r .sin ≡ sin a) × (r .cos ≡ cos a) ⌝ }
 {
-    let table = sine_table::table();
     SinCos {
-        sin: sin_in(&table, a),
-        cos: cos_in(&table, a),
+        sin: sin(a),
+        cos: cos(a),
     }
 }
 
@@ -146,18 +127,16 @@ pub fn sin_cos(a: f32) -> SinCos
 pub fn sin_cos_pair(x: f32, y: f32) -> SinCosPair
     ensures value { λ r. ⌜ (r .«sin_x» ≡ sin x) × (r .«cos_x» ≡ cos x) × (r .«sin_y» ≡ sin y) × (r .«cos_y» ≡ cos y) ⌝ }
 {
-    let table = sine_table::table();
     SinCosPair {
-        sin_x: sin_in(&table, x),
-        cos_x: cos_in(&table, x),
-        sin_y: sin_in(&table, y),
-        cos_y: cos_in(&table, y),
+        sin_x: sin(x),
+        cos_x: cos(x),
+        sin_y: sin(y),
+        cos_y: cos(y),
     }
 }
 
 // The least angle in 0 to a half turn whose cosine is at most w, both biased.
-fn least_angle(table: &[u32; 2049], w: u64) -> u64
-    requires { ⌜ SineTable (now table) ⌝ }
+fn least_angle(w: u64) -> u64
     ensures value { λ r. ⌜ r ≡ leastAngle (minus w (2 ^ 30)) ⌝ }
 {
     // The cosine of 0 is 1.
@@ -169,7 +148,7 @@ fn least_angle(table: &[u32; 2049], w: u64) -> u64
     let mut high: u64 = HALF_TURN;
     while high - low > 1 {
         let middle = (low + high) / 2;
-        if biased_sin(table, middle + QUARTER_TURN) > w {
+        if biased_sin(middle + QUARTER_TURN) > w {
             low = middle;
         } else {
             high = middle;
@@ -196,8 +175,7 @@ pub fn acos(c: f32) -> f32
     ensures value { λ r. ⌜ r ≡ acos c ⌝ }
 {
     if (-1.0 <= c) & (c <= 1.0) {
-        let table = sine_table::table();
-        return float_bits::from_fixed(least_angle(&table, biased_floor(c)), 28);
+        return float_bits::from_fixed(least_angle(biased_floor(c)), 28);
     }
     0.0 / 0.0
 }

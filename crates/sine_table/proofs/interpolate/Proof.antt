@@ -11,20 +11,20 @@ use Rattle.sine_table.proofs.interpolate.Tie as tie
 product : (a b r : ℕ) → b < 2 ^ 32 → r < quarterTurn → (b - a) * r < 2 ^ 64
 product a b r h k = let l : (b - a) * r ≤ 2 ^ 32 * quarterTurn = mul-le-mul {n₂ = 2 ^ 32} {m₂ = quarterTurn} (omega arith) (omega arith) in omega (arith, l)
 
-returns : tie.Need-returns
-returns c = let e : c .before .args .b - c .before .args .a ≡ 0 = omega arith in rw e (omega arith)
+sub-result : tie.Need-sub-result
+sub-result c = search needs
 
 cast-result : tie.Need-cast-result
 cast-result c = search needs
 
 mul-result : tie.Need-mul-result
-mul-result c = record { fits = product (c .before .args .a) (c .before .args .b) (c .before .args .r) (search needs) (search needs) }
+mul-result c = record { fits = product (c .args .a) (c .args .b) (c .args .r) (search needs) (search needs) }
 
 add-result : tie.Need-add-result
-add-result c = let l = product (c .before .args .a) (c .before .args .b) (c .before .args .r) (search needs) (search needs) in omega (arith, l)
+add-result c = let l = product (c .args .a) (c .args .b) (c .args .r) (search needs) (search needs) in omega (arith, l)
 
-returns-2 : tie.Need-returns-2
-returns-2 c = search needs
+returns : tie.Need-returns
+returns c = search needs
 
 pub interpolate-spec : {M : Type 1} → statement M
-interpolate-spec = tie.close (tie.spec returns cast-result mul-result add-result returns-2)
+interpolate-spec = tie.close (tie.spec sub-result cast-result mul-result add-result returns)

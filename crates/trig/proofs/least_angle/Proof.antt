@@ -7,10 +7,10 @@ use Rattle.trig.proofs.least_angle.Statement.{statement}
 use Rattle.trig.proofs.least_angle.Tie as tie
 
 abbrev Inv-loop : tie.InvT-loop
-Inv-loop table w low₀ high₀ low high = Halving w low high
+Inv-loop w low₀ high₀ low high = Halving w low high
 
 abbrev μ-loop : tie.MeasureT-loop
-μ-loop table w low₀ high₀ low high = high - low
+μ-loop w low₀ high₀ low high = high - low
 
 mul-if1 : tie.Need-mul-if1 Inv-loop μ-loop
 mul-if1 c = search needs

@@ -2,8 +2,8 @@
 use mathlib.Core.Bool.{true, false}
 use Rattle.trig.proofs.Values.{near-test, sin-value, sin-far}
 use borrow.Author.Needs.{needs}
-use Rattle.trig.proofs.sin_in.Statement.{statement}
-use Rattle.trig.proofs.sin_in.Tie as tie
+use Rattle.trig.proofs.sin.Statement.{statement}
+use Rattle.trig.proofs.sin.Tie as tie
 
 abs-requires : tie.Need-abs-requires
 abs-requires c κs = search needs
@@ -34,8 +34,8 @@ returns-2 c =
     let a = c .before .before .args .a in
     sin-far a (near-test a (c .before .abs .result) false (c .before .abs .ensures) (c .if1 .left))
 
-pub sin-in-spec : {M : Type 1} → statement M
-sin-in-spec =
+pub sin-spec : {M : Type 1} → statement M
+sin-spec =
     tie.close
     (tie.spec
     abs-requires

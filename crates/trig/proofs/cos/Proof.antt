@@ -2,8 +2,8 @@
 use mathlib.Core.Bool.{true, false}
 use Rattle.trig.proofs.Values.{near-test, cos-value, cos-far}
 use borrow.Author.Needs.{needs}
-use Rattle.trig.proofs.cos_in.Statement.{statement}
-use Rattle.trig.proofs.cos_in.Tie as tie
+use Rattle.trig.proofs.cos.Statement.{statement}
+use Rattle.trig.proofs.cos.Tie as tie
 
 abs-requires : tie.Need-abs-requires
 abs-requires c κs = search needs
@@ -33,8 +33,8 @@ returns-2 c =
     let a = c .before .before .args .a in
     cos-far a (near-test a (c .before .abs .result) false (c .before .abs .ensures) (c .if1 .left))
 
-pub cos-in-spec : {M : Type 1} → statement M
-cos-in-spec =
+pub cos-spec : {M : Type 1} → statement M
+cos-spec =
     tie.close
     (tie.spec
     abs-requires
