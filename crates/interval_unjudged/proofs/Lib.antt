@@ -1,0 +1,4 @@
+pub mod Ordered
+pub mod Finite
+pub mod Unjudged
+pub mod Trace

@@ -1,0 +1,83 @@
+-- Least and greatest by a comparison alone are those of `float32` where the first is no NaN (`lesser-min`, `greater-max`). A product of finite numbers is no NaN, nor
+-- is a quotient by a positive one; so product and quotient by comparisons are the cover's there: `mul-ordered`, `div-ordered`.
+use mathlib.Core.Path.{_≡_, refl, ap₂}
+use mathlib.Core.Logic.{inl, inr}
+use mathlib.Core.Bool.{Bool, true, false, not, cond}
+use lib.Dec.{T}
+use lib.Ieee.{Float, binary32, isNan, lt}
+use lib.Ieee.Scale.{finite}
+use lib.Ieee.Positive.{positive}
+use Rattle.rounding.specs.Order.{Number, _≼_}
+use Rattle.rounding.proofs.Order.{≼-refl, number-left, finite-number}
+use Rattle.rounding.proofs.Arithmetic.{mul-between-left, div-mono}
+use Rattle.float32.specs.MinMax.{minNum, maxNum}
+use Rattle.float32.specs.Operators.{_⊗_, _⊘_}
+use Rattle.interval.specs.declared.Interval.{Interval}
+use Rattle.interval.specs.Contains.{Finite}
+use Rattle.interval.specs.Interval.{Interval·new, Interval·hull, Interval·ofFour}
+use Rattle.interval.specs.Enclosure.{Interval·mulEnclosure, Interval·divEnclosure}
+use Rattle.interval_unjudged.specs.Ordered.{lesser, greater, Interval·ofFourOrdered, Interval·mulOrdered, Interval·divOrdered}
+use Rattle.interval_unjudged.specs.Unjudged.{Positive}
+
+-- ---- of two
+same : (x y : Float) (b c : Bool) → T (not b) → cond c y x ≡ cond b y (cond c y x)
+same x y true c n = absurd n
+same x y false c n = refl
+
+pub lesser-min : (x y : Float) → Number x → lesser x y ≡ minNum x y
+unfolding lesser minNum
+lesser-min x y n = same x y (isNan x) (lt y x) n
+
+pub greater-max : (x y : Float) → Number x → greater x y ≡ maxNum x y
+unfolding greater maxNum
+greater-max x y n = same x y (isNan x) (lt x y) n
+
+picks : (x y : Float) → Number x → Number y → (c : Bool) → Number (cond c y x)
+picks x y n k true = k
+picks x y n k false = n
+
+-- ---- of four
+four-ordered : (a b c d : Float) → Number a → Number b → Number c → Number d → Interval·ofFourOrdered a b c d ≡ Interval·ofFour a b c d
+unfolding Interval·ofFourOrdered Interval·ofFour Interval·hull Interval·new
+four-ordered a b c d na nb nc nd =
+    rw (
+      ← lesser-min a b na,
+      ← lesser-min c d nc,
+      ← greater-max a b na,
+      ← greater-max c d nc,
+      ← lesser-min (lesser a b) (lesser c d) (least a b na nb),
+      ← greater-max (greater a b) (greater c d) (greatest a b na nb),
+    )
+  where
+    least : (a b : Float) → Number a → Number b → Number (lesser a b)
+    least a b n k = unfold lesser in picks a b n k (lt b a)
+
+    greatest : (a b : Float) → Number a → Number b → Number (greater a b)
+    greatest a b n k = unfold greater in picks a b n k (lt a b)
+
+-- ---- products and quotients
+mul-number : (x y : Float) → T (finite x) → T (finite y) → Number (x ⊗ y)
+mul-number x y f g =
+    let r = ≼-refl x (finite-number x f) in
+    elim (mul-between-left binary32 y f f f g r r) [ inl h ↦ number-left (h .0) | inr h ↦ number-left (h .0) ]
+
+div-number : (x y : Float) → T (finite x) → T (positive y) → Number (x ⊘ y)
+div-number x y f p = number-left (div-mono binary32 y f f p (≼-refl x (finite-number x f)))
+
+pub mul-ordered : (X Y : Interval) → Finite X → Finite Y → Interval·mulOrdered X Y ≡ Interval·mulEnclosure X Y
+unfolding Interval·mulOrdered Interval·mulEnclosure
+mul-ordered X Y f g =
+    four-ordered (X .low ⊗ Y .low) (X .high ⊗ Y .low) (X .low ⊗ Y .high) (X .high ⊗ Y .high)
+    (mul-number (X .low) (Y .low) (f .low) (g .low))
+    (mul-number (X .high) (Y .low) (f .high) (g .low))
+    (mul-number (X .low) (Y .high) (f .low) (g .high))
+    (mul-number (X .high) (Y .high) (f .high) (g .high))
+
+pub div-ordered : (X Y : Interval) → Finite X → Positive Y → Interval·divOrdered X Y ≡ Interval·divEnclosure X Y
+unfolding Interval·divOrdered Interval·divEnclosure
+div-ordered X Y f p =
+    four-ordered (X .low ⊘ Y .low) (X .high ⊘ Y .low) (X .low ⊘ Y .high) (X .high ⊘ Y .high)
+    (div-number (X .low) (Y .low) (f .low) (p .low))
+    (div-number (X .high) (Y .low) (f .high) (p .low))
+    (div-number (X .low) (Y .high) (f .low) (p .high))
+    (div-number (X .high) (Y .high) (f .high) (p .high))
