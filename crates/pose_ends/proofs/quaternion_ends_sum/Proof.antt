@@ -1,0 +1,11 @@
+-- `quaternion_ends_sum` meets its contract: its calls in turn, from the last to the first.
+use Rattle.pose_ends.specs.Ends.{IntervalQuaternion·endsSum}
+use Rattle.pose_ends.proofs.quaternion_ends_sum.Statement.{statement}
+use Rattle.pose_ends.proofs.quaternion_ends_sum.Tie as tie
+
+returns : tie.Need-returns
+unfolding IntervalQuaternion·endsSum
+returns c = rw (c .ends-sum4 .ensures, c .before .ends-sum3 .ensures, c .before .before .ends-sum2 .ensures, c .before .before .before .ends-sum .ensures)
+
+pub quaternion-ends-sum-spec : {M : Type 1} → statement M
+quaternion-ends-sum-spec = tie.close (tie.spec (λ c κs. tt) (λ c κs. tt) (λ c κs. tt) (λ c κs. tt) returns)
