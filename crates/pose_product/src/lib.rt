@@ -1,8 +1,9 @@
 // The product of two matrices whose bottom rows are 0, 0, 0, 1, pbrt's `Matrix4x4::mul` on the three rows above it, all four terms of each sum: in floats, and in intervals
-// of which each is judged as it is formed.
+// of which each is judged as it is formed. Where a sum over all ends is finite, judging is left out, which gives the same.
 ghost use mathlib.Core.Path.{_≡_};
 ghost use Rattle.pose_steps.specs.Pose.{Pose·mulRow, Pose·mul};
 ghost use Rattle.pose_steps.specs.Enclose.{Pose·encloseMulRow, Pose·encloseMul};
+ghost use Rattle.pose_product.specs.Unjudged.{Pose·unjudgedMulRow};
 use interval::Interval;
 use interval::Judged;
 use matrix4x4::Matrix4x4;
@@ -39,8 +40,7 @@ pub fn mul(a: Matrix4x4, b: Matrix4x4) -> Matrix4x4
     Matrix4x4 { r0, r1, r2, r3 }
 }
 
-// Accuracy: encloses.
-pub fn mul_row_enclosure(m: u8, a: IntervalRow, b: IntervalMatrix) -> JudgedRow
+fn mul_row_enclosure(m: u8, a: IntervalRow, b: IntervalMatrix) -> JudgedRow
     ensures value { λ r. ⌜ r ≡ Pose·encloseMulRow m a b ⌝ }
 {
     let zero = Interval {
@@ -93,8 +93,8 @@ pub fn mul_row_enclosure(m: u8, a: IntervalRow, b: IntervalMatrix) -> JudgedRow
     }
 }
 
-// Accuracy: encloses.
-pub fn mul_enclosure(m: u8, a: IntervalMatrix, b: IntervalMatrix) -> JudgedMatrix
+// The product with every interval judged.
+fn mul_judged(m: u8, a: IntervalMatrix, b: IntervalMatrix) -> JudgedMatrix
     ensures value { λ r. ⌜ r ≡ Pose·encloseMul m a b ⌝ }
 {
     let p = mul_row_enclosure(m, a.r0, b);
@@ -107,5 +107,68 @@ pub fn mul_enclosure(m: u8, a: IntervalMatrix, b: IntervalMatrix) -> JudgedMatri
     JudgedMatrix {
         matrix,
         refusal: r.refusal,
+    }
+}
+
+fn mul_row_unjudged(a: IntervalRow, b: IntervalMatrix) -> IntervalRow
+    ensures value { λ r. ⌜ r ≡ Pose·unjudgedMulRow a b ⌝ }
+{
+    let zero = Interval {
+        low: 0.0,
+        high: 0.0,
+    };
+    let one = Interval {
+        low: 1.0,
+        high: 1.0,
+    };
+    let r0 = b.r0;
+    let r1 = b.r1;
+    let r2 = b.r2;
+    let p0 = interval_unjudged::mul_ordered(a.c0, r0.c0);
+    let q0 = interval_unjudged::mul_ordered(a.c1, r1.c0);
+    let s0 = interval_unjudged::add_enclosure(p0, q0);
+    let t0 = interval_unjudged::mul_ordered(a.c2, r2.c0);
+    let u0 = interval_unjudged::add_enclosure(s0, t0);
+    let v0 = interval_unjudged::mul_ordered(a.c3, zero);
+    let c0 = interval_unjudged::add_enclosure(u0, v0);
+    let p1 = interval_unjudged::mul_ordered(a.c0, r0.c1);
+    let q1 = interval_unjudged::mul_ordered(a.c1, r1.c1);
+    let s1 = interval_unjudged::add_enclosure(p1, q1);
+    let t1 = interval_unjudged::mul_ordered(a.c2, r2.c1);
+    let u1 = interval_unjudged::add_enclosure(s1, t1);
+    let v1 = interval_unjudged::mul_ordered(a.c3, zero);
+    let c1 = interval_unjudged::add_enclosure(u1, v1);
+    let p2 = interval_unjudged::mul_ordered(a.c0, r0.c2);
+    let q2 = interval_unjudged::mul_ordered(a.c1, r1.c2);
+    let s2 = interval_unjudged::add_enclosure(p2, q2);
+    let t2 = interval_unjudged::mul_ordered(a.c2, r2.c2);
+    let u2 = interval_unjudged::add_enclosure(s2, t2);
+    let v2 = interval_unjudged::mul_ordered(a.c3, zero);
+    let c2 = interval_unjudged::add_enclosure(u2, v2);
+    let p3 = interval_unjudged::mul_ordered(a.c0, r0.c3);
+    let q3 = interval_unjudged::mul_ordered(a.c1, r1.c3);
+    let s3 = interval_unjudged::add_enclosure(p3, q3);
+    let t3 = interval_unjudged::mul_ordered(a.c2, r2.c3);
+    let u3 = interval_unjudged::add_enclosure(s3, t3);
+    let v3 = interval_unjudged::mul_ordered(a.c3, one);
+    let c3 = interval_unjudged::add_enclosure(u3, v3);
+    IntervalRow { c0, c1, c2, c3 }
+}
+
+// Accuracy: encloses.
+pub fn mul_enclosure(m: u8, a: IntervalMatrix, b: IntervalMatrix) -> JudgedMatrix
+    ensures value { λ r. ⌜ r ≡ Pose·encloseMul m a b ⌝ }
+{
+    let r0 = mul_row_unjudged(a.r0, b);
+    let r1 = mul_row_unjudged(a.r1, b);
+    let r2 = mul_row_unjudged(a.r2, b);
+    let matrix = IntervalMatrix { r0, r1, r2 };
+    let ends = pose_ends::matrix_ends_sum(a)
+        + pose_ends::matrix_ends_sum(b)
+        + pose_ends::matrix_ends_sum(matrix);
+    if float32::is_finite(ends) {
+        JudgedMatrix { matrix, refusal: m }
+    } else {
+        mul_judged(m, a, b)
     }
 }

@@ -1,27 +1,22 @@
--- `mul_enclosure` meets its contract, row by row, the last call first.
-use Rattle.pose_steps.specs.Enclose.{Pose·encloseMul}
-use borrow.Author.Needs.{needs}
+-- `mul_enclosure` meets its contract: where the sum of all ends is finite, nothing would have been refused (`mul-tested`).
+use Rattle.pose_product.proofs.Unjudged.{mul-tested}
 use Rattle.pose_product.proofs.mul_enclosure.Statement.{statement}
 use Rattle.pose_product.proofs.mul_enclosure.Tie as tie
 
-mul-row-enclosure-requires : tie.Need-mul-row-enclosure-requires
-mul-row-enclosure-requires c κs = search needs
-
-mul-row-enclosure-requires-2 : tie.Need-mul-row-enclosure-requires-2
-mul-row-enclosure-requires-2 c κs = search needs
-
-mul-row-enclosure-requires-3 : tie.Need-mul-row-enclosure-requires-3
-mul-row-enclosure-requires-3 c κs = search needs
-
 returns : tie.Need-returns
-unfolding Pose·encloseMul
-returns c = rw (c .before .before .before .mul-row-enclosure3 .ensures, c .before .before .before .before .mul-row-enclosure2 .ensures, c .before .before .before .before .before .mul-row-enclosure .ensures)
+returns c =
+    mul-tested (c .before .before .before .before .before .before .before .before .args .m) (c .before .before .before .before .before .before .before .before .args .a) (c .before .before .before .before .before .before .before .before .args .b)
+    (c .before .before .before .before .before .before .before .mul-row-unjudged .ensures)
+    (c .before .before .before .before .before .before .mul-row-unjudged2 .ensures)
+    (c .before .before .before .before .before .mul-row-unjudged3 .ensures)
+    (c .before .before .before .before .matrix-ends-sum .ensures)
+    (c .before .before .before .matrix-ends-sum2 .ensures)
+    (c .before .before .matrix-ends-sum3 .ensures)
+    (c .before .is-finite .ensures)
+    (c .if1 .taken)
+
+returns-2 : tie.Need-returns-2
+returns-2 c = c .mul-judged .ensures
 
 pub mul-enclosure-spec : {M : Type 1} → statement M
-mul-enclosure-spec =
-    tie.close
-    (tie.spec
-    mul-row-enclosure-requires
-    mul-row-enclosure-requires-2
-    mul-row-enclosure-requires-3
-    returns)
+mul-enclosure-spec = tie.close (tie.spec (λ c κs. tt) (λ c κs. tt) (λ c κs. tt) (λ c κs. tt) (λ c κs. tt) (λ c κs. tt) (λ c κs. tt) (λ c κs. tt) returns returns-2)

@@ -1,0 +1,27 @@
+-- `mul_judged` meets its contract, row by row, the last call first.
+use Rattle.pose_steps.specs.Enclose.{Pose·encloseMul}
+use borrow.Author.Needs.{needs}
+use Rattle.pose_product.proofs.mul_judged.Statement.{statement}
+use Rattle.pose_product.proofs.mul_judged.Tie as tie
+
+mul-row-enclosure-requires : tie.Need-mul-row-enclosure-requires
+mul-row-enclosure-requires c κs = search needs
+
+mul-row-enclosure-requires-2 : tie.Need-mul-row-enclosure-requires-2
+mul-row-enclosure-requires-2 c κs = search needs
+
+mul-row-enclosure-requires-3 : tie.Need-mul-row-enclosure-requires-3
+mul-row-enclosure-requires-3 c κs = search needs
+
+returns : tie.Need-returns
+unfolding Pose·encloseMul
+returns c = rw (c .before .before .before .mul-row-enclosure3 .ensures, c .before .before .before .before .mul-row-enclosure2 .ensures, c .before .before .before .before .before .mul-row-enclosure .ensures)
+
+pub mul-judged-spec : {M : Type 1} → statement M
+mul-judged-spec =
+    tie.close
+    (tie.spec
+    mul-row-enclosure-requires
+    mul-row-enclosure-requires-2
+    mul-row-enclosure-requires-3
+    returns)
