@@ -70,7 +70,7 @@ union-order a b f o =
     let u = union-inside-left b i in
     record { x = ≼-trans (u .x .0) (u .x .1); y = ≼-trans (u .y .0) (u .y .1); z = ≼-trans (u .z .0) (u .z .1) }
 
-union-proper : (r s : BoundsAnswer) → Proper r → Proper s → Proper (BoundsAnswer·unionBounds r s)
+pub union-proper : (r s : BoundsAnswer) → Proper r → Proper s → Proper (BoundsAnswer·unionBounds r s)
 union-proper r s f g = record {
   finite = λ box e.
       let j = union-accepted r s box e in
