@@ -1,0 +1,124 @@
+-- Building a chain and asking it give documents 01's and 02's numbers alone, and an accepted cover's corners are finite and in order: `every-chain-answer`.
+use Prim.Native.Nat.{ℕ}
+use mathlib.Core.Path.{_≡_, refl}
+use mathlib.Core.Bool.{Bool, true, false, not, _||_, cond}
+use mathlib.Core.Logic.{inl, inr}
+use mathlib.Core.List.{List, [], _∷_, _++_, map}
+use borrow.Author.Tests.{eqb-false}
+use lib.Dec.{eqb, ltb}
+use lib.ListN.{length}
+use lib.Ieee.{lt}
+use lib.Ieee.Scale.{finite}
+use Rattle.float32.specs.Operators.{_⊖_}
+use Rattle.bounds3.specs.declared.Bounds3f.{Bounds3f}
+use Rattle.transform.specs.declared.BoundsAnswer.{BoundsAnswer}
+use Rattle.transform.specs.declared.BoundsAnswer.the-variants as bounds
+use Rattle.bounds_query.specs.Query.{BoundsAnswer·unionBounds}
+use Rattle.pose_pair.specs.declared.Pose.{Pose}
+use Rattle.pose_pair.specs.Pose.{Pose·isFinite, Pose·isAffine, timesRefusal}
+use Rattle.animated_transform.specs.declared.AnimatedTransform.{AnimatedTransform}
+use Rattle.animated_transform.specs.declared.AnimatedTransformAnswer.{AnimatedTransformAnswer}
+use Rattle.animated_transform.specs.New.{AnimatedTransform·new}
+use Rattle.motion_bounds.specs.Answer.{OneOf}
+use Rattle.motion_cover.specs.Cover.{AnimatedTransform·cover}
+use Rattle.refusal_numbers.specs.Numbers.{BoundsAnswer·RefusedBy}
+use Rattle.refusal_numbers.proofs.Numbers.{every-answer}
+use Rattle.motion_chain.specs.Chain.{minPoses, maxPoses, neighbours, every, firstNumber, posesRise, chainRefusal, ChainAnswer, built, refused, ChainAnswer·fromMoves, Chain·new, Chain·moveAt, Chain·transformPoint, unionCovers, Chain·cover}
+use Rattle.motion_chain.specs.Built.{Each}
+use Rattle.motion_chain.specs.Answer.{ChainAnswer·RefusedBy, EveryChainAnswer}
+use Rattle.motion_chain.proofs.Cover.{chain-cover-proper}
+
+-- ---- the numbers of building, 0 being none
+abbrev refusals : List ℕ
+refusals = 1 ∷ 2 ∷ 3 ∷ 4 ∷ 5 ∷ 12 ∷ []
+
+abbrev Number : ℕ → Type 0
+Number n = OneOf n (0 ∷ refusals)
+
+chosen : (b : Bool) (m n : ℕ) → Number m → Number n → Number (cond b m n)
+chosen true m n h k = h
+chosen false m n h k = k
+
+first-number : (ns : List ℕ) → Each Number ns → Number (firstNumber ns)
+unfolding firstNumber
+first-number [] h = inl refl
+first-number (n ∷ ns) (h, hs) = chosen (eqb n 0) (firstNumber ns) n (first-number ns hs) h
+
+map-each : {A : Type 0} (f : A → ℕ) (xs : List A) → ((x : A) → Number (f x)) → Each Number (map f xs)
+map-each f [] h = tt
+map-each f (x ∷ xs) h = (h x, map-each f xs h)
+
+times-number : (pair : Pose × Pose) → Number (timesRefusal (pair .0 .time) (pair .1 .time))
+unfolding timesRefusal
+times-number (p, q) = chosen (lt (q .time) (p .time) || not (finite (q .time ⊖ p .time))) 3 0 (inr (inr (inr (inl refl)))) (inl refl)
+
+checks-number : (poses : List Pose) → Number (chainRefusal poses)
+unfolding chainRefusal
+checks-number poses =
+    chosen (not (every Pose·isFinite poses)) 1 _ (inr (inl refl))
+    (chosen (not (every Pose·isAffine poses)) 2 _ (inr (inr (inl refl)))
+    (chosen (ltb (length poses) minPoses || ltb maxPoses (length poses) || not (posesRise poses)) 12 _ (inr (inr (inr (inr (inr (inr (inl refl)))))))
+    (first-number (map (λ (p, q). timesRefusal (p .time) (q .time)) (neighbours poses)) (map-each (λ (p, q). timesRefusal (p .time) (q .time)) (neighbours poses) times-number))))
+
+more : (n : ℕ) (ns ks : List ℕ) → OneOf n ns → OneOf n (ns ++ ks)
+more n [] ks h = absurd h
+more n (k ∷ ns) ks (inl e) = inl e
+more n (k ∷ ns) ks (inr h) = inr (more n ns ks h)
+
+new-number : (p q : Pose) → Number (AnimatedTransform·new p q .refusal)
+new-number p q = more (AnimatedTransform·new p q .refusal) (0 ∷ 1 ∷ 2 ∷ 3 ∷ 4 ∷ 5 ∷ []) (12 ∷ []) (every-answer .building p q)
+
+-- A number that was tested.
+tested : (n : ℕ) (a : ChainAnswer) → Number n → ChainAnswer·RefusedBy refusals a → ChainAnswer·RefusedBy refusals (cond (eqb n 0) a (refused n))
+tested n a h k = go (eqb n 0) (eqb-false n 0)
+  where
+    nonzero : Number n → (n ≡ 0 → ⊥) → OneOf n refusals
+    nonzero (inl e) f = absurd (f e)
+    nonzero (inr h') f = h'
+
+    go : (b : Bool) → (b ≡ false → n ≡ 0 → ⊥) → ChainAnswer·RefusedBy refusals (cond b a (refused n))
+    go true f = k
+    go false f = nonzero h (f refl)
+
+from-moves-refused : (answers : List AnimatedTransformAnswer) → Each (λ a. Number (a .refusal)) answers → ChainAnswer·RefusedBy refusals (ChainAnswer·fromMoves answers)
+unfolding ChainAnswer·fromMoves
+from-moves-refused [] h = inr (inr (inr (inr (inr (inl refl)))))
+from-moves-refused (a ∷ answers) h = tested (firstNumber (map (λ x. x .refusal) (a ∷ answers))) _ (first-number (map (λ x. x .refusal) (a ∷ answers)) (numbers (a ∷ answers) h)) tt
+  where
+    numbers : (xs : List AnimatedTransformAnswer) → Each (λ x. Number (x .refusal)) xs → Each Number (map (λ x. x .refusal) xs)
+    numbers [] h = tt
+    numbers (x ∷ xs) (h, hs) = (h, numbers xs hs)
+
+building-refused : (poses : List Pose) → ChainAnswer·RefusedBy refusals (Chain·new poses)
+unfolding Chain·new
+building-refused poses = tested (chainRefusal poses) _ (checks-number poses) (from-moves-refused (map (λ (p, q). AnimatedTransform·new p q) (neighbours poses)) (pairs (neighbours poses)))
+  where
+    pairs : (xs : List (Pose × Pose)) → Each (λ a. Number (a .refusal)) (map (λ (p, q). AnimatedTransform·new p q) xs)
+    pairs [] = tt
+    pairs ((p, q) ∷ xs) = (new-number p q, pairs xs)
+
+-- ---- the numbers of a cover
+union-refused : (numbers : List ℕ) (r s : BoundsAnswer) → BoundsAnswer·RefusedBy numbers r → BoundsAnswer·RefusedBy numbers s → BoundsAnswer·RefusedBy numbers (BoundsAnswer·unionBounds r s)
+unfolding BoundsAnswer·unionBounds
+union-refused numbers (bounds.Bounds a) (bounds.Bounds b) h k = tt
+union-refused numbers (bounds.Bounds a) (bounds.Refused n) h k = k
+union-refused numbers (bounds.Refused n) s h k = h
+
+abbrev CoverRefused : BoundsAnswer → Type 0
+CoverRefused = BoundsAnswer·RefusedBy (5 ∷ 6 ∷ 7 ∷ 8 ∷ 10 ∷ [])
+
+covers-refused : (b : Bounds3f) (depth : ℕ) (r : BoundsAnswer) (moves : List AnimatedTransform) → CoverRefused r → CoverRefused (unionCovers b depth r moves)
+unfolding unionCovers
+covers-refused b depth r [] h = h
+covers-refused b depth r (m ∷ moves) h =
+    let s = AnimatedTransform·cover m b depth in
+    covers-refused b depth (BoundsAnswer·unionBounds r s) moves (union-refused (5 ∷ 6 ∷ 7 ∷ 8 ∷ 10 ∷ []) r s h (every-answer .cover m b depth))
+
+pub every-chain-answer : EveryChainAnswer
+unfolding Chain·transformPoint Chain·cover
+every-chain-answer = record {
+  building = building-refused;
+  point = λ c time p. every-answer .point (Chain·moveAt c time) time p;
+  cover = λ c b depth. covers-refused b depth (AnimatedTransform·cover (c .first) b depth) (c .rest) (every-answer .cover (c .first) b depth);
+  proper = λ built b depth. chain-cover-proper b depth built;
+}

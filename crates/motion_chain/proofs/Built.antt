@@ -1,0 +1,219 @@
+-- Every move of a built chain is built by itself, its times rise, and it starts where the one before it ended: `built-moves`. The poses have passed the whole chain's checks
+-- (`checks-passed`), after which each pair is worked (`pairs-worked`), and no pair's number was met (`from-moves-built`).
+use Prim.Native.Nat.{ℕ, suc, _≤_}
+use mathlib.Core.Path.{_≡_, refl, sym, ap, subst}
+use mathlib.Core.Bool.{Bool, true, false, not, _||_, cond}
+use mathlib.Core.List.{List, [], _∷_, map}
+use native.Mathlib.Omega.{arith}
+use borrow.Author.Tests.{eqb-true, eqb-false}
+use lib.Dec.{T, eqb, ltb, nltb→le}
+use lib.ListN.{length}
+use lib.Ieee.{Float, binary32, fits, lt}
+use lib.Ieee.Bits.{is-true}
+use lib.Ieee.Fits.{and-l, and-r}
+use Rattle.matrix4x4.specs.Rows.{Matrix4x4·toRows}
+use Rattle.transform.specs.declared.Transform.{Transform}
+use Rattle.transform.specs.Transform.{Transform·fromMatrix}
+use Rattle.quaternion.specs.Quaternion.{Quaternion·dot}
+use Rattle.quaternion.specs.Slerp.{slerpThreshold}
+use Rattle.decomposition.specs.declared.Decomposition.{Decomposition}
+use Rattle.decomposition.specs.Decompose.{Matrix4x4·decompose}
+use Rattle.rotation_arc.specs.ShorterArc.{flip, dotsRefusal}
+use Rattle.rotation_arc.specs.ArcCoefficients.{pairCoefficients}
+use Rattle.pose_pair.specs.declared.Pose.{Pose}
+use Rattle.pose_pair.specs.Pose.{Pose·isFinite, Pose·isAffine, timesRefusal, posesRefusal}
+use Rattle.animated_transform.specs.declared.AnimatedTransform.{AnimatedTransform}
+use Rattle.animated_transform.specs.declared.AnimatedTransformAnswer.{AnimatedTransformAnswer}
+use Rattle.animated_transform.specs.New.{firstRefusal, AnimatedTransformAnswer·refused, assembled, between, work, AnimatedTransform·new}
+use Rattle.animated_transform.specs.Built.{Built}
+use Rattle.motion_chain.specs.Chain.{neighbours, every, firstNumber, minPoses, maxPoses, posesRise, chainRefusal, Chain, ChainAnswer, built, refused, ChainAnswer·fromMoves, Chain·new}
+use Rattle.motion_chain.specs.Built.{BuiltChain, Each, Contiguous, BuiltMoves, PairsWorked}
+
+-- ---- numbers that were not met
+pub first-none : (n : ℕ) (ns : List ℕ) → firstNumber (n ∷ ns) ≡ 0 → (n ≡ 0) × (firstNumber ns ≡ 0)
+unfolding firstNumber
+first-none n ns = go (eqb n 0) (eqb-true n 0) (eqb-false n 0)
+  where
+    go : (b : Bool) → (b ≡ true → n ≡ 0) → (b ≡ false → n ≡ 0 → ⊥) → cond b (firstNumber ns) n ≡ 0 → (n ≡ 0) × (firstNumber ns ≡ 0)
+    go true f g e = (f refl, e)
+    go false f g e = absurd (g refl e)
+
+abbrev isBuilt : ChainAnswer → Bool
+isBuilt (built c) = true
+isBuilt (refused n) = false
+
+refused-built : (n : ℕ) (c : Chain) → refused n ≡ built c → ⊥
+refused-built n c e = subst T (sym (ap isBuilt e)) tt
+
+-- A tested number, then a chain: the number was 0.
+tested-built : (n : ℕ) (a : ChainAnswer) (c : Chain) → cond (eqb n 0) a (refused n) ≡ built c → (n ≡ 0) × (a ≡ built c)
+tested-built n a c = go (eqb n 0) (eqb-true n 0)
+  where
+    go : (b : Bool) → (b ≡ true → n ≡ 0) → cond b a (refused n) ≡ built c → (n ≡ 0) × (a ≡ built c)
+    go true f e = (f refl, e)
+    go false f e = absurd (refused-built n c e)
+
+-- ---- the checks
+pub record Passed (poses : List Pose) : Type 0 where
+  pub finite : T (every Pose·isFinite poses)
+  pub affine : T (every Pose·isAffine poses)
+  pub least : minPoses ≤ length poses
+  pub greatest : length poses ≤ maxPoses
+  pub rise : T (posesRise poses)
+  pub times : firstNumber (map (λ (p, q). timesRefusal (p .time) (q .time)) (neighbours poses)) ≡ 0
+
+pub checks-passed : (poses : List Pose) → chainRefusal poses ≡ 0 → Passed poses
+unfolding chainRefusal
+checks-passed poses =
+    go (every Pose·isFinite poses) (every Pose·isAffine poses) (ltb (length poses) minPoses) (ltb maxPoses (length poses)) (posesRise poses)
+    (λ h. h) (λ h. h) (nltb→le (length poses) minPoses) (nltb→le maxPoses (length poses)) (λ h. h)
+  where
+    times : ℕ
+    times = firstNumber (map (λ (p, q). timesRefusal (p .time) (q .time)) (neighbours poses))
+
+    go : (f a few many r : Bool) → (T f → T (every Pose·isFinite poses)) → (T a → T (every Pose·isAffine poses)) → (T (not few) → minPoses ≤ length poses)
+        → (T (not many) → length poses ≤ maxPoses) → (T r → T (posesRise poses)) → _≡_ {A = ℕ} (cond (not f) 1 (cond (not a) 2 (cond (few || many || not r) 12 times))) 0 → Passed poses
+    go true true false false true F A l g R e = record { finite = F tt; affine = A tt; least = l tt; greatest = g tt; rise = R tt; times = e }
+    go true true false false false F A l g R e = absurd (omega arith)
+    go true true false true r F A l g R e = absurd (omega arith)
+    go true true true many r F A l g R e = absurd (omega arith)
+    go true false few many r F A l g R e = absurd (omega arith)
+    go false a few many r F A l g R e = absurd (omega arith)
+
+pub pair-worked : (p q : Pose) → T (Pose·isFinite p) → T (Pose·isFinite q) → T (Pose·isAffine p) → T (Pose·isAffine q) → timesRefusal (p .time) (q .time) ≡ 0
+    → AnimatedTransform·new p q ≡ work p q
+unfolding AnimatedTransform·new posesRefusal
+pair-worked p q f g a b e = rw (is-true (Pose·isFinite p) f, is-true (Pose·isFinite q) g, is-true (Pose·isAffine p) a, is-true (Pose·isAffine q) b, e)
+
+pub pairs-worked : (poses : List Pose) → PairsWorked poses
+unfolding neighbours every
+pairs-worked poses e = let h = checks-passed poses e in go poses (h .finite) (h .affine) (h .times)
+  where
+    go : (xs : List Pose) → T (every Pose·isFinite xs) → T (every Pose·isAffine xs) → firstNumber (map (λ (p, q). timesRefusal (p .time) (q .time)) (neighbours xs)) ≡ 0
+        → Each (λ (p, q). AnimatedTransform·new p q ≡ work p q) (neighbours xs)
+    go [] f a n = tt
+    go (p ∷ []) f a n = tt
+    go (p ∷ q ∷ xs) f a n =
+        let f' = and-r (Pose·isFinite p) (every Pose·isFinite (q ∷ xs)) f in
+        let a' = and-r (Pose·isAffine p) (every Pose·isAffine (q ∷ xs)) a in
+        let (z, n') = first-none (timesRefusal (p .time) (q .time)) (map (λ (p, q). timesRefusal (p .time) (q .time)) (neighbours (q ∷ xs))) n in
+        let w = pair-worked p q (and-l (Pose·isFinite p) (every Pose·isFinite (q ∷ xs)) f) (and-l (Pose·isFinite q) (every Pose·isFinite xs) f')
+        (and-l (Pose·isAffine p) (every Pose·isAffine (q ∷ xs)) a) (and-l (Pose·isAffine q) (every Pose·isAffine xs) a') z in
+        (w, go (q ∷ xs) f' a' n')
+
+-- ---- one pair
+pub record NewTimes (start end : Float) (a : AnimatedTransformAnswer) : Type 0 where
+  pub start-time : a .refusal ≡ 0 → a .value .«start_time» ≡ start
+  pub end-time : a .refusal ≡ 0 → a .value .«end_time» ≡ end
+
+-- behind a number that was tested
+tested-times : {start end : Float} (n : ℕ) (a : AnimatedTransformAnswer) → NewTimes start end a → NewTimes start end (cond (eqb n 0) a (AnimatedTransformAnswer·refused n))
+tested-times {start} {end} n a h = go (eqb n 0) (eqb-false n 0)
+  where
+    go : (b : Bool) → (b ≡ false → n ≡ 0 → ⊥) → NewTimes start end (cond b a (AnimatedTransformAnswer·refused n))
+    go true f = h
+    go false f = record { start-time = λ e. absurd (f refl e); end-time = λ e. absurd (f refl e) }
+
+between-times : (p q : Pose) (a b : Transform) (d e : Decomposition) → NewTimes (p .time) (q .time) (between p q a b d e)
+unfolding between
+between-times p q a b d e =
+    let r1 = flip (d .r) (e .r) in
+    let cosθ = Quaternion·dot (d .r) r1 in
+    let c = pairCoefficients (lt cosθ slerpThreshold) (d .t) (e .t) (d .r) r1 (d .s) (e .s) cosθ in
+    tested-times (firstRefusal (dotsRefusal (Quaternion·dot (d .r) (e .r)) cosθ) (c .refusal)) (record { value = assembled p q a b d e r1 (c .value); refusal = 0 })
+    (record { start-time = λ _. refl; end-time = λ _. refl })
+
+work-times : (p q : Pose) → NewTimes (p .time) (q .time) (work p q)
+unfolding work
+work-times p q =
+    let a = Transform·fromMatrix (Matrix4x4·toRows (p .m)) in
+    let b = Transform·fromMatrix (Matrix4x4·toRows (q .m)) in
+    let d = Matrix4x4·decompose (Matrix4x4·toRows (p .m)) in
+    let e = Matrix4x4·decompose (Matrix4x4·toRows (q .m)) in
+    tested-times (firstRefusal (firstRefusal (a .refusal) (b .refusal)) (firstRefusal (d .refusal) (e .refusal))) (between p q (a .transform) (b .transform) d e)
+    (between-times p q (a .transform) (b .transform) d e)
+
+pub new-times : (p q : Pose) → NewTimes (p .time) (q .time) (AnimatedTransform·new p q)
+unfolding AnimatedTransform·new
+new-times p q = tested-times (posesRefusal p q) (work p q) (work-times p q)
+
+-- ---- the pairs, from a pose on
+abbrev answers : List Pose → List AnimatedTransformAnswer
+answers poses = map (λ (p, q). AnimatedTransform·new p q) (neighbours poses)
+
+abbrev numbers : List AnimatedTransformAnswer → List ℕ
+numbers = map (λ a. a .refusal)
+
+abbrev values : List AnimatedTransformAnswer → List AnimatedTransform
+values = map (λ a. a .value)
+
+record Worked (time : Float) (moves : List AnimatedTransform) : Type 0 where
+  each : Each Built moves
+  contiguous : Contiguous time moves
+
+moves-worked : (p : Pose) (poses : List Pose) → T (every (λ x. fits binary32 (x .time)) (p ∷ poses)) → T (posesRise (p ∷ poses))
+    → firstNumber (numbers (answers (p ∷ poses))) ≡ 0 → Worked (p .time) (values (answers (p ∷ poses)))
+unfolding posesRise neighbours every
+moves-worked p [] f r n = record { each = tt; contiguous = tt }
+moves-worked p (q ∷ poses) f r n =
+    let a = AnimatedTransform·new p q in
+    let rest = answers (q ∷ poses) in
+    let (z, n') = first-none (a .refusal) (numbers rest) n in
+    let f' = and-r (fits binary32 (p .time)) (every (λ x. fits binary32 (x .time)) (q ∷ poses)) f in
+    let t = new-times p q in
+    let w = moves-worked q poses f' (and-r (lt (p .time) (q .time)) (posesRise (q ∷ poses)) r) n' in
+    let move : Built (a .value) = record {
+      start = p;
+      end = q;
+      start-binary32 = and-l (fits binary32 (p .time)) (every (λ x. fits binary32 (x .time)) (q ∷ poses)) f;
+      end-binary32 = and-l (fits binary32 (q .time)) (every (λ x. fits binary32 (x .time)) poses) f';
+      accepted = ap (λ (k : ℕ). record { value = a .value; refusal = k }) z;
+    } in
+    record {
+      each = (move, w .each);
+      contiguous = (
+        t .start-time z,
+        rw (t .start-time z, t .end-time z) (and-l (lt (p .time) (q .time)) (posesRise (q ∷ poses)) r),
+        rw (t .end-time z) (w .contiguous),
+      );
+    }
+
+answers-count : (p : Pose) (poses : List Pose) → length (values (answers (p ∷ poses))) ≡ length poses
+unfolding neighbours
+answers-count p [] = refl
+answers-count p (q ∷ poses) = ap (λ (n : ℕ). suc n) (answers-count q poses)
+
+-- ---- the chain
+pub new-built : (poses : List Pose) (c : Chain) → Chain·new poses ≡ built c → (chainRefusal poses ≡ 0) × (ChainAnswer·fromMoves (answers poses) ≡ built c)
+unfolding Chain·new
+new-built poses c e = tested-built (chainRefusal poses) (ChainAnswer·fromMoves (answers poses)) c e
+
+chain-of : Chain → ChainAnswer → Chain
+chain-of c (built d) = d
+chain-of c (refused n) = c
+
+abbrev assembledChain : Pose → Pose → List Pose → Chain
+assembledChain p q poses = record { first = AnimatedTransform·new p q .value; rest = values (answers (q ∷ poses)) }
+
+from-moves-built : (p q : Pose) (poses : List Pose) (c : Chain) → ChainAnswer·fromMoves (answers (p ∷ q ∷ poses)) ≡ built c
+    → (firstNumber (numbers (answers (p ∷ q ∷ poses))) ≡ 0) × (assembledChain p q poses ≡ c)
+unfolding ChainAnswer·fromMoves neighbours chain-of
+from-moves-built p q poses c e =
+    let (z, s) = tested-built (firstNumber (numbers (answers (p ∷ q ∷ poses)))) (built (assembledChain p q poses)) c e in
+    (z, ap (chain-of c) s)
+
+pub built-moves : {c : Chain} → BuiltChain c → BuiltMoves c
+unfolding ChainAnswer·fromMoves neighbours
+built-moves {c} b = go (b .poses) (b .times-binary32) (b .accepted)
+  where
+    go : (poses : List Pose) → T (every (λ p. fits binary32 (p .time)) poses) → Chain·new poses ≡ built c → BuiltMoves c
+    go [] f e = absurd (refused-built 12 c (new-built [] c e .1))
+    go (p ∷ []) f e = absurd (refused-built 12 c (new-built (p ∷ []) c e .1))
+    go (p ∷ q ∷ poses) f e =
+        let (z, g) = new-built (p ∷ q ∷ poses) c e in
+        let passed = checks-passed (p ∷ q ∷ poses) z in
+        let (n, s) = from-moves-built p q poses c g in
+        let w = moves-worked p (q ∷ poses) f (passed .rise) n in
+        let l = answers-count p (q ∷ poses) in
+        let h = passed .greatest in
+        subst BuiltMoves s (record { each = w .each; contiguous = (refl, w .contiguous .1, w .contiguous .2); count = omega (arith, l, h) })

@@ -1,0 +1,175 @@
+-- Chains built and asked by computing: the identity at 0, the identity with m03 = 1 at 1, the identity at 2. Its inner time belongs to the earlier move, and it meets the guarantee's
+-- hypotheses (`hypotheses-met`). The counts, the times and the order of the checks: 12 after 1 and before 3, and 3 before anything is worked.
+use Prim.Native.Nat.{ℕ, zero, suc, _*_, _^_}
+use mathlib.Core.Path.{_≡_, refl}
+use mathlib.Core.Bool.{true, false}
+use mathlib.Core.List.{List, [], _∷_}
+use lib.Ieee.{Float, nan, inf, binary32, round, fits}
+use Rattle.rounding.specs.Order.{_≼_}
+use Rattle.matrix4x4.specs.declared.Matrix4x4.{Matrix4x4}
+use Rattle.bounds3.specs.declared.Point3f.{Point3f}
+use Rattle.bounds3.specs.declared.Bounds3f.{Bounds3f}
+use Rattle.transform.specs.declared.PointAnswer.the-variants as point
+use Rattle.transform.specs.declared.BoundsAnswer.the-variants as bounds
+use Rattle.pose_pair.specs.declared.Pose.{Pose}
+use Rattle.animated_transform.specs.declared.AnimatedTransform.{AnimatedTransform}
+use Rattle.animated_transform.specs.New.{AnimatedTransform·new}
+use Rattle.motion_cover.specs.Theorem.{MovedInside}
+use Rattle.motion_chain.specs.Chain.{chainRefusal, Chain, built, refused, Chain·new, Chain·transformPoint, Chain·cover}
+use Rattle.motion_chain.specs.Built.{BuiltChain}
+use Rattle.motion_chain.specs.MoveAt.{indexFrom, Chain·indexAt}
+use Rattle.motion_chain.specs.Computing.{computing}
+use Rattle.motion_chain.proofs.Cover.{chain-contains}
+
+-- ---- floats, poses, a box
+
+-- The float nearest to n / d, and to −n / d.
+abbrev fraction : ℕ → ℕ → Float
+fraction n d = round binary32 false n d
+
+abbrev negative : ℕ → ℕ → Float
+negative n d = round binary32 true n d
+
+abbrev o : Float
+o = fraction 0 1
+
+abbrev one : Float
+one = fraction 1 1
+
+-- The diagonal d, d, d, 1 with m03 = x.
+abbrev pose : Float → Float → Float → Pose
+pose time d x =
+    let m : Matrix4x4 = record { r0 = d ∷ o ∷ o ∷ x ∷ []; r1 = o ∷ d ∷ o ∷ o ∷ []; r2 = o ∷ o ∷ d ∷ o ∷ []; r3 = o ∷ o ∷ o ∷ one ∷ [] } in
+    record { time = time; m = m }
+
+abbrev identityAt : Float → Pose
+identityAt time = pose time one o
+
+abbrev shiftedAt : Float → Pose
+shiftedAt time = pose time one one
+
+abbrev onX : Float → Point3f
+onX x = record { x = x; y = o; z = o }
+
+abbrev segment : Float → Float → Bounds3f
+segment x y = record { «p_min» = onX x; «p_max» = onX y }
+
+-- ---- there and back
+abbrev poses : List Pose
+poses = identityAt o ∷ shiftedAt one ∷ identityAt (fraction 2 1) ∷ []
+
+abbrev there : AnimatedTransform
+there = AnimatedTransform·new (identityAt o) (shiftedAt one) .value
+
+abbrev back : AnimatedTransform
+back = AnimatedTransform·new (shiftedAt one) (identityAt (fraction 2 1)) .value
+
+abbrev chain : Chain
+chain = record { first = there; rest = back ∷ [] }
+
+chain-built : Chain·new poses ≡ built chain
+unfolding computing
+chain-built = refl
+
+inner-time-earlier-move : Chain·indexAt chain one ≡ 0
+unfolding computing indexFrom
+inner-time-earlier-move = refl
+
+after-inner-time-later-move : Chain·indexAt chain (fraction 3 2) ≡ 1
+unfolding computing indexFrom
+after-inner-time-later-move = refl
+
+before-first-pose-first-move : Chain·indexAt chain (inf true) ≡ 0
+unfolding computing indexFrom
+before-first-pose-first-move = refl
+
+after-last-pose-last-move : Chain·indexAt chain (inf false) ≡ 1
+unfolding computing indexFrom
+after-last-pose-last-move = refl
+
+point-at-inner-time : Chain·transformPoint chain one (onX o) ≡ point.Moved (onX one)
+unfolding computing
+point-at-inner-time = refl
+
+point-on-the-way-back : Chain·transformPoint chain (fraction 3 2) (onX o) ≡ point.Moved (onX (fraction 1 2))
+unfolding computing
+point-on-the-way-back = refl
+
+nan-time-refused : Chain·transformPoint chain nan (onX o) ≡ point.Refused 6
+unfolding computing
+nan-time-refused = refl
+
+-- ---- the guarantee's hypotheses can be met
+pub record HypothesesMet : Type 0 where
+  pub built : BuiltChain chain
+  pub accepted : Chain·cover chain (segment o o) 1 ≡ bounds.Bounds (segment o one)
+
+pub hypotheses-met : HypothesesMet
+unfolding fits computing
+hypotheses-met = record { built = record { poses = poses; times-binary32 = tt; accepted = refl }; accepted = refl }
+
+zero-refl : o ≼ o
+unfolding computing
+zero-refl = record { holds = tt }
+
+pub way-back-covered : MovedInside (segment o one) (Chain·transformPoint chain (fraction 3 2) (onX o))
+unfolding computing
+way-back-covered =
+    chain-contains chain (segment o o) 1 (segment o one) (fraction 3 2) (onX o) (hypotheses-met .built) (hypotheses-met .accepted) tt
+    (record { x = (zero-refl, zero-refl); y = (zero-refl, zero-refl); z = (zero-refl, zero-refl) })
+
+-- ---- counts
+
+-- n poses at the times 0 to n − 1, in front of some.
+abbrev rising : ℕ → List Pose → List Pose
+rising zero later = later
+rising (suc n) later = rising n (identityAt (fraction n 1) ∷ later)
+
+no-pose-refused : Chain·new [] ≡ refused 12
+unfolding computing
+no-pose-refused = refl
+
+one-pose-refused : Chain·new (identityAt o ∷ []) ≡ refused 12
+unfolding computing
+one-pose-refused = refl
+
+checks-of-32-poses-passed : chainRefusal (rising 32 []) ≡ 0
+unfolding computing
+checks-of-32-poses-passed = refl
+
+poses-33-refused : Chain·new (rising 33 []) ≡ refused 12
+unfolding computing
+poses-33-refused = refl
+
+-- ---- times
+equal-times-refused : Chain·new (identityAt o ∷ shiftedAt o ∷ []) ≡ refused 12
+unfolding computing
+equal-times-refused = refl
+
+inner-time-falling-refused : Chain·new (identityAt o ∷ shiftedAt (fraction 2 1) ∷ identityAt one ∷ []) ≡ refused 12
+unfolding computing
+inner-time-falling-refused = refl
+
+-- 1 is judged before the count, and 12 before 3: the first pair's times fall, and the second's difference isn't finite.
+nan-time-of-one-pose-refused : Chain·new (identityAt nan ∷ []) ≡ refused 1
+unfolding computing
+nan-time-of-one-pose-refused = refl
+
+abbrev far : Float
+far = fraction (3 * 10 ^ 38) 1
+
+abbrev farBelow : Float
+farBelow = negative (3 * 10 ^ 38) 1
+
+falling-before-infinite-duration : Chain·new (identityAt o ∷ shiftedAt farBelow ∷ identityAt far ∷ []) ≡ refused 12
+unfolding computing
+falling-before-infinite-duration = refl
+
+-- A linear part of zeros in the first pair is 4 once it is worked, and the second pair's 3 is met before that.
+infinite-duration-before-work : Chain·new (pose (negative (32 * 10 ^ 37) 1) o o ∷ identityAt farBelow ∷ identityAt far ∷ []) ≡ refused 3
+unfolding computing
+infinite-duration-before-work = refl
+
+first-pair-that-fails : Chain·new (identityAt o ∷ pose one o o ∷ identityAt (fraction 2 1) ∷ []) ≡ refused 4
+unfolding computing
+first-pair-that-fails = refl

@@ -1,0 +1,104 @@
+-- The guarantee for a chain, `chain-contains`, and that its finer cover is never a wider one, `chain-cover-finer`. Each move's cover lies in the accepted cover of the chain
+-- (`covers-within`), a time belongs to one of the moves (`each-move-at`), and of each move both are known.
+use Prim.Native.Nat.{ℕ, _+_}
+use mathlib.Core.Path.{_≡_}
+use mathlib.Core.Bool.{Bool, true, false, cond}
+use mathlib.Core.List.{List, [], _∷_}
+use lib.Ieee.{Float, le}
+use Rattle.bounds3.specs.declared.Bounds3f.{Bounds3f}
+use Rattle.bounds3.specs.Inside.{Subset}
+use Rattle.bounds3.proofs.Union.{subset-inside, subset-trans}
+use Rattle.transform.specs.declared.BoundsAnswer.{BoundsAnswer}
+use Rattle.transform.specs.declared.BoundsAnswer.the-variants.{Bounds}
+use Rattle.bounds_query.specs.Query.{BoundsAnswer·unionBounds}
+use Rattle.pose_steps.proofs.Box.{order-refl}
+use Rattle.animated_transform.specs.declared.AnimatedTransform.{AnimatedTransform}
+use Rattle.animated_transform.specs.Built.{Built}
+use Rattle.motion_cover.specs.Cover.{AnimatedTransform·cover}
+use Rattle.motion_cover.specs.Answer.{Proper}
+use Rattle.motion_cover.proofs.Contains.{cover-contains}
+use Rattle.motion_cover.proofs.Proper.{union-proper, cover-proper}
+use Rattle.cover_depth.specs.Finer.{Within}
+use Rattle.cover_depth.proofs.Finer.{union-within, parts-within, cover-finer}
+use Rattle.motion_chain.specs.Chain.{Chain, Chain·moves, moveFrom, Chain·moveAt, Chain·transformPoint, unionCovers, Chain·cover}
+use Rattle.motion_chain.specs.Built.{BuiltChain, Each}
+use Rattle.motion_chain.specs.Theorem.{ChainContainsMotion, ChainCoverFiner}
+use Rattle.motion_chain.proofs.Built.{built-moves}
+
+-- ---- the move of a time is one of the chain's
+module _ (P : AnimatedTransform → Type 0) (time : Float) where
+  each-move-from : (m : AnimatedTransform) (moves : List AnimatedTransform) → Each P (m ∷ moves) → P (moveFrom m moves time)
+  unfolding moveFrom
+  each-move-from m [] (h, _) = h
+  each-move-from m (next ∷ moves) (h, hs) = go (le time (m .«end_time»)) (each-move-from next moves hs)
+    where
+      go : (b : Bool) → P (moveFrom next moves time) → P (cond b m (moveFrom next moves time))
+      go true k = h
+      go false k = k
+
+  pub each-move-at : (c : Chain) → Each P (Chain·moves c) → P (Chain·moveAt c time)
+  unfolding Chain·moveAt
+  each-move-at c h = each-move-from (c .first) (c .rest) h
+
+-- ---- the covers of the moves, in an accepted union of them
+within-subset : {r : BoundsAnswer} {c c' : Bounds3f} → Within r c → Subset c c' → Within r c'
+within-subset w s = record { box = w .box; accepted = w .accepted; subset = subset-trans (w .subset) s }
+
+module _ (b : Bounds3f) (d : ℕ) where
+  covers-proper : (r : BoundsAnswer) (moves : List AnimatedTransform) → Proper r → Each Built moves → Proper (unionCovers b d r moves)
+  unfolding unionCovers
+  covers-proper r [] p h = p
+  covers-proper r (m ∷ moves) p (h, hs) =
+      covers-proper (BoundsAnswer·unionBounds r (AnimatedTransform·cover m b d)) moves (union-proper r (AnimatedTransform·cover m b d) p (cover-proper h b d)) hs
+
+  covers-within : (r : BoundsAnswer) (moves : List AnimatedTransform) (box : Bounds3f) → Proper r → Each Built moves → unionCovers b d r moves ≡ Bounds box
+      → Within r box × Each (λ m. Within (AnimatedTransform·cover m b d) box) moves
+  unfolding unionCovers
+  covers-within r [] box p h e = (record { box = box; accepted = e; subset = order-refl (p .order box e) }, tt)
+  covers-within r (m ∷ moves) box p (h, hs) e =
+      let s = AnimatedTransform·cover m b d in
+      let q = cover-proper h b d in
+      let (u, us) = covers-within (BoundsAnswer·unionBounds r s) moves box (union-proper r s p q) hs e in
+      let (v, w) = parts-within r s (u .box) p q (u .accepted) in
+      (within-subset v (u .subset), (within-subset w (u .subset), us))
+
+  union-covers-within : (r : BoundsAnswer) (moves : List AnimatedTransform) (box : Bounds3f) → Within r box
+      → Each (λ m. Within (AnimatedTransform·cover m b d) box) moves → Within (unionCovers b d r moves) box
+  unfolding unionCovers
+  union-covers-within r [] box w ws = w
+  union-covers-within r (m ∷ moves) box w (v, vs) =
+      union-covers-within (BoundsAnswer·unionBounds r (AnimatedTransform·cover m b d)) moves box (union-within r (AnimatedTransform·cover m b d) w v) vs
+
+  pub chain-cover-proper : {c : Chain} → BuiltChain c → Proper (Chain·cover c b d)
+  unfolding Chain·cover
+  chain-cover-proper {c} built =
+      let (h, hs) = built-moves built .each in
+      covers-proper (AnimatedTransform·cover (c .first) b d) (c .rest) (cover-proper h b d) hs
+
+  chain-within : {c : Chain} → BuiltChain c → (box : Bounds3f) → Chain·cover c b d ≡ Bounds box → Each (λ m. Within (AnimatedTransform·cover m b d) box) (Chain·moves c)
+  unfolding Chain·cover
+  chain-within {c} built box e =
+      let (h, hs) = built-moves built .each in
+      let (w, ws) = covers-within (AnimatedTransform·cover (c .first) b d) (c .rest) box (cover-proper h b d) hs e in
+      (w, ws)
+
+-- ---- the guarantee
+pub chain-contains : (c : Chain) (b : Bounds3f) (d : ℕ) → ChainContainsMotion c b (Chain·cover c b d)
+unfolding Chain·transformPoint
+chain-contains c b d box time p built e n i =
+    let m = Chain·moveAt c time in
+    let w = each-move-at (λ (x : AnimatedTransform). Within (AnimatedTransform·cover x b d) box) time c (chain-within b d built box e) in
+    let a = cover-contains m b d (w .box) time p (each-move-at Built time c (built-moves built .each)) (w .accepted) n i in
+    record { point = a .point; moved = a .moved; inside = subset-inside (w .subset) (a .inside) }
+
+-- ---- greater depths
+pub chain-cover-finer : (c : Chain) (b : Bounds3f) → ChainCoverFiner c b
+unfolding Chain·cover
+chain-cover-finer c b d n box built l e =
+    let (w, ws) = finer (Chain·moves c) (built-moves built .each) (chain-within b d built box e) in
+    union-covers-within b (d + n) (AnimatedTransform·cover (c .first) b (d + n)) (c .rest) box w ws
+  where
+    finer : (moves : List AnimatedTransform) → Each Built moves → Each (λ m. Within (AnimatedTransform·cover m b d) box) moves
+        → Each (λ m. Within (AnimatedTransform·cover m b (d + n)) box) moves
+    finer [] h w = tt
+    finer (m ∷ moves) (h, hs) (w, ws) = (within-subset (cover-finer m b d n (w .box) h l (w .accepted)) (w .subset), finer moves hs ws)

@@ -1,0 +1,7 @@
+-- Laws of chains.
+pub mod Built
+pub mod Cover
+pub mod MoveAt
+pub mod Answer
+pub mod TwoPoses
+pub mod Cases

@@ -1,0 +1,109 @@
+-- A chain of poses: how it is judged and built, which of its moves a time belongs to, its point query and its cover. Definitions only.
+-- Quotations are of document 02, "Poses in a chain", unless another document is named.
+use Prim.Native.Nat.{ℕ}
+use mathlib.Core.Bool.{Bool, true, not, _&&_, _||_, cond}
+use mathlib.Core.List.{List, [], _∷_, map}
+use lib.Dec.{eqb, ltb}
+use lib.ListN.{length}
+use lib.Ieee.{Float, lt, le}
+use Rattle.bounds3.specs.declared.Point3f.{Point3f}
+use Rattle.bounds3.specs.declared.Bounds3f.{Bounds3f}
+use Rattle.transform.specs.declared.PointAnswer.{PointAnswer}
+use Rattle.transform.specs.declared.BoundsAnswer.{BoundsAnswer}
+use Rattle.bounds_query.specs.Query.{BoundsAnswer·unionBounds}
+use Rattle.pose_pair.specs.declared.Pose.{Pose}
+use Rattle.pose_pair.specs.Pose.{Pose·isFinite, Pose·isAffine, timesRefusal}
+use Rattle.animated_transform.specs.declared.AnimatedTransform.{AnimatedTransform}
+use Rattle.animated_transform.specs.declared.AnimatedTransformAnswer.{AnimatedTransformAnswer}
+use Rattle.animated_transform.specs.New.{firstRefusal, AnimatedTransform·new}
+use Rattle.motion_point.specs.TransformPoint.{AnimatedTransform·transformPoint}
+use Rattle.motion_cover.specs.Cover.{AnimatedTransform·cover}
+
+-- ---- the poses
+
+-- "2 to 32 poses"
+abbrev pub minPoses : ℕ
+minPoses = 2
+
+abbrev pub maxPoses : ℕ
+maxPoses = 32
+
+-- "Each neighbouring pair", "in rising order"
+unfoldable pub neighbours : List Pose → List (Pose × Pose)
+neighbours [] = []
+neighbours (p ∷ []) = []
+neighbours (p ∷ q ∷ poses) = (p, q) ∷ neighbours (q ∷ poses)
+
+-- The test holds of every item.
+unfoldable pub every : {A : Type 0} → (A → Bool) → List A → Bool
+every test [] = true
+every test (x ∷ xs) = test x && every test xs
+
+-- The first number that isn't 0, or 0 for none.
+unfoldable pub firstNumber : List ℕ → ℕ
+firstNumber [] = 0
+firstNumber (n ∷ ns) = firstRefusal n (firstNumber ns)
+
+-- "times that rise strictly"
+unfoldable pub posesRise : List Pose → Bool
+posesRise poses = every (λ (p, q). lt (p .time) (q .time)) (neighbours poses)
+
+-- "the whole chain's checks", in order: document 01's 1 and 2 of every pose; "Fewer than 2 poses, more than 32 or times that don't rise strictly are 12, judged after 2 and before 3";
+-- document 01's 3 of each neighbouring pair, whose times rise by then. 0 is none.
+unfoldable pub chainRefusal : List Pose → ℕ
+chainRefusal poses =
+    cond (not (every Pose·isFinite poses)) 1
+    (cond (not (every Pose·isAffine poses)) 2
+    (cond (ltb (length poses) minPoses || ltb maxPoses (length poses) || not (posesRise poses)) 12
+    (firstNumber (map (λ (p, q). timesRefusal (p .time) (q .time)) (neighbours poses)))))
+
+-- ---- building
+
+-- A built chain: its moves in rising order, of which there is a first.
+pub record Chain : Type 0 where
+  pub first : AnimatedTransform
+  pub rest : List AnimatedTransform
+
+abbrev pub Chain·moves : Chain → List AnimatedTransform
+Chain·moves c = c .first ∷ c .rest
+
+pub data ChainAnswer : Type 0 where
+  built : Chain → ChainAnswer
+  refused : ℕ → ChainAnswer
+
+-- What came of each pair, as one answer: the first number that was met stands. A chain without a pair has fewer than 2 poses.
+unfoldable pub ChainAnswer·fromMoves : List AnimatedTransformAnswer → ChainAnswer
+ChainAnswer·fromMoves [] = refused 12
+ChainAnswer·fromMoves (a ∷ answers) =
+    let n = firstNumber (map (λ x. x .refusal) (a ∷ answers)) in
+    cond (eqb n 0) (built (record { first = a .value; rest = map (λ x. x .value) answers })) (refused n)
+
+-- "Each neighbouring pair is a move of document 01, worked in rising order once the whole chain's checks are over"
+unfoldable pub Chain·new : List Pose → ChainAnswer
+Chain·new poses =
+    let n = chainRefusal poses in
+    cond (eqb n 0) (ChainAnswer·fromMoves (map (λ (p, q). AnimatedTransform·new p q) (neighbours poses))) (refused n)
+
+-- ---- queries
+
+-- The first of m and the moves after it that ends at the time or later, or the last of them.
+unfoldable pub moveFrom : AnimatedTransform → List AnimatedTransform → Float → AnimatedTransform
+moveFrom m [] time = m
+moveFrom m (next ∷ moves) time = cond (le time (m .«end_time»)) m (moveFrom next moves time)
+
+-- "A time equal to an inner pose's belongs to the earlier move; times before the first pose belong to the first move, after the last to the last."
+unfoldable pub Chain·moveAt : Chain → Float → AnimatedTransform
+Chain·moveAt c time = moveFrom (c .first) (c .rest) time
+
+-- document 01's point query, of the move that the time belongs to
+unfoldable pub Chain·transformPoint : Chain → Float → Point3f → PointAnswer
+Chain·transformPoint c time p = AnimatedTransform·transformPoint (Chain·moveAt c time) time p
+
+-- r and then the covers of the moves, in rising order; the first refusal stands.
+unfoldable pub unionCovers : Bounds3f → ℕ → BoundsAnswer → List AnimatedTransform → BoundsAnswer
+unionCovers b depth r [] = r
+unionCovers b depth r (m ∷ moves) = unionCovers b depth (BoundsAnswer·unionBounds r (AnimatedTransform·cover m b depth)) moves
+
+-- "The cover is the union of the moves' covers"
+unfoldable pub Chain·cover : Chain → Bounds3f → ℕ → BoundsAnswer
+Chain·cover c b depth = unionCovers b depth (AnimatedTransform·cover (c .first) b depth) (c .rest)

@@ -1,0 +1,9 @@
+-- What has to unfold for a chain of given poses to be built and asked by computing, as one group: a case says `unfolding computing`.
+use Rattle.animated_transform.specs.Computing as building
+use Rattle.motion_point.specs.Computing as point
+use Rattle.motion_cover.specs.Computing as cover
+use Rattle.motion_chain.specs.Chain.{neighbours, every, firstNumber, posesRise, chainRefusal, ChainAnswer·fromMoves, Chain·new, moveFrom, Chain·moveAt, Chain·transformPoint, unionCovers, Chain·cover}
+
+unfoldable pub computing : Unit {0}
+unfolding building.computing point.computing cover.computing neighbours every firstNumber posesRise chainRefusal ChainAnswer·fromMoves Chain·new moveFrom Chain·moveAt Chain·transformPoint unionCovers Chain·cover
+computing = tt
