@@ -1,11 +1,10 @@
 -- A whole number n over 2 ^ d becomes the nearest float from its count of leading zeros: moved up by them it has 64 digits and keeps 24, and the bits are
--- that significand under the exponent 189 less the zeros less d (`fixed-pattern`). `closest-below`, `closest-above`, `closest-tie` say which
+-- that significand under the exponent 189 less the zeros less d (`fixed-pattern`). `closest-carry` says which
 -- whole number is nearest. Rests on `units-bits` of `rounding`, which has the carry to 25 digits.
 use mathlib.Core.Path.{_≡_, refl, sym, ap, _∙_, subst}
 use mathlib.Core.Bool.{Bool, false, not}
 use Prim.Native.Nat.{ℕ, suc, _+_, _-_, _*_, _/_, _%_, _^_, _≤_, _<_, compare, Ordering, Ordering·lt, Ordering·eq, Ordering·gt}
 use native.Mathlib.Nat.{le-trans, le-of-eq, lt-of-lt-of-le, mul-le-mul-right, mul-lt-mul-of-pos-right, mul-pos, le-div-iff-mul-le, div-lt-iff-lt-mul, mod-eq-of-lt, zero-mul, zero-lt-suc, add-sub-cancel-left}
-use native.Mathlib.Numerals.{add-one}
 use native.Mathlib.Omega.{arith}
 use lib.Dec.{T, ltb, ltb→lt, not-T, lit≤}
 use lib.Pow.{pow-add, pow-pos}
@@ -18,30 +17,14 @@ use lib.Ieee.Bits.{ofBits-toBits, nanBits-above}
 use Rattle.rounding.proofs.Encoding.{size-exact, units-bits}
 use Rattle.rounding.proofs.HalfUnits.{Compares, compares}
 
--- ---- to the nearest whole number, by twice the rest
-pub closest-below : (w u : ℕ) → w % u * 2 < u → w / u ≡ closest w u
-closest-below w u h = go (compare (w % u * 2) u) (compares (w % u * 2) u)
+-- ---- to the nearest whole number: what the rest carries, with just less than a half and the quotient's last digit added to it
+pub closest-carry : (w : ℕ) → w / 2 ^ 40 + (w % 2 ^ 40 + 0x7fffffffff + w / 2 ^ 40 % 2) / 2 ^ 40 ≡ closest w (2 ^ 40)
+closest-carry w = go (compare (w % 2 ^ 40 * 2) (2 ^ 40)) (compares (w % 2 ^ 40 * 2) (2 ^ 40))
   where
-    go : (o : Ordering) → Compares o (w % u * 2) u → w / u ≡ nearest (w / u) o
-    go Ordering·lt c = refl
-    go Ordering·eq c = absurd (omega arith)
-    go Ordering·gt c = absurd (omega arith)
-
-pub closest-above : (w u : ℕ) → u < w % u * 2 → w / u + 1 ≡ closest w u
-closest-above w u h = go (compare (w % u * 2) u) (compares (w % u * 2) u)
-  where
-    go : (o : Ordering) → Compares o (w % u * 2) u → w / u + 1 ≡ nearest (w / u) o
-    go Ordering·lt c = absurd (omega arith)
-    go Ordering·eq c = absurd (omega arith)
-    go Ordering·gt c = add-one (w / u)
-
-pub closest-tie : (w u : ℕ) → u ≤ w % u * 2 → w % u * 2 ≤ u → w / u + w / u % 2 ≡ closest w u
-closest-tie w u h k = go (compare (w % u * 2) u) (compares (w % u * 2) u)
-  where
-    go : (o : Ordering) → Compares o (w % u * 2) u → w / u + w / u % 2 ≡ nearest (w / u) o
-    go Ordering·lt c = absurd (omega arith)
-    go Ordering·eq c = refl
-    go Ordering·gt c = absurd (omega arith)
+    go : (o : Ordering) → Compares o (w % 2 ^ 40 * 2) (2 ^ 40) → w / 2 ^ 40 + (w % 2 ^ 40 + 0x7fffffffff + w / 2 ^ 40 % 2) / 2 ^ 40 ≡ nearest (w / 2 ^ 40) o
+    go Ordering·lt c = omega arith
+    go Ordering·eq c = omega arith
+    go Ordering·gt c = omega arith
 
 abbrev pub infinityBits : ℕ
 infinityBits = ones binary32 * hid binary32

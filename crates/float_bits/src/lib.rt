@@ -65,14 +65,8 @@ fn leading_24_digits(w: u64) -> u64
     ensures value { λ r. ⌜ r ≡ closest w (2 ^ 40) ⌝ }
 {
     let q = w / 0x100_0000_0000;
-    let twice = w % 0x100_0000_0000 * 2;
-    if twice < 0x100_0000_0000 {
-        return q;
-    }
-    if twice > 0x100_0000_0000 {
-        return q + 1;
-    }
-    q + q % 2
+    // The rest carries from above a half on, and at a half where q is odd. A branch here would be mispredicted for half of all numbers.
+    q + (w % 0x100_0000_0000 + 0x7f_ffff_ffff + q % 2) / 0x100_0000_0000
 }
 
 // n / 2^d, d taken modulo 64 as a shift's count is. Accuracy: correctly rounded, ties to even.
