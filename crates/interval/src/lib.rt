@@ -137,8 +137,7 @@ impl Interval {
         Interval::new(select(self.straddles(PI), -1.0, low), high)
     }
 
-    // pbrt's sine and cosine of an interval of angles from 0 to a full turn, from one copy of the table of sines; its assertions of that range are not carried
-    // over. Accuracy: heuristic.
+    // pbrt's sine and cosine of an interval of angles from 0 to a full turn; its assertions of that range are not carried over. Accuracy: heuristic.
     pub fn sin_cos(self) -> IntervalSinCos
         ensures value { λ r. ⌜ (r .sin ≡ Interval·sin self) × (r .cos ≡ Interval·cos self) ⌝ }
     {
@@ -329,7 +328,7 @@ impl Judged {
         Judged::cos_between(m, x, ends.cos_x, ends.cos_y)
     }
 
-    // The cosine, then the sine with the number that the cosine hands on, from one copy of the table of sines. Accuracy: encloses, likewise.
+    // The cosine, then the sine with the number that the cosine hands on. Accuracy: encloses, likewise.
     pub fn sin_cos_enclosure(m: u8, x: Interval) -> JudgedSinCos
         ensures value { λ r. ⌜ (r .cos ≡ Judged·cosEnclosure m x) × (r .sin ≡ Judged·sinEnclosure (r .cos .refusal) x) ⌝ }
     {

@@ -1,14 +1,14 @@
 -- Floats as whole numbers of units, by the parts that `integer_decode` gives: |x| * 2 ^ d rounded down is one shift (`fixed-decode`), so that u of an angle is one
 -- (`angle-near`, and `angle-far` from 2 ^ 24 on), and c * 2 ^ 30 rounded down is another (`floor-positive`, `floor-negative`).
--- Back to floats: the four ways of `biased_float`, `float-..`.
+-- Back to floats: with the sign, `float-negated`, and without, `float-kept`.
 use mathlib.Core.Path.{_≡_, refl, sym, ap, subst, _∙_}
-use mathlib.Core.Logic.{_⊎_, inl, inr}
+use mathlib.Core.Logic.{inl, inr}
 use mathlib.Core.Bool.{Bool, true, false, true≢false, _&&_}
 use Prim.Native.Nat.{ℕ, zero, suc, _+_, _-_, _*_, _/_, _%_, _^_, _≤_, _<_, min}
-use native.Mathlib.Nat.{eq-zero-or-pos, eq-or-lt-of-le, le-trans, le-of-eq, le-of-lt, lt-of-le-of-lt, lt-of-mul-lt-mul-right, mul-le-mul, mul-le-mul-right, mul-lt-mul-of-pos-right, mul-pos, div-lt-iff-lt-mul, div-mul-le-self, lt-div-mul-add, le-of-mul-le-mul-right, lt-of-lt-of-le, div-eq-of-lt-le, div-le-of-le-mul, mul-le-mul-left, mul-comm, mod-eq-of-lt, zero-div, le-div-iff-mul-le}
+use native.Mathlib.Nat.{not-suc-le-zero, eq-zero-or-pos, le-trans, le-of-eq, lt-of-le-of-lt, lt-of-mul-lt-mul-right, mul-le-mul, mul-le-mul-right, mul-lt-mul-of-pos-right, mul-pos, div-lt-iff-lt-mul, div-mul-le-self, lt-div-mul-add, le-of-mul-le-mul-right, lt-of-lt-of-le, div-eq-of-lt-le, div-le-of-le-mul, mul-le-mul-left, mul-comm, mod-eq-of-lt, zero-div, le-div-iff-mul-le}
 use native.Mathlib.Omega.{arith}
 use borrow.Author.Tests.{ltb-true, ltb-false}
-use lib.IntN.{pos, negsuc, negℤ, negℤ-negℤ}
+use lib.IntN.{pos, negsuc, negℤ}
 use lib.Dec.{T, ltb, lit<, lit≤}
 use lib.Pow.{pow-add, pow-pos, pow-lt, pow-mono}
 use lib.Signed.{shrZ}
@@ -263,34 +263,16 @@ module _ (c : Float) (f : fits binary32 c ≡ true) (h : inDomain c ≡ true) (d
               ∙ floor-minus c (d .negative) (d .significand) (d .exponent) unit-exponent value k',
         )
 
--- ---- the float nearest to n biased units
+-- ---- the float nearest to n units
 
-float-pos : (n : ℕ) → round binary32 false n (2 ^ 30) ≡ nearestFloat (pos n)
+pub float-negated : (s : Bool) (n : ℕ) → (s && ltb 0 n) ≡ true → neg (round binary32 false n (2 ^ 30)) ≡ nearestFloat (withSign s (pos n))
 unfolding nearestFloat
-float-pos n = refl
+float-negated false n h = absurd (true≢false (sym h))
+float-negated true zero h = absurd (true≢false (sym h))
+float-negated true (suc n) h = sym (round-neg binary32 (suc n) (2 ^ 30))
 
-float-neg : (n : ℕ) → 0 < n → neg (round binary32 false n (2 ^ 30)) ≡ nearestFloat (negℤ (pos n))
+pub float-kept : (s : Bool) (n : ℕ) → (s && ltb 0 n) ≡ false → round binary32 false n (2 ^ 30) ≡ nearestFloat (withSign s (pos n))
 unfolding nearestFloat
-float-neg zero h = absurd (omega arith)
-float-neg (suc n) h = sym (round-neg binary32 (suc n) (2 ^ 30))
-
--- Below the bias n is a negative number of units.
-minus-negative : (n : ℕ) → n < 2 ^ 30 → minus n (2 ^ 30) ≡ negℤ (pos (2 ^ 30 - n))
-minus-negative n h = minus-below n (2 ^ 30) h ∙ ap (λ (x : ℕ). negℤ (pos x)) (let z : suc (2 ^ 30 - suc n) ≡ 2 ^ 30 - n = omega arith in z)
-
-module _ (s : Bool) (n : ℕ) where
-  pub float-negated-above : s ≡ true → 2 ^ 30 < n → neg (round binary32 false (n - 2 ^ 30) (2 ^ 30)) ≡ nearestFloat (withSign s (minus n (2 ^ 30)))
-  float-negated-above e h = rw (e, minus-above n (2 ^ 30) (le-of-lt h)) (float-neg (n - 2 ^ 30) (omega arith))
-
-  pub float-negated-below : s ≡ true → n ≤ 2 ^ 30 → round binary32 false (2 ^ 30 - n) (2 ^ 30) ≡ nearestFloat (withSign s (minus n (2 ^ 30)))
-  float-negated-below e h = rw e (go (eq-or-lt-of-le h))
-    where
-      go : (n ≡ 2 ^ 30) ⊎ (n < 2 ^ 30) → round binary32 false (2 ^ 30 - n) (2 ^ 30) ≡ nearestFloat (negℤ (minus n (2 ^ 30)))
-      go (inl q) = rw q (float-pos 0)
-      go (inr l) = rw (minus-negative n l, negℤ-negℤ) (float-pos (2 ^ 30 - n))
-
-  pub float-below : s ≡ false → n < 2 ^ 30 → neg (round binary32 false (2 ^ 30 - n) (2 ^ 30)) ≡ nearestFloat (withSign s (minus n (2 ^ 30)))
-  float-below e h = rw (e, minus-negative n h) (float-neg (2 ^ 30 - n) (omega arith))
-
-  pub float-above : s ≡ false → 2 ^ 30 ≤ n → round binary32 false (n - 2 ^ 30) (2 ^ 30) ≡ nearestFloat (withSign s (minus n (2 ^ 30)))
-  float-above e h = rw (e, minus-above n (2 ^ 30) h) (float-pos (n - 2 ^ 30))
+float-kept false n h = refl
+float-kept true zero h = refl
+float-kept true (suc n) h = absurd (not-suc-le-zero (ltb-false 0 (suc n) h))

@@ -15,7 +15,7 @@ use lib.Ieee.{minus}
 use Rattle.sine_table.specs.Table.{quarterTurn}
 use Rattle.trig.specs.Units.{cosUnits}
 use Rattle.trig.specs.Acos.{leastFrom, leastAngle}
-use Rattle.trig.specs.Biased.{biased, biasedSin}
+use Rattle.trig.specs.Biased.{biased}
 use Rattle.trig.proofs.Units.{minus-above, minus-below, cos-unbiased, cos-falls, cos-zero, cos-half-turn}
 
 -- ---- the least that passes a test
@@ -105,13 +105,11 @@ pub record Halving (n low high : ℕ) : Type 0 where
 pub halving-starts : (n : ℕ) → n < 2 ^ 31 → Halving n 0 (2 * quarterTurn)
 halving-starts n h = record { order = omega arith; inside = omega arith; above = rw cos-zero h; below = rw cos-half-turn (omega arith) }
 
-module _ {n low high : ℕ} (i : Halving n low high) (apart : 1 < high - low) (r : ℕ) (cosine : r ≡ biasedSin ((low + high) / 2 + quarterTurn)) where
+module _ {n low high : ℕ} (i : Halving n low high) (apart : 1 < high - low) (r : ℕ) (cosine : r ≡ biased (cosUnits ((low + high) / 2))) where
   pub halving-raises : n < r → Halving n ((low + high) / 2) high
-  unfolding cosUnits
   halving-raises h = record { order = omega (arith, i .order); inside = i .inside; above = subst (λ (x : ℕ). n < x) cosine h; below = i .below }
 
   pub halving-lowers : r ≤ n → Halving n low ((low + high) / 2)
-  unfolding cosUnits
   halving-lowers h = record { order = omega (arith, i .order); inside = omega (arith, i .inside); above = i .above; below = subst (λ (x : ℕ). x ≤ n) cosine h }
 
 pub halving-ends : {n low high : ℕ} → Halving n low high → high - low ≤ 1 → low + 1 ≡ leastAngle (minus n (2 ^ 30))

@@ -1,4 +1,5 @@
 pub mod Units
+pub mod Quarters
 pub mod Least
 pub mod Shift
 pub mod Fixed

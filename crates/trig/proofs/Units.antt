@@ -42,7 +42,7 @@ unbiased-negative zero h = refl
 unbiased-negative (suc n) h = minus-below (2 ^ 30 - suc n) (2 ^ 30) (omega arith) ∙ ap negsuc (omega arith)
 
 -- In the quarter k, at v.
-abbrev pub biasedQuarter : ℕ → ℕ → ℕ
+abbrev biasedQuarter : ℕ → ℕ → ℕ
 biasedQuarter zero v = 2 ^ 30 + quarterSine v
 biasedQuarter (suc zero) v = 2 ^ 30 + quarterSine (quarterTurn - v)
 biasedQuarter (suc (suc zero)) v = 2 ^ 30 - quarterSine v
@@ -55,7 +55,7 @@ quarter (suc zero) v = refl
 quarter (suc (suc zero)) v = biased-negative (quarterSine v)
 quarter (suc (suc (suc k))) v = biased-negative (quarterSine (quarterTurn - v))
 
-pub sin-quarter : (u k v : ℕ) → u / quarterTurn % 4 ≡ k → u % quarterTurn ≡ v → biasedSin u ≡ biasedQuarter k v
+sin-quarter : (u k v : ℕ) → u / quarterTurn % 4 ≡ k → u % quarterTurn ≡ v → biasedSin u ≡ biasedQuarter k v
 unfolding sinUnits
 sin-quarter u k v e f = quarter (u / quarterTurn % 4) (u % quarterTurn) ∙ ap₂ biasedQuarter e f
 
@@ -163,6 +163,15 @@ sin-above-end a u b h k l (inr p) = inl (sin-rises-last a u (omega arith) h (ome
 pub cos-unbiased : (u : ℕ) → minus (biased (cosUnits u)) (2 ^ 30) ≡ cosUnits u
 unfolding cosUnits
 cos-unbiased u = sin-unbiased (u + quarterTurn)
+
+-- By its two quarters in a half turn.
+pub cos-first : (u : ℕ) → u ≤ quarterTurn → biased (cosUnits u) ≡ 2 ^ 30 + quarterSine (quarterTurn - u)
+unfolding cosUnits
+cos-first u h = sin-second (u + quarterTurn) (omega arith) (omega arith) ∙ ap (λ (x : ℕ). 2 ^ 30 + quarterSine x) (let e : 2 * quarterTurn - (u + quarterTurn) ≡ quarterTurn - u = omega arith in e)
+
+pub cos-second : (u : ℕ) → quarterTurn ≤ u → u ≤ 2 * quarterTurn → biased (cosUnits u) ≡ 2 ^ 30 - quarterSine (u - quarterTurn)
+unfolding cosUnits
+cos-second u g h = sin-third (u + quarterTurn) (omega arith) (omega arith) ∙ ap (λ (x : ℕ). 2 ^ 30 - quarterSine x) (let e : u + quarterTurn - 2 * quarterTurn ≡ u - quarterTurn = omega arith in e)
 
 pub cos-zero : biased (cosUnits 0) ≡ 2 ^ 31
 unfolding computing

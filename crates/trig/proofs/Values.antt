@@ -2,19 +2,15 @@
 -- nothing to work out (`sin-far`, `cos-far`, `acos-outside`).
 use mathlib.Core.Path.{_≡_, refl, sym, ap, _∙_}
 use mathlib.Core.Bool.{Bool, true, false, cond}
-use Prim.Native.Nat.{ℕ, _+_, _^_, min}
+use Prim.Native.Nat.{ℕ, _^_, min}
 use native.Mathlib.Omega.{arith}
-use lib.IntN.{ℤ}
 use lib.Ieee.{Float, nan, binary32, lt, div, round, minus, ofBits}
-use Rattle.sine_table.specs.Table.{quarterTurn}
 use Rattle.float32.specs.Abs.{abs}
 use Rattle.float_bits.specs.declared.Decoded.{Decoded}
 use Rattle.float_bits.specs.Decode.{negative, integerDecode}
 use Rattle.trig.specs.Units.{angleUnits, sinUnits, cosUnits, nearestFloat, withSign}
 use Rattle.trig.specs.SinCos.{near, farSin, farCos, sin, cos}
 use Rattle.trig.specs.Acos.{inDomain, leastAngle, floorUnits, acos}
-use Rattle.trig.specs.Biased.{biasedSin}
-use Rattle.trig.proofs.Units.{sin-unbiased}
 use Rattle.trig.proofs.Fixed.{near-units}
 
 -- The code tests the absolute value that its call gave.
@@ -27,24 +23,20 @@ taken b x y e = sym (ap (λ (t : Bool). cond t x y) e)
 left : (b : Bool) (x y : Float) → b ≡ false → y ≡ cond b x y
 left b x y e = sym (ap (λ (t : Bool). cond t x y) e)
 
-module _ (a : Float) (h : near a ≡ true) (u n : ℕ) (z : Float) (U : u ≡ min (angleUnits a) (2 ^ 52)) where
+module _ (a : Float) (h : near a ≡ true) (u : ℕ) (z : Float) (U : u ≡ min (angleUnits a) (2 ^ 52)) where
   units : u ≡ angleUnits a
   units = let l = near-units a h in omega (arith, l)
 
-  pub sin-value : (d : Decoded) → d ≡ integerDecode a → n ≡ biasedSin u → z ≡ nearestFloat (withSign (d .negative) (minus n (2 ^ 30))) → z ≡ sin a
+  pub sin-value : (d : Decoded) → d ≡ integerDecode a → z ≡ nearestFloat (withSign (d .negative) (sinUnits u)) → z ≡ sin a
   unfolding sin integerDecode
-  sin-value d D N Z =
-      Z ∙ ap (λ (m : ℕ). nearestFloat (withSign (d .negative) (minus m (2 ^ 30)))) (N ∙ ap biasedSin units)
-      ∙ ap (λ (w : ℤ). nearestFloat (withSign (d .negative) w)) (sin-unbiased (angleUnits a))
+  sin-value d D Z =
+      Z ∙ ap (λ (v : ℕ). nearestFloat (withSign (d .negative) (sinUnits v))) units
       ∙ ap (λ (p : Decoded). nearestFloat (withSign (p .negative) (sinUnits (angleUnits a)))) D
       ∙ taken (near a) (nearestFloat (withSign (negative a) (sinUnits (angleUnits a)))) farSin h
 
-  pub cos-value : n ≡ biasedSin (u + quarterTurn) → z ≡ nearestFloat (minus n (2 ^ 30)) → z ≡ cos a
-  unfolding cos cosUnits
-  cos-value N Z =
-      Z ∙ ap (λ (m : ℕ). nearestFloat (minus m (2 ^ 30))) (N ∙ ap (λ (v : ℕ). biasedSin (v + quarterTurn)) units)
-      ∙ ap nearestFloat (sin-unbiased (angleUnits a + quarterTurn))
-      ∙ taken (near a) (nearestFloat (cosUnits (angleUnits a))) farCos h
+  pub cos-value : z ≡ nearestFloat (cosUnits u) → z ≡ cos a
+  unfolding cos
+  cos-value Z = Z ∙ ap (λ (v : ℕ). nearestFloat (cosUnits v)) units ∙ taken (near a) (nearestFloat (cosUnits (angleUnits a))) farCos h
 
 pub sin-far : (a : Float) → near a ≡ false → farSin ≡ sin a
 unfolding sin

@@ -1,13 +1,16 @@
 // Sine, cosine and arc cosine, by document 01's table of sines. Angles are in units of 2^-28, sines and cosines in units of 2^-30,
-// which the code carries 2^30 more than they are.
+// which the arc cosine carries 2^30 more than they are.
 ghost use mathlib.Core.Path.{_≡_};
-ghost use mathlib.Core.Bool.{true};
-ghost use Prim.Native.Nat.{_*_, _/_, _^_, _≤_, _<_, min};
+ghost use mathlib.Core.Bool.{true, cond};
+ghost use Prim.Native.Nat.{_-_, _*_, _/_, _%_, _^_, _≤_, _<_, min};
+ghost use lib.Dec.{eqb};
+ghost use lib.IntN.{pos};
 ghost use lib.Ieee.{minus};
-ghost use Rattle.trig.specs.Units.{angleUnits, nearestFloat, withSign};
+ghost use Rattle.sine_table.specs.Table.{quarterTurn};
+ghost use Rattle.trig.specs.Units.{angleUnits, sinUnits, cosUnits, nearestFloat, withSign};
 ghost use Rattle.trig.specs.SinCos.{sin, cos};
 ghost use Rattle.trig.specs.Acos.{inDomain, leastAngle, floorUnits, acos};
-ghost use Rattle.trig.specs.Biased.{biasedSin};
+ghost use Rattle.trig.specs.Biased.{biased};
 
 const QUARTER_TURN: u64 = 421657428;
 
@@ -33,42 +36,6 @@ pub struct SinCosPair {
     pub cos_y: f32,
 }
 
-// The sine of u, biased.
-fn biased_sin(u: u64) -> u64
-    ensures value { λ r. ⌜ r ≡ biasedSin u ⌝ }
-{
-    let k = u / QUARTER_TURN % 4;
-    let v = u % QUARTER_TURN;
-    if k == 0 {
-        return ONE + sine_table::quarter_sine(v);
-    }
-    if k == 1 {
-        return ONE + sine_table::quarter_sine(QUARTER_TURN - v);
-    }
-    if k == 2 {
-        return ONE - sine_table::quarter_sine(v);
-    }
-    ONE - sine_table::quarter_sine(QUARTER_TURN - v)
-}
-
-// The float nearest to n biased units, negated where the sign says so; a zero is +0.
-fn biased_float(negative: bool, n: u64) -> f32
-    ensures value { λ r. ⌜ r ≡ nearestFloat (withSign negative (minus n (2 ^ 30))) ⌝ }
-{
-    if negative {
-        if n > ONE {
-            let x = float_bits::from_fixed(n - ONE, 30);
-            return -x;
-        }
-        return float_bits::from_fixed(ONE - n, 30);
-    }
-    if n < ONE {
-        let x = float_bits::from_fixed(ONE - n, 30);
-        return -x;
-    }
-    float_bits::from_fixed(n - ONE, 30)
-}
-
 // m × 2^j / 2^149 rounded down.
 fn shifted(m: u64, j: u64) -> u64
     requires { ⌜ m < 2 ^ 54 ⌝ ∗ ⌜ j ≤ 149 ⌝ }
@@ -92,47 +59,92 @@ pub fn angle_units(a: f32) -> u64
     shifted(d.significand << 28, d.exponent)
 }
 
-// Document 01's sine; of a far angle 0. Accuracy: heuristic, the float nearest to a straight line between the table's entries.
-pub fn sin(a: f32) -> f32
-    ensures value { λ r. ⌜ r ≡ sin a ⌝ }
+// v, and a quarter turn less v in the quarters of odd number: the angle from 0 to a quarter turn whose sine has the same size.
+fn folded(k: u64, v: u64) -> u64
+    requires { ⌜ v ≤ quarterTurn ⌝ }
+    ensures value { λ r. ⌜ r ≡ cond (eqb (k % 2) 1) (quarterTurn - v) v ⌝ }
 {
-    if float32::abs(a) < FAR {
-        let d = float_bits::integer_decode(a);
-        return biased_float(d.negative, biased_sin(angle_units(a)));
+    if k % 2 == 1 {
+        return QUARTER_TURN - v;
     }
-    0.0
+    v
 }
 
-// Document 01's cosine, the sine a quarter turn on; of a far angle 1. Accuracy: heuristic, as the sine's.
-pub fn cos(a: f32) -> f32
-    ensures value { λ r. ⌜ r ≡ cos a ⌝ }
+// The float nearest to n units, negated where the sign says so; a zero is +0.
+fn units_float(negative: bool, n: u64) -> f32
+    ensures value { λ r. ⌜ r ≡ nearestFloat (withSign negative (pos n)) ⌝ }
 {
-    if float32::abs(a) < FAR {
-        return biased_float(false, biased_sin(angle_units(a) + QUARTER_TURN));
+    let x = float_bits::from_fixed(n, 30);
+    if negative & (n > 0) {
+        return -x;
     }
-    1.0
+    x
 }
 
-// The sine and the cosine of an angle. Accuracy: heuristic, as theirs.
+// The sine of u, negated where the sign says so, and the cosine. A quarter turn on, k is one more and v the same.
+fn units_sin_cos(negative: bool, u: u64) -> SinCos
+    ensures value { λ r. ⌜ (r .sin ≡ nearestFloat (withSign negative (sinUnits u))) × (r .cos ≡ nearestFloat (cosUnits u)) ⌝ }
+{
+    let k = u / QUARTER_TURN % 4;
+    let v = folded(k, u % QUARTER_TURN);
+    SinCos {
+        sin: units_float(negative != (k >= 2), sine_table::quarter_sine(v)),
+        cos: units_float(
+            (k == 1) | (k == 2),
+            sine_table::quarter_sine(QUARTER_TURN - v),
+        ),
+    }
+}
+
+// Document 01's sine and cosine, which is the sine a quarter turn on; of a far angle 0 and 1. Accuracy: heuristic, the floats nearest to straight lines
+// between the table's entries.
 pub fn sin_cos(a: f32) -> SinCos
     ensures value { λ r. ⌜ (r .sin ≡ sin a) × (r .cos ≡ cos a) ⌝ }
 {
-    SinCos {
-        sin: sin(a),
-        cos: cos(a),
+    if float32::abs(a) < FAR {
+        let d = float_bits::integer_decode(a);
+        return units_sin_cos(d.negative, angle_units(a));
     }
+    SinCos { sin: 0.0, cos: 1.0 }
 }
 
-// The sines and the cosines of two angles, likewise.
+// The sine. Accuracy: heuristic, likewise.
+pub fn sin(a: f32) -> f32
+    ensures value { λ r. ⌜ r ≡ sin a ⌝ }
+{
+    sin_cos(a).sin
+}
+
+// The cosine. Accuracy: heuristic, likewise.
+pub fn cos(a: f32) -> f32
+    ensures value { λ r. ⌜ r ≡ cos a ⌝ }
+{
+    sin_cos(a).cos
+}
+
+// The sines and the cosines of two angles. Accuracy: heuristic, likewise.
 pub fn sin_cos_pair(x: f32, y: f32) -> SinCosPair
     ensures value { λ r. ⌜ (r .«sin_x» ≡ sin x) × (r .«cos_x» ≡ cos x) × (r .«sin_y» ≡ sin y) × (r .«cos_y» ≡ cos y) ⌝ }
 {
+    let p = sin_cos(x);
+    let q = sin_cos(y);
     SinCosPair {
-        sin_x: sin(x),
-        cos_x: cos(x),
-        sin_y: sin(y),
-        cos_y: cos(y),
+        sin_x: p.sin,
+        cos_x: p.cos,
+        sin_y: q.sin,
+        cos_y: q.cos,
     }
+}
+
+// The cosine of u, biased.
+fn biased_cos(u: u64) -> u64
+    requires { ⌜ u ≤ 2 * quarterTurn ⌝ }
+    ensures value { λ r. ⌜ r ≡ biased (cosUnits u) ⌝ }
+{
+    if u < QUARTER_TURN {
+        return ONE + sine_table::quarter_sine(QUARTER_TURN - u);
+    }
+    ONE - sine_table::quarter_sine(u - QUARTER_TURN)
 }
 
 // The least angle in 0 to a half turn whose cosine is at most w, both biased.
@@ -148,7 +160,7 @@ fn least_angle(w: u64) -> u64
     let mut high: u64 = HALF_TURN;
     while high - low > 1 {
         let middle = (low + high) / 2;
-        if biased_sin(middle + QUARTER_TURN) > w {
+        if biased_cos(middle) > w {
             low = middle;
         } else {
             high = middle;

@@ -27,25 +27,22 @@ sub-loop c = search needs
 add-middle : tie.Need-add-middle Inv-loop μ-loop
 add-middle c = search needs
 
-add-biased-sin : tie.Need-add-biased-sin Inv-loop μ-loop
-add-biased-sin c = search needs
-
-biased-sin-requires : tie.Need-biased-sin-requires Inv-loop μ-loop
-biased-sin-requires c κs = search needs
+biased-cos-requires : tie.Need-biased-cos-requires Inv-loop μ-loop
+biased-cos-requires c κs = let l = c .before .loop .inv .inside in omega (arith, l)
 
 loop-less : tie.Need-loop-less Inv-loop μ-loop
 loop-less c = omega arith
 
 loop-again : tie.Need-loop-again Inv-loop μ-loop
 loop-again c =
-    halving-raises (c .before .before .before .loop .inv) (c .before .before .loop-test .taken) (c .before .biased-sin .result) (c .before .biased-sin .ensures) (c .if2 .taken)
+    halving-raises (c .before .before .before .loop .inv) (c .before .before .loop-test .taken) (c .before .biased-cos .result) (c .before .biased-cos .ensures) (c .if2 .taken)
 
 loop-less-2 : tie.Need-loop-less-2 Inv-loop μ-loop
 loop-less-2 c = omega arith
 
 loop-again-2 : tie.Need-loop-again-2 Inv-loop μ-loop
 loop-again-2 c =
-    halving-lowers (c .before .before .before .loop .inv) (c .before .before .loop-test .taken) (c .before .biased-sin .result) (c .before .biased-sin .ensures) (c .if2 .left)
+    halving-lowers (c .before .before .before .loop .inv) (c .before .before .loop-test .taken) (c .before .biased-cos .result) (c .before .biased-cos .ensures) (c .if2 .left)
 
 add-result : tie.Need-add-result Inv-loop μ-loop
 add-result c = search needs
@@ -64,8 +61,7 @@ least-angle-spec =
     loop-holds
     sub-loop
     add-middle
-    add-biased-sin
-    biased-sin-requires
+    biased-cos-requires
     loop-less
     loop-again
     loop-less-2
