@@ -11,7 +11,7 @@ use Rattle.float32.specs.MinMax.{maxNum}
 use Rattle.matrix4x4.specs.Rows.{Row, Rows, row, col, at, tabulate, positiveZero, Matrix4x4·toRows}
 use Rattle.matrix4x4.specs.Transpose.{Matrix4x4·transpose}
 use Rattle.matrix4x4.specs.IsFinite.{Matrix4x4·isFinite}
-use Rattle.matrix_inverse.specs.Loop.{loop}
+use Rattle.control_flow.specs.Loop.{loop}
 use Rattle.matrix_inverse.specs.Inverse.{Matrix4x4·inverse}
 
 -- `new_m`: the matrix without translation, with the bottom row and the right column of the identity

@@ -6,6 +6,7 @@ use mathlib.Core.Logic.{_⊎_, inl, inr}
 use Prim.Native.Nat.{ℕ}
 use lib.Dec.{eqb}
 use lib.Ieee.{Float, isNan}
+use Rattle.control_flow.proofs.Choice.{cond-keeps}
 use Rattle.matrix4x4.specs.Rows.{Rows, Matrix4x4·toRows}
 use Rattle.matrix4x4.specs.IsFinite.{Matrix4x4·isFinite}
 use Rattle.vector3.specs.declared.Vector3f.{Vector3f}
@@ -24,15 +25,11 @@ use Rattle.animated_transform.specs.AtTime.{atStart, atEnd}
 use Rattle.interpolation.specs.Interpolate.{Transform·isFinite, TransformAnswer·accepted, TransformAnswer·judged, scaled, composed, AnimatedTransform·poseAt, AnimatedTransform·interpolate}
 use Rattle.interpolation.specs.Promise.{InterpolationNumber}
 
-chosen : (P : TransformAnswer → Type 0) (b : Bool) (x y : TransformAnswer) → P x → P y → P (cond b x y)
-chosen P true x y p q = p
-chosen P false x y p q = q
-
 pub interpolate-cases : (P : TransformAnswer → Type 0) (m : AnimatedTransform) (time : Float) → P (TransformAnswer·refused 6)
     → P (TransformAnswer·accepted (m .«start_transform»)) → P (TransformAnswer·accepted (m .«end_transform»))
     → P (AnimatedTransform·poseAt m (dt (m .«start_time») (m .«end_time») time)) → P (AnimatedTransform·interpolate m time)
 unfolding AnimatedTransform·interpolate
-interpolate-cases P m time p q r s = chosen P (isNan time) _ _ p (chosen P (atStart m time) _ _ q (chosen P (atEnd m time) _ _ r s))
+interpolate-cases P m time p q r s = cond-keeps P (isNan time) _ _ p (cond-keeps P (atStart m time) _ _ q (cond-keeps P (atEnd m time) _ _ r s))
 
 -- An answer has one of the numbers, and is +0 throughout where that isn't 0.
 record Answered (a : TransformAnswer) : Type 0 where
@@ -47,7 +44,7 @@ refused-answered n h = record { number = h; zero = λ _. refl }
 
 judged-answered : (t : Transform) → Answered (TransformAnswer·judged t)
 unfolding TransformAnswer·judged
-judged-answered t = chosen Answered (Transform·isFinite t) _ _ (accepted-answered t) (refused-answered 5 (inr (inr (inl refl))))
+judged-answered t = cond-keeps Answered (Transform·isFinite t) _ _ (accepted-answered t) (refused-answered 5 (inr (inr (inl refl))))
 
 inverse-number : (n : ℕ) → (n ≡ 0) ⊎ ((n ≡ 4) ⊎ (n ≡ 5)) → InterpolationNumber n
 inverse-number n (inl e) = inl e
@@ -58,7 +55,7 @@ scaled-answered : (first : Transform) (scale : Rows) → Answered (scaled first 
 unfolding scaled
 scaled-answered first scale =
     let s = Transform·fromMatrix scale in
-    chosen Answered (eqb (s .refusal) 0) _ _ (judged-answered (Transform·mul first (s .transform))) (refused-answered (s .refusal) (inverse-number (s .refusal) (from-matrix-numbers scale)))
+    cond-keeps Answered (eqb (s .refusal) 0) _ _ (judged-answered (Transform·mul first (s .transform))) (refused-answered (s .refusal) (inverse-number (s .refusal) (from-matrix-numbers scale)))
 
 composed-answered : (trans : Vector3f) (rotate : Quaternion) (scale : Rows) → Answered (composed trans rotate scale)
 unfolding composed
@@ -66,7 +63,7 @@ composed-answered trans rotate scale =
     let translation = Transform·translate trans in
     let rotation = Transform·fromQuaternion rotate in
     let first = Transform·mul translation rotation in
-    chosen Answered (Quaternion·isFinite rotate && Matrix4x4·isFinite scale && Transform·isFinite translation && Transform·isFinite rotation && Transform·isFinite first) _ _
+    cond-keeps Answered (Quaternion·isFinite rotate && Matrix4x4·isFinite scale && Transform·isFinite translation && Transform·isFinite rotation && Transform·isFinite first) _ _
     (scaled-answered first scale)
     (refused-answered 5 (inr (inr (inl refl))))
 

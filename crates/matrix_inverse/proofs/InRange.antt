@@ -10,9 +10,10 @@ use lib.Ieee.{le}
 use Rattle.float32.specs.Abs.{abs}
 use Rattle.matrix4x4.specs.Rows.{Row, Rows, row, col}
 use Rattle.matrix_inverse.specs.declared.Pivot.{Pivot}
-use Rattle.matrix_inverse.specs.Loop.{loop}
+use Rattle.control_flow.specs.Loop.{loop}
 use Rattle.matrix_inverse.specs.Pivot.{consider, searchRow, Pivot·search}
-use Rattle.matrix_inverse.proofs.Loop.{loop-keeps, cond-keeps}
+use Rattle.control_flow.proofs.Loop.{loop-keeps}
+use Rattle.control_flow.proofs.Choice.{cond-keeps}
 
 abbrev pub InRange : Pivot → Type 0
 InRange p = (p .irow < 4) × (p .icol < 4)

@@ -1,4 +1,3 @@
-pub mod Loop
 pub mod InRange
 pub mod Rounds
 pub mod Refusal

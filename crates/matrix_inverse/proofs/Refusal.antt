@@ -7,7 +7,7 @@ use lib.Dec.{T}
 use Rattle.matrix4x4.specs.Rows.{Rows, Matrix4x4·toRows, Matrix4x4·fromRows}
 use Rattle.matrix4x4.specs.IsFinite.{Matrix4x4·isFinite}
 use Rattle.matrix_inverse.specs.declared.InverseAnswer.{InverseAnswer}
-use Rattle.matrix_inverse.specs.Loop.{loop}
+use Rattle.control_flow.specs.Loop.{loop}
 use Rattle.matrix_inverse.specs.RestoreColumns.{restoreColumns}
 use Rattle.matrix_inverse.specs.Inverse.{Elimination, zeroPivot, running, zeros, round, refused, judged, finish, Matrix4x4·inverse}
 

@@ -12,7 +12,7 @@ use lib.ListN.{getD, set}
 use lib.Ieee.{eq}
 use Rattle.matrix4x4.specs.Rows.{Rows, at, positiveZero}
 use Rattle.matrix_inverse.specs.declared.Pivot.{Pivot}
-use Rattle.matrix_inverse.specs.Loop.{loop}
+use Rattle.control_flow.specs.Loop.{loop}
 use Rattle.matrix_inverse.specs.Pivot.{Pivot·search}
 use Rattle.matrix_inverse.specs.Eliminate.{swapRows, eliminate}
 use Rattle.matrix_inverse.specs.RestoreColumns.{restoreColumns}

@@ -2,7 +2,7 @@
 use lib.Ieee.{sub, mul, div, eq, lt, le, ofBits}
 use Rattle.float32.specs.Abs.{abs}
 use Rattle.matrix4x4.specs.Computing as matrix
-use Rattle.matrix_inverse.specs.Loop.{loop}
+use Rattle.control_flow.specs.Loop.{loop}
 use Rattle.matrix_inverse.specs.Pivot.{consider, searchRow, Pivot·search}
 use Rattle.matrix_inverse.specs.Eliminate.{swapRows, replace, scaleRow, clearRow, clearAt, eliminate}
 use Rattle.matrix_inverse.specs.RestoreColumns.{swapColumns, restoreAt, restoreColumns}

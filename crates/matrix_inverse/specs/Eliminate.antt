@@ -6,7 +6,7 @@ use lib.ListN.{set}
 use lib.Ieee.{Float}
 use Rattle.float32.specs.Operators.{_⊖_, _⊗_, _⊘_, one}
 use Rattle.matrix4x4.specs.Rows.{Row, Rows, row, col, tabulate, positiveZero}
-use Rattle.matrix_inverse.specs.Loop.{loop}
+use Rattle.control_flow.specs.Loop.{loop}
 
 -- rows i and k change places `if irow != icol`
 unfoldable pub swapRows : Rows → ℕ → ℕ → Rows

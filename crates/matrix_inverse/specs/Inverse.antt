@@ -9,7 +9,7 @@ use lib.Ieee.{eq}
 use Rattle.matrix4x4.specs.Rows.{Rows, at, tabulate, positiveZero, Matrix4x4·fromRows}
 use Rattle.matrix4x4.specs.IsFinite.{Matrix4x4·isFinite}
 use Rattle.matrix_inverse.specs.declared.InverseAnswer.{InverseAnswer}
-use Rattle.matrix_inverse.specs.Loop.{loop}
+use Rattle.control_flow.specs.Loop.{loop}
 use Rattle.matrix_inverse.specs.Pivot.{Pivot·search}
 use Rattle.matrix_inverse.specs.Eliminate.{swapRows, eliminate}
 use Rattle.matrix_inverse.specs.RestoreColumns.{restoreColumns}

@@ -1,4 +1,3 @@
-pub mod Loop
 pub mod Pivot
 pub mod Eliminate
 pub mod RestoreColumns

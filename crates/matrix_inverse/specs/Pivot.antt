@@ -9,7 +9,7 @@ use lib.Ieee.{le}
 use Rattle.float32.specs.Abs.{abs}
 use Rattle.matrix4x4.specs.Rows.{Row, Rows, row, col, positiveZero}
 use Rattle.matrix_inverse.specs.declared.Pivot.{Pivot}
-use Rattle.matrix_inverse.specs.Loop.{loop}
+use Rattle.control_flow.specs.Loop.{loop}
 
 -- the inner loop's body, row j being r: column k is taken if ipiv[k] == 0 and abs >= big
 unfoldable pub consider : Row → List ℕ → ℕ → ℕ → Pivot → Pivot

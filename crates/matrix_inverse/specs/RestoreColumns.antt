@@ -5,7 +5,7 @@ use mathlib.Core.List.{List}
 use lib.Dec.{eqb}
 use lib.ListN.{getD, set}
 use Rattle.matrix4x4.specs.Rows.{Row, Rows, row, col, tabulate}
-use Rattle.matrix_inverse.specs.Loop.{loop}
+use Rattle.control_flow.specs.Loop.{loop}
 
 -- pbrt's `minv.m[k].swap(a, b)`
 abbrev pub swapEntries : Row → ℕ → ℕ → Row

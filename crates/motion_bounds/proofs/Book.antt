@@ -20,7 +20,7 @@ use Rattle.bounds3.specs.Finite.{Finite, Point3f·isFinite, Bounds3f·isFinite}
 use Rattle.bounds3.specs.Inside.{Inside, Subset}
 use Rattle.bounds3.proofs.Finite.{test-finite, low-finite, high-finite}
 use Rattle.bounds3.proofs.Union.{subset-inside, union-inside-left, union-least, union-subset-left, union-isotone, from-point-inside, union-point-box, union-point-keeps}
-use Rattle.matrix_inverse.specs.Loop.{loop}
+use Rattle.control_flow.specs.Loop.{loop}
 use Rattle.transform.specs.declared.PointAnswer.{PointAnswer}
 use Rattle.transform.specs.declared.PointAnswer.the-variants as point
 use Rattle.transform.specs.declared.BoundsAnswer.{BoundsAnswer}

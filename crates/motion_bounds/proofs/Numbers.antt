@@ -13,7 +13,8 @@ use Rattle.bounds3.specs.declared.Bounds3f.{Bounds3f}
 use Rattle.bounds3.specs.Bounds3f.{Bounds3f·default, Bounds3f·fromPoint, Bounds3f·corner}
 use Rattle.bounds3.specs.Finite.{Point3f·isFinite, Bounds3f·isFinite}
 use Rattle.bounds3.proofs.Finite.{test-finite, box-finite, union-point-finite, union-finite}
-use Rattle.matrix_inverse.proofs.Loop.{loop-keeps, cond-keeps}
+use Rattle.control_flow.proofs.Loop.{loop-keeps}
+use Rattle.control_flow.proofs.Choice.{cond-keeps}
 use Rattle.transform.specs.declared.PointAnswer.{PointAnswer}
 use Rattle.transform.specs.declared.PointAnswer.the-variants as point
 use Rattle.transform.specs.declared.BoundsAnswer.{BoundsAnswer}

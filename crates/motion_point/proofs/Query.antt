@@ -5,6 +5,7 @@ use mathlib.Core.Path.{_≡_, refl}
 use mathlib.Core.Bool.{Bool, true, false, not, _||_, cond}
 use mathlib.Core.Logic.{_⊎_, inl, inr}
 use lib.Ieee.{Float, isNan, ofBits}
+use Rattle.control_flow.proofs.Choice.{cond-keeps}
 use Rattle.bounds3.specs.declared.Point3f.{Point3f}
 use Rattle.bounds3.specs.Finite.{Point3f·isFinite}
 use Rattle.transform.specs.declared.PointAnswer.{PointAnswer}
@@ -22,15 +23,11 @@ use Rattle.motion_point.specs.Answer.{PointAnswer·Answered}
 use Rattle.motion_point.specs.TransformPoint.{AnimatedTransform·rigidMotion, AnimatedTransform·movedPoint, AnimatedTransform·transformPoint}
 
 -- ---- the work
-chosen : (b : Bool) {x y : PointAnswer} → PointAnswer·Judged x → PointAnswer·Judged y → PointAnswer·Judged (cond b x y)
-chosen true j k = j
-chosen false j k = k
-
 pub moved-point-judged : (m : AnimatedTransform) (a : RigidMotion) (time : Float) (p : Point3f) → PointAnswer·Judged (AnimatedTransform·movedPoint m a time p)
 unfolding AnimatedTransform·movedPoint
 moved-point-judged m a time p =
-    chosen (atStart m time) (transform-point-judged (m .«start_transform») p)
-    (chosen (atEnd m time) (transform-point-judged (m .«end_transform») p) (movedPoint-judged a (m .s0) (m .s1) (dt (m .«start_time») (m .«end_time») time) p))
+    cond-keeps PointAnswer·Judged (atStart m time) _ _ (transform-point-judged (m .«start_transform») p)
+    (cond-keeps PointAnswer·Judged (atEnd m time) _ _ (transform-point-judged (m .«end_transform») p) (movedPoint-judged a (m .s0) (m .s1) (dt (m .«start_time») (m .«end_time») time) p))
 
 module _ (m : AnimatedTransform) (a : RigidMotion) (time : Float) (p : Point3f) where
   pub moved-point-start : atStart m time ≡ true → AnimatedTransform·movedPoint m a time p ≡ Transform·transformPoint (m .«start_transform») p
@@ -65,8 +62,5 @@ refused-answered = record { number = inr (inr refl); values = tt }
 
 pub transform-point-answered : (m : AnimatedTransform) (time : Float) (p : Point3f) → PointAnswer·Answered (AnimatedTransform·transformPoint m time p)
 unfolding AnimatedTransform·transformPoint
-transform-point-answered m time p = go (isNan time || not (Point3f·isFinite p))
-  where
-    go : (b : Bool) → PointAnswer·Answered (cond b (Refused 6) (AnimatedTransform·movedPoint m (AnimatedTransform·rigidMotion m) time p))
-    go true = refused-answered
-    go false = judged-answered (moved-point-judged m (AnimatedTransform·rigidMotion m) time p)
+transform-point-answered m time p =
+    cond-keeps PointAnswer·Answered (isNan time || not (Point3f·isFinite p)) (Refused 6) _ refused-answered (judged-answered (moved-point-judged m (AnimatedTransform·rigidMotion m) time p))

@@ -14,7 +14,8 @@ use Rattle.bounds3.specs.declared.Bounds3f.{Bounds3f}
 use Rattle.bounds3.specs.Bounds3f.{Bounds3f·default, Bounds3f·corner}
 use Rattle.bounds3.specs.Finite.{Point3f·isFinite}
 use Rattle.matrix4x4.specs.Rows.{Matrix4x4·toRows}
-use Rattle.matrix_inverse.specs.Loop.{loop}
+use Rattle.control_flow.proofs.Loop.{loop-keeps}
+use Rattle.control_flow.proofs.Choice.{cond-keeps}
 use Rattle.transform.specs.declared.Transform.{Transform}
 use Rattle.transform.specs.declared.PointAnswer.{PointAnswer}
 use Rattle.transform.specs.declared.PointAnswer.the-variants as point
@@ -45,10 +46,6 @@ BoundsAnswer·NonZero (bounds.Bounds b) = Unit {0}
 BoundsAnswer·NonZero (bounds.Refused n) = n ≡ 0 → ⊥
 
 -- ---- points
-either : (b : Bool) (x y : PointAnswer) → PointAnswer·NonZero x → PointAnswer·NonZero y → PointAnswer·NonZero (cond b x y)
-either true x y p q = p
-either false x y p q = q
-
 five : PointAnswer·NonZero (point.Refused 5)
 five e = absurd (omega (arith, e))
 
@@ -57,31 +54,27 @@ six e = absurd (omega (arith, e))
 
 transform-point-nonzero : (t : Transform) (p : Point3f) → PointAnswer·NonZero (Transform·transformPoint t p)
 unfolding Transform·transformPoint judged
-transform-point-nonzero t p = let q = movedPoint (Matrix4x4·toRows (t .m)) p in either (Point3f·isFinite q) (point.Moved q) (point.Refused 5) tt five
+transform-point-nonzero t p = let q = movedPoint (Matrix4x4·toRows (t .m)) p in cond-keeps PointAnswer·NonZero (Point3f·isFinite q) (point.Moved q) (point.Refused 5) tt five
 
 pose-nonzero : (a : RigidMotion) (m : AnimatedTransform) (t : Float) (p : Point3f) → PointAnswer·NonZero (Pose·movedPoint a (m .s0) (m .s1) t p)
 unfolding Pose·movedPoint
 pose-nonzero a m t p =
     let pose = Pose·matrix a (m .s0) (m .s1) t in
     let q = Pose·transformPoint (pose .m) p in
-    either (eqb (pose .refusal) 0 && Point3f·isFinite q) (point.Moved q) (point.Refused 5) tt five
+    cond-keeps PointAnswer·NonZero (eqb (pose .refusal) 0 && Point3f·isFinite q) (point.Moved q) (point.Refused 5) tt five
 
 moved-point-nonzero : (m : AnimatedTransform) (a : RigidMotion) (time : Float) (p : Point3f) → PointAnswer·NonZero (AnimatedTransform·movedPoint m a time p)
 unfolding AnimatedTransform·movedPoint
 moved-point-nonzero m a time p =
-    either (atStart m time) _ _ (transform-point-nonzero (m .«start_transform») p)
-    (either (atEnd m time) _ _ (transform-point-nonzero (m .«end_transform») p) (pose-nonzero a m (dt (m .«start_time») (m .«end_time») time) p))
+    cond-keeps PointAnswer·NonZero (atStart m time) _ _ (transform-point-nonzero (m .«start_transform») p)
+    (cond-keeps PointAnswer·NonZero (atEnd m time) _ _ (transform-point-nonzero (m .«end_transform») p) (pose-nonzero a m (dt (m .«start_time») (m .«end_time») time) p))
 
 pub point-nonzero : (m : AnimatedTransform) (time : Float) (p : Point3f) → PointAnswer·NonZero (AnimatedTransform·transformPoint m time p)
 unfolding AnimatedTransform·transformPoint
 point-nonzero m time p =
-    either (isNan time || not (Point3f·isFinite p)) (point.Refused 6) _ six (moved-point-nonzero m (AnimatedTransform·rigidMotion m) time p)
+    cond-keeps PointAnswer·NonZero (isNan time || not (Point3f·isFinite p)) (point.Refused 6) _ six (moved-point-nonzero m (AnimatedTransform·rigidMotion m) time p)
 
 -- ---- boxes
-choose : (b : Bool) (x y : BoundsAnswer) → BoundsAnswer·NonZero x → BoundsAnswer·NonZero y → BoundsAnswer·NonZero (cond b x y)
-choose true x y p q = p
-choose false x y p q = q
-
 -- A number that was tested.
 tested : (n : ℕ) (r : BoundsAnswer) → BoundsAnswer·NonZero r → BoundsAnswer·NonZero (cond (eqb n 0) r (bounds.Refused n))
 tested n r p = go (eqb n 0) (eqb-false n 0)
@@ -113,12 +106,6 @@ from-ends-nonzero (point.Moved p) (point.Moved q) h k = tt
 from-ends-nonzero (point.Moved p) (point.Refused n) h k = k
 from-ends-nonzero (point.Refused n) b h k = h
 
-loop-nonzero : (body : ℕ → BoundsAnswer → BoundsAnswer) → ((k : ℕ) (r : BoundsAnswer) → BoundsAnswer·NonZero r → BoundsAnswer·NonZero (body k r))
-    → (n : ℕ) (r : BoundsAnswer) → BoundsAnswer·NonZero r → BoundsAnswer·NonZero (loop body n r)
-unfolding loop
-loop-nonzero body f zero r h = h
-loop-nonzero body f (suc n) r h = f n (loop body n r) (loop-nonzero body f n r h)
-
 -- ---- a stored transform over a box, corner by corner
 corner-nonzero : (t : Transform) (r : BoundsAnswer) (x y z : Float) → BoundsAnswer·NonZero r → BoundsAnswer·NonZero (transform.unionCorner t r x y z)
 unfolding transform.unionCorner
@@ -133,7 +120,7 @@ transform-bounds-nonzero t b =
 -- ---- the motion box
 zeros-nonzero : (m : AnimatedTransform) (a : RigidMotion) (p : Point3f) (zeros : List Float) (n : ℕ) (r : BoundsAnswer) → BoundsAnswer·NonZero r → BoundsAnswer·NonZero (unionZeros m a p zeros n r)
 unfolding unionZeros
-zeros-nonzero m a p zeros = loop-nonzero (λ k. unionZero m a p (getD zeros k nan)) (λ k r h. one (getD zeros k nan) r h)
+zeros-nonzero m a p zeros n = loop-keeps (λ _. BoundsAnswer·NonZero) (λ k. unionZero m a p (getD zeros k nan)) n (λ k r _ h. one (getD zeros k nan) r h)
   where
     one : (x : Float) (r : BoundsAnswer) → BoundsAnswer·NonZero r → BoundsAnswer·NonZero (unionZero m a p x r)
     one x r h = unfold unionZero pointAt in union-moved-nonzero r _ h (moved-point-nonzero m a _ p)
@@ -148,12 +135,12 @@ unfolding pointBounds
 point-bounds-nonzero m a p =
     let c = m .coefficients in
     let start = transform-point-nonzero (m .«start_transform») p in
-    choose (not (m .«actually_animated»)) _ _ (from-moved-nonzero _ start)
+    cond-keeps BoundsAnswer·NonZero (not (m .«actually_animated»)) _ _ (from-moved-nonzero _ start)
     (axis-nonzero m a p (c .z) _ (axis-nonzero m a p (c .y) _ (axis-nonzero m a p (c .x) _ (from-ends-nonzero _ _ start (transform-point-nonzero (m .«end_transform») p)))))
 
 corners-nonzero : (m : AnimatedTransform) (a : RigidMotion) (b : Bounds3f) (n : ℕ) → BoundsAnswer·NonZero (unionCorners allPlaces m a b n)
 unfolding unionCorners
-corners-nonzero m a b n = loop-nonzero (unionCorner allPlaces m a b) one n (bounds.Bounds Bounds3f·default) tt
+corners-nonzero m a b n = loop-keeps (λ _. BoundsAnswer·NonZero) (unionCorner allPlaces m a b) n (λ k r _ h. one k r h) (bounds.Bounds Bounds3f·default) tt
   where
     one : (k : ℕ) (r : BoundsAnswer) → BoundsAnswer·NonZero r → BoundsAnswer·NonZero (unionCorner allPlaces m a b k r)
     one k r h = unfold unionCorner in union-nonzero r _ h (point-bounds-nonzero m a (Bounds3f·corner b k))
@@ -162,12 +149,12 @@ box-bounds-nonzero : (m : AnimatedTransform) (b : Bounds3f) → BoundsAnswer·No
 unfolding boxBounds
 box-bounds-nonzero m b =
     let start = transform-bounds-nonzero (m .«start_transform») b in
-    choose (not (m .«actually_animated»)) _ _ start
-    (choose (not (m .«has_rotation»)) _ _ (union-nonzero _ _ start (transform-bounds-nonzero (m .«end_transform») b)) (corners-nonzero m (AnimatedTransform·rigidMotion m) b 8))
+    cond-keeps BoundsAnswer·NonZero (not (m .«actually_animated»)) _ _ start
+    (cond-keeps BoundsAnswer·NonZero (not (m .«has_rotation»)) _ _ (union-nonzero _ _ start (transform-bounds-nonzero (m .«end_transform») b)) (corners-nonzero m (AnimatedTransform·rigidMotion m) b 8))
 
 pub point-motion-nonzero : (m : AnimatedTransform) (p : Point3f) → BoundsAnswer·NonZero (AnimatedTransform·boundPointMotion m p)
 unfolding boundPointMotion
-point-motion-nonzero m p = choose (not (Point3f·isFinite p)) (bounds.Refused 6) _ (λ e. absurd (omega (arith, e))) (point-bounds-nonzero m (AnimatedTransform·rigidMotion m) p)
+point-motion-nonzero m p = cond-keeps BoundsAnswer·NonZero (not (Point3f·isFinite p)) (bounds.Refused 6) _ (λ e. absurd (omega (arith, e))) (point-bounds-nonzero m (AnimatedTransform·rigidMotion m) p)
 
 pub motion-nonzero : (m : AnimatedTransform) (b : Bounds3f) → BoundsAnswer·NonZero (AnimatedTransform·motionBounds m b)
 unfolding motionBounds
@@ -192,7 +179,7 @@ enclose-motion-nonzero : (m : AnimatedTransform) (b : Bounds3f) (d : ℕ) → Bo
 unfolding AnimatedTransform·encloseMotion AnimatedTransform·encloseEnds
 enclose-motion-nonzero m b d =
     let start = stored-nonzero (m .«start_transform») b in
-    choose (m .«actually_animated») _ _
+    cond-keeps BoundsAnswer·NonZero (m .«actually_animated») _ _
     (slices-nonzero m (AnimatedTransform·rigidMotion m) b d _ (union-nonzero _ _ start (stored-nonzero (m .«end_transform») b)) (2 ^ d)) start
 
 pub cover-nonzero : (m : AnimatedTransform) (b : Bounds3f) (d : ℕ) → BoundsAnswer·NonZero (AnimatedTransform·cover m b d)

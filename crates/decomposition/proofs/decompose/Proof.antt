@@ -1,7 +1,7 @@
 -- `decompose` meets its contract. The invariant: after `counter` rounds the definition stands at `r`, unsettled.
 use mathlib.Core.Path.{sym, _∙_}
 use Prim.Native.Nat.{_-_}
-use Rattle.matrix_inverse.specs.Loop.{loop}
+use Rattle.control_flow.specs.Loop.{loop}
 use borrow.Author.Tests.{not-true, not-false}
 use borrow.Author.Needs.{needs}
 use Rattle.decomposition.proofs.Rounds.{Reached, inverse-refuses, matrix-refuses, turn-last, turn-next}

@@ -2,9 +2,9 @@
 use Prim.Native.Nat.{_≤_, _-_}
 use mathlib.Core.Path.{_≡_}
 use native.Mathlib.Omega.{arith}
-use Rattle.matrix_inverse.specs.Loop.{loop}
+use Rattle.control_flow.specs.Loop.{loop}
 use Rattle.matrix_inverse.specs.RestoreColumns.{restoreAt, restoreColumns}
-use Rattle.matrix_inverse.proofs.Loop.{loop-start, loop-next, loop-end}
+use Rattle.control_flow.proofs.Loop.{loop-start, loop-next, loop-end}
 use Rattle.matrix_inverse.proofs.restore_columns.Statement.{statement}
 use Rattle.matrix_inverse.proofs.restore_columns.Tie as tie
 use borrow.Author.Needs.{needs}

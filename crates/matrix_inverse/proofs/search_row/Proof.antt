@@ -3,9 +3,9 @@ use Prim.Native.Nat.{_≤_, _-_}
 use mathlib.Core.Path.{_≡_}
 use native.Mathlib.Omega.{arith}
 use borrow.Author.Tests.{eq-eqb, ne-eqb}
-use Rattle.matrix_inverse.specs.Loop.{loop}
+use Rattle.control_flow.specs.Loop.{loop}
 use Rattle.matrix_inverse.specs.Pivot.{consider, searchRow}
-use Rattle.matrix_inverse.proofs.Loop.{loop-start, loop-next, loop-end}
+use Rattle.control_flow.proofs.Loop.{loop-start, loop-next, loop-end}
 use Rattle.matrix_inverse.proofs.search_row.Statement.{statement}
 use Rattle.matrix_inverse.proofs.search_row.Tie as tie
 use borrow.Author.Needs.{needs}

@@ -3,8 +3,8 @@ use Prim.Native.Nat.{_≤_, _-_}
 use mathlib.Core.Path.{_≡_}
 use native.Mathlib.Omega.{arith}
 use borrow.Author.Needs.{needs}
-use Rattle.matrix_inverse.specs.Loop.{loop}
-use Rattle.matrix_inverse.proofs.Loop.{loop-start, loop-next, loop-end}
+use Rattle.control_flow.specs.Loop.{loop}
+use Rattle.control_flow.proofs.Loop.{loop-start, loop-next, loop-end}
 use Rattle.motion_bounds.specs.MotionBounds.{allPlaces, unionCorner, unionCorners}
 use Rattle.motion_bounds.proofs.union_corners.Statement.{statement}
 use Rattle.motion_bounds.proofs.union_corners.Tie as tie

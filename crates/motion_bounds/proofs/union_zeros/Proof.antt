@@ -5,8 +5,8 @@ use native.Mathlib.Omega.{arith}
 use lib.ListN.{getD}
 use lib.Ieee.{nan}
 use borrow.Author.Needs.{needs}
-use Rattle.matrix_inverse.specs.Loop.{loop}
-use Rattle.matrix_inverse.proofs.Loop.{loop-start, loop-next, loop-end}
+use Rattle.control_flow.specs.Loop.{loop}
+use Rattle.control_flow.proofs.Loop.{loop-start, loop-next, loop-end}
 use Rattle.motion_bounds.specs.MotionBounds.{unionZero, unionZeros}
 use Rattle.motion_bounds.proofs.union_zeros.Statement.{statement}
 use Rattle.motion_bounds.proofs.union_zeros.Tie as tie

@@ -1,11 +1,10 @@
 -- The rules of a loop's invariant `s ≡ loop body k s₀`: it holds at the start (`loop-start`), after one more turn (`loop-next`) and, as the loop ends, for all turns (`loop-end`).
--- What the body keeps, the loop keeps (`loop-keeps`); what both cases of a choice have, the choice has (`cond-keeps`).
+-- What the body keeps, the loop keeps: `loop-keeps`.
 use mathlib.Core.Path.{_≡_, refl}
-use mathlib.Core.Bool.{Bool, true, false, cond}
 use Prim.Native.Nat.{ℕ, zero, suc, _+_, _<_}
 use native.Mathlib.Numerals.{add-one}
 use native.Mathlib.Omega.{arith}
-use Rattle.matrix_inverse.specs.Loop.{loop}
+use Rattle.control_flow.specs.Loop.{loop}
 
 module _ {S : Type 0} (body : ℕ → S → S) (s₀ : S) where
   pub loop-start : s₀ ≡ loop body 0 s₀
@@ -26,7 +25,3 @@ unfolding loop
 loop-keeps P body zero step s h = h
 loop-keeps P body (suc n) step s h =
     step n (loop body n s) (omega arith) (loop-keeps P body n (λ k t l. step k t (omega arith)) s h)
-
-pub cond-keeps : {A : Type 0} (P : A → Type 0) (b : Bool) (x y : A) → P x → P y → P (cond b x y)
-cond-keeps P true x y p q = p
-cond-keeps P false x y p q = q
