@@ -18,6 +18,10 @@ use Rattle.matrix4x4.specs.Rows.{positiveZero}
 pub data Zero : Float → Type 0 where
   signed : (s : Bool) (e : ℤ) → Zero (fin s 0 e)
 
+pub zero-zero : Zero positiveZero
+unfolding ofBits
+zero-zero = signed false (pos 0)
+
 -- the number 1, as m * 2 ^ e
 pub data One : Float → Type 0 where
   scaled : (m : ℕ) (e : ℤ) → m * up e ≡ down e → One (fin false m e)

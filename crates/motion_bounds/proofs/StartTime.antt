@@ -21,7 +21,7 @@ use Rattle.rounding.proofs.Arithmetic.{add-rounds, mul-rounds}
 use Rattle.float32.specs.Operators.{_⊕_, _⊖_, _⊗_, one}
 use Rattle.float32.specs.Lerp.{lerp}
 use Rattle.matrix4x4.specs.Rows.{positiveZero}
-use Rattle.matrix4x4.proofs.Zero.{Zero, signed, zero-mul}
+use Rattle.matrix4x4.proofs.Zero.{Zero, signed, zero-zero, zero-mul}
 use Rattle.bounds3.specs.declared.Point3f.{Point3f}
 use Rattle.transform.specs.TransformPoint.{Transform·transformPoint}
 use Rattle.pose_steps.specs.declared.RigidMotion.{RigidMotion}
@@ -106,10 +106,6 @@ module _ (x : Float) (f : T (finite x)) (h : T (fits binary32 x)) where
 whole-start : one ⊖ positiveZero ≡ one
 unfolding sub add neg round ofBits
 whole-start = refl
-
-zero-zero : Zero positiveZero
-unfolding ofBits
-zero-zero = signed false _
 
 pub lerp-start : (s e : Float) → T (finite s) → T (fits binary32 s) → T (finite e) → lerp positiveZero s e ≼ s
 unfolding lerp

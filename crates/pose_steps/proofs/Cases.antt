@@ -9,6 +9,7 @@ use Rattle.vector3.specs.declared.Vector3f.{Vector3f}
 use Rattle.quaternion.specs.declared.Quaternion.{Quaternion}
 use Rattle.matrix4x4.specs.declared.Matrix4x4.{Matrix4x4}
 use Rattle.matrix4x4.specs.Rows.{positiveZero}
+use Rattle.matrix4x4.specs.IsAffine.{bottomRow}
 use Rattle.bounds3.specs.declared.Point3f.{Point3f}
 use Rattle.transform.specs.Transform.{translation}
 use Rattle.transform.specs.declared.PointAnswer.the-variants.{Moved}
@@ -18,7 +19,7 @@ use Rattle.unit_interval.specs.Unit.{unitInterval}
 use Rattle.pose_steps.specs.declared.RigidMotion.{RigidMotion}
 use Rattle.pose_steps.specs.declared.IntervalVector.{IntervalVector}
 use Rattle.pose_steps.specs.declared.JudgedVector.{JudgedVector}
-use Rattle.pose_steps.specs.Pose.{bottomRow, Pose·movedPoint}
+use Rattle.pose_steps.specs.Pose.{Pose·movedPoint}
 use Rattle.pose_steps.specs.Enclose.{Pose·enclosePoint}
 use Rattle.pose_steps.specs.Computing.{computing}
 

@@ -6,7 +6,6 @@ use mathlib.Core.List.{[], _∷_}
 use Prim.Native.Nat.{ℕ, _<_, _*_}
 use native.Mathlib.Nat as nat
 use native.Mathlib.Omega.{arith}
-use lib.IntN.{pos}
 use lib.Dec.{T}
 use lib.Ieee.{Float, binary32, ofBits, down, up, round, sum, add, mul, eq, lt}
 use lib.Ieee.Fits.{down-pos, and-l, and-r}
@@ -19,8 +18,8 @@ use Rattle.matrix4x4.specs.Rows.{Row, Rows, col, at, all, positiveZero, Matrix4
 use Rattle.matrix4x4.specs.Transpose.{Matrix4x4·transpose}
 use Rattle.matrix4x4.specs.Mul.{dot4, Matrix4x4·mul}
 use Rattle.matrix4x4.specs.IsFinite.{Matrix4x4·isFinite}
-use Rattle.matrix4x4.specs.IsAffine.{Matrix4x4·isAffine}
-use Rattle.matrix4x4.proofs.Zero.{Zero, signed, one-one, zero-mul, zero-add-zero, one-mul-one, zero-add-one}
+use Rattle.matrix4x4.specs.IsAffine.{bottomRow, Matrix4x4·isAffine}
+use Rattle.matrix4x4.proofs.Zero.{Zero, signed, zero-zero, one-one, zero-mul, zero-add-zero, one-mul-one, zero-add-one}
 use Rattle.quaternion.specs.declared.Quaternion.{Quaternion}
 use Rattle.quaternion.specs.Quaternion.{Quaternion·dot, Quaternion·normalize, Quaternion·add, Quaternion·sub, Quaternion·mul, Quaternion·div}
 use Rattle.quaternion.specs.IsFinite.{Quaternion·isFinite}
@@ -34,7 +33,7 @@ use Rattle.transform.specs.TransformPoint.{judged, Transform·transformPoint}
 use Rattle.transform.proofs.Wp.{moved-affine}
 use Rattle.rotation.specs.FromQuaternion.{inverseRotation, Transform·fromQuaternion}
 use Rattle.pose_steps.specs.declared.RigidMotion.{RigidMotion}
-use Rattle.pose_steps.specs.Pose.{bottomRow, RigidMotion·new, Pose·translation, Pose·slerpNear, Pose·slerpFar, slerpBy, Pose·slerp, Pose·scaleRow, Pose·scale, Pose·rotation, Pose·mulRow, Pose·mul, Pose·transformPoint, allFinite, PoseAnswer·judged, Pose·matrix, Pose·movedPoint}
+use Rattle.pose_steps.specs.Pose.{RigidMotion·new, Pose·translation, Pose·slerpNear, Pose·slerpFar, slerpBy, Pose·slerp, Pose·scaleRow, Pose·scale, Pose·rotation, Pose·mulRow, Pose·mul, Pose·transformPoint, allFinite, PoseAnswer·judged, Pose·matrix, Pose·movedPoint}
 use Rattle.pose_steps.specs.Composition.{lerpTranslation, lerpScale, composition}
 use Rattle.pose_steps.proofs.Rows.{scale-bottom, rotation-bottom, mul-bottom}
 use Rattle.pose_steps.proofs.Finite.{all-each}
@@ -78,10 +77,6 @@ zero-plus (signed s e) = sum-zero s (0 * up e * 1) (0 * down e) (down e * 1) (si
 one-times : one ⊗ positiveZero ≡ positiveZero
 unfolding mul round ofBits
 one-times = refl
-
-zero-zero : Zero positiveZero
-unfolding ofBits
-zero-zero = signed false (pos 0)
 
 module _ (x y z : Float) (f : T (finite x)) (g : T (finite y)) (h : T (finite z)) where
   above : Zero (positiveZero ⊗ x ⊕ positiveZero ⊗ y ⊕ positiveZero ⊗ z)

@@ -15,6 +15,7 @@ use Rattle.quaternion.specs.declared.Quaternion.{Quaternion}
 use Rattle.matrix4x4.specs.declared.Matrix4x4.{Matrix4x4}
 use Rattle.matrix4x4.specs.Rows.{Row, col, at, all, Matrix4x4·toRows, positiveZero}
 use Rattle.matrix4x4.specs.IsFinite.{Matrix4x4·isFinite}
+use Rattle.matrix4x4.specs.IsAffine.{bottomRow}
 use Rattle.interval.specs.declared.Interval.{Interval}
 use Rattle.interval.specs.Interval.{Interval·point}
 use Rattle.interval.specs.Contains.{Encloses, Refines}
@@ -22,7 +23,7 @@ use Rattle.interval.proofs.Contains.{contains-finite, point-encloses, point-ref
 use Rattle.formula.specs.Promise.{Pairwise}
 use Rattle.formula.proofs.Pairwise.{pairwise-append}
 use Rattle.pose_steps.specs.declared.IntervalMatrix.{IntervalMatrix}
-use Rattle.pose_steps.specs.Pose.{three, entries, Matrix4x4·list, bottomRow, Pose·scale, Pose·rotation, Pose·mul, allFinite}
+use Rattle.pose_steps.specs.Pose.{three, entries, Matrix4x4·list, Pose·scale, Pose·rotation, Pose·mul, allFinite}
 use Rattle.pose_steps.specs.Enclose.{IntervalRow·list, IntervalMatrix·list, IntervalMatrix·point}
 use Rattle.pose_steps.specs.Promise.{AllFinite, FiniteScale, EnclosesScale, RefinesScale, EnclosesMatrix, RefinesMatrix}
 

@@ -16,6 +16,7 @@ use Rattle.quaternion.specs.IsFinite.{Quaternion·isFinite}
 use Rattle.matrix4x4.specs.declared.Matrix4x4.{Matrix4x4}
 use Rattle.matrix4x4.specs.Rows.{Row, col, tabulate, Matrix4x4·toRows, Matrix4x4·fromRows, positiveZero}
 use Rattle.matrix4x4.specs.IsFinite.{Matrix4x4·isFinite}
+use Rattle.matrix4x4.specs.IsAffine.{bottomRow}
 use Rattle.bounds3.specs.declared.Point3f.{Point3f}
 use Rattle.bounds3.specs.Finite.{Point3f·isFinite}
 use Rattle.transform.specs.Transform.{translation}
@@ -55,9 +56,6 @@ entries r = tabulate (col r)
 -- The three upper rows.
 abbrev pub Matrix4x4·list : Matrix4x4 → List Float
 Matrix4x4·list m = entries (m .r0) ++ entries (m .r1) ++ entries (m .r2)
-
-abbrev pub bottomRow : Row
-bottomRow = positiveZero ∷ positiveZero ∷ positiveZero ∷ one ∷ []
 
 abbrev pub Matrix4x4·ofList : List Float → Matrix4x4
 Matrix4x4·ofList l =
