@@ -13,7 +13,7 @@ use Rattle.animated_transform.specs.declared.AnimatedTransform.{AnimatedTransfo
 use Rattle.animated_transform.specs.New.{AnimatedTransform·new}
 use Rattle.motion_point.specs.TransformPoint.{AnimatedTransform·transformPoint}
 use Rattle.motion_cover.proofs.Contains.{cover-contains}
-use Rattle.lent_arrays.specs.Arrays.{Bounds3f·ofList}
+use Rattle.bounds3.specs.List.{Bounds3f·ofList}
 use Rattle.motion_rows.specs.Rows.{AnimatedTransform·toRows, AnimatedTransformAnswer·left}
 use Rattle.motion_rows.proofs.RoundTrip.{from-rows-inverse, constants-inverse}
 use Rattle.api.specs.Answers.{Rows·transformPoint, Rows·cover}

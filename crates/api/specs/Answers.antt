@@ -8,19 +8,18 @@ use lib.Ieee.{Float, isNan}
 use Rattle.matrix4x4.specs.Rows.{Rows, Matrix4x4·fromRows}
 use Rattle.bounds3.specs.declared.Point3f.{Point3f}
 use Rattle.bounds3.specs.Finite.{Point3f·isFinite}
+use Rattle.bounds3.specs.List.{Point3f·ofList, Bounds3f·ofList}
 use Rattle.transform.specs.declared.TransformAnswer.{TransformAnswer}
 use Rattle.transform.specs.declared.PointAnswer.{PointAnswer}
 use Rattle.transform.specs.declared.PointAnswer.the-variants.{Refused}
 use Rattle.transform.specs.declared.BoundsAnswer.{BoundsAnswer}
 use Rattle.pose_pair.specs.declared.Pose.{Pose}
-use Rattle.pose_steps.specs.Pose.{Point3f·ofList}
 use Rattle.animated_transform.specs.declared.AnimatedTransformAnswer.{AnimatedTransformAnswer}
 use Rattle.animated_transform.specs.New.{AnimatedTransform·new}
 use Rattle.motion_point.specs.TransformPoint.{AnimatedTransform·movedPoint}
 use Rattle.interpolation.specs.Interpolate.{AnimatedTransform·interpolate}
 use Rattle.motion_bounds.specs.MotionBounds.{AnimatedTransform·boundPointMotion, AnimatedTransform·motionBounds}
 use Rattle.motion_cover.specs.Cover.{AnimatedTransform·cover}
-use Rattle.lent_arrays.specs.Arrays.{Bounds3f·ofList}
 use Rattle.motion_rows.specs.Rows.{AnimatedTransform·fromRows, RigidMotion·fromRows}
 
 -- a time and the four rows of a matrix

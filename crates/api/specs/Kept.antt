@@ -13,7 +13,7 @@ use Rattle.transform.specs.declared.BoundsAnswer.the-variants.{Bounds}
 use Rattle.animated_transform.specs.declared.AnimatedTransform.{AnimatedTransform}
 use Rattle.animated_transform.specs.Built.{Built}
 use Rattle.motion_cover.specs.Theorem.{MovedInside}
-use Rattle.lent_arrays.specs.Arrays.{Bounds3f·ofList}
+use Rattle.bounds3.specs.List.{Bounds3f·ofList}
 use Rattle.motion_rows.specs.Rows.{AnimatedTransform·toRows}
 use Rattle.api.specs.Answers.{Rows·transformPoint}
 

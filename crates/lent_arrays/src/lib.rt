@@ -7,9 +7,9 @@ use transform::PointAnswer;
 use transform::Transform;
 use transform::TransformAnswer;
 ghost use mathlib.Core.Path.{_≡_};
+ghost use Rattle.bounds3.specs.List.{Point3f·ofList, Bounds3f·list, Bounds3f·ofList};
 ghost use Rattle.transform.specs.Answer.{PointAnswer·refusal, BoundsAnswer·refusal};
-ghost use Rattle.pose_steps.specs.Pose.{Point3f·ofList};
-ghost use Rattle.lent_arrays.specs.Arrays.{Bounds3f·ofList, transformRows, PointAnswer·left, BoundsAnswer·left, TransformAnswer·left};
+ghost use Rattle.lent_arrays.specs.Arrays.{transformRows, PointAnswer·left, BoundsAnswer·left, TransformAnswer·left};
 
 pub fn point(p: &[f32; 3]) -> Point3f
     ensures value { λ r. ⌜ r ≡ Point3f·ofList (now (p .entry)) ⌝ }
@@ -37,6 +37,14 @@ pub fn bounds(b: &[f32; 6]) -> Bounds3f
     Bounds3f { p_min, p_max }
 }
 
+pub fn bounds_values(b: Bounds3f) -> [f32; 6]
+    ensures value { λ r. ⌜ r ≡ Bounds3f·list b ⌝ }
+{
+    let l = b.p_min;
+    let h = b.p_max;
+    [l.x, l.y, l.z, h.x, h.y, h.z]
+}
+
 pub fn put_point(answer: PointAnswer, out: &mut [f32; 3]) -> u8
     ensures refusal { λ r. ⌜ r ≡ PointAnswer·refusal answer ⌝ }
     ensures left { λ _. ⌜ now (out .exit) ≡ PointAnswer·left answer (now (out .entry)) ⌝ }
@@ -56,9 +64,7 @@ pub fn put_bounds(answer: BoundsAnswer, out: &mut [f32; 6]) -> u8
 {
     match answer {
         BoundsAnswer::Bounds(b) => {
-            let l = b.p_min;
-            let h = b.p_max;
-            *out = [l.x, l.y, l.z, h.x, h.y, h.z];
+            *out = bounds_values(b);
             0
         }
         BoundsAnswer::Refused(n) => n,

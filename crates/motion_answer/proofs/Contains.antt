@@ -13,6 +13,7 @@ use lib.Ieee.Bits.{ofBits-fits}
 use Rattle.hexadecimal.specs.Word.{number}
 use Rattle.matrix4x4.specs.Rows.{col}
 use Rattle.bounds3.specs.declared.Bounds3f.{Bounds3f}
+use Rattle.bounds3.specs.List.{Bounds3f·ofList}
 use Rattle.transform.specs.declared.BoundsAnswer.{BoundsAnswer}
 use Rattle.transform.specs.declared.BoundsAnswer.the-variants.{Bounds, Refused}
 use Rattle.bounds_query.proofs.Union.{refused-bounds}
@@ -23,7 +24,7 @@ use Rattle.motion_cover.proofs.Contains.{cover-contains}
 use Rattle.motion_file.specs.Text.{lineFeed, split}
 use Rattle.motion_file.specs.declared.MoveFile.{MoveFile}
 use Rattle.motion_file.specs.Layout.{layout, conforms, maxBytes, valueOf, words, valuesOf, MoveFile·departs, MoveFile·contents, MoveFile·read}
-use Rattle.motion_answer.specs.Answer.{Pose·fromValues, Bounds3f·fromValues, coverDepth, MoveFile·move, MoveFile·cover, BoundsAnswer·text, answerText}
+use Rattle.motion_answer.specs.Answer.{Pose·fromValues, coverDepth, MoveFile·move, MoveFile·cover, BoundsAnswer·text, answerText}
 use Rattle.motion_answer.specs.Theorem.{moveOf, boxOf, AnswerContainsMotion}
 
 -- ---- the times of a file
@@ -46,7 +47,7 @@ times-binary32 bytes = go (leb (length bytes) maxBytes && conforms layout lines)
 -- ---- where a box is answered
 record Accepted (file : MoveFile) (box : Bounds3f) : Type 0 where
   move : MoveFile·move file .refusal ≡ 0
-  cover : AnimatedTransform·cover (MoveFile·move file .value) (Bounds3f·fromValues (file .bounds)) coverDepth ≡ Bounds box
+  cover : AnimatedTransform·cover (MoveFile·move file .value) (Bounds3f·ofList (file .bounds)) coverDepth ≡ Bounds box
 
 file-accepted : (file : MoveFile) (box : Bounds3f) → MoveFile·cover file ≡ Bounds box → Accepted file box
 unfolding MoveFile·cover
@@ -56,7 +57,7 @@ file-accepted file box = go (eqb (file .refusal) 0) (eqb (m .refusal) 0) (eqb-tr
     m = MoveFile·move file
 
     c : BoundsAnswer
-    c = AnimatedTransform·cover (m .value) (Bounds3f·fromValues (file .bounds)) coverDepth
+    c = AnimatedTransform·cover (m .value) (Bounds3f·ofList (file .bounds)) coverDepth
 
     go : (a b : Bool) → (b ≡ true → m .refusal ≡ 0) → cond a (cond b c (Refused (m .refusal))) (Refused (file .refusal)) ≡ Bounds box → Accepted file box
     go true true f e = record { move = f refl; cover = e }

@@ -6,12 +6,13 @@ use mathlib.Core.Bool.{Bool, true, false, cond}
 use mathlib.Core.List.{List}
 use lib.Dec.{ltb}
 use lib.ListN.{length}
+use Rattle.bounds3.specs.List.{Bounds3f·list}
 use Rattle.transform.specs.declared.BoundsAnswer.{BoundsAnswer}
 use Rattle.transform.specs.declared.BoundsAnswer.the-variants.{Bounds, Refused}
 use Rattle.motion_file.specs.Layout.{MoveFile·read}
 use Rattle.motion_text.specs.Answer.{zerosInFront}
 use Rattle.motion_text.proofs.Written.{length-bounds, length-refusal}
-use Rattle.motion_answer.specs.Answer.{Bounds3f·values, MoveFile·cover, BoundsAnswer·text, answerText}
+use Rattle.motion_answer.specs.Answer.{MoveFile·cover, BoundsAnswer·text, answerText}
 
 zeros-few : (n : ℕ) → zerosInFront n ≤ 2
 zeros-few n = go (ltb n 10) (ltb n 100)
@@ -26,5 +27,5 @@ unfolding answerText BoundsAnswer·text
 answer-length bytes = go (MoveFile·cover (MoveFile·read bytes))
   where
     go : (c : BoundsAnswer) → length (BoundsAnswer·text c) ≤ 72
-    go (Bounds box) = omega (arith, length-bounds (Bounds3f·values box) refl)
+    go (Bounds box) = omega (arith, length-bounds (Bounds3f·list box) refl)
     go (Refused n) = omega (arith, length-refusal n (zerosInFront n) refl (zeros-few n))

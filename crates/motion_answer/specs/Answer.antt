@@ -2,11 +2,12 @@
 -- 11 "precedes all others"; then come building's numbers, then the query's. Definitions only.
 use Prim.Native.Nat.{ℕ, _+_, _*_}
 use mathlib.Core.Bool.{cond}
-use mathlib.Core.List.{List, [], _∷_}
+use mathlib.Core.List.{List}
 use lib.Dec.{eqb}
-use lib.Ieee.{Float, binary32, ofBits}
-use Rattle.matrix4x4.specs.Rows.{Row, col, tabulate, positiveZero}
-use Rattle.bounds3.specs.declared.Bounds3f.{Bounds3f}
+use lib.Ieee.{Float}
+use Rattle.matrix4x4.specs.Rows.{Row, col, tabulate}
+use Rattle.matrix4x4.specs.IsAffine.{bottomRow}
+use Rattle.bounds3.specs.List.{Bounds3f·list, Bounds3f·ofList}
 use Rattle.transform.specs.declared.BoundsAnswer.{BoundsAnswer}
 use Rattle.transform.specs.declared.BoundsAnswer.the-variants.{Bounds, Refused}
 use Rattle.pose_pair.specs.declared.Pose.{Pose}
@@ -17,31 +18,17 @@ use Rattle.motion_file.specs.declared.MoveFile.{MoveFile}
 use Rattle.motion_file.specs.Layout.{MoveFile·read}
 use Rattle.motion_text.specs.Answer.{boundsText, refusalText}
 
--- "The bottom row is 0 0 0 1."
-abbrev pub bottomRow : Row
-bottomRow = positiveZero ∷ positiveZero ∷ positiveZero ∷ ofBits binary32 0x3f800000 ∷ []
-
 -- row i of the matrix among the values `time m00 m01 m02 m03 m10 m11 m12 m13 m20 m21 m22 m23`
 abbrev pub rowOf : List Float → ℕ → Row
 rowOf values i = tabulate (λ j. col values (1 + 4 * i + j))
 
+-- "The bottom row is 0 0 0 1."
 abbrev pub Pose·fromValues : List Float → Pose
 Pose·fromValues values =
     record {
       time = col values 0;
       m = record { r0 = rowOf values 0; r1 = rowOf values 1; r2 = rowOf values 2; r3 = bottomRow };
     }
-
--- a box from the values `x0 y0 z0 x1 y1 z1`, "least corner, greatest corner", and back
-abbrev pub Bounds3f·fromValues : List Float → Bounds3f
-Bounds3f·fromValues values =
-    record {
-      «p_min» = record { x = col values 0; y = col values 1; z = col values 2 };
-      «p_max» = record { x = col values 3; y = col values 4; z = col values 5 };
-    }
-
-abbrev pub Bounds3f·values : Bounds3f → List Float
-Bounds3f·values b = b .«p_min» .x ∷ b .«p_min» .y ∷ b .«p_min» .z ∷ b .«p_max» .x ∷ b .«p_max» .y ∷ b .«p_max» .z ∷ []
 
 -- "The program `cover` .. prints the depth-10 cover"
 abbrev pub coverDepth : ℕ
@@ -51,17 +38,17 @@ coverDepth = 10
 unfoldable pub MoveFile·move : MoveFile → AnimatedTransformAnswer
 MoveFile·move file = AnimatedTransform·new (Pose·fromValues (file .start)) (Pose·fromValues (file .end))
 
--- the cover that a file asks for
+-- the cover that a file asks for; its box has the values `x0 y0 z0 x1 y1 z1`, "least corner, greatest corner"
 unfoldable pub MoveFile·cover : MoveFile → BoundsAnswer
 MoveFile·cover file =
     cond (eqb (file .refusal) 0)
     (let move = MoveFile·move file in
-    cond (eqb (move .refusal) 0) (AnimatedTransform·cover (move .value) (Bounds3f·fromValues (file .bounds)) coverDepth) (Refused (move .refusal)))
+    cond (eqb (move .refusal) 0) (AnimatedTransform·cover (move .value) (Bounds3f·ofList (file .bounds)) coverDepth) (Refused (move .refusal)))
     (Refused (file .refusal))
 
 -- the text of a box or of a refusal
 unfoldable pub BoundsAnswer·text : BoundsAnswer → List ℕ
-BoundsAnswer·text (Bounds b) = boundsText (Bounds3f·values b)
+BoundsAnswer·text (Bounds b) = boundsText (Bounds3f·list b)
 BoundsAnswer·text (Refused n) = refusalText n
 
 -- the text that answers a file's bytes

@@ -12,6 +12,7 @@ use lib.Dec.{T}
 use lib.Ieee.{Float, isNan}
 use Rattle.bounds3.specs.declared.Point3f.{Point3f}
 use Rattle.bounds3.specs.declared.Bounds3f.{Bounds3f}
+use Rattle.bounds3.specs.List.{Bounds3f·list, Bounds3f·ofList}
 use Rattle.bounds3.specs.Inside.{Inside}
 use Rattle.animated_transform.specs.declared.AnimatedTransform.{AnimatedTransform}
 use Rattle.animated_transform.specs.Built.{Built}
@@ -19,14 +20,14 @@ use Rattle.motion_point.specs.TransformPoint.{AnimatedTransform·transformPoint
 use Rattle.motion_cover.specs.Theorem.{MovedInside}
 use Rattle.motion_file.specs.Layout.{MoveFile·read}
 use Rattle.motion_text.specs.Answer.{boundsText, refusalText}
-use Rattle.motion_answer.specs.Answer.{Bounds3f·fromValues, Bounds3f·values, MoveFile·move, answerText}
+use Rattle.motion_answer.specs.Answer.{MoveFile·move, answerText}
 
 -- the move and the box that a file's bytes hold
 abbrev pub moveOf : List ℕ → AnimatedTransform
 moveOf bytes = MoveFile·move (MoveFile·read bytes) .value
 
 abbrev pub boxOf : List ℕ → Bounds3f
-boxOf bytes = Bounds3f·fromValues (MoveFile·read bytes .bounds)
+boxOf bytes = Bounds3f·ofList (MoveFile·read bytes .bounds)
 
 pub record PrintsRefusal (bytes : List ℕ) : Type 0 where
   pub number : ℕ
@@ -34,7 +35,7 @@ pub record PrintsRefusal (bytes : List ℕ) : Type 0 where
 
 pub record PrintsCover (bytes : List ℕ) : Type 0 where
   pub box : Bounds3f
-  pub text : answerText bytes ≡ boundsText (Bounds3f·values box)
+  pub text : answerText bytes ≡ boundsText (Bounds3f·list box)
   pub built : Built (moveOf bytes)
   pub contains : (time : Float) (p : Point3f) → T (not (isNan time)) → Inside (boxOf bytes) p
       → MovedInside box (AnimatedTransform·transformPoint (moveOf bytes) time p)

@@ -1,7 +1,5 @@
 // From a move file to the text that answers it: document 01's program `cover` but for its reading and writing.
 use animated_transform::AnimatedTransform;
-use bounds3::Bounds3f;
-use bounds3::Point3f;
 use matrix4x4::Matrix4x4;
 use motion_file::MoveFile;
 use pose_pair::Pose;
@@ -10,7 +8,7 @@ ghost use Prim.Native.Nat.{_≤_};
 ghost use mathlib.Core.Path.{_≡_};
 ghost use lib.ListN.{length, take};
 ghost use Rattle.motion_text.specs.Answer.{front, lengthIn};
-ghost use Rattle.motion_answer.specs.Answer.{Pose·fromValues, Bounds3f·fromValues, Bounds3f·values, MoveFile·cover, BoundsAnswer·text, answerText};
+ghost use Rattle.motion_answer.specs.Answer.{Pose·fromValues, MoveFile·cover, BoundsAnswer·text, answerText};
 
 const DEPTH: u32 = 10;
 
@@ -27,31 +25,6 @@ fn pose(values: [f32; 13]) -> Pose
     Pose { time: values[0], m }
 }
 
-// A box from its least corner and its greatest, and back. Accuracy: exact.
-fn bounds(values: [f32; 6]) -> Bounds3f
-    ensures value { λ r. ⌜ r ≡ Bounds3f·fromValues values ⌝ }
-{
-    let p_min = Point3f {
-        x: values[0],
-        y: values[1],
-        z: values[2],
-    };
-    let p_max = Point3f {
-        x: values[3],
-        y: values[4],
-        z: values[5],
-    };
-    Bounds3f { p_min, p_max }
-}
-
-fn values(b: Bounds3f) -> [f32; 6]
-    ensures value { λ r. ⌜ r ≡ Bounds3f·values b ⌝ }
-{
-    let l = b.p_min;
-    let h = b.p_max;
-    [l.x, l.y, l.z, h.x, h.y, h.z]
-}
-
 // The cover of the file's box under the file's move, refused with 11, then by building, then by the query. Accuracy: encloses.
 fn file_cover(file: MoveFile) -> BoundsAnswer
     ensures value { λ r. ⌜ r ≡ MoveFile·cover file ⌝ }
@@ -66,7 +39,7 @@ fn file_cover(file: MoveFile) -> BoundsAnswer
         return BoundsAnswer::Refused(built.refusal);
     }
     let values = file.bounds;
-    motion_cover::cover(built.value, bounds(values), DEPTH)
+    motion_cover::cover(built.value, lent_arrays::bounds(&values), DEPTH)
 }
 
 // Writes a box or a refusal into the front of `out`.
@@ -76,7 +49,7 @@ fn write(cover: BoundsAnswer, out: &mut [u8]) -> usize
     ensures counts { λ r. ⌜ (r ≤ length (now (out .exit))) × (r ≡ length (take r (now (out .exit)))) ⌝ }
 {
     match cover {
-        BoundsAnswer::Bounds(b) => motion_text::write_bounds(values(b), out),
+        BoundsAnswer::Bounds(b) => motion_text::write_bounds(lent_arrays::bounds_values(b), out),
         BoundsAnswer::Refused(n) => motion_text::write_refusal(n, out),
     }
 }

@@ -18,6 +18,7 @@ use Rattle.bounds3.specs.declared.Bounds3f.{Bounds3f}
 use Rattle.bounds3.specs.Finite.{Finite, Point3f·isFinite, Bounds3f·isFinite}
 use Rattle.bounds3.proofs.Finite.{finite-test}
 use Rattle.bounds3.specs.Inside.{Inside}
+use Rattle.bounds3.specs.List.{Point3f·list}
 use Rattle.bounds3.proofs.Union.{union-inside-left, union-inside-right}
 use Rattle.transform.specs.declared.Transform.{Transform}
 use Rattle.transform.specs.declared.PointAnswer.{PointAnswer}
@@ -33,7 +34,7 @@ use Rattle.unit_interval.proofs.Slices.{slice-unit, slice-covers}
 use Rattle.unit_interval.proofs.Dt.{dt-unit}
 use Rattle.pose_steps.specs.declared.RigidMotion.{RigidMotion}
 use Rattle.pose_steps.specs.declared.JudgedVector.{JudgedVector}
-use Rattle.pose_steps.specs.Pose.{Point3f·list, Pose·transformPoint, Pose·movedPoint}
+use Rattle.pose_steps.specs.Pose.{Pose·transformPoint, Pose·movedPoint}
 use Rattle.pose_steps.specs.Enclose.{IntervalVector·list, Pose·enclosePoint, Bounds3f·intervals, IntervalVector·bounds}
 use Rattle.pose_steps.specs.Promise.{AllFinite, RigidMotion·Valid, FiniteScale, EnclosesAnswer}
 use Rattle.pose_steps.proofs.Rows.{enclosed-finite}

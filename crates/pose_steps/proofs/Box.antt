@@ -9,12 +9,12 @@ use Rattle.bounds3.specs.declared.Point3f.{Point3f}
 use Rattle.bounds3.specs.declared.Bounds3f.{Bounds3f}
 use Rattle.bounds3.specs.Finite.{Bounds3f·isFinite}
 use Rattle.bounds3.specs.Inside.{Inside, Subset}
+use Rattle.bounds3.specs.List.{Point3f·list}
 use Rattle.bounds3.proofs.Finite.{low-finite, high-finite}
 use Rattle.interval.specs.Contains as interval
 use Rattle.interval.specs.Contains.{Encloses, Refines}
 use Rattle.formula.specs.Promise.{Pairwise}
 use Rattle.pose_steps.specs.declared.IntervalVector.{IntervalVector}
-use Rattle.pose_steps.specs.Pose.{Point3f·list}
 use Rattle.pose_steps.specs.Enclose.{IntervalVector·list, Bounds3f·intervals, IntervalVector·bounds}
 use Rattle.pose_steps.specs.Promise.{InOrder}
 

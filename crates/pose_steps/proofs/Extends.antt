@@ -17,6 +17,7 @@ use Rattle.matrix4x4.specs.declared.Matrix4x4.{Matrix4x4}
 use Rattle.matrix4x4.specs.Rows.{Row, positiveZero}
 use Rattle.bounds3.specs.declared.Point3f.{Point3f}
 use Rattle.bounds3.specs.Finite.{Point3f·isFinite}
+use Rattle.bounds3.specs.List.{Point3f·list}
 use Rattle.transform.specs.Transform.{translation}
 use Rattle.interval.specs.declared.Interval.{Interval}
 use Rattle.unit_interval.specs.Unit.{unitInterval}
@@ -32,7 +33,7 @@ use Rattle.pose_steps.specs.declared.IntervalQuaternion.{IntervalQuatern
 use Rattle.pose_steps.specs.declared.IntervalRow.{IntervalRow}
 use Rattle.pose_steps.specs.declared.IntervalMatrix.{IntervalMatrix}
 use Rattle.pose_steps.specs.Stages.{translationStage, slerpNearStage, slerpFarStage, scaleRowStage, rotationStage, mulRowStage, transformPointStage}
-use Rattle.pose_steps.specs.Pose.{Vector3f·list, Quaternion·list, Point3f·list, Matrix4x4·list, three, entries, Pose·translation, Pose·slerpNear, Pose·slerpFar, slerpBy, isNear, Pose·slerp, Pose·scaleRow, Pose·scale, Pose·rotation, Pose·mulRow, Pose·mul, Pose·transformPoint, allFinite, PoseAnswer·judged, Pose·matrix, Pose·movedPoint}
+use Rattle.pose_steps.specs.Pose.{Vector3f·list, Quaternion·list, Matrix4x4·list, three, entries, Pose·translation, Pose·slerpNear, Pose·slerpFar, slerpBy, isNear, Pose·slerp, Pose·scaleRow, Pose·scale, Pose·rotation, Pose·mulRow, Pose·mul, Pose·transformPoint, allFinite, PoseAnswer·judged, Pose·matrix, Pose·movedPoint}
 use Rattle.pose_steps.specs.Enclose.{IntervalVector·list, IntervalVector·point, IntervalQuaternion·list, IntervalQuaternion·point, IntervalRow·list, IntervalRow·three, IntervalMatrix·list, IntervalMatrix·point, Pose·encloseTranslation, Pose·encloseSlerpNear, Pose·encloseSlerpFar, encloseSlerpBy, Pose·encloseSlerp, Pose·encloseScaleRow, Pose·encloseScale, Pose·encloseRotation, Pose·encloseMulRow, Pose·encloseMul, Pose·encloseTransformPoint, IntervalMatrix·translation, Pose·encloseMatrix, Pose·enclosePoint}
 use Rattle.pose_steps.specs.Promise.{AllFinite, RigidMotion·Valid, FiniteScale, quarterInterval, EnclosesScale, EnclosesMatrix, EnclosesPose, EnclosesAnswer}
 use Rattle.pose_steps.proofs.Angle.{unit-finite, theta-angles, theta-finite, theta-subset}

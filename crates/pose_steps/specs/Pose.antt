@@ -18,6 +18,7 @@ use Rattle.matrix4x4.specs.Rows.{Row, col, tabulate, Matrix4x4·toRows, Matrix4
 use Rattle.matrix4x4.specs.IsFinite.{Matrix4x4·isFinite}
 use Rattle.matrix4x4.specs.IsAffine.{bottomRow}
 use Rattle.bounds3.specs.declared.Point3f.{Point3f}
+use Rattle.bounds3.specs.List.{Point3f·list, Point3f·ofList}
 use Rattle.bounds3.specs.Finite.{Point3f·isFinite}
 use Rattle.transform.specs.Transform.{translation}
 use Rattle.transform.specs.declared.PointAnswer.{PointAnswer}
@@ -33,12 +34,6 @@ Vector3f·list v = v .x ∷ v .y ∷ v .z ∷ []
 
 abbrev pub Vector3f·ofList : List Float → Vector3f
 Vector3f·ofList l = record { x = col l 0; y = col l 1; z = col l 2 }
-
-abbrev pub Point3f·list : Point3f → List Float
-Point3f·list p = p .x ∷ p .y ∷ p .z ∷ []
-
-abbrev pub Point3f·ofList : List Float → Point3f
-Point3f·ofList l = record { x = col l 0; y = col l 1; z = col l 2 }
 
 abbrev pub Quaternion·list : Quaternion → List Float
 Quaternion·list q = q .v .x ∷ q .v .y ∷ q .v .z ∷ q .w ∷ []

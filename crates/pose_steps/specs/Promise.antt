@@ -13,6 +13,7 @@ use Rattle.matrix4x4.specs.declared.Matrix4x4.{Matrix4x4}
 use Rattle.matrix4x4.specs.Rows.{positiveZero}
 use Rattle.bounds3.specs.declared.Point3f.{Point3f}
 use Rattle.bounds3.specs.declared.Bounds3f.{Bounds3f}
+use Rattle.bounds3.specs.List.{Point3f·list}
 use Rattle.transform.specs.declared.PointAnswer.{PointAnswer}
 use Rattle.transform.specs.declared.PointAnswer.the-variants.{Moved}
 use Rattle.interval.specs.declared.Interval.{Interval}
@@ -27,7 +28,7 @@ use Rattle.pose_steps.specs.declared.JudgedVector.{JudgedVector}
 use Rattle.pose_steps.specs.declared.JudgedQuaternion.{JudgedQuaternion}
 use Rattle.pose_steps.specs.declared.JudgedRow.{JudgedRow}
 use Rattle.pose_steps.specs.declared.JudgedMatrix.{JudgedMatrix}
-use Rattle.pose_steps.specs.Pose.{Vector3f·list, Quaternion·list, Point3f·list, three, entries}
+use Rattle.pose_steps.specs.Pose.{Vector3f·list, Quaternion·list, three, entries}
 use Rattle.pose_steps.specs.Enclose.{IntervalVector·list, IntervalQuaternion·list, IntervalRow·list, IntervalRow·three}
 
 -- Every number of a list is finite.

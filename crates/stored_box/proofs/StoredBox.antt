@@ -17,6 +17,7 @@ use Rattle.bounds3.specs.declared.Point3f.{Point3f}
 use Rattle.bounds3.specs.declared.Bounds3f.{Bounds3f}
 use Rattle.bounds3.specs.Finite.{Finite}
 use Rattle.bounds3.specs.Inside.{Inside, Subset}
+use Rattle.bounds3.specs.List.{Point3f·list}
 use Rattle.transform.specs.declared.Transform.{Transform}
 use Rattle.transform.specs.declared.BoundsAnswer.{BoundsAnswer}
 use Rattle.transform.specs.declared.BoundsAnswer.the-variants.{Bounds, Refused}
@@ -28,7 +29,6 @@ use Rattle.bounds_query.proofs.Accepted.{refusal-accepted}
 use Rattle.interval.specs.declared.Interval.{Interval}
 use Rattle.interval.specs.Contains.{Encloses}
 use Rattle.formula.specs.Promise.{Pairwise}
-use Rattle.pose_steps.specs.Pose.{Point3f·list}
 use Rattle.pose_steps.specs.Enclose.{IntervalVector·list, IntervalVector·bounds, Bounds3f·intervals}
 use Rattle.pose_steps.proofs.Rows.{enclosed-finite}
 use Rattle.pose_steps.proofs.Finite.{stored-encloses}

@@ -1,5 +1,5 @@
 -- `jellyplain_point` meets its contract: the point query of the move in the rows, which is the move's own where it was built (`kept-point`).
-use Rattle.pose_steps.specs.Pose.{Point3f·ofList}
+use Rattle.bounds3.specs.List.{Point3f·ofList}
 use Rattle.animated_transform.specs.declared.AnimatedTransform.{AnimatedTransform}
 use Rattle.api.proofs.Kept.{kept-point}
 use borrow.Author.Needs.{needs}

@@ -35,9 +35,9 @@ cover-requires c κs = search needs
 returns-3 : tie.Need-returns-3
 unfolding MoveFile·cover MoveFile·move
 returns-3 c =
-    let file = c .before .before .before .before .before .before .before .before .before .before .before .before .args .file in
-    let move : c .before .before .before .before .before .new .result ≡ MoveFile·move file = cc in
-    rw (eq-eqb (file .refusal) 0 (c .before .before .before .before .before .before .before .before .before .before .if1 .left), ← move, eq-eqb _ 0 (c .before .before .before .if2 .left), ← c .before .bounds .ensures) (c .cover .ensures .0)
+    let file = c .before .before .before .before .before .before .before .before .before .before .before .before .before .args .file in
+    let move : c .before .before .before .before .before .before .new .result ≡ MoveFile·move file = cc in
+    rw (eq-eqb (file .refusal) 0 (c .before .before .before .before .before .before .before .before .before .before .before .if1 .left), ← move, eq-eqb _ 0 (c .before .before .before .before .if2 .left), ← c .before .bounds .ensures) (c .cover .ensures .0)
 
 pub file-cover-spec : {M : Type 1} → statement M
 file-cover-spec =

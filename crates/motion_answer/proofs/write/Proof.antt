@@ -7,8 +7,8 @@ use Rattle.motion_answer.proofs.write.Tie as tie
 enum-known-cover : tie.Need-enum-known-cover
 enum-known-cover c = search needs
 
-values-requires : tie.Need-values-requires
-values-requires c κs = search needs
+bounds-values-requires : tie.Need-bounds-values-requires
+bounds-values-requires c κs = search needs
 
 write-bounds-requires : tie.Need-write-bounds-requires
 write-bounds-requires c κs = search needs
@@ -25,7 +25,7 @@ same-length c = search needs
 returns : tie.Need-returns
 unfolding BoundsAnswer·text
 returns c =
-    rw (c .before .before .before .before .before .before .cover .given .1, ← c .before .before .before .before .values .ensures) (c .before .before .write-bounds .ensures)
+    rw (c .before .before .before .before .before .before .cover .given .1, ← c .before .before .before .before .bounds-values .ensures) (c .before .before .write-bounds .ensures)
 
 same-length-2 : tie.Need-same-length-2
 same-length-2 c = search needs
@@ -39,7 +39,7 @@ write-spec =
     tie.close
     (tie.spec
     enum-known-cover
-    values-requires
+    bounds-values-requires
     write-bounds-requires
     enum-known-cover-2
     write-refusal-requires
