@@ -107,5 +107,5 @@ pub fn interpolate(m: AnimatedTransform, time: f32) -> TransformAnswer
             refusal: 0,
         };
     }
-    pose_at(m, (time - m.start_time) / (m.end_time - m.start_time))
+    pose_at(m, unit_interval::dt(m.start_time, m.end_time, time))
 }

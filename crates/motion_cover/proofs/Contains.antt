@@ -31,7 +31,7 @@ use Rattle.bounds_query.proofs.Accepted.{refusal-accepted}
 use Rattle.bounds_query.proofs.Union.{refused-bounds, bounds-same, union-accepted}
 use Rattle.unit_interval.specs.Unit.{unitInterval, slice, dt}
 use Rattle.unit_interval.proofs.Slices.{slice-unit, slice-covers}
-use Rattle.unit_interval.proofs.Dt.{dt-unit}
+use Rattle.unit_interval.proofs.DtUnit.{dt-unit}
 use Rattle.pose_steps.specs.declared.RigidMotion.{RigidMotion}
 use Rattle.pose_steps.specs.declared.JudgedVector.{JudgedVector}
 use Rattle.pose_steps.specs.Pose.{Pose·transformPoint, Pose·movedPoint}

@@ -5,7 +5,6 @@ use bounds3::Point3f;
 use pose_steps::RigidMotion;
 use transform::PointAnswer;
 ghost use mathlib.Core.Path.{_≡_};
-ghost use Rattle.unit_interval.specs.Unit.{dt};
 ghost use Rattle.motion_point.specs.TransformPoint.{AnimatedTransform·rigidMotion, AnimatedTransform·movedPoint, AnimatedTransform·transformPoint};
 
 // The constants of the pose between, worked out once for any number of points.
@@ -13,13 +12,6 @@ pub fn rigid_motion(m: AnimatedTransform) -> RigidMotion
     ensures value { λ r. ⌜ r ≡ AnimatedTransform·rigidMotion m ⌝ }
 {
     pose_slerp::rigid_motion(m.t0, m.t1, m.r0, m.r1)
-}
-
-// How far time has gone from start to end, 0 to 1.
-fn dt(start: f32, end: f32, time: f32) -> f32
-    ensures value { λ r. ⌜ r ≡ dt start end time ⌝ }
-{
-    (time - start) / (end - start)
 }
 
 // The work of the point query, with the move's constants at hand. Accuracy: each operation is correctly rounded.
@@ -32,7 +24,13 @@ pub fn moved_point(m: AnimatedTransform, a: RigidMotion, time: f32, p: Point3f) 
     if time >= m.end_time {
         return m.end_transform.transform_point(p);
     }
-    pose::moved_point(a, m.s0, m.s1, dt(m.start_time, m.end_time, time), p)
+    pose::moved_point(
+        a,
+        m.s0,
+        m.s1,
+        unit_interval::dt(m.start_time, m.end_time, time),
+        p,
+    )
 }
 
 // Refused with 6 for a NaN time or a coordinate that isn't finite, and with 5 where a value on the way isn't; pbrt goes on in both cases.

@@ -1,4 +1,4 @@
 pub mod Slices
-pub mod Dt
+pub mod DtUnit
 pub mod Scale
 mod Cases

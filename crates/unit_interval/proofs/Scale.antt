@@ -30,7 +30,7 @@ use Rattle.interval.specs.Extension.{Angles}
 use Rattle.interval.proofs.Contains.{subset-low, subset-high}
 use Rattle.interval.proofs.Isotone.{of-four-subset}
 use Rattle.unit_interval.specs.Unit.{unitInterval}
-use Rattle.unit_interval.proofs.Dt.{+0, zero-finite, zero-rounds}
+use Rattle.unit_interval.proofs.DtUnit.{+0, zero-finite, zero-rounds}
 
 rounding-rounds : (a c : ℕ) → Rounds binary32 (round binary32 false a c) a 0 c
 rounding-rounds a c = record { sign = false; size = a; is = refl; value = refl }

@@ -25,9 +25,12 @@ pose-at-requires : tie.Need-pose-at-requires
 pose-at-requires c κs = search needs
 
 returns-4 : tie.Need-returns-4
-unfolding AnimatedTransform·interpolate dt
-returns-4 c = rw (← differs-nan (c .before .before .before .before .before .before .before .before .before .args .time), c .before .before .before .before .before .before .before .before .if1 .left, c .before .before .before .before .before .if2 .left, c .before .before .before .if3 .left, c .pose-at .ensures)
+unfolding AnimatedTransform·interpolate
+returns-4 c = rw (← differs-nan (c .before .before .before .before .before .before .before .before .args .time), c .before .before .before .before .before .before .before .if1 .left, c .before .before .before .before .if2 .left, c .before .before .if3 .left, c .pose-at .ensures, c .before .dt .ensures)
 
 pub interpolate-spec : {M : Type 1} → statement M
 interpolate-spec =
-    tie.close (tie.spec refused-requires returns returns-2 returns-3 pose-at-requires returns-4)
+    tie.close (tie.spec refused-requires returns returns-2 returns-3 dt-requires pose-at-requires returns-4)
+dt-requires : tie.Need-dt-requires
+dt-requires c κs = search needs
+
