@@ -3,16 +3,14 @@
 use mathlib.Core.Path.{_≡_}
 use mathlib.Core.Bool.{Bool, _&&_}
 use lib.Dec.{T}
-use lib.Ieee.{Float, binary32, ofBits, le, neg}
-use Rattle.float32.specs.Operators.{_⊗_, one}
-use Rattle.float32.specs.Clamp.{clamp}
-use Rattle.trig.specs.Acos.{acos}
-use Rattle.quaternion.specs.Quaternion.{Quaternion·dot}
+use lib.Ieee.{Float, binary32, ofBits, le}
+use Rattle.float32.specs.Operators.{_⊗_}
 use Rattle.interval.specs.declared.Interval.{Interval}
 use Rattle.interval.specs.Interval.{pi}
 use Rattle.motion_derivative.specs.declared.MotionDerivative.{MotionDerivative}
 use Rattle.motion_derivative.specs.Derivative.{positiveZero, MotionDerivative·angles}
 use Rattle.animated_transform.specs.declared.AnimatedTransform.{AnimatedTransform}
+use Rattle.motion_point.specs.TransformPoint.{AnimatedTransform·rigidMotion}
 use Rattle.search_range.specs.Examined.{Examined}
 
 -- 2.0001 * PI, in f32: 0x400001a3 is the float nearest to 2.0001, and the product is 0x40c9126d, somewhat more than a full turn.
@@ -23,10 +21,6 @@ rangeLimit = ofBits binary32 0x400001a3 ⊗ pi
 abbrev pub Interval·asserted : Interval → Bool
 Interval·asserted X = le positiveZero (X .low) && le (X .high) rangeLimit
 
--- bound_point_motion: let cos_theta = self.r[0].dot(&self.r[1]); let theta = clamp(cos_theta, -1.0, 1.0).acos();
-abbrev pub AnimatedTransform·theta : AnimatedTransform → Float
-AnimatedTransform·theta m = acos (clamp (Quaternion·dot (m .r0) (m .r1)) (neg one) one)
-
 -- The assertions hold for the angles of every interval that a search with the move's theta examines, whatever c1 to c5 are: so for every point, on each axis.
 abbrev pub AssertionsHold : AnimatedTransform → Type 0
-AssertionsHold m = (f : MotionDerivative) (j : Interval) → f .theta ≡ AnimatedTransform·theta m → Examined f j → T (Interval·asserted (MotionDerivative·angles f j))
+AssertionsHold m = (f : MotionDerivative) (j : Interval) → f .theta ≡ AnimatedTransform·rigidMotion m .theta → Examined f j → T (Interval·asserted (MotionDerivative·angles f j))
