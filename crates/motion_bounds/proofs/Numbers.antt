@@ -19,7 +19,7 @@ use Rattle.transform.specs.declared.PointAnswer.{PointAnswer}
 use Rattle.transform.specs.declared.PointAnswer.the-variants as point
 use Rattle.transform.specs.declared.BoundsAnswer.{BoundsAnswer}
 use Rattle.transform.specs.declared.BoundsAnswer.the-variants.{Bounds, Refused}
-use Rattle.transform.specs.Answer.{origin, PointAnswer·Judged, BoundsAnswer·Judged}
+use Rattle.transform.specs.Answer.{OneOf, origin, PointAnswer·Judged, BoundsAnswer·Judged}
 use Rattle.transform.specs.TransformBounds.{BoundsAnswer·fromMoved, BoundsAnswer·unionMoved}
 use Rattle.transform.proofs.Judged.{transform-point-judged, transform-bounds-judged}
 use Rattle.bounds_query.specs.Query.{Bounds3f·isOrdered, Bounds3f·refusal, BoundsAnswer·unionBounds}
@@ -32,7 +32,7 @@ use Rattle.motion_point.specs.TransformPoint.{AnimatedTransform·rigidMotion}
 use Rattle.motion_point.proofs.Query.{moved-point-judged}
 use Rattle.motion_bounds.specs.MotionBounds.{axisZeros, pointAt, unionZero, unionZeros, allPlaces, unionAxis, pointBounds, unionCorner, unionCorners, boxBounds, boundPointMotion, motionBounds, AnimatedTransform·boundPointMotion, AnimatedTransform·motionBounds}
 use Rattle.motion_bounds.proofs.Ends.{from-ends-union}
-use Rattle.motion_bounds.specs.Answer.{OneOf, BoundsAnswer·Answered}
+use Rattle.motion_bounds.specs.Answer.{BoundsAnswer·Answered}
 
 -- the numbers that the work can meet
 abbrev Worked : BoundsAnswer → Type 0

@@ -1,17 +1,10 @@
 -- What is promised of every answer about a motion box: the statement of `bound-point-motion-numbers` and `motion-bounds-numbers`. Definitions only.
 use Prim.Native.Nat.{ℕ}
-use mathlib.Core.Path.{_≡_}
-use mathlib.Core.Logic.{_⊎_}
-use mathlib.Core.List.{List, [], _∷_}
+use mathlib.Core.List.{List}
 use lib.Dec.{T}
 use Rattle.bounds3.specs.Finite.{Bounds3f·isFinite}
 use Rattle.transform.specs.declared.BoundsAnswer.{BoundsAnswer}
-use Rattle.transform.specs.Answer.{BoundsAnswer·refusal, BoundsAnswer·bounds}
-
--- n is one of the listed numbers.
-abbrev pub OneOf : ℕ → List ℕ → Type 0
-OneOf n [] = ⊥
-OneOf n (k ∷ ks) = (n ≡ k) ⊎ OneOf n ks
+use Rattle.transform.specs.Answer.{OneOf, BoundsAnswer·refusal, BoundsAnswer·bounds}
 
 -- document 01, Refusals: the number is one of those listed, 0 being none, and an answer that isn't refused is finite
 pub record BoundsAnswer·Answered (numbers : List ℕ) (a : BoundsAnswer) : Type 0 where

@@ -15,7 +15,6 @@ use Rattle.motion_point.specs.TransformPoint.{AnimatedTransform·transformPoint
 use Rattle.motion_point.proofs.Query.{transform-point-answered}
 use Rattle.interpolation.specs.Promise.{InterpolationNumber}
 use Rattle.interpolation.proofs.Numbers.{interpolate-refusal}
-use Rattle.motion_bounds.specs.Answer.{OneOf}
 use Rattle.motion_bounds.specs.MotionBounds.{AnimatedTransform·boundPointMotion, AnimatedTransform·motionBounds}
 use Rattle.motion_bounds.proofs.Numbers.{bound-point-motion-numbers, motion-bounds-numbers}
 use Rattle.motion_cover.specs.Cover.{AnimatedTransform·cover}

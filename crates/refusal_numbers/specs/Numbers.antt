@@ -10,12 +10,12 @@ use Rattle.transform.specs.declared.PointAnswer.{PointAnswer}
 use Rattle.transform.specs.declared.PointAnswer.the-variants as point
 use Rattle.transform.specs.declared.BoundsAnswer.{BoundsAnswer}
 use Rattle.transform.specs.declared.BoundsAnswer.the-variants as bounds
+use Rattle.transform.specs.Answer.{OneOf}
 use Rattle.pose_pair.specs.declared.Pose.{Pose}
 use Rattle.animated_transform.specs.declared.AnimatedTransform.{AnimatedTransform}
 use Rattle.animated_transform.specs.New.{AnimatedTransform·new}
 use Rattle.motion_point.specs.TransformPoint.{AnimatedTransform·transformPoint}
 use Rattle.interpolation.specs.Interpolate.{AnimatedTransform·interpolate}
-use Rattle.motion_bounds.specs.Answer.{OneOf}
 use Rattle.motion_bounds.specs.MotionBounds.{AnimatedTransform·boundPointMotion, AnimatedTransform·motionBounds}
 use Rattle.motion_cover.specs.Cover.{AnimatedTransform·cover}
 

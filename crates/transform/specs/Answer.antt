@@ -1,7 +1,8 @@
 -- Document 01's number and values for each case of an answer: 0 where nothing is refused, and every value +0 where something is.
--- `Judged`: what is promised of an answer for which only 5 can be met. Definitions only.
+-- `OneOf`: which numbers an answer can have. `Judged`: what is promised of an answer for which only 5 can be met. Definitions only.
 use mathlib.Core.Path.{_≡_}
 use mathlib.Core.Logic.{_⊎_}
+use mathlib.Core.List.{List, [], _∷_}
 use Prim.Native.Nat.{ℕ}
 use lib.Dec.{T}
 use Rattle.bounds3.specs.declared.Point3f.{Point3f}
@@ -32,6 +33,11 @@ BoundsAnswer·refusal (bounds.Refused n) = n
 abbrev pub BoundsAnswer·bounds : BoundsAnswer → Bounds3f
 BoundsAnswer·bounds (bounds.Bounds b) = b
 BoundsAnswer·bounds (bounds.Refused n) = Bounds3f·fromPoint origin
+
+-- n is one of the listed numbers.
+abbrev pub OneOf : ℕ → List ℕ → Type 0
+OneOf n [] = ⊥
+OneOf n (k ∷ ks) = (n ≡ k) ⊎ OneOf n ks
 
 -- document 01, Refusals: no number but 5, and an answer that isn't refused is finite
 pub record PointAnswer·Judged (a : PointAnswer) : Type 0 where
