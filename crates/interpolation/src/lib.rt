@@ -8,21 +8,7 @@ use transform::TransformAnswer;
 use vector3::Vector3f;
 ghost use mathlib.Core.Path.{_≡_};
 ghost use Rattle.matrix4x4.specs.Rows.{Matrix4x4·toRows};
-ghost use Rattle.transform.specs.Transform.{TransformAnswer·refused};
 ghost use Rattle.interpolation.specs.Interpolate.{Transform·isFinite, TransformAnswer·judged, scaled, composed, AnimatedTransform·poseAt, AnimatedTransform·interpolate};
-
-fn refused(refusal: u8) -> TransformAnswer
-    ensures value { λ r. ⌜ r ≡ TransformAnswer·refused refusal ⌝ }
-{
-    let z = Matrix4x4 {
-        r0: [0.0; 4],
-        r1: [0.0; 4],
-        r2: [0.0; 4],
-        r3: [0.0; 4],
-    };
-    let transform = Transform { m: z, m_inv: z };
-    TransformAnswer { transform, refusal }
-}
 
 // Both halves.
 fn is_finite(t: Transform) -> bool
@@ -40,7 +26,7 @@ fn judged(transform: Transform) -> TransformAnswer
             refusal: 0,
         }
     } else {
-        refused(5)
+        transform::refused(5)
     }
 }
 
@@ -52,7 +38,7 @@ fn scaled(first: Transform, scale: Matrix4x4) -> TransformAnswer
     if s.refusal == 0 {
         judged(first.mul(s.transform))
     } else {
-        refused(s.refusal)
+        transform::refused(s.refusal)
     }
 }
 
@@ -71,7 +57,7 @@ fn composed(trans: Vector3f, rotate: Quaternion, scale: Matrix4x4) -> TransformA
     if finite {
         scaled(first, scale)
     } else {
-        refused(5)
+        transform::refused(5)
     }
 }
 
@@ -91,7 +77,7 @@ pub fn interpolate(m: AnimatedTransform, time: f32) -> TransformAnswer
     ensures value { λ r. ⌜ r ≡ AnimatedTransform·interpolate m time ⌝ }
 {
     if time != time {
-        return refused(6);
+        return transform::refused(6);
     }
     if !m.actually_animated | (time <= m.start_time) {
         let transform = m.start_transform;

@@ -10,7 +10,6 @@ use transform::BoundsAnswer;
 use transform::PointAnswer;
 use zero_search::Zeros;
 ghost use mathlib.Core.Path.{_≡_};
-ghost use Rattle.transform.specs.TransformBounds.{BoundsAnswer·fromMoved};
 ghost use Rattle.motion_bounds.specs.MotionBounds.{DerivativeTerm·eval, BoundsAnswer·fromEnds, pointAt, unionZero, unionZeros, allPlaces, axisZeros, unionAxis, pointBounds, unionCorner, unionCorners, boxBounds, AnimatedTransform·boundPointMotion, AnimatedTransform·motionBounds};
 
 // kc + kx * x + ky * y + kz * z. Accuracy: each operation is correctly rounded.
@@ -18,16 +17,6 @@ fn eval(k: DerivativeTerm, p: Point3f) -> f32
     ensures value { λ r. ⌜ r ≡ DerivativeTerm·eval k p ⌝ }
 {
     k.kc + k.kx * p.x + k.ky * p.y + k.kz * p.z
-}
-
-// The box of a moved point.
-fn from_moved(a: PointAnswer) -> BoundsAnswer
-    ensures value { λ r. ⌜ r ≡ BoundsAnswer·fromMoved a ⌝ }
-{
-    match a {
-        PointAnswer::Moved(p) => BoundsAnswer::Bounds(Bounds3f::from_point(p)),
-        PointAnswer::Refused(n) => BoundsAnswer::Refused(n),
-    }
 }
 
 // The box of a point moved by the start and by the end: the start's refusal stands before the end's.
@@ -132,7 +121,7 @@ fn point_bounds(m: AnimatedTransform, a: RigidMotion, p: Point3f) -> BoundsAnswe
 {
     let start = m.start_transform.transform_point(p);
     if !m.actually_animated {
-        return from_moved(start);
+        return transform::from_moved(start);
     }
     let ends = from_ends(start, m.end_transform.transform_point(p));
     let c = m.coefficients;

@@ -37,7 +37,8 @@ pub enum BoundsAnswer {
     Refused(u8),
 }
 
-fn refused(refusal: u8) -> TransformAnswer
+// A transform that was refused, by the number: every entry is +0.
+pub fn refused(refusal: u8) -> TransformAnswer
     ensures value { λ r. ⌜ r ≡ TransformAnswer·refused refusal ⌝ }
 {
     let z = Matrix4x4 {
@@ -82,7 +83,7 @@ fn moved_point(m: Matrix4x4, p: Point3f) -> Point3f
 }
 
 // The box of a moved point.
-fn from_moved(a: PointAnswer) -> BoundsAnswer
+pub fn from_moved(a: PointAnswer) -> BoundsAnswer
     ensures value { λ r. ⌜ r ≡ BoundsAnswer·fromMoved a ⌝ }
 {
     match a {
