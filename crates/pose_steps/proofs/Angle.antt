@@ -30,7 +30,7 @@ use Rattle.interval.proofs.Isotone.{mul-isotone}
 use Rattle.pose_steps.specs.Pose.{Vector3f·list, Quaternion·list, RigidMotion·new}
 use Rattle.pose_steps.specs.Promise.{AllFinite, RigidMotion·Valid, quarterInterval}
 
-quarter-finite : Finite quarterInterval
+pub quarter-finite : Finite quarterInterval
 quarter-finite = record { low = unfold ofBits in tt; high = unfold ofBits in tt }
 
 pub unit-finite : Finite unitInterval

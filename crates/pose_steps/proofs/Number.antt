@@ -14,7 +14,8 @@ use Rattle.matrix4x4.specs.declared.Matrix4x4.{Matrix4x4}
 use Rattle.bounds3.specs.declared.Point3f.{Point3f}
 use Rattle.bounds3.specs.Finite.{Point3f·isFinite}
 use Rattle.transform.specs.declared.PointAnswer.the-variants.{Moved, Refused}
-use Rattle.transform.specs.Answer.{origin, PointAnswer·Judged}
+use Rattle.transform.specs.Answer.{PointAnswer·Judged}
+use Rattle.transform.proofs.Judged.{origin-finite}
 use Rattle.interval.specs.declared.Interval.{Interval}
 use Rattle.interval.specs.Interval.{Interval·point}
 use Rattle.interval.specs.Enclosure.{first, notFinite, notPositive, Judged·judge, Interval·divEnclosure, Interval·sqrtEnclosure, Judged·addEnclosure, Judged·subEnclosure, Judged·mulEnclosure, Judged·divEnclosure, Judged·sqrtEnclosure, Judged·sinEnclosure, Judged·cosEnclosure, Interval·addEnclosure, Interval·subEnclosure, Interval·mulEnclosure, Interval·sinEnclosure, Interval·cosEnclosure}
@@ -156,10 +157,6 @@ module _ (a : RigidMotion) (s0 s1 : Matrix4x4) (D : Interval) where
   point-number P = let M = Pose·encloseMatrix a s0 s1 D in transformPoint-number (M .refusal) (M .matrix) P matrix-number
 
 -- ---- a point query's: 5 alone, and its point is finite where nothing is refused
-origin-finite : T (Point3f·isFinite origin)
-unfolding Point3f·isFinite ofBits
-origin-finite = tt
-
 pub movedPoint-judged : (a : RigidMotion) (s0 s1 : Matrix4x4) (dt : Float) (p : Point3f) → PointAnswer·Judged (Pose·movedPoint a s0 s1 dt p)
 unfolding Pose·movedPoint
 movedPoint-judged a s0 s1 dt p =

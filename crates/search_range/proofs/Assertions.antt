@@ -18,7 +18,7 @@ use Rattle.interval.proofs.Extends.{mul-contains}
 use Rattle.interval.proofs.Isotone.{of-four-subset}
 use Rattle.unit_interval.specs.Unit.{unitInterval}
 use Rattle.pose_steps.specs.Promise.{quarterInterval}
-use Rattle.pose_steps.proofs.Angle.{unit-finite}
+use Rattle.pose_steps.proofs.Angle.{quarter-finite, unit-finite}
 use Rattle.motion_derivative.specs.declared.MotionDerivative.{MotionDerivative}
 use Rattle.motion_derivative.specs.Derivative.{positiveZero, MotionDerivative·angles}
 use Rattle.search_range.specs.Examined.{Examined}
@@ -30,9 +30,6 @@ halfTurn = record { low = positiveZero; high = halfTurnFloat }
 
 half-turn-finite : Finite halfTurn
 half-turn-finite = record { low = unfold ofBits in tt; high = unfold ofBits in tt }
-
-quarter-finite : Finite quarterInterval
-quarter-finite = record { low = unfold ofBits in tt; high = unfold ofBits in tt }
 
 -- ---- 2 theta
 doubled : Interval·mulEnclosure (Interval·point two) quarterInterval ≡ halfTurn

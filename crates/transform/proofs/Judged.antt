@@ -20,7 +20,7 @@ use Rattle.transform.specs.Answer.{origin, PointAnswer·Judged, BoundsAn
 use Rattle.transform.specs.TransformPoint.{movedPoint, judged, Transform·transformPoint}
 use Rattle.transform.specs.TransformBounds.{BoundsAnswer·fromMoved, BoundsAnswer·unionMoved, unionCorner, Transform·transformBounds}
 
-origin-finite : T (Point3f·isFinite origin)
+pub origin-finite : T (Point3f·isFinite origin)
 unfolding Point3f·isFinite ofBits
 origin-finite = tt
 
@@ -34,10 +34,6 @@ judged-moved q f = go (Point3f·isFinite q) f
     go : (b : Bool) → T b → cond b (point.Moved q) (point.Refused 5) ≡ point.Moved q
     go true f = refl
     go false f = absurd f
-
-pub judged-refused : (q : Point3f) → Point3f·isFinite q ≡ false → judged q ≡ point.Refused 5
-unfolding judged
-judged-refused q f = rw f
 
 judged-answer : (q : Point3f) → PointAnswer·Judged (judged q)
 unfolding judged

@@ -80,11 +80,6 @@ finer-lt d n k h = div-lt-iff-lt-mul (pow-pos n) .1 (subst (λ (m : ℕ). k < m)
 pub slice-half : (d k : ℕ) → Subset (slice (d + 1) k) (slice d (k / 2))
 slice-half d k = slice-finer d 1 k
 
--- Neighbours meet.
-pub slice-meets : (d k : ℕ) → slice d k .high ≡ slice d (k + 1) .low
-unfolding slice
-slice-meets d k = refl
-
 -- ---- every float from 0 to 1 lies in a slice
 pub record InSlice (d : ℕ) (x : Float) : Type 0 where
   pub index : ℕ
