@@ -1,4 +1,4 @@
--- The numbers that a cover can give are 5, 6, 7, 8 and 10, for all structs and arguments: `cover-number`. A union's is one of its parts'.
+-- The numbers that a cover can give are 5, 6, 7, 8 and 10, for all structs and arguments: `cover-number`; those of its work are 5 and 10: `motion-number`. A union's is one of its parts'.
 use Prim.Native.Nat.{ℕ, zero, suc, _^_}
 use mathlib.Core.Path.{refl}
 use mathlib.Core.Bool.{Bool, true, false, not, cond}
@@ -55,7 +55,7 @@ slices-number m a b d r n zero = n
 slices-number m a b d r n (suc k) =
     union-number (unionSlices m a b d r k) (AnimatedTransform·encloseBounds m a (slice d k) b) (slices-number m a b d r n k) (piece-number m a (slice d k) b)
 
-motion-number : (m : AnimatedTransform) (b : Bounds3f) (d : ℕ) → SliceNumber (BoundsAnswer·refusal (AnimatedTransform·encloseMotion m b d))
+pub motion-number : (m : AnimatedTransform) (b : Bounds3f) (d : ℕ) → SliceNumber (BoundsAnswer·refusal (AnimatedTransform·encloseMotion m b d))
 unfolding AnimatedTransform·encloseMotion AnimatedTransform·encloseEnds
 motion-number m b d = go (m .«actually_animated»)
   where

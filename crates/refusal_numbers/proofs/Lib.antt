@@ -1,2 +1,4 @@
 mod NonZero
+mod Refused
+mod File
 pub mod Numbers

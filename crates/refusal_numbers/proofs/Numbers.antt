@@ -1,14 +1,9 @@
--- Building and every query give document 01's numbers alone: `every-answer`. The numbers are each crate's own laws; that no refusal carries 0 is `NonZero.antt`.
-use Prim.Native.Nat.{ℕ, zero, suc, _≤_}
-use mathlib.Core.Path.{_≡_, refl}
+-- Building, every query and the answer to any file give document 01's numbers alone: `every-answer`. The numbers are each crate's own laws; that no refusal carries 0 is `NonZero.antt`.
+use Prim.Native.Nat.{ℕ}
+use mathlib.Core.Path.{_≡_}
 use mathlib.Core.Logic.{_⊎_, inl, inr}
-use mathlib.Core.List.{List, [], _∷_}
-use native.Mathlib.Omega.{arith}
-use Rattle.transform.specs.declared.PointAnswer.{PointAnswer}
-use Rattle.transform.specs.declared.PointAnswer.the-variants as point
-use Rattle.transform.specs.declared.BoundsAnswer.{BoundsAnswer}
-use Rattle.transform.specs.declared.BoundsAnswer.the-variants as bounds
-use Rattle.transform.specs.Answer.{PointAnswer·refusal, BoundsAnswer·refusal}
+use mathlib.Core.List.{[], _∷_}
+use Rattle.transform.specs.Answer.{OneOf}
 use Rattle.animated_transform.specs.New.{AnimatedTransform·new}
 use Rattle.animated_transform.proofs.Numbers.{new-refusal}
 use Rattle.motion_point.specs.TransformPoint.{AnimatedTransform·transformPoint}
@@ -20,28 +15,10 @@ use Rattle.motion_bounds.proofs.Numbers.{bound-point-motion-numbers, motion-bou
 use Rattle.motion_cover.specs.Cover.{AnimatedTransform·cover}
 use Rattle.motion_cover.specs.Answer.{CoverNumber}
 use Rattle.motion_cover.proofs.Number.{cover-number}
-use Rattle.refusal_numbers.specs.Numbers.{PointAnswer·RefusedBy, BoundsAnswer·RefusedBy, EveryAnswer}
-use Rattle.refusal_numbers.proofs.NonZero.{PointAnswer·NonZero, BoundsAnswer·NonZero, point-nonzero, point-motion-nonzero, motion-nonzero, cover-nonzero}
-
--- A refusal that isn't 0 is one of the other numbers.
-point-refused : (numbers : List ℕ) (a : PointAnswer) → PointAnswer·NonZero a → OneOf (PointAnswer·refusal a) (0 ∷ numbers) → PointAnswer·RefusedBy numbers a
-point-refused numbers (point.Moved p) h k = tt
-point-refused numbers (point.Refused n) h (inl e) = absurd (h e)
-point-refused numbers (point.Refused n) h (inr k) = k
-
-bounds-refused : (numbers : List ℕ) (a : BoundsAnswer) → BoundsAnswer·NonZero a → OneOf (BoundsAnswer·refusal a) (0 ∷ numbers) → BoundsAnswer·RefusedBy numbers a
-bounds-refused numbers (bounds.Bounds b) h k = tt
-bounds-refused numbers (bounds.Refused n) h (inl e) = absurd (h e)
-bounds-refused numbers (bounds.Refused n) h (inr k) = k
-
-up-to-five : (n : ℕ) → n ≤ 5 → OneOf n (0 ∷ 1 ∷ 2 ∷ 3 ∷ 4 ∷ 5 ∷ [])
-up-to-five zero h = inl refl
-up-to-five (suc zero) h = inr (inl refl)
-up-to-five (suc (suc zero)) h = inr (inr (inl refl))
-up-to-five (suc (suc (suc zero))) h = inr (inr (inr (inl refl)))
-up-to-five (suc (suc (suc (suc zero)))) h = inr (inr (inr (inr (inl refl))))
-up-to-five (suc (suc (suc (suc (suc zero))))) h = inr (inr (inr (inr (inr (inl refl)))))
-up-to-five (suc (suc (suc (suc (suc (suc n)))))) h = absurd (omega (arith, h))
+use Rattle.refusal_numbers.specs.Numbers.{EveryAnswer}
+use Rattle.refusal_numbers.proofs.NonZero.{point-nonzero, point-motion-nonzero, motion-nonzero, cover-nonzero}
+use Rattle.refusal_numbers.proofs.Refused.{point-refused, bounds-refused, up-to-five}
+use Rattle.refusal_numbers.proofs.File.{file-refused}
 
 interpolate-number : {n : ℕ} → InterpolationNumber n → OneOf n (0 ∷ 4 ∷ 5 ∷ 6 ∷ [])
 interpolate-number (inl e) = inl e
@@ -70,4 +47,5 @@ every-answer = record {
   point-motion = λ m p. bounds-refused (5 ∷ 6 ∷ 9 ∷ []) (AnimatedTransform·boundPointMotion m p) (point-motion-nonzero m p) (bound-point-motion-numbers m p .number);
   motion = λ m b. bounds-refused (5 ∷ 6 ∷ 7 ∷ 9 ∷ []) (AnimatedTransform·motionBounds m b) (motion-nonzero m b) (motion-bounds-numbers m b .number);
   cover = λ m b d. bounds-refused (5 ∷ 6 ∷ 7 ∷ 8 ∷ 10 ∷ []) (AnimatedTransform·cover m b d) (cover-nonzero m b d) (cover-one-of (cover-number m b d));
+  file = file-refused;
 }

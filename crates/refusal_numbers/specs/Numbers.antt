@@ -1,4 +1,4 @@
--- Any move handed in, whatever numbers are in it, is built or refused by one of document 01's numbers, and so is every query: `EveryAnswer`, on one page.
+-- Any move handed in, whatever numbers are in it, is built or refused by one of document 01's numbers, and so are every query and every file: `EveryAnswer`, on one page.
 -- A refusal never carries 0, which stands for none. The structs and arguments are all structs and arguments; the search of a motion box, the polar rounds and the slices end
 -- because their functions are proved to. The statement of `every-answer`.
 use Prim.Native.Nat.{ℕ}
@@ -18,6 +18,8 @@ use Rattle.motion_point.specs.TransformPoint.{AnimatedTransform·transformPoint
 use Rattle.interpolation.specs.Interpolate.{AnimatedTransform·interpolate}
 use Rattle.motion_bounds.specs.MotionBounds.{AnimatedTransform·boundPointMotion, AnimatedTransform·motionBounds}
 use Rattle.motion_cover.specs.Cover.{AnimatedTransform·cover}
+use Rattle.motion_file.specs.Layout.{MoveFile·read}
+use Rattle.motion_answer.specs.Answer.{MoveFile·cover}
 
 -- A moved point, or a refusal by one of the numbers.
 abbrev pub PointAnswer·RefusedBy : List ℕ → PointAnswer → Type 0
@@ -37,3 +39,5 @@ pub record EveryAnswer : Type 0 where
   pub point-motion : (m : AnimatedTransform) (p : Point3f) → BoundsAnswer·RefusedBy (5 ∷ 6 ∷ 9 ∷ []) (AnimatedTransform·boundPointMotion m p)
   pub motion : (m : AnimatedTransform) (b : Bounds3f) → BoundsAnswer·RefusedBy (5 ∷ 6 ∷ 7 ∷ 9 ∷ []) (AnimatedTransform·motionBounds m b)
   pub cover : (m : AnimatedTransform) (b : Bounds3f) (depth : ℕ) → BoundsAnswer·RefusedBy (5 ∷ 6 ∷ 7 ∷ 8 ∷ 10 ∷ []) (AnimatedTransform·cover m b depth)
+  -- the program: whatever bytes it reads, it answers at depth 10 and searches for no zeros, so that neither 8 nor 9 is among its numbers
+  pub file : (bytes : List ℕ) → BoundsAnswer·RefusedBy (1 ∷ 2 ∷ 3 ∷ 4 ∷ 5 ∷ 6 ∷ 7 ∷ 10 ∷ 11 ∷ []) (MoveFile·cover (MoveFile·read bytes))
