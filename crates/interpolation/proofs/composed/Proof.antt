@@ -1,5 +1,8 @@
 -- `composed` meets its contract: the two products in the order of the definition, then one test.
-use Rattle.interpolation.specs.Interpolate.{composed}
+use mathlib.Core.Path.{sym, ap}
+use mathlib.Core.Bool.{Bool, cond}
+use Rattle.transform.specs.Transform.{TransformAnswer·refused}
+use Rattle.interpolation.specs.Interpolate.{scaled, composed}
 use borrow.Author.Needs.{needs}
 use Rattle.interpolation.proofs.composed.Statement.{statement}
 use Rattle.interpolation.proofs.composed.Tie as tie
@@ -40,11 +43,17 @@ refused-requires c κs = search needs
 
 returns : tie.Need-returns
 unfolding composed
-returns c = rw (c .scaled .ensures, ← c .before .before .before .before .before .before .before .before .before .before .translate .ensures, ← c .before .before .before .before .before .before .before .before .before .transform-from-quaternion .ensures, ← c .before .before .before .before .before .before .before .before .mul .ensures, ← c .before .before .before .before .before .before .before .is-finite .ensures, ← c .before .before .before .before .before .before .to-rows .ensures, ← c .before .before .before .before .before .is-finite2 .ensures, ← c .before .before .before .before .is-finite3 .ensures, ← c .before .before .before .is-finite4 .ensures, ← c .before .before .is-finite5 .ensures, c .before .if1 .taken)
+returns c =
+    rw (c .scaled .ensures, ← c .before .before .before .before .before .before .before .before .before .before .translate .ensures, ← c .before .before .before .before .before .before .before .before .before .transform-from-quaternion .ensures, ← c .before .before .before .before .before .before .before .before .mul .ensures, ← c .before .before .before .before .before .before .to-rows .ensures)
+    (sym (ap (λ (b : Bool). cond b (scaled (c .before .before .before .before .before .before .before .before .mul .result) (c .before .before .before .before .before .before .to-rows .result)) (TransformAnswer·refused 5))
+    (rw (c .before .before .before .before .before .before .before .is-finite .ensures, c .before .before .before .before .before .is-finite2 .ensures, c .before .before .before .before .is-finite3 .ensures, c .before .before .before .is-finite4 .ensures, c .before .before .is-finite5 .ensures) at (c .before .if1 .taken))))
 
 returns-2 : tie.Need-returns-2
 unfolding composed
-returns-2 c = rw (c .refused .ensures, ← c .before .before .before .before .before .before .before .before .before .before .translate .ensures, ← c .before .before .before .before .before .before .before .before .before .transform-from-quaternion .ensures, ← c .before .before .before .before .before .before .before .before .mul .ensures, ← c .before .before .before .before .before .before .before .is-finite .ensures, ← c .before .before .before .before .before .before .to-rows .ensures, ← c .before .before .before .before .before .is-finite2 .ensures, ← c .before .before .before .before .is-finite3 .ensures, ← c .before .before .before .is-finite4 .ensures, ← c .before .before .is-finite5 .ensures, c .before .if1 .left)
+returns-2 c =
+    rw (c .refused .ensures, ← c .before .before .before .before .before .before .before .before .before .before .translate .ensures, ← c .before .before .before .before .before .before .before .before .before .transform-from-quaternion .ensures, ← c .before .before .before .before .before .before .before .before .mul .ensures, ← c .before .before .before .before .before .before .to-rows .ensures)
+    (sym (ap (λ (b : Bool). cond b (scaled (c .before .before .before .before .before .before .before .before .mul .result) (c .before .before .before .before .before .before .to-rows .result)) (TransformAnswer·refused 5))
+    (rw (c .before .before .before .before .before .before .before .is-finite .ensures, c .before .before .before .before .before .is-finite2 .ensures, c .before .before .before .before .is-finite3 .ensures, c .before .before .before .is-finite4 .ensures, c .before .before .is-finite5 .ensures) at (c .before .if1 .left))))
 
 pub composed-spec : {M : Type 1} → statement M
 composed-spec =

@@ -1,10 +1,22 @@
 -- `interpolate` meets its contract: three tests choose, and `time != time` is the test for NaN (`differs-nan`).
+use mathlib.Core.Path.{sym, ap}
+use mathlib.Core.Bool.{Bool, cond}
+use lib.Ieee.{Float}
 use Rattle.rounding.proofs.Order.{differs-nan}
+use Rattle.transform.specs.declared.TransformAnswer.{TransformAnswer}
 use Rattle.unit_interval.specs.Unit.{dt}
-use Rattle.interpolation.specs.Interpolate.{AnimatedTransform·interpolate}
+use Rattle.animated_transform.specs.declared.AnimatedTransform.{AnimatedTransform}
+use Rattle.animated_transform.specs.AtTime.{atEnd}
+use Rattle.interpolation.specs.Interpolate.{TransformAnswer·accepted, AnimatedTransform·poseAt, AnimatedTransform·interpolate}
 use borrow.Author.Needs.{needs}
 use Rattle.interpolation.proofs.interpolate.Statement.{statement}
 use Rattle.interpolation.proofs.interpolate.Tie as tie
+
+-- for a time that isn't NaN, by the answer of the second test
+abbrev known : AnimatedTransform → Float → Bool → TransformAnswer
+known m time b =
+    cond b (TransformAnswer·accepted (m .«start_transform»))
+    (cond (atEnd m time) (TransformAnswer·accepted (m .«end_transform»)) (AnimatedTransform·poseAt m (dt (m .«start_time») (m .«end_time») time)))
 
 refused-requires : tie.Need-refused-requires
 refused-requires c κs = search needs
@@ -15,11 +27,16 @@ returns c = rw (← differs-nan (c .before .before .args .time), c .before .if1 
 
 returns-2 : tie.Need-returns-2
 unfolding AnimatedTransform·interpolate
-returns-2 c = rw (← differs-nan (c .before .before .before .before .before .args .time), c .before .before .before .before .if1 .left, c .before .if2 .taken)
+returns-2 c =
+    let args = c .before .before .before .before .before .args in
+    rw (← differs-nan (args .time), c .before .before .before .before .if1 .left) (sym (ap (known (args .m) (args .time)) (c .before .if2 .taken)))
 
 returns-3 : tie.Need-returns-3
 unfolding AnimatedTransform·interpolate
 returns-3 c = rw (← differs-nan (c .before .before .before .before .before .before .before .args .time), c .before .before .before .before .before .before .if1 .left, c .before .before .before .if2 .left, c .before .if3 .taken)
+
+dt-requires : tie.Need-dt-requires
+dt-requires c κs = search needs
 
 pose-at-requires : tie.Need-pose-at-requires
 pose-at-requires c κs = search needs
@@ -31,6 +48,3 @@ returns-4 c = rw (← differs-nan (c .before .before .before .before .before .be
 pub interpolate-spec : {M : Type 1} → statement M
 interpolate-spec =
     tie.close (tie.spec refused-requires returns returns-2 returns-3 dt-requires pose-at-requires returns-4)
-dt-requires : tie.Need-dt-requires
-dt-requires c κs = search needs
-

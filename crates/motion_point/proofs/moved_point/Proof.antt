@@ -1,8 +1,22 @@
 -- `moved_point` meets its contract: two tests choose the stored transforms, and what is left is the pose at dt.
+use mathlib.Core.Path.{sym, ap, _∙_}
+use mathlib.Core.Bool.{Bool, cond}
+use lib.Ieee.{Float}
+use Rattle.bounds3.specs.declared.Point3f.{Point3f}
+use Rattle.transform.specs.declared.PointAnswer.{PointAnswer}
+use Rattle.transform.specs.TransformPoint.{Transform·transformPoint}
+use Rattle.unit_interval.specs.Unit.{dt}
+use Rattle.pose_steps.specs.declared.RigidMotion.{RigidMotion}
+use Rattle.pose_steps.specs.Pose.{Pose·movedPoint}
+use Rattle.animated_transform.specs.declared.AnimatedTransform.{AnimatedTransform}
 use Rattle.motion_point.specs.TransformPoint.{AnimatedTransform·movedPoint}
 use borrow.Author.Needs.{needs}
 use Rattle.motion_point.proofs.moved_point.Statement.{statement}
 use Rattle.motion_point.proofs.moved_point.Tie as tie
+
+-- after the start, by the answer of the second test
+abbrev late : AnimatedTransform → RigidMotion → Float → Point3f → Bool → PointAnswer
+late m a time p b = cond b (Transform·transformPoint (m .«end_transform») p) (Pose·movedPoint a (m .s0) (m .s1) (dt (m .«start_time») (m .«end_time») time) p)
 
 transform-point-requires : tie.Need-transform-point-requires
 transform-point-requires c κs = search needs
@@ -16,7 +30,9 @@ transform-point-requires-2 c κs = search needs
 
 returns-2 : tie.Need-returns-2
 unfolding AnimatedTransform·movedPoint
-returns-2 c = rw (c .before .before .before .if1 .left, c .before .if2 .taken, c .transform-point2 .ensures .0)
+returns-2 c =
+    let args = c .before .before .before .before .before .before .args in
+    rw (c .before .before .before .if1 .left) (c .transform-point2 .ensures .0 ∙ sym (ap (late (args .m) (args .a) (args .time) (args .p)) (c .before .if2 .taken)))
 
 dt-requires : tie.Need-dt-requires
 dt-requires c κs = search needs
@@ -26,7 +42,9 @@ moved-point-requires c κs = search needs
 
 returns-3 : tie.Need-returns-3
 unfolding AnimatedTransform·movedPoint
-returns-3 c = rw (c .before .before .before .before .if1 .left, c .before .before .if2 .left, c .moved-point .ensures, c .before .dt .ensures)
+returns-3 c =
+    let args = c .before .before .before .before .before .before .before .args in
+    rw (c .before .before .before .before .if1 .left, c .moved-point .ensures, c .before .dt .ensures) (sym (ap (late (args .m) (args .a) (args .time) (args .p)) (c .before .before .if2 .left)))
 
 pub moved-point-spec : {M : Type 1} → statement M
 moved-point-spec =

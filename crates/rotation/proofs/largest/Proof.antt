@@ -1,8 +1,20 @@
 -- `largest` meets its contract: each branch is its case of the definition.
+use Prim.Native.Nat.{ℕ}
+use mathlib.Core.Path.{sym, ap, _∙_}
+use mathlib.Core.Bool.{Bool, cond}
+use lib.Ieee.{lt}
+use Rattle.matrix4x4.specs.Rows.{Rows, at}
 use Rattle.rotation.specs.FromMatrix.{largest}
 use borrow.Author.Needs.{needs}
 use Rattle.rotation.proofs.largest.Statement.{statement}
 use Rattle.rotation.proofs.largest.Tie as tie
+
+-- by the answers of the two tests
+abbrev first : Rows → Bool → ℕ
+first m b = let i : ℕ = cond b 1 0 in cond (lt (at m i i) (at m 2 2)) 2 i
+
+abbrev second : ℕ → Bool → ℕ
+second i b = cond b 2 i
 
 array-copy-out-m0 : tie.Need-array-copy-out-m0
 array-copy-out-m0 c = search needs
@@ -33,19 +45,19 @@ array-read-if3-2 c = search needs
 
 returns : tie.Need-returns
 unfolding largest
-returns c = (rw (c .before .if1 .taken, c .if2 .taken), search needs)
+returns c = (sym (ap (first (c .before .before .before .before .before .args .t1)) (c .before .if1 .taken) ∙ ap (second 1) (c .if2 .taken)), search needs)
 
 returns-2 : tie.Need-returns-2
 unfolding largest
-returns-2 c = (rw (c .before .if1 .taken, c .if2 .left), search needs)
+returns-2 c = (sym (ap (first (c .before .before .before .before .before .args .t1)) (c .before .if1 .taken) ∙ ap (second 1) (c .if2 .left)), search needs)
 
 returns-3 : tie.Need-returns-3
 unfolding largest
-returns-3 c = (rw (c .before .if1 .left, c .if3 .taken), search needs)
+returns-3 c = (sym (ap (first (c .before .before .before .before .before .args .t1)) (c .before .if1 .left) ∙ ap (second 0) (c .if3 .taken)), search needs)
 
 returns-4 : tie.Need-returns-4
 unfolding largest
-returns-4 c = (rw (c .before .if1 .left, c .if3 .left), search needs)
+returns-4 c = (sym (ap (first (c .before .before .before .before .before .args .t1)) (c .before .if1 .left) ∙ ap (second 0) (c .if3 .left)), search needs)
 
 pub largest-spec : {M : Type 1} → statement M
 largest-spec =

@@ -1,8 +1,17 @@
 -- `judged` meets its contract: its test is the definition's.
+use mathlib.Core.Path.{sym, ap}
+use mathlib.Core.Bool.{Bool, cond}
+use Rattle.coefficients.specs.declared.Coefficients.{Coefficients}
+use Rattle.coefficients.specs.Coefficients.{Coefficients·zero}
+use Rattle.rotation_arc.specs.declared.CoefficientsAnswer.{CoefficientsAnswer}
 use Rattle.rotation_arc.specs.ArcCoefficients.{CoefficientsAnswer·judged}
 use borrow.Author.Needs.{needs}
 use Rattle.rotation_arc.proofs.judged.Statement.{statement}
 use Rattle.rotation_arc.proofs.judged.Tie as tie
+
+-- by the answer of the test
+abbrev answer : Coefficients → Bool → CoefficientsAnswer
+answer c b = cond b (record { value = c; refusal = 0 }) (record { value = Coefficients·zero; refusal = 5 })
 
 is-finite-requires : tie.Need-is-finite-requires
 is-finite-requires c κs = search needs
@@ -15,11 +24,13 @@ zero-requires c κs = search needs
 
 returns : tie.Need-returns
 unfolding CoefficientsAnswer·judged
-returns c = rw (rw (c .before .before .is-finite .ensures, c .before .is-finite2 .ensures) at (c .if1 .taken))
+returns c = sym (ap (answer (c .before .before .before .args .value)) (rw (c .before .before .is-finite .ensures, c .before .is-finite2 .ensures) at (c .if1 .taken)))
 
 returns-2 : tie.Need-returns-2
 unfolding CoefficientsAnswer·judged
-returns-2 c = rw (rw (c .before .before .before .is-finite .ensures, c .before .before .is-finite2 .ensures) at (c .before .if1 .left), c .zero .ensures)
+returns-2 c =
+    rw (c .zero .ensures)
+    (sym (ap (answer (c .before .before .before .before .args .value)) (rw (c .before .before .before .is-finite .ensures, c .before .before .is-finite2 .ensures) at (c .before .if1 .left))))
 
 pub judged-spec : {M : Type 1} → statement M
 judged-spec =
