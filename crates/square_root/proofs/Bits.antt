@@ -37,6 +37,9 @@ leading m M h =
 pub leading-ge : (m : ℕ) → 0 < m → m < 2 ^ 24 → 40 ≤ leadingZeros 64 m
 leading-ge m M h = let t = leading m M h .1 in omega (arith, t .zeros, t .few)
 
+leading-normal : (m : ℕ) → 2 ^ 23 ≤ m → m < 2 ^ 24 → leadingZeros 64 m ≡ 40
+leading-normal m l h = let t = leading m (lt-of-lt-of-le (pow-pos 23) l) h in let k = pow-lt-cancel 23 (suc (t .0)) (lt-of-le-of-lt l (t .1 .most)) in omega (arith, t .1 .zeros, t .1 .few)
+
 -- The digits of m and the shift, which is 17 less than the zeros, or 16 less where their sum with e is odd.
 pub widened : (m e i : ℕ) → 0 < m → m < 2 ^ 24 → i + 17 ≡ leadingZeros 64 m + (leadingZeros 64 m + e) % 2 → Widened m e i
 widened m e i M h I = go (leading m M h .0) (leadingZeros 64 m) (leading m M h .1) I
@@ -51,6 +54,9 @@ widened m e i M h I = go (leading m M h .0) (leadingZeros 64 m) (leading m M h .
           most = lt-of-lt-of-le (mul-lt-mul-of-pos-right (l .most) (pow-pos i)) (le-trans (le-of-eq (sym (pow-add 2 (suc y) i))) (pow-mono {i = suc y + i} {j = 48} (omega arith)));
           even = omega arith;
         }
+
+pub widened-normal : (m e : ℕ) → 2 ^ 23 ≤ m → m < 2 ^ 24 → Widened m e (23 + e % 2)
+widened-normal m e l h = widened m e (23 + e % 2) (lt-of-lt-of-le (pow-pos 23) l) h (rw (leading-normal m l h) (omega arith))
 
 pub widened-exact : {m e i : ℕ} → Widened m e i → m * 2 ^ i % 2 ^ 64 ≡ m * 2 ^ i
 widened-exact w = mod-eq-of-lt (lt-of-lt-of-le (w .most) (lit≤ tt))

@@ -1,10 +1,12 @@
--- `isqrt n` is the whole part of √n (`isqrt-is`), and no other number is (`isqrt-unique`).
+-- `isqrt n` is the whole part of √n (`isqrt-is`), and no other number is (`isqrt-unique`). The nearest whole number follows from it (`nearest-down`, `nearest-up`), or from a test of
+-- any number (`nearest-checked`).
 use mathlib.Core.Path.{_≡_}
 use Prim.Native.Nat.{ℕ, zero, suc, _+_, _*_, _/_, _≤_, _<_, _^_}
 use native.Mathlib.Nat.{lt-of-lt-of-le, lt-of-le-of-lt, lt-of-not-le, not-le-of-lt, le-antisymm, mul-le-mul, div-lt-iff-lt-mul, pow-suc, pow-le-pow-left, zero-lt-suc}
 use native.Mathlib.Omega.{arith}
-use mathlib.Core.Bool.{Bool, true, false, not, cond}
-use lib.Dec.{T, leb, leb→le, nleb→lt}
+use mathlib.Core.Bool.{Bool, true, false, not, _&&_, cond, and-eq-true-iff}
+use lib.Dec.{T, leb, ltb, leb→le, nleb→lt}
+use borrow.Author.Tests.{ltb-true, leb-true}
 use lib.Ieee.{size}
 use lib.Ieee.Digits.{size-lt}
 use Rattle.square_root.specs.SquareRoot.{isqrtBelow, isqrt}
@@ -13,6 +15,10 @@ use Rattle.square_root.specs.Steps.{NearestWhole}
 
 pub square-lt : (x y : ℕ) → x * x < y * y → x < y
 square-lt x y h = lt-of-not-le (λ (k : y ≤ x). not-le-of-lt h (mul-le-mul k k))
+
+-- A square and its root, added, have at most twice the root's digits.
+pub square-fits : (q : ℕ) → q < 2 ^ 32 → q * q + q < 2 ^ 64
+square-fits q h = let m : suc q * suc q ≤ 2 ^ 32 * 2 ^ 32 = mul-le-mul h h in omega arith
 
 -- One digit more: r is the whole part of √(n / 4).
 digit-one : (n r : ℕ) → FloorSqrt (n / 4) r → (2 * r + 1) * (2 * r + 1) ≤ n → FloorSqrt n (2 * r + 1)
@@ -59,3 +65,7 @@ nearest-down n q e N h = record { above = go q (rw e (isqrt-is n .least)); below
 
 pub nearest-up : (n q r : ℕ) → q ≡ isqrt n → q * q + q < n → r ≡ q + 1 → NearestWhole n r
 nearest-up n q r e h E = let l : n < (q + 1) * (q + 1) = rw e (isqrt-is n .above) in record { above = rw E (omega arith); below = rw E (omega arith) }
+
+-- ---- to the nearest whole number, by a test of any number
+pub nearest-checked : (n r : ℕ) → (ltb (r * r) (n + r) && leb n (r * r + r)) ≡ true → NearestWhole n r
+nearest-checked n r h = let t = and-eq-true-iff (ltb (r * r) (n + r)) (leb n (r * r + r)) .0 h in record { above = ltb-true (r * r) (n + r) (t .0); below = leb-true n (r * r + r) (t .1) }

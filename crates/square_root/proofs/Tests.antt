@@ -1,4 +1,4 @@
--- What the code's tests say of a float: `positive-tests`, above zero and below +infinity; `sqrt-infinity`, above zero and no less than it;
+-- What the code's tests say of a float: `positive-tests`, above zero and below +infinity, so no NaN (`positive-number`); `sqrt-infinity`, above zero and no less than it;
 -- `sqrt-zero`, equal to zero; `sqrt-nan`, none of these. And a positive float through its significand and exponent (`decoded-sqrt`).
 use mathlib.Core.Path.{_≡_, refl, sym, _∙_}
 use mathlib.Core.Bool.{Bool, true, false, not, _&&_, _||_, Bool·beq, true≢false}
@@ -8,7 +8,7 @@ use native.Mathlib.Omega.{arith}
 use lib.Dec.{T, eqb, ltb, ltb→lt, lt→ltb, not-T}
 use lib.Pow.{pow-pos}
 use borrow.Author.Tests.{ltb-true, ltb-false, eqb-true}
-use lib.Ieee.{Float, nan, inf, fin, Format, binary32, up, down, lt, eq, fits, ofBits, nanBits, ones, hid, top}
+use lib.Ieee.{Float, nan, inf, fin, Format, binary32, isNan, up, down, lt, eq, fits, ofBits, nanBits, ones, hid, top}
 use lib.Ieee.Fits.{up-pos}
 use lib.Ieee.Bits.{nanBits-above}
 use lib.Ieee.Exact.{HasValue}
@@ -30,6 +30,12 @@ positive-tests (inf false) h k = absurd (true≢false (sym k))
 positive-tests (fin true m e) h k = absurd (true≢false (sym h))
 positive-tests (fin false zero e) h k = absurd (omega (arith, ltb-true (0 * 1 * down e) (0 * up e * 1) h))
 positive-tests (fin false (suc m) e) h k = lt→ltb 0 (suc m) (zero-lt-suc m)
+
+pub positive-number : (x : Float) → T (positive x) → T (not (isNan x))
+unfolding isNan
+positive-number nan p = p
+positive-number (inf s) p = tt
+positive-number (fin s m e) p = tt
 
 pub sqrt-infinity : (f : Format) (x : Float) → lt +0 x ≡ true → lt x (inf false) ≡ false → inf false ≡ sqrt f x
 unfolding lt sqrt

@@ -1,34 +1,39 @@
--- n is nearer to q² than to (q + 1)² exactly where n ≤ q² + q.
-use Prim.Native.Nat.{_^_, _≤_}
-use native.Mathlib.Nat.{le-of-lt, mul-le-mul}
+-- An estimate that passes the test is the nearest whole number (`nearest-checked`), wherever it came from.
 use native.Mathlib.Omega.{arith}
 use borrow.Author.Needs.{needs}
-use Rattle.square_root.proofs.FloorSqrt.{nearest-down, nearest-up}
-use Rattle.square_root.proofs.Heron.{isqrt-lt}
+use Rattle.square_root.proofs.FloorSqrt.{square-fits, nearest-checked}
 use Rattle.square_root.proofs.nearest_root.Statement.{statement}
 use Rattle.square_root.proofs.nearest_root.Tie as tie
 
-isqrt-requires : tie.Need-isqrt-requires
-isqrt-requires c κs = search needs
+corrected-requires : tie.Need-corrected-requires
+corrected-requires c κs = search needs
 
-root-le : (c : tie.After-isqrt) → c .isqrt .result ≤ 2 ^ 24
-root-le c = rw (c .isqrt .ensures) (le-of-lt (isqrt-lt (c .before .args .n) (c .before .pre .1)))
-
-mul-if1 : tie.Need-mul-if1
-mul-if1 c = let m = root-le c in let l = mul-le-mul m m in omega arith
+mul-square : tie.Need-mul-square
+mul-square c = omega (arith, square-fits (c .corrected .result) (c .corrected .ensures))
 
 add-if1 : tie.Need-add-if1
-add-if1 c = let m = root-le c in let l = mul-le-mul m m in omega arith
+add-if1 c = search needs
+
+add-if1-2 : tie.Need-add-if1-2
+add-if1-2 c = omega (arith, square-fits (c .corrected .result) (c .corrected .ensures))
 
 returns : tie.Need-returns
-returns c = nearest-down (c .before .before .args .n) (c .before .isqrt .result) (c .before .isqrt .ensures) (c .before .before .pre .0) (omega arith)
+returns c = nearest-checked (c .before .before .args .n) (c .before .corrected .result) (c .if1 .taken)
 
-add-result : tie.Need-add-result
-add-result c = search needs
+heron-root-requires : tie.Need-heron-root-requires
+heron-root-requires c κs = search needs
 
 returns-2 : tie.Need-returns-2
-returns-2 c = nearest-up (c .before .before .args .n) (c .before .isqrt .result) _ (c .before .isqrt .ensures) (omega arith) (omega arith)
+returns-2 c = search needs
 
 pub nearest-root-spec : {M : Type 1} → statement M
 nearest-root-spec =
-    tie.close (tie.spec isqrt-requires mul-if1 add-if1 returns add-result returns-2)
+    tie.close
+    (tie.spec
+    corrected-requires
+    mul-square
+    add-if1
+    add-if1-2
+    returns
+    heron-root-requires
+    returns-2)

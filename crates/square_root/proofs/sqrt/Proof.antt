@@ -3,7 +3,7 @@ use mathlib.Core.Path.{sym, subst}
 use lib.Dec.{T}
 use lib.Ieee.{binary32, fits, nanBits, ofBits, div}
 use borrow.Author.Needs.{needs}
-use Rattle.square_root.proofs.Tests.{positive-tests, sqrt-infinity, sqrt-zero, sqrt-nan, significand-pos, decoded-sqrt, bits-number}
+use Rattle.square_root.proofs.Tests.{positive-tests, positive-number, sqrt-infinity, sqrt-zero, sqrt-nan, significand-pos, decoded-sqrt, bits-number}
 use Rattle.float_bits.proofs.Decode.{significand-lt, exponent-le}
 use Rattle.square_root.proofs.sqrt.Statement.{statement}
 use Rattle.square_root.proofs.sqrt.Tie as tie
@@ -19,12 +19,16 @@ float-from-bits-infinity c = tt
 integer-decode-requires : tie.Need-integer-decode-requires
 integer-decode-requires c κs = search needs
 
+estimate-bits-requires : tie.Need-estimate-bits-requires
+unfolding ofBits
+estimate-bits-requires c κs = positive-number (c .before .before .before .args .x) (positive-tests (c .before .before .before .args .x) (c .before .before .if1 .taken) (c .before .if2 .taken))
+
 sqrt-bits-requires : tie.Need-sqrt-bits-requires
 unfolding ofBits
 sqrt-bits-requires c κs =
-    let x = c .before .before .before .args .x in
-    let p = positive-tests x (c .before .before .if1 .taken) (c .before .if2 .taken) in
-    rw (c .integer-decode .ensures) (significand-pos x (held (c .before .before .before)) p, (significand-lt x, exponent-le x (held (c .before .before .before))))
+    let x = c .before .before .before .before .args .x in
+    let p = positive-tests x (c .before .before .before .if1 .taken) (c .before .before .if2 .taken) in
+    rw (c .before .integer-decode .ensures) (significand-pos x (held (c .before .before .before .before)) p, (significand-lt x, exponent-le x (held (c .before .before .before .before))))
 
 cast-result : tie.Need-cast-result
 cast-result c = search needs
@@ -35,9 +39,9 @@ float-from-bits-result c = bits-number (c .sqrt-bits .result) (c .sqrt-bits .ens
 returns : tie.Need-returns
 unfolding ofBits
 returns c =
-    let x = c .before .before .before .before .args .x in
-    let p = positive-tests x (c .before .before .before .if1 .taken) (c .before .before .if2 .taken) in
-    decoded-sqrt x (held (c .before .before .before .before)) p (c .sqrt-bits .result) (rw (c .before .integer-decode .ensures) at (c .sqrt-bits .ensures))
+    let x = c .before .before .before .before .before .args .x in
+    let p = positive-tests x (c .before .before .before .before .if1 .taken) (c .before .before .before .if2 .taken) in
+    decoded-sqrt x (held (c .before .before .before .before .before)) p (c .sqrt-bits .result) (rw (c .before .before .integer-decode .ensures) at (c .sqrt-bits .ensures))
 
 returns-2 : tie.Need-returns-2
 unfolding ofBits
@@ -57,6 +61,7 @@ sqrt-spec =
     (tie.spec
     float-from-bits-infinity
     integer-decode-requires
+    estimate-bits-requires
     sqrt-bits-requires
     cast-result
     float-from-bits-result
