@@ -1,1 +1,2 @@
+pub mod EqualAngles
 pub mod Clauses

@@ -2,8 +2,10 @@
 -- and Newton's steps, each from the lines of 000's `interval_find_zeros`, in their order of operations. Definitions only. A zero is of either sign.
 use Prim.Native.Nat.{ℕ, zero, suc}
 use mathlib.Core.Bool.{Bool, cond, _||_}
+use mathlib.Core.Path.{_≡_}
 use lib.Ieee.{Float, binary32, ofBits, lt, eq}
 use Rattle.float32.specs.Operators.{_⊕_, _⊖_, _⊗_, _⊘_, two}
+use Rattle.trig.specs.declared.SinCos.{SinCos}
 use Rattle.trig.specs.SinCos.{sin, cos}
 use Rattle.interval.specs.declared.Interval.{Interval}
 use Rattle.interval.specs.Interval.{Interval·point, Interval·add, Interval·mul, Interval·sin, Interval·cos}
@@ -21,19 +23,28 @@ affine a b i = Interval·add (Interval·point a) (Interval·mul (Interval·point
 abbrev pub MotionDerivative·angles : MotionDerivative → Interval → Interval
 MotionDerivative·angles f i = Interval·mul (Interval·point (two ⊗ f .theta)) i
 
--- I::from(c1) + (I::from(c2) + I::from(c3) * i) * c.cos() + (I::from(c4) + I::from(c5) * i) * c.sin()
-unfoldable pub MotionDerivative·range : MotionDerivative → Interval → Interval
-MotionDerivative·range f i =
-    let c = MotionDerivative·angles f i in
+-- I::from(c1) + (I::from(c2) + I::from(c3) * i) * c.cos() + (I::from(c4) + I::from(c5) * i) * c.sin(), with c.sin() and c.cos() given
+unfoldable pub MotionDerivative·rangeAt : MotionDerivative → Interval → Interval → Interval → Interval
+MotionDerivative·rangeAt f i sines cosines =
     Interval·add
-    (Interval·add (Interval·point (f .c1)) (Interval·mul (affine (f .c2) (f .c3) i) (Interval·cos c)))
-    (Interval·mul (affine (f .c4) (f .c5) i) (Interval·sin c))
+    (Interval·add (Interval·point (f .c1)) (Interval·mul (affine (f .c2) (f .c3) i) cosines))
+    (Interval·mul (affine (f .c4) (f .c5) i) sines)
+
+unfoldable pub MotionDerivative·range : MotionDerivative → Interval → Interval
+MotionDerivative·range f i = let c = MotionDerivative·angles f i in MotionDerivative·rangeAt f i (Interval·sin c) (Interval·cos c)
 
 -- range.low > 0.0 || range.high < 0.0 || range.low == range.high
-unfoldable pub MotionDerivative·excludesZero : MotionDerivative → Interval → Bool
-MotionDerivative·excludesZero f i =
-    let range = MotionDerivative·range f i in
+unfoldable pub MotionDerivative·excludesZeroAt : MotionDerivative → Interval → Interval → Interval → Bool
+MotionDerivative·excludesZeroAt f i sines cosines =
+    let range = MotionDerivative·rangeAt f i sines cosines in
     (lt positiveZero (range .low) || lt (range .high) positiveZero) || eq (range .low) (range .high)
+
+unfoldable pub MotionDerivative·excludesZero : MotionDerivative → Interval → Bool
+MotionDerivative·excludesZero f i = let c = MotionDerivative·angles f i in MotionDerivative·excludesZeroAt f i (Interval·sin c) (Interval·cos c)
+
+-- s is the sine and the cosine of a.
+abbrev pub SinCosOf : SinCos → Float → Type 0
+SinCosOf s a = (s .sin ≡ sin a) × (s .cos ≡ cos a)
 
 -- f_newton
 unfoldable pub MotionDerivative·value : MotionDerivative → Float → Float

@@ -1,7 +1,11 @@
 // The derivative of a coordinate's motion, whose zeros pbrt's motion box needs: its bounds over an interval, its value, its slope and Newton's steps towards a zero.
 ghost use mathlib.Core.Path.{_≡_};
-ghost use Rattle.motion_derivative.specs.Derivative.{affine, MotionDerivative·range, MotionDerivative·excludesZero, MotionDerivative·value, MotionDerivative·slope, MotionDerivative·newton};
+ghost use Rattle.float32.specs.Operators.{_⊗_, two};
+ghost use Rattle.interval.specs.Interval.{Interval·sin, Interval·cos};
+ghost use Rattle.motion_derivative.specs.Derivative.{affine, SinCosOf, MotionDerivative·angles, MotionDerivative·rangeAt, MotionDerivative·range, MotionDerivative·excludesZeroAt, MotionDerivative·excludesZero, MotionDerivative·value, MotionDerivative·slope, MotionDerivative·newton};
 use interval::Interval;
+use interval::IntervalSinCos;
+use trig::SinCos;
 
 // c1 + (c2 + c3 t) cos(2 theta t) + (c4 + c5 t) sin(2 theta t)
 pub struct MotionDerivative {
@@ -21,41 +25,85 @@ fn affine(a: f32, b: f32, i: Interval) -> Interval
 }
 
 impl MotionDerivative {
-    // pbrt's bounds of the values over an interval. Accuracy: heuristic.
-    pub fn range(self, i: Interval) -> Interval
-        ensures value { λ r. ⌜ r ≡ MotionDerivative·range self i ⌝ }
+    // pbrt's bounds of the values over an interval, whose angles' sine and cosine are given.
+    fn range_at(self, i: Interval, angle: IntervalSinCos) -> Interval
+        ensures value { λ r. ⌜ r ≡ MotionDerivative·rangeAt self i (angle .sin) (angle .cos) ⌝ }
     {
-        let c = Interval::point(2.0 * self.theta).mul(i);
-        let angle = c.sin_cos();
         let cosines = affine(self.c2, self.c3, i).mul(angle.cos);
         let sines = affine(self.c4, self.c5, i).mul(angle.sin);
         Interval::point(self.c1).add(cosines).add(sines)
     }
 
-    // Whether the bounds have no zero inside, or are one number. Accuracy: heuristic.
+    // The sine and the cosine of an interval's angles.
+    fn sin_cos(self, i: Interval) -> IntervalSinCos
+        ensures value { λ r. ⌜ (r .sin ≡ Interval·sin (MotionDerivative·angles self i)) × (r .cos ≡ Interval·cos (MotionDerivative·angles self i)) ⌝ }
+    {
+        Interval::point(2.0 * self.theta).mul(i).sin_cos()
+    }
+
+    // pbrt's bounds of the values over an interval. Accuracy: heuristic.
+    pub fn range(self, i: Interval) -> Interval
+        ensures value { λ r. ⌜ r ≡ MotionDerivative·range self i ⌝ }
+    {
+        self.range_at(i, self.sin_cos(i))
+    }
+
+    // Whether the bounds have no zero inside, or are one number, where the sine and the cosine of the interval's angles are known. Accuracy: heuristic.
+    pub fn excludes_zero_at(self, i: Interval, angle: IntervalSinCos) -> bool
+        ensures value { λ r. ⌜ r ≡ MotionDerivative·excludesZeroAt self i (angle .sin) (angle .cos) ⌝ }
+    {
+        let range = self.range_at(i, angle);
+        (range.low > 0.0) | (range.high < 0.0) | (range.low == range.high)
+    }
+
+    // The same, where they are not. Accuracy: heuristic.
     pub fn excludes_zero(self, i: Interval) -> bool
         ensures value { λ r. ⌜ r ≡ MotionDerivative·excludesZero self i ⌝ }
     {
-        let range = self.range(i);
-        (range.low > 0.0) | (range.high < 0.0) | (range.low == range.high)
+        self.excludes_zero_at(i, self.sin_cos(i))
+    }
+
+    // The value at t, by the sine and the cosine of its angle.
+    fn value_at(self, t: f32, angle: SinCos) -> f32
+        requires { ⌜ SinCosOf angle (two ⊗ self .theta ⊗ t) ⌝ }
+        ensures value { λ r. ⌜ r ≡ MotionDerivative·value self t ⌝ }
+    {
+        self.c1 + (self.c2 + self.c3 * t) * angle.cos + (self.c4 + self.c5 * t) * angle.sin
+    }
+
+    // The slope at t, likewise.
+    fn slope_at(self, t: f32, angle: SinCos) -> f32
+        requires { ⌜ SinCosOf angle (two ⊗ t ⊗ self .theta) ⌝ }
+        ensures value { λ r. ⌜ r ≡ MotionDerivative·slope self t ⌝ }
+    {
+        (self.c3 + 2.0 * (self.c4 + self.c5 * t) * self.theta) * angle.cos
+            + (self.c5 - 2.0 * (self.c2 + self.c3 * t) * self.theta) * angle.sin
     }
 
     // The value at t, as pbrt works it out. Accuracy: heuristic.
     pub fn value(self, t: f32) -> f32
         ensures value { λ r. ⌜ r ≡ MotionDerivative·value self t ⌝ }
     {
-        let angle = trig::sin_cos(2.0 * self.theta * t);
-        self.c1 + (self.c2 + self.c3 * t) * angle.cos + (self.c4 + self.c5 * t) * angle.sin
+        self.value_at(t, trig::sin_cos(2.0 * self.theta * t))
     }
 
     // The derivative of the value. Accuracy: heuristic.
     pub fn slope(self, t: f32) -> f32
         ensures value { λ r. ⌜ r ≡ MotionDerivative·slope self t ⌝ }
     {
-        let angle = trig::sin_cos(2.0 * t * self.theta);
-        (self.c3 + 2.0 * (self.c4 + self.c5 * t) * self.theta) * angle.cos
-            + (self.c5 - 2.0 * (self.c2 + self.c3 * t) * self.theta) * angle.sin
+        self.slope_at(t, trig::sin_cos(2.0 * t * self.theta))
     }
+}
+
+// The sine and the cosine of y, where those of x are known: equal angles have the same.
+fn sin_cos_beside(x: f32, angle: SinCos, y: f32) -> SinCos
+    requires { ⌜ SinCosOf angle x ⌝ }
+    ensures value { λ r. ⌜ SinCosOf r y ⌝ }
+{
+    if x == y {
+        return angle;
+    }
+    trig::sin_cos(y)
 }
 
 // At most so many of Newton's steps from t; they stop where the value or the slope is zero. Accuracy: heuristic.
@@ -65,8 +113,10 @@ pub fn newton(f: MotionDerivative, steps: u32, t: f32) -> f32
     if steps == 0 {
         return t;
     }
-    let value = f.value(t);
-    let slope = f.slope(t);
+    let x = 2.0 * f.theta * t;
+    let angle = trig::sin_cos(x);
+    let value = f.value_at(t, angle);
+    let slope = f.slope_at(t, sin_cos_beside(x, angle, 2.0 * t * f.theta));
     if (value == 0.0) | (slope == 0.0) {
         return t;
     }

@@ -7,8 +7,10 @@ use borrow.Fn.PlainCycle.{Measures, is, falls, and}
 use Rattle.motion_derivative.proofs.newton.Reads as newton
 use Rattle.motion_derivative.proofs.newton.Kinds as newton-kinds
 use Rattle.motion_derivative.proofs.+newton.Lts-newton as newton-lts
-use Rattle.motion_derivative.proofs.MotionDerivative.slope.Reads as slope-reads
-use Rattle.motion_derivative.proofs.MotionDerivative.value.Reads as value-reads
+use Rattle.trig.proofs.sin_cos.Reads as sin-cos-reads
+use Rattle.motion_derivative.proofs.MotionDerivative.slope_at.Reads as slope-at-reads
+use Rattle.motion_derivative.proofs.MotionDerivative.value_at.Reads as value-at-reads
+use Rattle.motion_derivative.proofs.sin_cos_beside.Reads as sin-cos-beside-reads
 use Rattle.motion_derivative.proofs.+newton.{statement}
 use Rattle.motion_derivative.proofs.+newton.Tie.{close}
 
@@ -22,63 +24,132 @@ abbrev newton-below : ℕ → In 0 newton-kinds.ps
 newton-below t = and 0 newton-kinds.ps (falls 0 newton-kinds.ps _<_ μ-newton t) newton.Pre
 
 returns : (t : ℕ) → newton-lts.Need-returns (
-  value-reads.Asked,
-  value-reads.Learnt,
-  slope-reads.Asked,
-  slope-reads.Learnt,
+  sin-cos-reads.Asked,
+  sin-cos-reads.Learnt,
+  value-at-reads.Asked,
+  value-at-reads.Learnt,
+  sin-cos-beside-reads.Asked,
+  sin-cos-beside-reads.Learnt,
+  slope-at-reads.Asked,
+  slope-at-reads.Learnt,
   newton-below t,
   newton.Post,
 ) (newton-at t) newton.Post
 returns t c = let a = c .before .args in cc (newton-none (a .f) (a .t))
 
-returns-2 : (t : ℕ) → newton-lts.Need-returns-2 (
-  value-reads.Asked,
-  value-reads.Learnt,
-  slope-reads.Asked,
-  slope-reads.Learnt,
+value-at-requires : (t : ℕ) → newton-lts.Need-value-at-requires (
+  sin-cos-reads.Asked,
+  sin-cos-reads.Learnt,
+  value-at-reads.Asked,
+  value-at-reads.Learnt,
+  sin-cos-beside-reads.Asked,
+  sin-cos-beside-reads.Learnt,
+  slope-at-reads.Asked,
+  slope-at-reads.Learnt,
   newton-below t,
   newton.Post,
 ) (newton-at t) newton.Post
-returns-2 t c = cc (newton-stops _ _ _ _ _ (c .before .before .value .ensures) (c .before .slope .ensures) (c .if2 .taken))
+value-at-requires t c κs = c .sin-cos .ensures
+
+sin-cos-beside-requires : (t : ℕ) → newton-lts.Need-sin-cos-beside-requires (
+  sin-cos-reads.Asked,
+  sin-cos-reads.Learnt,
+  value-at-reads.Asked,
+  value-at-reads.Learnt,
+  sin-cos-beside-reads.Asked,
+  sin-cos-beside-reads.Learnt,
+  slope-at-reads.Asked,
+  slope-at-reads.Learnt,
+  newton-below t,
+  newton.Post,
+) (newton-at t) newton.Post
+sin-cos-beside-requires t c κs = c .before .before .sin-cos .ensures
+
+slope-at-requires : (t : ℕ) → newton-lts.Need-slope-at-requires (
+  sin-cos-reads.Asked,
+  sin-cos-reads.Learnt,
+  value-at-reads.Asked,
+  value-at-reads.Learnt,
+  sin-cos-beside-reads.Asked,
+  sin-cos-beside-reads.Learnt,
+  slope-at-reads.Asked,
+  slope-at-reads.Learnt,
+  newton-below t,
+  newton.Post,
+) (newton-at t) newton.Post
+slope-at-requires t c κs = c .sin-cos-beside .ensures
+
+returns-2 : (t : ℕ) → newton-lts.Need-returns-2 (
+  sin-cos-reads.Asked,
+  sin-cos-reads.Learnt,
+  value-at-reads.Asked,
+  value-at-reads.Learnt,
+  sin-cos-beside-reads.Asked,
+  sin-cos-beside-reads.Learnt,
+  slope-at-reads.Asked,
+  slope-at-reads.Learnt,
+  newton-below t,
+  newton.Post,
+) (newton-at t) newton.Post
+returns-2 t c =
+    let slope = c .before in
+    cc (newton-stops _ _ _ _ _ (slope .before .before .before .value-at .ensures) (slope .slope-at .ensures) (c .if2 .taken))
 
 sub-newton : (t : ℕ) → newton-lts.Need-sub-newton (
-  value-reads.Asked,
-  value-reads.Learnt,
-  slope-reads.Asked,
-  slope-reads.Learnt,
+  sin-cos-reads.Asked,
+  sin-cos-reads.Learnt,
+  value-at-reads.Asked,
+  value-at-reads.Learnt,
+  sin-cos-beside-reads.Asked,
+  sin-cos-beside-reads.Learnt,
+  slope-at-reads.Asked,
+  slope-at-reads.Learnt,
   newton-below t,
   newton.Post,
 ) (newton-at t) newton.Post
 sub-newton t c = omega arith
 
 newton-requires : (t : ℕ) → newton-lts.Need-newton-requires (
-  value-reads.Asked,
-  value-reads.Learnt,
-  slope-reads.Asked,
-  slope-reads.Learnt,
+  sin-cos-reads.Asked,
+  sin-cos-reads.Learnt,
+  value-at-reads.Asked,
+  value-at-reads.Learnt,
+  sin-cos-beside-reads.Asked,
+  sin-cos-beside-reads.Learnt,
+  slope-at-reads.Asked,
+  slope-at-reads.Learnt,
   newton-below t,
   newton.Post,
 ) (newton-at t) newton.Post
 newton-requires t c κs = omega arith
 
 returns-3 : (t : ℕ) → newton-lts.Need-returns-3 (
-  value-reads.Asked,
-  value-reads.Learnt,
-  slope-reads.Asked,
-  slope-reads.Learnt,
+  sin-cos-reads.Asked,
+  sin-cos-reads.Learnt,
+  value-at-reads.Asked,
+  value-at-reads.Learnt,
+  sin-cos-beside-reads.Asked,
+  sin-cos-beside-reads.Learnt,
+  slope-at-reads.Asked,
+  slope-at-reads.Learnt,
   newton-below t,
   newton.Post,
 ) (newton-at t) newton.Post
 returns-3 t c =
     let slope = c .before .before in
-    cc (newton-steps _ _ _ _ _ (slope .before .before .if1 .left) (slope .before .value .ensures) (slope .slope .ensures) (c .before .if2 .left))
+    let value = slope .before .before .before in
+    cc (newton-steps _ _ _ _ _ (value .before .before .before .if1 .left) (value .value-at .ensures) (slope .slope-at .ensures) (c .before .if2 .left))
 
 pub +newton-spec : {M : Type 1} → statement M
 +newton-spec = close μ-newton λ t. newton-lts.spec (
-  value-reads.Asked,
-  value-reads.Learnt,
-  slope-reads.Asked,
-  slope-reads.Learnt,
+  sin-cos-reads.Asked,
+  sin-cos-reads.Learnt,
+  value-at-reads.Asked,
+  value-at-reads.Learnt,
+  sin-cos-beside-reads.Asked,
+  sin-cos-beside-reads.Learnt,
+  slope-at-reads.Asked,
+  slope-at-reads.Learnt,
   newton-below t,
   newton.Post,
 )
@@ -86,7 +157,9 @@ pub +newton-spec : {M : Type 1} → statement M
     newton.Post
     (returns t)
     (λ c κs. tt)
-    (λ c κs. tt)
+    (value-at-requires t)
+    (sin-cos-beside-requires t)
+    (slope-at-requires t)
     (returns-2 t)
     (sub-newton t)
     (newton-requires t)

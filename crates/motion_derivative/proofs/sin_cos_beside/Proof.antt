@@ -1,0 +1,16 @@
+-- `sin_cos_beside` meets its contract: equal angles have the same sine and cosine.
+use mathlib.Core.Path.{_∙_}
+use Rattle.motion_derivative.proofs.EqualAngles.{sin-equal, cos-equal}
+use Rattle.motion_derivative.proofs.sin_cos_beside.Statement.{statement}
+use Rattle.motion_derivative.proofs.sin_cos_beside.Tie as tie
+
+returns : tie.Need-returns
+returns c =
+    let known = c .before .pre in
+    (known .0 ∙ sin-equal _ _ (c .if1 .taken), known .1 ∙ cos-equal _ _ (c .if1 .taken))
+
+returns-2 : tie.Need-returns-2
+returns-2 c = c .sin-cos .ensures
+
+pub sin-cos-beside-spec : {M : Type 1} → statement M
+sin-cos-beside-spec = tie.close (tie.spec returns (λ c κs. tt) returns-2)
