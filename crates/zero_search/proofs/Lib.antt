@@ -1,3 +1,4 @@
+pub mod InOrder
 pub mod Clauses
 pub mod Examined
 pub mod Stored

@@ -1,3 +1,4 @@
 pub mod Search
+pub mod Endpoints
 pub mod Stored
 pub mod Computing

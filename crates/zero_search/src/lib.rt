@@ -1,7 +1,13 @@
 // The zero search of pbrt's motion box: where the derivative of a coordinate's motion may vanish, from 0 to 1.
 ghost use mathlib.Core.Path.{_≡_};
+ghost use mathlib.Core.Bool.{cond};
+ghost use Rattle.trig.specs.SinCos.{sin, cos};
+ghost use Rattle.interval.specs.Interval.{Interval·new, Interval·sin, Interval·cos};
+ghost use Rattle.motion_derivative.specs.Derivative.{MotionDerivative·angles, MotionDerivative·excludesZero};
 ghost use Rattle.zero_search.specs.Search.{midpoint, Zeros·empty, Zeros·store, Zeros·accept, findZeros, intervalFindZeros};
+ghost use Rattle.zero_search.specs.Endpoints.{Endpoints·interval, AngleAt, AnglesAt};
 use interval::Interval;
+use interval::IntervalSinCos;
 use motion_derivative::MotionDerivative;
 use motion_derivative::newton;
 
@@ -13,12 +19,27 @@ const DEPTH: u32 = 8;
 
 const NEWTON_STEPS: u32 = 4;
 
+// pbrt's std::f32::consts::PI.
+const PI: f32 = 3.14159274;
+
 // The zeros found, in the order of their intervals, in the first `count` places; unused places are +0. The refusal is 9 where a ninth zero would be stored, and
 // then there are no zeros.
 pub struct Zeros {
     pub zeros: [f32; 8],
     pub count: usize,
     pub refusal: u8,
+}
+
+// An end of an interval, with the sine and the cosine of the angle there, which both halves at a midpoint share.
+struct Endpoint {
+    t: f32,
+    sin: f32,
+    cos: f32,
+}
+
+struct Endpoints {
+    low: Endpoint,
+    high: Endpoint,
 }
 
 fn midpoint(i: Interval) -> f32
@@ -67,22 +88,109 @@ impl Zeros {
     }
 }
 
-// The zeros of f inside i, after those found before; i is halved as often as depth says.
-fn find_zeros(f: MotionDerivative, i: Interval, depth: u32, found: Zeros) -> Zeros
-    ensures value { λ r. ⌜ r ≡ findZeros depth f i found ⌝ }
+fn end_at(f: MotionDerivative, t: f32) -> Endpoint
+    ensures value { λ r. ⌜ (r .t ≡ t) × AngleAt f r ⌝ }
 {
-    if f.excludes_zero(i) {
+    let angle = trig::sin_cos(2.0 * f.theta * t);
+    Endpoint {
+        t,
+        sin: angle.sin,
+        cos: angle.cos,
+    }
+}
+
+// `Interval::new` of two ends: nothing is worked out again where they are in order, as they are unless rounding makes them equal.
+fn ordered(f: MotionDerivative, a: Endpoint, b: Endpoint) -> Endpoints
+    requires { ⌜ AngleAt f a × AngleAt f b ⌝ }
+    ensures interval { λ r. ⌜ Endpoints·interval r ≡ Interval·new (a .t) (b .t) ⌝ }
+    ensures angles { λ r. ⌜ AnglesAt f r ⌝ }
+{
+    if a.t < b.t {
+        return Endpoints { low: a, high: b };
+    }
+    let i = Interval::new(a.t, b.t);
+    let low = end_at(f, i.low);
+    let high = end_at(f, i.high);
+    Endpoints { low, high }
+}
+
+// x where the test holds, and y otherwise.
+fn select(test: bool, x: f32, y: f32) -> f32
+    ensures value { λ r. ⌜ r ≡ cond test x y ⌝ }
+{
+    if test { x } else { y }
+}
+
+// pbrt's sine of an interval, by the sines of its ends.
+fn sin_between(c: Interval, a: f32, b: f32) -> Interval
+    requires { ⌜ a ≡ sin (c .low) ⌝ ∗ ⌜ b ≡ sin (c .high) ⌝ }
+    ensures value { λ r. ⌜ r ≡ Interval·sin c ⌝ }
+{
+    let low = select(a > b, b, a);
+    let high = select(a > b, a, b);
+    Interval::new(
+        select(
+            (c.low < 3.0 / 2.0 * PI) & (3.0 / 2.0 * PI < c.high),
+            -1.0,
+            low,
+        ),
+        select((c.low < PI / 2.0) & (PI / 2.0 < c.high), 1.0, high),
+    )
+}
+
+// pbrt's cosine of an interval, by the cosines of its ends.
+fn cos_between(c: Interval, a: f32, b: f32) -> Interval
+    requires { ⌜ a ≡ cos (c .low) ⌝ ∗ ⌜ b ≡ cos (c .high) ⌝ }
+    ensures value { λ r. ⌜ r ≡ Interval·cos c ⌝ }
+{
+    let low = select(a > b, b, a);
+    let high = select(a > b, a, b);
+    Interval::new(select((c.low < PI) & (PI < c.high), -1.0, low), high)
+}
+
+// The range test of an interval, from what is known at its ends; without it where the angles there are not in order.
+fn excludes_zero(f: MotionDerivative, e: Endpoints) -> bool
+    requires { ⌜ AnglesAt f e ⌝ }
+    ensures value { λ r. ⌜ r ≡ MotionDerivative·excludesZero f (Endpoints·interval e) ⌝ }
+{
+    let i = Interval {
+        low: e.low.t,
+        high: e.high.t,
+    };
+    let c = Interval {
+        low: 2.0 * f.theta * e.low.t,
+        high: 2.0 * f.theta * e.high.t,
+    };
+    if c.low < c.high {
+        let sin = sin_between(c, e.low.sin, e.high.sin);
+        let cos = cos_between(c, e.low.cos, e.high.cos);
+        return f.excludes_zero_at(i, IntervalSinCos { sin, cos });
+    }
+    f.excludes_zero(i)
+}
+
+// The zeros of f between two ends, after those found before; the interval is halved as often as depth says.
+fn find_zeros(f: MotionDerivative, e: Endpoints, depth: u32, found: Zeros) -> Zeros
+    requires { ⌜ AnglesAt f e ⌝ }
+    ensures value { λ r. ⌜ r ≡ findZeros depth f (Endpoints·interval e) found ⌝ }
+{
+    if excludes_zero(f, e) {
         return found;
     }
+    let i = Interval {
+        low: e.low.t,
+        high: e.high.t,
+    };
     let mid = midpoint(i);
     if depth == 0 {
         return found.accept(i, newton(f, NEWTON_STEPS, mid));
     }
-    let lower = find_zeros(f, Interval::new(i.low, mid), depth - 1, found);
+    let middle = end_at(f, mid);
+    let lower = find_zeros(f, ordered(f, e.low, middle), depth - 1, found);
     if lower.refusal != 0 {
         return lower;
     }
-    find_zeros(f, Interval::new(mid, i.high), depth - 1, lower)
+    find_zeros(f, ordered(f, middle, e.high), depth - 1, lower)
 }
 
 // pbrt's interval_find_zeros from the interval 0 to 1 at depth 8. Accuracy: heuristic.
@@ -97,5 +205,7 @@ pub fn interval_find_zeros(c1: f32, c2: f32, c3: f32, c4: f32, c5: f32, theta: f
         c5,
         theta,
     };
-    find_zeros(f, Interval::new(0.0, 1.0), DEPTH, Zeros::empty(0))
+    let low = end_at(f, 0.0);
+    let high = end_at(f, 1.0);
+    find_zeros(f, ordered(f, low, high), DEPTH, Zeros::empty(0))
 }

@@ -1,6 +1,7 @@
 -- `find_zeros` meets its contract, by the clauses of `search`; the depth falls.
 use mathlib.Core.Path.{sym}
 use native.Mathlib.Omega.{arith}
+use Rattle.zero_search.specs.Endpoints.{Endpoints·interval}
 use Rattle.zero_search.proofs.Clauses.{search-excluded, search-newton, search-ends, search-halves}
 use Prim.Native.Nat.{ℕ, _<_}
 use borrow.Fn.Kinds.{In}
@@ -8,11 +9,12 @@ use borrow.Fn.PlainCycle.{Measures, is, falls, and}
 use Rattle.zero_search.proofs.find_zeros.Reads as find-zeros
 use Rattle.zero_search.proofs.find_zeros.Kinds as find-zeros-kinds
 use Rattle.zero_search.proofs.+find_zeros.Lts-find_zeros as find-zeros-lts
-use Rattle.interval.proofs.Interval.new.Reads as new-reads
-use Rattle.motion_derivative.proofs.MotionDerivative.excludes_zero.Reads as excludes-zero-reads
-use Rattle.zero_search.proofs.Zeros.accept.Reads as accept-reads
-use Rattle.zero_search.proofs.midpoint.Reads as midpoint-reads
 use Rattle.motion_derivative.proofs.newton.Reads as newton-reads
+use Rattle.zero_search.proofs.Zeros.accept.Reads as accept-reads
+use Rattle.zero_search.proofs.end_at.Reads as end-at-reads
+use Rattle.zero_search.proofs.excludes_zero.Reads as excludes-zero-reads
+use Rattle.zero_search.proofs.midpoint.Reads as midpoint-reads
+use Rattle.zero_search.proofs.ordered.Reads as ordered-reads
 use Rattle.zero_search.proofs.+find_zeros.{statement}
 use Rattle.zero_search.proofs.+find_zeros.Tie.{close}
 
@@ -25,6 +27,24 @@ find-zeros-at t = and 0 find-zeros-kinds.ps (is 0 find-zeros-kinds.ps μ-find-ze
 abbrev find-zeros-below : ℕ → In 0 find-zeros-kinds.ps
 find-zeros-below t = and 0 find-zeros-kinds.ps (falls 0 find-zeros-kinds.ps _<_ μ-find-zeros t) find-zeros.Pre
 
+excludes-zero-requires : (t : ℕ) → find-zeros-lts.Need-excludes-zero-requires (
+  excludes-zero-reads.Asked,
+  excludes-zero-reads.Learnt,
+  midpoint-reads.Asked,
+  midpoint-reads.Learnt,
+  newton-reads.Asked,
+  newton-reads.Learnt,
+  accept-reads.Asked,
+  accept-reads.Learnt,
+  end-at-reads.Asked,
+  end-at-reads.Learnt,
+  ordered-reads.Asked,
+  ordered-reads.Learnt,
+  find-zeros-below t,
+  find-zeros.Post,
+) (find-zeros-at t) find-zeros.Post
+excludes-zero-requires t c κs = c .pre .1
+
 returns : (t : ℕ) → find-zeros-lts.Need-returns (
   excludes-zero-reads.Asked,
   excludes-zero-reads.Learnt,
@@ -34,12 +54,16 @@ returns : (t : ℕ) → find-zeros-lts.Need-returns (
   newton-reads.Learnt,
   accept-reads.Asked,
   accept-reads.Learnt,
-  new-reads.Asked,
-  new-reads.Learnt,
+  end-at-reads.Asked,
+  end-at-reads.Learnt,
+  ordered-reads.Asked,
+  ordered-reads.Learnt,
   find-zeros-below t,
   find-zeros.Post,
 ) (find-zeros-at t) find-zeros.Post
-returns t c = let a = c .before .before .args in cc (search-excluded (a .depth) (a .f) (a .i) (a .found))
+returns t c =
+    let a = c .before .before .args in
+    cc (search-excluded (a .depth) (a .f) (Endpoints·interval (a .e)) (a .found))
 
 returns-2 : (t : ℕ) → find-zeros-lts.Need-returns-2 (
   excludes-zero-reads.Asked,
@@ -50,8 +74,10 @@ returns-2 : (t : ℕ) → find-zeros-lts.Need-returns-2 (
   newton-reads.Learnt,
   accept-reads.Asked,
   accept-reads.Learnt,
-  new-reads.Asked,
-  new-reads.Learnt,
+  end-at-reads.Asked,
+  end-at-reads.Learnt,
+  ordered-reads.Asked,
+  ordered-reads.Learnt,
   find-zeros-below t,
   find-zeros.Post,
 ) (find-zeros-at t) find-zeros.Post
@@ -66,8 +92,26 @@ returns-2 t c =
       sym (range .excludes-zero .ensures),
       mid .before .if1 .left,
       c .before .before .if2 .taken,
-      search-newton (a .f) (a .i) (a .found),
+      search-newton (a .f) (Endpoints·interval (a .e)) (a .found),
     )
+
+ordered-requires : (t : ℕ) → find-zeros-lts.Need-ordered-requires (
+  excludes-zero-reads.Asked,
+  excludes-zero-reads.Learnt,
+  midpoint-reads.Asked,
+  midpoint-reads.Learnt,
+  newton-reads.Asked,
+  newton-reads.Learnt,
+  accept-reads.Asked,
+  accept-reads.Learnt,
+  end-at-reads.Asked,
+  end-at-reads.Learnt,
+  ordered-reads.Asked,
+  ordered-reads.Learnt,
+  find-zeros-below t,
+  find-zeros.Post,
+) (find-zeros-at t) find-zeros.Post
+ordered-requires t c κs = (c .before .before .before .before .before .pre .1 .0, c .end-at .ensures .1)
 
 sub-find-zeros : (t : ℕ) → find-zeros-lts.Need-sub-find-zeros (
   excludes-zero-reads.Asked,
@@ -78,8 +122,10 @@ sub-find-zeros : (t : ℕ) → find-zeros-lts.Need-sub-find-zeros (
   newton-reads.Learnt,
   accept-reads.Asked,
   accept-reads.Learnt,
-  new-reads.Asked,
-  new-reads.Learnt,
+  end-at-reads.Asked,
+  end-at-reads.Learnt,
+  ordered-reads.Asked,
+  ordered-reads.Learnt,
   find-zeros-below t,
   find-zeros.Post,
 ) (find-zeros-at t) find-zeros.Post
@@ -94,12 +140,14 @@ find-zeros-requires : (t : ℕ) → find-zeros-lts.Need-find-zeros-requires (
   newton-reads.Learnt,
   accept-reads.Asked,
   accept-reads.Learnt,
-  new-reads.Asked,
-  new-reads.Learnt,
+  end-at-reads.Asked,
+  end-at-reads.Learnt,
+  ordered-reads.Asked,
+  ordered-reads.Learnt,
   find-zeros-below t,
   find-zeros.Post,
 ) (find-zeros-at t) find-zeros.Post
-find-zeros-requires t c κs = omega arith
+find-zeros-requires t c κs = (omega arith, c .ordered .ensures .1)
 
 returns-3 : (t : ℕ) → find-zeros-lts.Need-returns-3 (
   excludes-zero-reads.Asked,
@@ -110,15 +158,38 @@ returns-3 : (t : ℕ) → find-zeros-lts.Need-returns-3 (
   newton-reads.Learnt,
   accept-reads.Asked,
   accept-reads.Learnt,
-  new-reads.Asked,
-  new-reads.Learnt,
+  end-at-reads.Asked,
+  end-at-reads.Learnt,
+  ordered-reads.Asked,
+  ordered-reads.Learnt,
   find-zeros-below t,
   find-zeros.Post,
 ) (find-zeros-at t) find-zeros.Post
 returns-3 t c =
     let lower = c .before .before in
-    let a = lower .before .before .before .before .before .before .args in
-    cc (search-ends (a .depth) (a .f) (a .i) (a .found) (lower .find-zeros .result) (lower .before .before .if2 .left) (cc) (c .if3 .taken))
+    let half = lower .before in
+    let mid = half .before .before .before in
+    let a = mid .before .before .before .args in
+    cc (search-ends (a .depth) (a .f) (Endpoints·interval (a .e)) (a .found) (lower .find-zeros .result) (half .before .before .if2 .left)
+    (rw (half .ordered .ensures .0, half .before .end-at .ensures .0, mid .midpoint .ensures) at (lower .find-zeros .ensures)) (c .if3 .taken))
+
+ordered-requires-2 : (t : ℕ) → find-zeros-lts.Need-ordered-requires-2 (
+  excludes-zero-reads.Asked,
+  excludes-zero-reads.Learnt,
+  midpoint-reads.Asked,
+  midpoint-reads.Learnt,
+  newton-reads.Asked,
+  newton-reads.Learnt,
+  accept-reads.Asked,
+  accept-reads.Learnt,
+  end-at-reads.Asked,
+  end-at-reads.Learnt,
+  ordered-reads.Asked,
+  ordered-reads.Learnt,
+  find-zeros-below t,
+  find-zeros.Post,
+) (find-zeros-at t) find-zeros.Post
+ordered-requires-2 t c κs = (c .before .before .before .before .end-at .ensures .1, c .before .before .before .before .before .before .before .before .before .pre .1 .1)
 
 sub-find-zeros-2 : (t : ℕ) → find-zeros-lts.Need-sub-find-zeros-2 (
   excludes-zero-reads.Asked,
@@ -129,8 +200,10 @@ sub-find-zeros-2 : (t : ℕ) → find-zeros-lts.Need-sub-find-zeros-2 (
   newton-reads.Learnt,
   accept-reads.Asked,
   accept-reads.Learnt,
-  new-reads.Asked,
-  new-reads.Learnt,
+  end-at-reads.Asked,
+  end-at-reads.Learnt,
+  ordered-reads.Asked,
+  ordered-reads.Learnt,
   find-zeros-below t,
   find-zeros.Post,
 ) (find-zeros-at t) find-zeros.Post
@@ -145,12 +218,16 @@ find-zeros-requires-2 : (t : ℕ) → find-zeros-lts.Need-find-zeros-requires-2 
   newton-reads.Learnt,
   accept-reads.Asked,
   accept-reads.Learnt,
-  new-reads.Asked,
-  new-reads.Learnt,
+  end-at-reads.Asked,
+  end-at-reads.Learnt,
+  ordered-reads.Asked,
+  ordered-reads.Learnt,
   find-zeros-below t,
   find-zeros.Post,
 ) (find-zeros-at t) find-zeros.Post
-find-zeros-requires-2 t c κs = omega arith
+find-zeros-requires-2 t c κs =
+    let split = c .before .before .before .before .before .before in
+    (omega (arith, split .if2 .left, split .before .before .before .before .pre .0), c .ordered2 .ensures .1)
 
 returns-4 : (t : ℕ) → find-zeros-lts.Need-returns-4 (
   excludes-zero-reads.Asked,
@@ -161,15 +238,25 @@ returns-4 : (t : ℕ) → find-zeros-lts.Need-returns-4 (
   newton-reads.Learnt,
   accept-reads.Asked,
   accept-reads.Learnt,
-  new-reads.Asked,
-  new-reads.Learnt,
+  end-at-reads.Asked,
+  end-at-reads.Learnt,
+  ordered-reads.Asked,
+  ordered-reads.Learnt,
   find-zeros-below t,
   find-zeros.Post,
 ) (find-zeros-at t) find-zeros.Post
 returns-4 t c =
-    let lower = c .before .before .before .before in
-    let a = lower .before .before .before .before .before .before .args in
-    cc (search-halves (a .depth) (a .f) (a .i) (a .found) (lower .find-zeros .result) (lower .before .before .if2 .left) (cc) (c .before .before .if3 .left))
+    let upper = c .before in
+    let lower = upper .before .before .before in
+    let half = lower .before in
+    let middle = half .before in
+    let mid = middle .before .before in
+    let a = mid .before .before .before .args in
+    cc (
+      search-halves (a .depth) (a .f) (Endpoints·interval (a .e)) (a .found) (lower .find-zeros .result) (middle .before .if2 .left)
+          (rw (half .ordered .ensures .0, middle .end-at .ensures .0, mid .midpoint .ensures) at (lower .find-zeros .ensures)) (upper .before .if3 .left),
+      rw (upper .ordered2 .ensures .0, middle .end-at .ensures .0, mid .midpoint .ensures) at (c .find-zeros2 .ensures),
+    )
 
 pub +find-zeros-spec : {M : Type 1} → statement M
 +find-zeros-spec = close μ-find-zeros λ t. find-zeros-lts.spec (
@@ -181,24 +268,27 @@ pub +find-zeros-spec : {M : Type 1} → statement M
   newton-reads.Learnt,
   accept-reads.Asked,
   accept-reads.Learnt,
-  new-reads.Asked,
-  new-reads.Learnt,
+  end-at-reads.Asked,
+  end-at-reads.Learnt,
+  ordered-reads.Asked,
+  ordered-reads.Learnt,
   find-zeros-below t,
   find-zeros.Post,
 )
     (find-zeros-at t)
     find-zeros.Post
-    (λ c κs. tt)
+    (excludes-zero-requires t)
     (returns t)
     (λ c κs. tt)
     (λ c κs. tt)
     (λ c κs. tt)
     (returns-2 t)
     (λ c κs. tt)
+    (ordered-requires t)
     (sub-find-zeros t)
     (find-zeros-requires t)
     (returns-3 t)
-    (λ c κs. tt)
+    (ordered-requires-2 t)
     (sub-find-zeros-2 t)
     (find-zeros-requires-2 t)
     (returns-4 t)
