@@ -19,7 +19,7 @@ use Rattle.pose_pair.specs.Pose.{Pose·isFinite, Pose·isAffine, timesRefusal}
 use Rattle.animated_transform.specs.declared.AnimatedTransform.{AnimatedTransform}
 use Rattle.animated_transform.specs.declared.AnimatedTransformAnswer.{AnimatedTransformAnswer}
 use Rattle.animated_transform.specs.New.{AnimatedTransform·new}
-use Rattle.motion_bounds.specs.Answer.{OneOf}
+use Rattle.transform.specs.Answer.{OneOf}
 use Rattle.motion_cover.specs.Cover.{AnimatedTransform·cover}
 use Rattle.refusal_numbers.specs.Numbers.{BoundsAnswer·RefusedBy}
 use Rattle.refusal_numbers.proofs.Numbers.{every-answer}

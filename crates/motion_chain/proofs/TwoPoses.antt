@@ -17,7 +17,7 @@ use Rattle.rounding.proofs.Order.{≼-refl, finite-number, between-finite}
 use Rattle.rounding.proofs.Monotone.{rounds-mono}
 use Rattle.rounding.proofs.Arithmetic.{sub-rounds}
 use Rattle.float32.specs.Operators.{_⊖_}
-use Rattle.unit_interval.proofs.Dt.{zero-finite, zero-rounds, sub-nonnegative}
+use Rattle.unit_interval.proofs.DtUnit.{zero-finite, zero-rounds, sub-nonnegative}
 use Rattle.matrix4x4.specs.Rows.{Matrix4x4·toRows}
 use Rattle.matrix4x4.specs.IsFinite.{Matrix4x4·isFinite}
 use Rattle.pose_pair.specs.declared.Pose.{Pose}

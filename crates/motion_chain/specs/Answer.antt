@@ -6,7 +6,7 @@ use lib.Ieee.{Float}
 use Rattle.bounds3.specs.declared.Point3f.{Point3f}
 use Rattle.bounds3.specs.declared.Bounds3f.{Bounds3f}
 use Rattle.pose_pair.specs.declared.Pose.{Pose}
-use Rattle.motion_bounds.specs.Answer.{OneOf}
+use Rattle.transform.specs.Answer.{OneOf}
 use Rattle.motion_cover.specs.Answer.{Proper}
 use Rattle.refusal_numbers.specs.Numbers.{PointAnswer·RefusedBy, BoundsAnswer·RefusedBy}
 use Rattle.motion_chain.specs.Chain.{Chain, ChainAnswer, built, refused, Chain·new, Chain·transformPoint, Chain·cover}
