@@ -1,6 +1,7 @@
 -- Least and greatest by a comparison alone are those of `float32` where the first is no NaN (`lesser-min`, `greater-max`). A product of finite numbers is no NaN, nor
--- is a quotient by a positive one; so product and quotient by comparisons are the cover's there: `mul-ordered`, `div-ordered`.
-use mathlib.Core.Path.{_≡_, refl, ap₂}
+-- is a quotient by a positive one; so product and quotient by comparisons are the cover's there: `mul-ordered`, `div-ordered`. And four numbers are finite where the least and
+-- the greatest of them are: `corners-finite`.
+use mathlib.Core.Path.{_≡_, refl, sym, subst}
 use mathlib.Core.Logic.{inl, inr}
 use mathlib.Core.Bool.{Bool, true, false, not, cond}
 use lib.Dec.{T}
@@ -14,6 +15,7 @@ use Rattle.float32.specs.MinMax.{minNum, maxNum}
 use Rattle.float32.specs.Operators.{_⊗_, _⊘_}
 use Rattle.interval.specs.declared.Interval.{Interval}
 use Rattle.interval.specs.Contains.{Finite}
+use Rattle.interval.proofs.Contains.{contains-finite, new-left, new-right, hull-left, hull-right}
 use Rattle.interval.specs.Interval.{Interval·new, Interval·hull, Interval·ofFour}
 use Rattle.interval.specs.Enclosure.{Interval·mulEnclosure, Interval·divEnclosure}
 use Rattle.interval_unjudged.specs.Ordered.{lesser, greater, Interval·ofFourOrdered, Interval·mulOrdered, Interval·divOrdered}
@@ -37,7 +39,7 @@ picks x y n k true = k
 picks x y n k false = n
 
 -- ---- of four
-four-ordered : (a b c d : Float) → Number a → Number b → Number c → Number d → Interval·ofFourOrdered a b c d ≡ Interval·ofFour a b c d
+pub four-ordered : (a b c d : Float) → Number a → Number b → Number c → Number d → Interval·ofFourOrdered a b c d ≡ Interval·ofFour a b c d
 unfolding Interval·ofFourOrdered Interval·ofFour Interval·hull Interval·new
 four-ordered a b c d na nb nc nd =
     rw (
@@ -55,13 +57,32 @@ four-ordered a b c d na nb nc nd =
     greatest : (a b : Float) → Number a → Number b → Number (greater a b)
     greatest a b n k = unfold greater in picks a b n k (lt a b)
 
+pub record AllFour (P : Float → Type 0) (a b c d : Float) : Type 0 where
+  pub first : P a
+  pub second : P b
+  pub third : P c
+  pub fourth : P d
+
+pub corners-finite : (a b c d : Float) → AllFour Number a b c d → Finite (Interval·ofFourOrdered a b c d) → AllFour (λ (x : Float). T (finite x)) a b c d
+unfolding Interval·ofFour
+corners-finite a b c d n f =
+    let X = Interval·new a b in
+    let Y = Interval·new c d in
+    let g : Finite (Interval·hull X Y) = subst Finite (four-ordered a b c d (n .first) (n .second) (n .third) (n .fourth)) f in
+    record {
+      first = contains-finite g (hull-left Y (new-left a b (n .first)));
+      second = contains-finite g (hull-left Y (new-right a b (n .second)));
+      third = contains-finite g (hull-right X (new-left c d (n .third)));
+      fourth = contains-finite g (hull-right X (new-right c d (n .fourth)));
+    }
+
 -- ---- products and quotients
-mul-number : (x y : Float) → T (finite x) → T (finite y) → Number (x ⊗ y)
+pub mul-number : (x y : Float) → T (finite x) → T (finite y) → Number (x ⊗ y)
 mul-number x y f g =
     let r = ≼-refl x (finite-number x f) in
     elim (mul-between-left binary32 y f f f g r r) [ inl h ↦ number-left (h .0) | inr h ↦ number-left (h .0) ]
 
-div-number : (x y : Float) → T (finite x) → T (positive y) → Number (x ⊘ y)
+pub div-number : (x y : Float) → T (finite x) → T (positive y) → Number (x ⊘ y)
 div-number x y f p = number-left (div-mono binary32 y f f p (≼-refl x (finite-number x f)))
 
 pub mul-ordered : (X Y : Interval) → Finite X → Finite Y → Interval·mulOrdered X Y ≡ Interval·mulEnclosure X Y

@@ -1,7 +1,7 @@
 // Operations of document 01's cover on intervals, of which none is judged. Least and greatest are taken by a comparison alone, which is right where no NaN is compared:
 // where the operands of a product are finite, it is the product of `interval`. One test of what comes out may then stand for judging every interval on the way.
 ghost use mathlib.Core.Path.{_≡_};
-ghost use Rattle.interval.specs.Enclosure.{Interval·addEnclosure, Interval·subEnclosure};
+ghost use Rattle.interval.specs.Enclosure.{Interval·addEnclosure, Interval·subEnclosure, Interval·sqrtEnclosure};
 ghost use Rattle.interval_unjudged.specs.Ordered.{lesser, greater, Interval·ofFourOrdered, Interval·mulOrdered, Interval·divOrdered, Interval·endsSum};
 use interval::Interval;
 
@@ -69,6 +69,16 @@ pub fn div_ordered(x: Interval, y: Interval) -> Interval
         x.low / y.high,
         x.high / y.high,
     )
+}
+
+// The square root. Accuracy: encloses, for positive ends.
+pub fn sqrt_enclosure(x: Interval) -> Interval
+    ensures value { λ r. ⌜ r ≡ Interval·sqrtEnclosure x ⌝ }
+{
+    Interval {
+        low: square_root::sqrt(x.low),
+        high: square_root::sqrt(x.high),
+    }
 }
 
 // The sum of both ends: where it is finite, they are. Accuracy: correctly rounded.
