@@ -3,10 +3,12 @@
 ghost use mathlib.Core.Path.{_≡_};
 ghost use Rattle.pose_steps.specs.Pose.{Pose·mulRow, Pose·mul};
 ghost use Rattle.pose_steps.specs.Enclose.{Pose·encloseMulRow, Pose·encloseMul};
+ghost use Rattle.pose_ends.specs.Ends.{RowEnds·of};
 ghost use Rattle.pose_product.specs.Unjudged.{Pose·unjudgedMulRow};
 use interval::Interval;
 use interval::Judged;
 use matrix4x4::Matrix4x4;
+use pose_ends::RowEnds;
 use pose_steps::IntervalMatrix;
 use pose_steps::IntervalRow;
 use pose_steps::JudgedMatrix;
@@ -110,8 +112,9 @@ fn mul_judged(m: u8, a: IntervalMatrix, b: IntervalMatrix) -> JudgedMatrix
     }
 }
 
-fn mul_row_unjudged(a: IntervalRow, b: IntervalMatrix) -> IntervalRow
-    ensures value { λ r. ⌜ r ≡ Pose·unjudgedMulRow a b ⌝ }
+// A function of its own for three calls, so that its low ends are returned side by side.
+fn mul_row_ends(a: IntervalRow, b: IntervalMatrix) -> RowEnds
+    ensures value { λ r. ⌜ r ≡ RowEnds·of (Pose·unjudgedMulRow a b) ⌝ }
 {
     let zero = Interval {
         low: 0.0,
@@ -152,16 +155,25 @@ fn mul_row_unjudged(a: IntervalRow, b: IntervalMatrix) -> IntervalRow
     let u3 = interval_unjudged::add_enclosure(s3, t3);
     let v3 = interval_unjudged::mul_ordered(a.c3, one);
     let c3 = interval_unjudged::add_enclosure(u3, v3);
-    IntervalRow { c0, c1, c2, c3 }
+    RowEnds {
+        low0: c0.low,
+        low1: c1.low,
+        low2: c2.low,
+        low3: c3.low,
+        high0: c0.high,
+        high1: c1.high,
+        high2: c2.high,
+        high3: c3.high,
+    }
 }
 
 // Accuracy: encloses.
 pub fn mul_enclosure(m: u8, a: IntervalMatrix, b: IntervalMatrix) -> JudgedMatrix
     ensures value { λ r. ⌜ r ≡ Pose·encloseMul m a b ⌝ }
 {
-    let r0 = mul_row_unjudged(a.r0, b);
-    let r1 = mul_row_unjudged(a.r1, b);
-    let r2 = mul_row_unjudged(a.r2, b);
+    let r0 = pose_ends::row_of_ends(mul_row_ends(a.r0, b));
+    let r1 = pose_ends::row_of_ends(mul_row_ends(a.r1, b));
+    let r2 = pose_ends::row_of_ends(mul_row_ends(a.r2, b));
     let matrix = IntervalMatrix { r0, r1, r2 };
     let ends = pose_ends::matrix_ends_sum(a)
         + pose_ends::matrix_ends_sum(b)
