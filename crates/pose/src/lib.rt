@@ -123,16 +123,9 @@ fn translation_matrix_enclosure(v: IntervalVector) -> IntervalMatrix
 pub fn matrix_enclosure(a: RigidMotion, s0: Matrix4x4, s1: Matrix4x4, dt: Interval) -> JudgedMatrix
     ensures value { λ r. ⌜ r ≡ Pose·encloseMatrix a s0 s1 dt ⌝ }
 {
-    let t0 = pose_point::vector_point(a.t0);
-    let t1 = pose_point::vector_point(a.t1);
-    let trans = pose_parts::translation_enclosure(0, t0, t1, dt);
+    let trans = pose_parts::translation_enclosure(0, a.t0, a.t1, dt);
     let rotate = pose_slerp::slerp_enclosure(trans.refusal, a, dt);
-    let scaling = pose_parts::scale_enclosure(
-        rotate.refusal,
-        pose_point::matrix_point(s0),
-        pose_point::matrix_point(s1),
-        dt,
-    );
+    let scaling = pose_parts::scale_enclosure(rotate.refusal, s0, s1, dt);
     let rotating = pose_rotation::rotation_enclosure(scaling.refusal, rotate.quaternion);
     let translate = translation_matrix_enclosure(trans.vector);
     let first = pose_product::mul_enclosure(rotating.refusal, translate, rotating.matrix);

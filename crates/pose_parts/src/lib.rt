@@ -1,10 +1,14 @@
 // Translation and scale of a pose at dt, from those of a move's two poses: in floats, and in intervals of which each is judged as it is formed.
+// Where a sum over the ends that come out is finite, judging is left out, which gives the same.
 ghost use mathlib.Core.Path.{_≡_};
 ghost use Rattle.pose_steps.specs.Pose.{Pose·translation, Pose·scaleRow, Pose·scale};
-ghost use Rattle.pose_steps.specs.Enclose.{Pose·encloseTranslation, Pose·encloseScaleRow, Pose·encloseScale};
+ghost use Rattle.pose_steps.specs.Enclose.{IntervalVector·point, IntervalRow·point, IntervalMatrix·point, Pose·encloseTranslation, Pose·encloseScaleRow, Pose·encloseScale};
+ghost use Rattle.pose_ends.specs.Ends.{RowEnds·of};
+ghost use Rattle.pose_parts.specs.Unjudged.{Pose·unjudgedTranslation, Pose·unjudgedScaleRow, Pose·unjudgedScale};
 use interval::Interval;
 use interval::Judged;
 use matrix4x4::Matrix4x4;
+use pose_ends::RowEnds;
 use pose_steps::IntervalMatrix;
 use pose_steps::IntervalRow;
 use pose_steps::IntervalVector;
@@ -24,13 +28,8 @@ pub fn translation(t0: Vector3f, t1: Vector3f, dt: f32) -> Vector3f
     }
 }
 
-// Accuracy: encloses.
-pub fn translation_enclosure(
-    m: u8,
-    t0: IntervalVector,
-    t1: IntervalVector,
-    dt: Interval,
-) -> JudgedVector
+// With every interval judged.
+fn translation_judged(m: u8, t0: IntervalVector, t1: IntervalVector, dt: Interval) -> JudgedVector
     ensures value { λ r. ⌜ r ≡ Pose·encloseTranslation m t0 t1 dt ⌝ }
 {
     let one = Interval {
@@ -54,6 +53,50 @@ pub fn translation_enclosure(
     JudgedVector {
         vector,
         refusal: rz.refusal,
+    }
+}
+
+fn translation_unjudged(t0: Vector3f, t1: Vector3f, dt: Interval) -> IntervalVector
+    ensures value { λ r. ⌜ r ≡ Pose·unjudgedTranslation (IntervalVector·point t0) (IntervalVector·point t1) dt ⌝ }
+{
+    let one = Interval {
+        low: 1.0,
+        high: 1.0,
+    };
+    let a = pose_point::vector_point(t0);
+    let b = pose_point::vector_point(t1);
+    let s = interval_unjudged::sub_enclosure(one, dt);
+    let px = interval_unjudged::mul_ordered(a.x, s);
+    let qx = interval_unjudged::mul_ordered(b.x, dt);
+    let x = interval_unjudged::add_enclosure(px, qx);
+    let py = interval_unjudged::mul_ordered(a.y, s);
+    let qy = interval_unjudged::mul_ordered(b.y, dt);
+    let y = interval_unjudged::add_enclosure(py, qy);
+    let pz = interval_unjudged::mul_ordered(a.z, s);
+    let qz = interval_unjudged::mul_ordered(b.z, dt);
+    let z = interval_unjudged::add_enclosure(pz, qz);
+    IntervalVector { x, y, z }
+}
+
+// Accuracy: encloses.
+pub fn translation_enclosure(m: u8, t0: Vector3f, t1: Vector3f, dt: Interval) -> JudgedVector
+    ensures value { λ r. ⌜ r ≡ Pose·encloseTranslation m (IntervalVector·point t0) (IntervalVector·point t1) dt ⌝ }
+{
+    let one = Interval {
+        low: 1.0,
+        high: 1.0,
+    };
+    let s = interval_unjudged::sub_enclosure(one, dt);
+    let vector = translation_unjudged(t0, t1, dt);
+    let ends = interval_unjudged::ends_sum(dt)
+        + interval_unjudged::ends_sum(s)
+        + pose_ends::vector_ends_sum(vector);
+    if float32::is_finite(ends) {
+        JudgedVector { vector, refusal: m }
+    } else {
+        let a = pose_point::vector_point(t0);
+        let b = pose_point::vector_point(t1);
+        translation_judged(m, a, b, dt)
     }
 }
 
@@ -85,8 +128,7 @@ pub fn scale(s0: Matrix4x4, s1: Matrix4x4, dt: f32) -> Matrix4x4
     Matrix4x4 { r0, r1, r2, r3 }
 }
 
-// Accuracy: encloses.
-pub fn scale_row_enclosure(m: u8, s0: IntervalRow, s1: IntervalRow, dt: Interval) -> JudgedRow
+fn scale_row_judged(m: u8, s0: IntervalRow, s1: IntervalRow, dt: Interval) -> JudgedRow
     ensures value { λ r. ⌜ r ≡ Pose·encloseScaleRow m s0 s1 dt ⌝ }
 {
     let zero = Interval {
@@ -124,13 +166,13 @@ pub fn scale_row_enclosure(m: u8, s0: IntervalRow, s1: IntervalRow, dt: Interval
     }
 }
 
-// Accuracy: encloses.
-pub fn scale_enclosure(m: u8, s0: IntervalMatrix, s1: IntervalMatrix, dt: Interval) -> JudgedMatrix
+// With every interval judged.
+fn scale_judged(m: u8, s0: IntervalMatrix, s1: IntervalMatrix, dt: Interval) -> JudgedMatrix
     ensures value { λ r. ⌜ r ≡ Pose·encloseScale m s0 s1 dt ⌝ }
 {
-    let p = scale_row_enclosure(m, s0.r0, s1.r0, dt);
-    let q = scale_row_enclosure(p.refusal, s0.r1, s1.r1, dt);
-    let r = scale_row_enclosure(q.refusal, s0.r2, s1.r2, dt);
+    let p = scale_row_judged(m, s0.r0, s1.r0, dt);
+    let q = scale_row_judged(p.refusal, s0.r1, s1.r1, dt);
+    let r = scale_row_judged(q.refusal, s0.r2, s1.r2, dt);
     let r0 = p.row;
     let r1 = q.row;
     let r2 = r.row;
@@ -138,5 +180,75 @@ pub fn scale_enclosure(m: u8, s0: IntervalMatrix, s1: IntervalMatrix, dt: Interv
     JudgedMatrix {
         matrix,
         refusal: r.refusal,
+    }
+}
+
+fn scale_row_ends(s0: [f32; 4], s1: [f32; 4], dt: Interval) -> RowEnds
+    ensures value { λ r. ⌜ r ≡ RowEnds·of (Pose·unjudgedScaleRow (IntervalRow·point s0) (IntervalRow·point s1) dt) ⌝ }
+{
+    let one = Interval {
+        low: 1.0,
+        high: 1.0,
+    };
+    let a = pose_point::row_point(s0);
+    let b = pose_point::row_point(s1);
+    let d0 = interval_unjudged::sub_enclosure(one, dt);
+    let p0 = interval_unjudged::mul_ordered(d0, a.c0);
+    let q0 = interval_unjudged::mul_ordered(dt, b.c0);
+    let c0 = interval_unjudged::add_enclosure(p0, q0);
+    let d1 = interval_unjudged::sub_enclosure(one, dt);
+    let p1 = interval_unjudged::mul_ordered(d1, a.c1);
+    let q1 = interval_unjudged::mul_ordered(dt, b.c1);
+    let c1 = interval_unjudged::add_enclosure(p1, q1);
+    let d2 = interval_unjudged::sub_enclosure(one, dt);
+    let p2 = interval_unjudged::mul_ordered(d2, a.c2);
+    let q2 = interval_unjudged::mul_ordered(dt, b.c2);
+    let c2 = interval_unjudged::add_enclosure(p2, q2);
+    RowEnds {
+        low0: c0.low,
+        low1: c1.low,
+        low2: c2.low,
+        low3: 0.0,
+        high0: c0.high,
+        high1: c1.high,
+        high2: c2.high,
+        high3: 0.0,
+    }
+}
+
+fn scale_unjudged(s0: Matrix4x4, s1: Matrix4x4, dt: Interval) -> IntervalMatrix
+    ensures value { λ r. ⌜ r ≡ Pose·unjudgedScale (IntervalMatrix·point s0) (IntervalMatrix·point s1) dt ⌝ }
+{
+    let a0 = s0.r0;
+    let b0 = s1.r0;
+    let a1 = s0.r1;
+    let b1 = s1.r1;
+    let a2 = s0.r2;
+    let b2 = s1.r2;
+    let r0 = pose_ends::row_of_ends(scale_row_ends(a0, b0, dt));
+    let r1 = pose_ends::row_of_ends(scale_row_ends(a1, b1, dt));
+    let r2 = pose_ends::row_of_ends(scale_row_ends(a2, b2, dt));
+    IntervalMatrix { r0, r1, r2 }
+}
+
+// Accuracy: encloses.
+pub fn scale_enclosure(m: u8, s0: Matrix4x4, s1: Matrix4x4, dt: Interval) -> JudgedMatrix
+    ensures value { λ r. ⌜ r ≡ Pose·encloseScale m (IntervalMatrix·point s0) (IntervalMatrix·point s1) dt ⌝ }
+{
+    let one = Interval {
+        low: 1.0,
+        high: 1.0,
+    };
+    let s = interval_unjudged::sub_enclosure(one, dt);
+    let matrix = scale_unjudged(s0, s1, dt);
+    let ends = interval_unjudged::ends_sum(dt)
+        + interval_unjudged::ends_sum(s)
+        + pose_ends::matrix_ends_sum(matrix);
+    if float32::is_finite(ends) {
+        JudgedMatrix { matrix, refusal: m }
+    } else {
+        let a = pose_point::matrix_point(s0);
+        let b = pose_point::matrix_point(s1);
+        scale_judged(m, a, b, dt)
     }
 }

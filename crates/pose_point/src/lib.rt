@@ -1,8 +1,10 @@
 // A point moved by a matrix whose bottom row is 0, 0, 0, 1, pbrt's `transform_point` with wp = 1: in floats, and in intervals of which each is judged as it is formed.
+// Where a sum over all ends is finite, judging is left out, which gives the same.
 // And vectors and matrices of floats as intervals with equal ends.
 ghost use mathlib.Core.Path.{_≡_};
 ghost use Rattle.pose_steps.specs.Pose.{Pose·transformPoint};
 ghost use Rattle.pose_steps.specs.Enclose.{IntervalVector·point, IntervalRow·point, IntervalMatrix·point, Pose·encloseTransformPoint};
+ghost use Rattle.pose_point.specs.Unjudged.{Pose·unjudgedTransformPoint};
 use bounds3::Point3f;
 use interval::Interval;
 use interval::Judged;
@@ -23,7 +25,8 @@ pub fn vector_point(v: Vector3f) -> IntervalVector
     IntervalVector { x, y, z }
 }
 
-fn row_point(r: [f32; 4]) -> IntervalRow
+// A row with equal ends. Accuracy: exact.
+pub fn row_point(r: [f32; 4]) -> IntervalRow
     ensures value { λ s. ⌜ s ≡ IntervalRow·point r ⌝ }
 {
     let c0 = Interval::point(r[0]);
@@ -59,8 +62,8 @@ pub fn transform_point(m: Matrix4x4, p: Point3f) -> Point3f
     }
 }
 
-// Accuracy: encloses.
-pub fn transform_point_enclosure(m: u8, a: IntervalMatrix, p: IntervalVector) -> JudgedVector
+// With every interval judged.
+fn transform_point_judged(m: u8, a: IntervalMatrix, p: IntervalVector) -> JudgedVector
     ensures value { λ r. ⌜ r ≡ Pose·encloseTransformPoint m a p ⌝ }
 {
     let r0 = a.r0;
@@ -91,5 +94,47 @@ pub fn transform_point_enclosure(m: u8, a: IntervalMatrix, p: IntervalVector) ->
     JudgedVector {
         vector,
         refusal: w2.refusal,
+    }
+}
+
+fn transform_point_unjudged(a: IntervalMatrix, p: IntervalVector) -> IntervalVector
+    ensures value { λ r. ⌜ r ≡ Pose·unjudgedTransformPoint a p ⌝ }
+{
+    let r0 = a.r0;
+    let r1 = a.r1;
+    let r2 = a.r2;
+    let p0 = interval_unjudged::mul_ordered(p.x, r0.c0);
+    let q0 = interval_unjudged::mul_ordered(p.y, r0.c1);
+    let s0 = interval_unjudged::add_enclosure(p0, q0);
+    let t0 = interval_unjudged::mul_ordered(p.z, r0.c2);
+    let u0 = interval_unjudged::add_enclosure(s0, t0);
+    let x = interval_unjudged::add_enclosure(u0, r0.c3);
+    let p1 = interval_unjudged::mul_ordered(p.x, r1.c0);
+    let q1 = interval_unjudged::mul_ordered(p.y, r1.c1);
+    let s1 = interval_unjudged::add_enclosure(p1, q1);
+    let t1 = interval_unjudged::mul_ordered(p.z, r1.c2);
+    let u1 = interval_unjudged::add_enclosure(s1, t1);
+    let y = interval_unjudged::add_enclosure(u1, r1.c3);
+    let p2 = interval_unjudged::mul_ordered(p.x, r2.c0);
+    let q2 = interval_unjudged::mul_ordered(p.y, r2.c1);
+    let s2 = interval_unjudged::add_enclosure(p2, q2);
+    let t2 = interval_unjudged::mul_ordered(p.z, r2.c2);
+    let u2 = interval_unjudged::add_enclosure(s2, t2);
+    let z = interval_unjudged::add_enclosure(u2, r2.c3);
+    IntervalVector { x, y, z }
+}
+
+// Accuracy: encloses.
+pub fn transform_point_enclosure(m: u8, a: IntervalMatrix, p: IntervalVector) -> JudgedVector
+    ensures value { λ r. ⌜ r ≡ Pose·encloseTransformPoint m a p ⌝ }
+{
+    let vector = transform_point_unjudged(a, p);
+    let ends = pose_ends::matrix_ends_sum(a)
+        + pose_ends::vector_ends_sum(p)
+        + pose_ends::vector_ends_sum(vector);
+    if float32::is_finite(ends) {
+        JudgedVector { vector, refusal: m }
+    } else {
+        transform_point_judged(m, a, p)
     }
 }

@@ -4,23 +4,11 @@ use borrow.Author.Needs.{needs}
 use Rattle.pose.proofs.matrix_enclosure.Statement.{statement}
 use Rattle.pose.proofs.matrix_enclosure.Tie as tie
 
-vector-point-requires : tie.Need-vector-point-requires
-vector-point-requires c κs = search needs
-
-vector-point-requires-2 : tie.Need-vector-point-requires-2
-vector-point-requires-2 c κs = search needs
-
 translation-enclosure-requires : tie.Need-translation-enclosure-requires
 translation-enclosure-requires c κs = search needs
 
 slerp-enclosure-requires : tie.Need-slerp-enclosure-requires
 slerp-enclosure-requires c κs = search needs
-
-matrix-point-requires : tie.Need-matrix-point-requires
-matrix-point-requires c κs = search needs
-
-matrix-point-requires-2 : tie.Need-matrix-point-requires-2
-matrix-point-requires-2 c κs = search needs
 
 scale-enclosure-requires : tie.Need-scale-enclosure-requires
 scale-enclosure-requires c κs = search needs
@@ -39,18 +27,14 @@ mul-enclosure-requires-2 c κs = search needs
 
 returns : tie.Need-returns
 unfolding Pose·encloseMatrix
-returns c = rw (c .mul-enclosure2 .ensures, c .before .mul-enclosure .ensures, c .before .before .translation-matrix-enclosure .ensures, c .before .before .before .rotation-enclosure .ensures, c .before .before .before .before .scale-enclosure .ensures, c .before .before .before .before .before .matrix-point2 .ensures, c .before .before .before .before .before .before .matrix-point .ensures, c .before .before .before .before .before .before .before .slerp-enclosure .ensures, c .before .before .before .before .before .before .before .before .translation-enclosure .ensures, c .before .before .before .before .before .before .before .before .before .vector-point2 .ensures, c .before .before .before .before .before .before .before .before .before .before .vector-point .ensures)
+returns c = rw (c .mul-enclosure2 .ensures, c .before .mul-enclosure .ensures, c .before .before .translation-matrix-enclosure .ensures, c .before .before .before .rotation-enclosure .ensures, c .before .before .before .before .scale-enclosure .ensures, c .before .before .before .before .before .slerp-enclosure .ensures, c .before .before .before .before .before .before .translation-enclosure .ensures)
 
 pub matrix-enclosure-spec : {M : Type 1} → statement M
 matrix-enclosure-spec =
     tie.close
     (tie.spec
-    vector-point-requires
-    vector-point-requires-2
     translation-enclosure-requires
     slerp-enclosure-requires
-    matrix-point-requires
-    matrix-point-requires-2
     scale-enclosure-requires
     rotation-enclosure-requires
     translation-matrix-enclosure-requires

@@ -1,27 +1,21 @@
--- `translation_enclosure` meets its contract: its calls are the formula's operations in working order.
-use mathlib.Core.Path.{ap}
-use mathlib.Core.List.{[], _∷_, _++_}
-use Rattle.formula.specs.Enclose.{enclosure}
-use Rattle.formula.proofs.Trace.{traced}
-use Rattle.pose_steps.specs.Stages.{translationStage}
-use Rattle.pose_steps.specs.Enclose.{IntervalVector·list, JudgedVector·of, Pose·encloseTranslation}
+-- `translation_enclosure` meets its contract: where the sum of the ends is finite, nothing would have been refused (`translation-tested`).
+use Rattle.pose_parts.proofs.Unjudged.{translation-tested}
 use Rattle.pose_parts.proofs.translation_enclosure.Statement.{statement}
 use Rattle.pose_parts.proofs.translation_enclosure.Tie as tie
 
 returns : tie.Need-returns
-unfolding Pose·encloseTranslation
 returns c =
-    ap JudgedVector·of (traced (enclosure (c .before .before .before .before .before .before .before .before .before .before .before .before .before .args .m) (IntervalVector·list (c .before .before .before .before .before .before .before .before .before .before .before .before .before .args .t0) ++ IntervalVector·list (c .before .before .before .before .before .before .before .before .before .before .before .before .before .args .t1) ++ (c .before .before .before .before .before .before .before .before .before .before .before .before .before .args .dt) ∷ [])) translationStage
-    _ (c .before .before .before .before .before .before .before .before .before .before .before .before .sub-enclosure .ensures)
-    _ (c .before .before .before .before .before .before .before .before .before .before .before .mul-enclosure .ensures)
-    _ (c .before .before .before .before .before .before .before .before .before .before .mul-enclosure2 .ensures)
-    _ (c .before .before .before .before .before .before .before .before .before .add-enclosure .ensures)
-    _ (c .before .before .before .before .before .before .before .before .mul-enclosure3 .ensures)
-    _ (c .before .before .before .before .before .before .before .mul-enclosure4 .ensures)
-    _ (c .before .before .before .before .before .before .add-enclosure2 .ensures)
-    _ (c .before .before .before .before .before .mul-enclosure5 .ensures)
-    _ (c .before .before .before .before .mul-enclosure6 .ensures)
-    _ (c .before .before .before .add-enclosure3 .ensures))
+    translation-tested (c .before .before .before .before .before .before .before .args .m) (c .before .before .before .before .before .before .before .args .t0) (c .before .before .before .before .before .before .before .args .t1) (c .before .before .before .before .before .before .before .args .dt)
+    (c .before .before .before .before .before .before .sub-enclosure .ensures)
+    (c .before .before .before .before .before .translation-unjudged .ensures)
+    (c .before .before .before .before .ends-sum .ensures)
+    (c .before .before .before .ends-sum2 .ensures)
+    (c .before .before .vector-ends-sum .ensures)
+    (c .before .is-finite .ensures)
+    (c .if1 .taken)
+
+returns-2 : tie.Need-returns-2
+returns-2 c = rw (c .translation-judged .ensures, c .before .vector-point2 .ensures, c .before .before .vector-point .ensures)
 
 pub translation-enclosure-spec : {M : Type 1} → statement M
-translation-enclosure-spec = tie.close (tie.spec (λ c κs. tt) (λ c κs. tt) (λ c κs. tt) (λ c κs. tt) (λ c κs. tt) (λ c κs. tt) (λ c κs. tt) (λ c κs. tt) (λ c κs. tt) (λ c κs. tt) returns)
+translation-enclosure-spec = tie.close (tie.spec (λ c κs. tt) (λ c κs. tt) (λ c κs. tt) (λ c κs. tt) (λ c κs. tt) (λ c κs. tt) (λ c κs. tt) (λ c κs. tt) (λ c κs. tt) returns returns-2)
