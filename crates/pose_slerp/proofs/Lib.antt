@@ -1,0 +1,3 @@
+mod Combination
+pub mod Near
+pub mod Far

@@ -1,15 +1,24 @@
 // The rotation of a pose at dt, pbrt's `slerp` with its dot product and angle given: in floats, and in intervals of which each is judged as it is formed.
-// slerp is linear above 0.9995. A squared length whose low end is zero or below is refused with 10 before it is rooted.
+// Where a sum over ends is finite, judging is left out, which gives the same. slerp is linear above 0.9995. A squared length whose low end is zero or below is refused with 10 before it is rooted.
 ghost use mathlib.Core.Path.{_≡_};
 ghost use Rattle.pose_steps.specs.Pose.{RigidMotion·new, Pose·slerpNear, Pose·slerpFar, Pose·slerp};
 ghost use Rattle.pose_steps.specs.Enclose.{IntervalQuaternion·point, Pose·encloseSlerpNear, Pose·encloseSlerpFar, Pose·encloseSlerp};
+ghost use Rattle.interval.specs.Interval.{Interval·point};
+ghost use Rattle.pose_slerp.specs.Unjudged.{Perpendicular·of, IntervalQuaternion·combination, IntervalQuaternion·squared, IntervalQuaternion·quotient};
 use interval::Interval;
 use interval::Judged;
+use interval_unjudged::ends_sum;
 use pose_steps::IntervalQuaternion;
 use pose_steps::JudgedQuaternion;
 use pose_steps::RigidMotion;
 use quaternion::Quaternion;
 use vector3::Vector3f;
+
+// The unit quaternion that `slerp` turns the first one to, and the length that it was divided by.
+struct Perpendicular {
+    q: Quaternion,
+    length: f32,
+}
 
 // The constants of a move: the dot product of its rotations and the angle between them are worked out here, once.
 pub fn rigid_motion(t0: Vector3f, t1: Vector3f, r0: Quaternion, r1: Quaternion) -> RigidMotion
@@ -77,8 +86,8 @@ pub fn slerp(a: RigidMotion, t: f32) -> Quaternion
     }
 }
 
-// Accuracy: encloses.
-pub fn slerp_near_enclosure(
+// With every interval judged.
+fn slerp_near_judged(
     m: u8,
     q1: IntervalQuaternion,
     q2: IntervalQuaternion,
@@ -131,8 +140,8 @@ pub fn slerp_near_enclosure(
     }
 }
 
-// Accuracy: encloses.
-pub fn slerp_far_enclosure(
+// With every interval judged.
+fn slerp_far_judged(
     m: u8,
     q1: IntervalQuaternion,
     q2: IntervalQuaternion,
@@ -204,22 +213,149 @@ fn quaternion_point(q: Quaternion) -> IntervalQuaternion
     IntervalQuaternion { x, y, z, w }
 }
 
+// p a + q b.
+fn combination_unjudged(
+    p: Quaternion,
+    q: Quaternion,
+    a: Interval,
+    b: Interval,
+) -> IntervalQuaternion
+    ensures value { λ r. ⌜ r ≡ IntervalQuaternion·combination (IntervalQuaternion·point p) (IntervalQuaternion·point q) a b ⌝ }
+{
+    let v = quaternion_point(p);
+    let u = quaternion_point(q);
+    let px = interval_unjudged::mul_ordered(v.x, a);
+    let qx = interval_unjudged::mul_ordered(u.x, b);
+    let x = interval_unjudged::add_enclosure(px, qx);
+    let py = interval_unjudged::mul_ordered(v.y, a);
+    let qy = interval_unjudged::mul_ordered(u.y, b);
+    let y = interval_unjudged::add_enclosure(py, qy);
+    let pz = interval_unjudged::mul_ordered(v.z, a);
+    let qz = interval_unjudged::mul_ordered(u.z, b);
+    let z = interval_unjudged::add_enclosure(pz, qz);
+    let pw = interval_unjudged::mul_ordered(v.w, a);
+    let qw = interval_unjudged::mul_ordered(u.w, b);
+    let w = interval_unjudged::add_enclosure(pw, qw);
+    IntervalQuaternion { x, y, z, w }
+}
+
+// The dot product of q and q.
+fn squared_unjudged(q: IntervalQuaternion) -> Interval
+    ensures value { λ r. ⌜ r ≡ IntervalQuaternion·squared q ⌝ }
+{
+    let xx = interval_unjudged::mul_ordered(q.x, q.x);
+    let yy = interval_unjudged::mul_ordered(q.y, q.y);
+    let xy = interval_unjudged::add_enclosure(xx, yy);
+    let zz = interval_unjudged::mul_ordered(q.z, q.z);
+    let xyz = interval_unjudged::add_enclosure(xy, zz);
+    let ww = interval_unjudged::mul_ordered(q.w, q.w);
+    interval_unjudged::add_enclosure(xyz, ww)
+}
+
+fn quotient_unjudged(q: IntervalQuaternion, n: Interval) -> IntervalQuaternion
+    ensures value { λ r. ⌜ r ≡ IntervalQuaternion·quotient q n ⌝ }
+{
+    let x = interval_unjudged::div_ordered(q.x, n);
+    let y = interval_unjudged::div_ordered(q.y, n);
+    let z = interval_unjudged::div_ordered(q.z, n);
+    let w = interval_unjudged::div_ordered(q.w, n);
+    IntervalQuaternion { x, y, z, w }
+}
+
+// Accuracy: encloses.
+pub fn slerp_near_enclosure(m: u8, q1: Quaternion, q2: Quaternion, t: Interval) -> JudgedQuaternion
+    ensures value { λ r. ⌜ r ≡ Pose·encloseSlerpNear m (IntervalQuaternion·point q1) (IntervalQuaternion·point q2) t ⌝ }
+{
+    let one = Interval {
+        low: 1.0,
+        high: 1.0,
+    };
+    let s = interval_unjudged::sub_enclosure(one, t);
+    let q = combination_unjudged(q1, q2, s, t);
+    let dot = squared_unjudged(q);
+    let n = interval_unjudged::sqrt_enclosure(dot);
+    let quaternion = quotient_unjudged(q, n);
+    let ends = ends_sum(t)
+        + ends_sum(s)
+        + ends_sum(n)
+        + pose_ends::quaternion_ends_sum(q)
+        + pose_ends::quaternion_ends_sum(quaternion);
+    if float32::is_finite(ends) & (0.0 < n.low) & (0.0 < n.high) {
+        JudgedQuaternion {
+            quaternion,
+            refusal: m,
+        }
+    } else {
+        let a = quaternion_point(q1);
+        let b = quaternion_point(q2);
+        slerp_near_judged(m, a, b, t)
+    }
+}
+
+// As in `slerp_far`: nothing here depends on t.
+fn perpendicular_to(q1: Quaternion, q2: Quaternion, cos_theta: f32) -> Perpendicular
+    ensures value { λ r. ⌜ r ≡ Perpendicular·of q1 q2 «cos_theta» ⌝ }
+{
+    let x = q2.v.x - q1.v.x * cos_theta;
+    let y = q2.v.y - q1.v.y * cos_theta;
+    let z = q2.v.z - q1.v.z * cos_theta;
+    let w = q2.w - q1.w * cos_theta;
+    let n = square_root::sqrt(x * x + y * y + z * z + w * w);
+    let v = Vector3f {
+        x: x / n,
+        y: y / n,
+        z: z / n,
+    };
+    let q = Quaternion { v, w: w / n };
+    Perpendicular { q, length: n }
+}
+
+// Accuracy: encloses.
+pub fn slerp_far_enclosure(
+    m: u8,
+    q1: Quaternion,
+    q2: Quaternion,
+    cos_theta: f32,
+    theta: f32,
+    t: Interval,
+) -> JudgedQuaternion
+    ensures value { λ r. ⌜ r ≡ Pose·encloseSlerpFar m (IntervalQuaternion·point q1) (IntervalQuaternion·point q2) (Interval·point «cos_theta») (Interval·point theta) t ⌝ }
+{
+    let whole = Interval {
+        low: theta,
+        high: theta,
+    };
+    let thetap = interval_unjudged::mul_ordered(whole, t);
+    let angle = Judged::sin_cos_enclosure(0, thetap);
+    let perp = perpendicular_to(q1, q2, cos_theta);
+    let c = angle.cos;
+    let s = angle.sin;
+    let quaternion = combination_unjudged(q1, perp.q, c.interval, s.interval);
+    let ends = ends_sum(t)
+        + ends_sum(thetap)
+        + ends_sum(c.interval)
+        + ends_sum(s.interval)
+        + perp.length
+        + pose_ends::quaternion_ends_sum(quaternion);
+    if float32::is_finite(ends) & (0.0 < perp.length) {
+        JudgedQuaternion {
+            quaternion,
+            refusal: m,
+        }
+    } else {
+        let a = quaternion_point(q1);
+        let b = quaternion_point(q2);
+        slerp_far_judged(m, a, b, Interval::point(cos_theta), whole, t)
+    }
+}
+
 // Accuracy: encloses.
 pub fn slerp_enclosure(m: u8, a: RigidMotion, t: Interval) -> JudgedQuaternion
     ensures value { λ r. ⌜ r ≡ Pose·encloseSlerp m a t ⌝ }
 {
-    let r0 = quaternion_point(a.r0);
-    let r1 = quaternion_point(a.r1);
     if a.cos_theta > 0.9995 {
-        slerp_near_enclosure(m, r0, r1, t)
+        slerp_near_enclosure(m, a.r0, a.r1, t)
     } else {
-        slerp_far_enclosure(
-            m,
-            r0,
-            r1,
-            Interval::point(a.cos_theta),
-            Interval::point(a.theta),
-            t,
-        )
+        slerp_far_enclosure(m, a.r0, a.r1, a.cos_theta, a.theta, t)
     }
 }

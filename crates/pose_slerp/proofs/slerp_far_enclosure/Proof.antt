@@ -1,52 +1,25 @@
--- `slerp_far_enclosure` meets its contract: its calls are the formula's operations in working order.
-use mathlib.Core.Path.{ap}
-use mathlib.Core.List.{[], _∷_, _++_}
-use Rattle.formula.specs.Enclose.{enclosure}
-use Rattle.formula.proofs.Trace.{traced}
-use Rattle.pose_steps.specs.Stages.{slerpFarStage}
-use Rattle.pose_steps.specs.Enclose.{IntervalQuaternion·list, JudgedQuaternion·of, Pose·encloseSlerpFar}
+-- `slerp_far_enclosure` meets its contract: where the sum of the ends is finite and the length positive, nothing would have been refused (`far-tested`).
+use Rattle.pose_slerp.proofs.Far.{far-tested}
 use Rattle.pose_slerp.proofs.slerp_far_enclosure.Statement.{statement}
 use Rattle.pose_slerp.proofs.slerp_far_enclosure.Tie as tie
 
 returns : tie.Need-returns
-unfolding Pose·encloseSlerpFar
 returns c =
-    ap JudgedQuaternion·of (traced (enclosure (c .before .before .before .before .before .before .before .before .before .before .before .before .before .before .before .before .before .before .before .before .before .before .before .before .before .before .before .before .before .before .before .before .before .before .before .before .before .before .before .before .args .m) (IntervalQuaternion·list (c .before .before .before .before .before .before .before .before .before .before .before .before .before .before .before .before .before .before .before .before .before .before .before .before .before .before .before .before .before .before .before .before .before .before .before .before .before .before .before .before .args .q1) ++ IntervalQuaternion·list (c .before .before .before .before .before .before .before .before .before .before .before .before .before .before .before .before .before .before .before .before .before .before .before .before .before .before .before .before .before .before .before .before .before .before .before .before .before .before .before .before .args .q2) ++ (c .before .before .before .before .before .before .before .before .before .before .before .before .before .before .before .before .before .before .before .before .before .before .before .before .before .before .before .before .before .before .before .before .before .before .before .before .before .before .before .before .args .cos-theta) ∷ (c .before .before .before .before .before .before .before .before .before .before .before .before .before .before .before .before .before .before .before .before .before .before .before .before .before .before .before .before .before .before .before .before .before .before .before .before .before .before .before .before .args .theta) ∷ (c .before .before .before .before .before .before .before .before .before .before .before .before .before .before .before .before .before .before .before .before .before .before .before .before .before .before .before .before .before .before .before .before .before .before .before .before .before .before .before .before .args .t) ∷ [])) slerpFarStage
-    _ (c .before .before .before .before .before .before .before .before .before .before .before .before .before .before .before .before .before .before .before .before .before .before .before .before .before .before .before .before .before .before .before .before .before .before .before .before .before .before .before .mul-enclosure .ensures)
-    _ (c .before .before .before .before .before .before .before .before .before .before .before .before .before .before .before .before .before .before .before .before .before .before .before .before .before .before .before .before .before .before .before .before .before .before .before .before .before .before .mul-enclosure2 .ensures)
-    _ (c .before .before .before .before .before .before .before .before .before .before .before .before .before .before .before .before .before .before .before .before .before .before .before .before .before .before .before .before .before .before .before .before .before .before .before .before .before .sub-enclosure .ensures)
-    _ (c .before .before .before .before .before .before .before .before .before .before .before .before .before .before .before .before .before .before .before .before .before .before .before .before .before .before .before .before .before .before .before .before .before .before .before .before .mul-enclosure3 .ensures)
-    _ (c .before .before .before .before .before .before .before .before .before .before .before .before .before .before .before .before .before .before .before .before .before .before .before .before .before .before .before .before .before .before .before .before .before .before .before .sub-enclosure2 .ensures)
-    _ (c .before .before .before .before .before .before .before .before .before .before .before .before .before .before .before .before .before .before .before .before .before .before .before .before .before .before .before .before .before .before .before .before .before .before .mul-enclosure4 .ensures)
-    _ (c .before .before .before .before .before .before .before .before .before .before .before .before .before .before .before .before .before .before .before .before .before .before .before .before .before .before .before .before .before .before .before .before .before .sub-enclosure3 .ensures)
-    _ (c .before .before .before .before .before .before .before .before .before .before .before .before .before .before .before .before .before .before .before .before .before .before .before .before .before .before .before .before .before .before .before .before .mul-enclosure5 .ensures)
-    _ (c .before .before .before .before .before .before .before .before .before .before .before .before .before .before .before .before .before .before .before .before .before .before .before .before .before .before .before .before .before .before .before .sub-enclosure4 .ensures)
-    _ (c .before .before .before .before .before .before .before .before .before .before .before .before .before .before .before .before .before .before .before .before .before .before .before .before .before .before .before .before .before .before .mul-enclosure6 .ensures)
-    _ (c .before .before .before .before .before .before .before .before .before .before .before .before .before .before .before .before .before .before .before .before .before .before .before .before .before .before .before .before .before .mul-enclosure7 .ensures)
-    _ (c .before .before .before .before .before .before .before .before .before .before .before .before .before .before .before .before .before .before .before .before .before .before .before .before .before .before .before .before .add-enclosure .ensures)
-    _ (c .before .before .before .before .before .before .before .before .before .before .before .before .before .before .before .before .before .before .before .before .before .before .before .before .before .before .before .mul-enclosure8 .ensures)
-    _ (c .before .before .before .before .before .before .before .before .before .before .before .before .before .before .before .before .before .before .before .before .before .before .before .before .before .before .add-enclosure2 .ensures)
-    _ (c .before .before .before .before .before .before .before .before .before .before .before .before .before .before .before .before .before .before .before .before .before .before .before .before .before .mul-enclosure9 .ensures)
-    _ (c .before .before .before .before .before .before .before .before .before .before .before .before .before .before .before .before .before .before .before .before .before .before .before .before .add-enclosure3 .ensures)
-    _ (c .before .before .before .before .before .before .before .before .before .before .before .before .before .before .before .before .before .before .before .before .before .before .before .sqrt-enclosure .ensures)
-    _ (c .before .before .before .before .before .before .before .before .before .before .before .before .before .before .before .before .before .before .before .before .before .before .div-enclosure .ensures)
-    _ (c .before .before .before .before .before .before .before .before .before .before .before .before .before .before .before .before .before .before .before .before .before .div-enclosure2 .ensures)
-    _ (c .before .before .before .before .before .before .before .before .before .before .before .before .before .before .before .before .before .before .before .before .div-enclosure3 .ensures)
-    _ (c .before .before .before .before .before .before .before .before .before .before .before .before .before .before .before .before .before .before .before .div-enclosure4 .ensures)
-    _ (c .before .before .before .before .before .before .before .before .before .before .before .before .before .before .before .before .before .before .sin-cos-enclosure .ensures .0)
-    _ (c .before .before .before .before .before .before .before .before .before .before .before .before .before .before .before .before .before .before .sin-cos-enclosure .ensures .1)
-    _ (c .before .before .before .before .before .before .before .before .before .before .before .before .before .before .before .mul-enclosure10 .ensures)
-    _ (c .before .before .before .before .before .before .before .before .before .before .before .before .before .before .mul-enclosure11 .ensures)
-    _ (c .before .before .before .before .before .before .before .before .before .before .before .before .before .add-enclosure4 .ensures)
-    _ (c .before .before .before .before .before .before .before .before .before .before .before .before .mul-enclosure12 .ensures)
-    _ (c .before .before .before .before .before .before .before .before .before .before .before .mul-enclosure13 .ensures)
-    _ (c .before .before .before .before .before .before .before .before .before .before .add-enclosure5 .ensures)
-    _ (c .before .before .before .before .before .before .before .before .before .mul-enclosure14 .ensures)
-    _ (c .before .before .before .before .before .before .before .before .mul-enclosure15 .ensures)
-    _ (c .before .before .before .before .before .before .before .add-enclosure6 .ensures)
-    _ (c .before .before .before .before .before .before .mul-enclosure16 .ensures)
-    _ (c .before .before .before .before .before .mul-enclosure17 .ensures)
-    _ (c .before .before .before .before .add-enclosure7 .ensures))
+    far-tested (c .before .before .before .before .before .before .before .before .before .before .before .before .before .before .before .args .m) (c .before .before .before .before .before .before .before .before .before .before .before .before .before .before .before .args .q1) (c .before .before .before .before .before .before .before .before .before .before .before .before .before .before .before .args .q2) (c .before .before .before .before .before .before .before .before .before .before .before .before .before .before .before .args .cos-theta) (c .before .before .before .before .before .before .before .before .before .before .before .before .before .before .before .args .theta) (c .before .before .before .before .before .before .before .before .before .before .before .before .before .before .before .args .t)
+    (c .before .before .before .before .before .before .before .before .before .before .before .before .before .before .mul-ordered .ensures)
+    (c .before .before .before .before .before .before .before .before .before .before .before .before .before .sin-cos-enclosure .ensures)
+    (c .before .before .before .before .before .before .before .before .before .before .before .before .perpendicular-to .ensures)
+    (c .before .before .before .before .before .before .before .before .before .combination-unjudged .ensures)
+    (c .before .before .before .before .before .before .before .before .ends-sum .ensures)
+    (c .before .before .before .before .before .before .before .ends-sum2 .ensures)
+    (c .before .before .before .before .before .before .ends-sum3 .ensures)
+    (c .before .before .before .before .before .ends-sum4 .ensures)
+    (c .before .before .before .quaternion-ends-sum .ensures)
+    (c .before .before .is-finite .ensures)
+    (c .if1 .taken)
+
+returns-2 : tie.Need-returns-2
+returns-2 c = rw (c .slerp-far-judged .ensures, c .before .point .ensures, c .before .before .quaternion-point2 .ensures, c .before .before .before .quaternion-point .ensures)
 
 pub slerp-far-enclosure-spec : {M : Type 1} → statement M
-slerp-far-enclosure-spec = tie.close (tie.spec (λ c κs. tt) (λ c κs. tt) (λ c κs. tt) (λ c κs. tt) (λ c κs. tt) (λ c κs. tt) (λ c κs. tt) (λ c κs. tt) (λ c κs. tt) (λ c κs. tt) (λ c κs. tt) (λ c κs. tt) (λ c κs. tt) (λ c κs. tt) (λ c κs. tt) (λ c κs. tt) (λ c κs. tt) (λ c κs. tt) (λ c κs. tt) (λ c κs. tt) (λ c κs. tt) (λ c κs. tt) (λ c κs. tt) (λ c κs. tt) (λ c κs. tt) (λ c κs. tt) (λ c κs. tt) (λ c κs. tt) (λ c κs. tt) (λ c κs. tt) (λ c κs. tt) (λ c κs. tt) (λ c κs. tt) (λ c κs. tt) returns)
+slerp-far-enclosure-spec = tie.close (tie.spec (λ c κs. tt) (λ c κs. tt) (λ c κs. tt) (λ c κs. tt) (λ c κs. tt) (λ c κs. tt) (λ c κs. tt) (λ c κs. tt) (λ c κs. tt) (λ c κs. tt) (λ c κs. tt) (λ c κs. tt) (λ c κs. tt) (λ c κs. tt) returns returns-2)

@@ -1,0 +1,42 @@
+-- `slerp_near_judged` meets its contract: its calls are the formula's operations in working order.
+use mathlib.Core.Path.{ap}
+use mathlib.Core.List.{[], _∷_, _++_}
+use Rattle.formula.specs.Enclose.{enclosure}
+use Rattle.formula.proofs.Trace.{traced}
+use Rattle.pose_steps.specs.Stages.{slerpNearStage}
+use Rattle.pose_steps.specs.Enclose.{IntervalQuaternion·list, JudgedQuaternion·of, Pose·encloseSlerpNear}
+use Rattle.pose_slerp.proofs.slerp_near_judged.Statement.{statement}
+use Rattle.pose_slerp.proofs.slerp_near_judged.Tie as tie
+
+returns : tie.Need-returns
+unfolding Pose·encloseSlerpNear
+returns c =
+    ap JudgedQuaternion·of (traced (enclosure (c .before .before .before .before .before .before .before .before .before .before .before .before .before .before .before .before .before .before .before .before .before .before .before .before .before .before .before .before .before .args .m) (IntervalQuaternion·list (c .before .before .before .before .before .before .before .before .before .before .before .before .before .before .before .before .before .before .before .before .before .before .before .before .before .before .before .before .before .args .q1) ++ IntervalQuaternion·list (c .before .before .before .before .before .before .before .before .before .before .before .before .before .before .before .before .before .before .before .before .before .before .before .before .before .before .before .before .before .args .q2) ++ (c .before .before .before .before .before .before .before .before .before .before .before .before .before .before .before .before .before .before .before .before .before .before .before .before .before .before .before .before .before .args .t) ∷ [])) slerpNearStage
+    _ (c .before .before .before .before .before .before .before .before .before .before .before .before .before .before .before .before .before .before .before .before .before .before .before .before .before .before .before .before .sub-enclosure .ensures)
+    _ (c .before .before .before .before .before .before .before .before .before .before .before .before .before .before .before .before .before .before .before .before .before .before .before .before .before .before .before .mul-enclosure .ensures)
+    _ (c .before .before .before .before .before .before .before .before .before .before .before .before .before .before .before .before .before .before .before .before .before .before .before .before .before .before .mul-enclosure2 .ensures)
+    _ (c .before .before .before .before .before .before .before .before .before .before .before .before .before .before .before .before .before .before .before .before .before .before .before .before .before .add-enclosure .ensures)
+    _ (c .before .before .before .before .before .before .before .before .before .before .before .before .before .before .before .before .before .before .before .before .before .before .before .before .mul-enclosure3 .ensures)
+    _ (c .before .before .before .before .before .before .before .before .before .before .before .before .before .before .before .before .before .before .before .before .before .before .before .mul-enclosure4 .ensures)
+    _ (c .before .before .before .before .before .before .before .before .before .before .before .before .before .before .before .before .before .before .before .before .before .before .add-enclosure2 .ensures)
+    _ (c .before .before .before .before .before .before .before .before .before .before .before .before .before .before .before .before .before .before .before .before .before .mul-enclosure5 .ensures)
+    _ (c .before .before .before .before .before .before .before .before .before .before .before .before .before .before .before .before .before .before .before .before .mul-enclosure6 .ensures)
+    _ (c .before .before .before .before .before .before .before .before .before .before .before .before .before .before .before .before .before .before .before .add-enclosure3 .ensures)
+    _ (c .before .before .before .before .before .before .before .before .before .before .before .before .before .before .before .before .before .before .mul-enclosure7 .ensures)
+    _ (c .before .before .before .before .before .before .before .before .before .before .before .before .before .before .before .before .before .mul-enclosure8 .ensures)
+    _ (c .before .before .before .before .before .before .before .before .before .before .before .before .before .before .before .before .add-enclosure4 .ensures)
+    _ (c .before .before .before .before .before .before .before .before .before .before .before .before .before .before .before .mul-enclosure9 .ensures)
+    _ (c .before .before .before .before .before .before .before .before .before .before .before .before .before .before .mul-enclosure10 .ensures)
+    _ (c .before .before .before .before .before .before .before .before .before .before .before .before .before .add-enclosure5 .ensures)
+    _ (c .before .before .before .before .before .before .before .before .before .before .before .before .mul-enclosure11 .ensures)
+    _ (c .before .before .before .before .before .before .before .before .before .before .before .add-enclosure6 .ensures)
+    _ (c .before .before .before .before .before .before .before .before .before .before .mul-enclosure12 .ensures)
+    _ (c .before .before .before .before .before .before .before .before .before .add-enclosure7 .ensures)
+    _ (c .before .before .before .before .before .before .before .before .sqrt-enclosure .ensures)
+    _ (c .before .before .before .before .before .before .before .div-enclosure .ensures)
+    _ (c .before .before .before .before .before .before .div-enclosure2 .ensures)
+    _ (c .before .before .before .before .before .div-enclosure3 .ensures)
+    _ (c .before .before .before .before .div-enclosure4 .ensures))
+
+pub slerp-near-judged-spec : {M : Type 1} → statement M
+slerp-near-judged-spec = tie.close (tie.spec (λ c κs. tt) (λ c κs. tt) (λ c κs. tt) (λ c κs. tt) (λ c κs. tt) (λ c κs. tt) (λ c κs. tt) (λ c κs. tt) (λ c κs. tt) (λ c κs. tt) (λ c κs. tt) (λ c κs. tt) (λ c κs. tt) (λ c κs. tt) (λ c κs. tt) (λ c κs. tt) (λ c κs. tt) (λ c κs. tt) (λ c κs. tt) (λ c κs. tt) (λ c κs. tt) (λ c κs. tt) (λ c κs. tt) (λ c κs. tt) (λ c κs. tt) returns)
