@@ -10,6 +10,7 @@ use transform::BoundsAnswer;
 use transform::PointAnswer;
 use zero_search::Zeros;
 ghost use mathlib.Core.Path.{_≡_};
+ghost use Rattle.zero_search.specs.Stored.{Stored};
 ghost use Rattle.motion_bounds.specs.MotionBounds.{DerivativeTerm·eval, BoundsAnswer·fromEnds, pointAt, unionZero, unionZeros, allPlaces, axisZeros, unionAxis, pointBounds, unionCorner, unionCorners, boxBounds, AnimatedTransform·boundPointMotion, AnimatedTransform·motionBounds};
 
 // kc + kx * x + ky * y + kz * z. Accuracy: each operation is correctly rounded.
@@ -61,19 +62,25 @@ fn union_zero(
     }
 }
 
-// All eight places are joined, as in pbrt-rust: an unused one is 0.0, the start.
+// All eight places are joined, as in pbrt-rust: an unused one is 0.0, the start, which is joined once for all of them.
 fn union_zeros(
     m: AnimatedTransform,
     a: RigidMotion,
     p: Point3f,
-    zeros: [f32; 8],
+    found: Zeros,
     r: BoundsAnswer,
 ) -> BoundsAnswer
-    ensures value { λ s. ⌜ s ≡ unionZeros m a p zeros 8 r ⌝ }
+    requires { ⌜ Stored found ⌝ }
+    ensures value { λ s. ⌜ s ≡ unionZeros m a p (found .zeros) 8 r ⌝ }
 {
+    let zeros = found.zeros;
+    let count = found.count;
     let mut s = r;
-    for k in 0..8 {
+    for k in 0..count {
         s = union_zero(m, a, p, zeros[k], s);
+    }
+    if count < 8 {
+        return union_zero(m, a, p, 0.0, s);
     }
     s
 }
@@ -105,11 +112,10 @@ fn union_axis(
     match r {
         BoundsAnswer::Bounds(_) => {
             let found = axis_zeros(a, p, d);
-            let zeros = found.zeros;
             if found.refusal != 0 {
                 return BoundsAnswer::Refused(found.refusal);
             }
-            union_zeros(m, a, p, zeros, r)
+            union_zeros(m, a, p, found, r)
         }
         BoundsAnswer::Refused(_) => r,
     }

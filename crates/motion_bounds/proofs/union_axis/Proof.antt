@@ -1,6 +1,7 @@
 -- `union_axis` meets its contract: each arm is its case of the definition, and the search's number chooses in the first.
 use borrow.Author.Tests.{eq-eqb, ne-eqb}
 use Rattle.motion_bounds.specs.MotionBounds.{unionAxis}
+use Rattle.motion_bounds.proofs.Numbers.{axis-zeros-stored}
 use borrow.Author.Needs.{needs}
 use Rattle.motion_bounds.proofs.union_axis.Statement.{statement}
 use Rattle.motion_bounds.proofs.union_axis.Tie as tie
@@ -13,17 +14,19 @@ axis-zeros-requires c κs = search needs
 
 returns : tie.Need-returns
 unfolding unionAxis
-returns c = rw (c .before .before .before .before .enum-told .given .1, ← c .before .before .before .axis-zeros .ensures, ne-eqb _ _ (c .if1 .taken))
+returns c = rw (c .before .before .before .enum-told .given .1, ← c .before .before .axis-zeros .ensures, ne-eqb _ _ (c .if1 .taken))
 
 union-zeros-requires : tie.Need-union-zeros-requires
-union-zeros-requires c κs = search needs
+union-zeros-requires c κs = rw (c .before .before .axis-zeros .ensures) (axis-zeros-stored _ _ _)
 
 enum-told-2 : tie.Need-enum-told-2
 enum-told-2 c = search needs
 
 returns-2 : tie.Need-returns-2
 unfolding unionAxis
-returns-2 c = rw (c .before .before .before .before .before .enum-told .given .1, ← c .before .before .before .before .axis-zeros .ensures, eq-eqb _ _ (c .before .if1 .left), c .union-zeros .ensures, c .before .before .before .before .before .enum-told .given .1)
+returns-2 c =
+    let told = c .before .before .before .before .enum-told .given .1 in
+    rw (told, ← c .before .before .before .axis-zeros .ensures, eq-eqb _ _ (c .before .if1 .left), c .union-zeros .ensures, told)
 
 returns-3 : tie.Need-returns-3
 unfolding unionAxis

@@ -1,21 +1,23 @@
--- `union_zeros` meets its contract. The invariant: the places below k are joined.
+-- `union_zeros` meets its contract. The invariant: the places below k are joined. Those from the count on are joined as one (`unused-once`).
 use Prim.Native.Nat.{_≤_, _-_}
-use mathlib.Core.Path.{_≡_}
+use mathlib.Core.Path.{_≡_, sym, _∙_, ap}
 use native.Mathlib.Omega.{arith}
 use lib.ListN.{getD}
 use lib.Ieee.{nan}
 use borrow.Author.Needs.{needs}
 use Rattle.control_flow.specs.Loop.{loop}
 use Rattle.control_flow.proofs.Loop.{loop-start, loop-next, loop-end}
+use Rattle.motion_derivative.specs.Derivative.{positiveZero}
 use Rattle.motion_bounds.specs.MotionBounds.{unionZero, unionZeros}
+use Rattle.motion_bounds.proofs.Unused.{unused-once}
 use Rattle.motion_bounds.proofs.union_zeros.Statement.{statement}
 use Rattle.motion_bounds.proofs.union_zeros.Tie as tie
 
 abbrev Inv-loop : tie.InvT-loop
-Inv-loop m a p zeros s₀ k₀ s k = (k ≤ 8) × (s ≡ loop (λ j. unionZero m a p (getD zeros j nan)) k s₀)
+Inv-loop m a p zeros count s₀ k₀ s k = (k ≤ count) × (s ≡ loop (λ j. unionZero m a p (getD zeros j nan)) k s₀)
 
 abbrev μ-loop : tie.MeasureT-loop
-μ-loop m a p zeros s₀ k₀ s k = 8 - k
+μ-loop m a p zeros count s₀ k₀ s k = count - k
 
 loop-holds : tie.Need-loop-holds Inv-loop μ-loop
 loop-holds c = (search needs, loop-start _ _)
@@ -38,9 +40,21 @@ loop-less c = search needs
 loop-again : tie.Need-loop-again Inv-loop μ-loop
 loop-again c = (search needs, loop-next _ _ _ _ _ (c .before .before .loop .inv .1) (c .union-zero .ensures))
 
+union-zero-requires-2 : tie.Need-union-zero-requires-2 Inv-loop μ-loop
+union-zero-requires-2 c κs = search needs
+
 returns : tie.Need-returns Inv-loop μ-loop
 unfolding unionZeros
-returns c = loop-end _ _ 8 _ _ (omega arith) (c .before .loop .inv .1)
+returns c =
+    let start = c .before .before .before .before .before in
+    let a = start .args in
+    let ended = c .before .before in
+    let joined = loop-end _ _ (a .found .count) _ _ (omega (arith, ended .loop-test .left, ended .before .loop .inv .0)) (ended .before .loop .inv .1) in
+    c .union-zero2 .ensures ∙ ap (unionZero (a .m) (a .a) (a .p) positiveZero) joined ∙ sym (unused-once (a .m) (a .a) (a .p) (a .found .zeros) (a .found .count) (start .pre .unused) (a .r) 7 (omega arith) (omega arith))
+
+returns-2 : tie.Need-returns-2 Inv-loop μ-loop
+unfolding unionZeros
+returns-2 c = let full = c .before .before .before .before .pre .count in loop-end _ _ 8 _ _ (omega (arith, full)) (c .before .before .loop .inv .1)
 
 pub union-zeros-spec : {M : Type 1} → statement M
 union-zeros-spec =
@@ -55,4 +69,6 @@ union-zeros-spec =
     add-k
     loop-less
     loop-again
-    returns)
+    union-zero-requires-2
+    returns
+    returns-2)
