@@ -3,12 +3,11 @@
 ghost use mathlib.Core.Path.{_≡_};
 ghost use Rattle.transform.specs.Transform.{translation};
 ghost use Rattle.pose_steps.specs.Pose.{allFinite, PoseAnswer·judged, Pose·matrix, Pose·movedPoint};
-ghost use Rattle.pose_steps.specs.Enclose.{IntervalMatrix·translation, Pose·encloseMatrix, Pose·enclosePoint};
+ghost use Rattle.pose_steps.specs.Enclose.{Pose·encloseMatrix, Pose·enclosePoint};
 use bounds3::Point3f;
 use interval::Interval;
 use matrix4x4::Matrix4x4;
 use pose_steps::IntervalMatrix;
-use pose_steps::IntervalRow;
 use pose_steps::IntervalVector;
 use pose_steps::JudgedMatrix;
 use pose_steps::JudgedVector;
@@ -84,41 +83,6 @@ pub fn moved_point(a: RigidMotion, s0: Matrix4x4, s1: Matrix4x4, dt: f32, p: Poi
     }
 }
 
-fn translation_matrix_enclosure(v: IntervalVector) -> IntervalMatrix
-    ensures value { λ r. ⌜ r ≡ IntervalMatrix·translation v ⌝ }
-{
-    let zero = Interval {
-        low: 0.0,
-        high: 0.0,
-    };
-    let one = Interval {
-        low: 1.0,
-        high: 1.0,
-    };
-    let x = v.x;
-    let y = v.y;
-    let z = v.z;
-    let r0 = IntervalRow {
-        c0: one,
-        c1: zero,
-        c2: zero,
-        c3: x,
-    };
-    let r1 = IntervalRow {
-        c0: zero,
-        c1: one,
-        c2: zero,
-        c3: y,
-    };
-    let r2 = IntervalRow {
-        c0: zero,
-        c1: zero,
-        c2: one,
-        c3: z,
-    };
-    IntervalMatrix { r0, r1, r2 }
-}
-
 // The pose over an interval of dt. Accuracy: encloses.
 pub fn matrix_enclosure(a: RigidMotion, s0: Matrix4x4, s1: Matrix4x4, dt: Interval) -> JudgedMatrix
     ensures value { λ r. ⌜ r ≡ Pose·encloseMatrix a s0 s1 dt ⌝ }
@@ -127,8 +91,7 @@ pub fn matrix_enclosure(a: RigidMotion, s0: Matrix4x4, s1: Matrix4x4, dt: Interv
     let rotate = pose_slerp::slerp_enclosure(trans.refusal, a, dt);
     let scaling = pose_parts::scale_enclosure(rotate.refusal, s0, s1, dt);
     let rotating = pose_rotation::rotation_enclosure(scaling.refusal, rotate.quaternion);
-    let translate = translation_matrix_enclosure(trans.vector);
-    let first = pose_product::mul_enclosure(rotating.refusal, translate, rotating.matrix);
+    let first = pose_product::translate_enclosure(rotating.refusal, trans.vector, rotating.matrix);
     pose_product::mul_enclosure(first.refusal, first.matrix, scaling.matrix)
 }
 

@@ -2,15 +2,16 @@
 // of which each is judged as it is formed. Where a sum over all ends is finite, judging is left out, which gives the same.
 ghost use mathlib.Core.Path.{_≡_};
 ghost use Rattle.pose_steps.specs.Pose.{Pose·mulRow, Pose·mul};
-ghost use Rattle.pose_steps.specs.Enclose.{Pose·encloseMulRow, Pose·encloseMul};
+ghost use Rattle.pose_steps.specs.Enclose.{Pose·encloseMulRow, Pose·encloseMul, IntervalMatrix·translation};
 ghost use Rattle.pose_ends.specs.Ends.{RowEnds·of};
-ghost use Rattle.pose_product.specs.Unjudged.{Pose·unjudgedMulRow};
+ghost use Rattle.pose_product.specs.Unjudged.{Pose·unjudgedMulRow, Pose·unjudgedMul, Pose·translatedColumn};
 use interval::Interval;
 use interval::Judged;
 use matrix4x4::Matrix4x4;
 use pose_ends::RowEnds;
 use pose_steps::IntervalMatrix;
 use pose_steps::IntervalRow;
+use pose_steps::IntervalVector;
 use pose_steps::JudgedMatrix;
 use pose_steps::JudgedRow;
 
@@ -180,6 +181,156 @@ pub fn mul_enclosure(m: u8, a: IntervalMatrix, b: IntervalMatrix) -> JudgedMatri
         + pose_ends::matrix_ends_sum(matrix);
     if float32::is_finite(ends) {
         JudgedMatrix { matrix, refusal: m }
+    } else {
+        mul_judged(m, a, b)
+    }
+}
+
+// The matrix that adds v to a point.
+fn translation_matrix(v: IntervalVector) -> IntervalMatrix
+    ensures value { λ r. ⌜ r ≡ IntervalMatrix·translation v ⌝ }
+{
+    let zero = Interval {
+        low: 0.0,
+        high: 0.0,
+    };
+    let one = Interval {
+        low: 1.0,
+        high: 1.0,
+    };
+    let x = v.x;
+    let y = v.y;
+    let z = v.z;
+    let r0 = IntervalRow {
+        c0: one,
+        c1: zero,
+        c2: zero,
+        c3: x,
+    };
+    let r1 = IntervalRow {
+        c0: zero,
+        c1: one,
+        c2: zero,
+        c3: y,
+    };
+    let r2 = IntervalRow {
+        c0: zero,
+        c1: zero,
+        c2: one,
+        c3: z,
+    };
+    IntervalMatrix { r0, r1, r2 }
+}
+
+// A column of the translation's product, where x, y, z are the second matrix's column and `last` stands below it. Each product by zero serves two rows.
+fn translated_column(
+    v: IntervalVector,
+    x: Interval,
+    y: Interval,
+    z: Interval,
+    last: Interval,
+) -> IntervalVector
+    ensures value { λ r. ⌜ r ≡ Pose·translatedColumn v x y z last ⌝ }
+{
+    let zero = Interval {
+        low: 0.0,
+        high: 0.0,
+    };
+    let one = Interval {
+        low: 1.0,
+        high: 1.0,
+    };
+    let ox = interval_unjudged::mul_ordered(one, x);
+    let oy = interval_unjudged::mul_ordered(one, y);
+    let oz = interval_unjudged::mul_ordered(one, z);
+    let zx = interval_unjudged::mul_ordered(zero, x);
+    let zy = interval_unjudged::mul_ordered(zero, y);
+    let zz = interval_unjudged::mul_ordered(zero, z);
+    let lx = interval_unjudged::mul_ordered(v.x, last);
+    let ly = interval_unjudged::mul_ordered(v.y, last);
+    let lz = interval_unjudged::mul_ordered(v.z, last);
+    let sx = interval_unjudged::add_enclosure(ox, zy);
+    let tx = interval_unjudged::add_enclosure(sx, zz);
+    let ux = interval_unjudged::add_enclosure(tx, lx);
+    let sy = interval_unjudged::add_enclosure(zx, oy);
+    let ty = interval_unjudged::add_enclosure(sy, zz);
+    let uy = interval_unjudged::add_enclosure(ty, ly);
+    let sz = interval_unjudged::add_enclosure(zx, zy);
+    let tz = interval_unjudged::add_enclosure(sz, oz);
+    let uz = interval_unjudged::add_enclosure(tz, lz);
+    IntervalVector {
+        x: ux,
+        y: uy,
+        z: uz,
+    }
+}
+
+// The product of the matrix that adds v to a point, and b, with no interval judged.
+fn translated(v: IntervalVector, b: IntervalMatrix) -> IntervalMatrix
+    ensures value { λ r. ⌜ r ≡ Pose·unjudgedMul (IntervalMatrix·translation v) b ⌝ }
+{
+    let zero = Interval {
+        low: 0.0,
+        high: 0.0,
+    };
+    let one = Interval {
+        low: 1.0,
+        high: 1.0,
+    };
+    let b0 = b.r0;
+    let b1 = b.r1;
+    let b2 = b.r2;
+    let e0 = translated_column(v, b0.c0, b1.c0, b2.c0, zero);
+    let e1 = translated_column(v, b0.c1, b1.c1, b2.c1, zero);
+    let e2 = translated_column(v, b0.c2, b1.c2, b2.c2, zero);
+    let e3 = translated_column(v, b0.c3, b1.c3, b2.c3, one);
+    let m00 = e0.x;
+    let m01 = e1.x;
+    let m02 = e2.x;
+    let m03 = e3.x;
+    let r0 = IntervalRow {
+        c0: m00,
+        c1: m01,
+        c2: m02,
+        c3: m03,
+    };
+    let m10 = e0.y;
+    let m11 = e1.y;
+    let m12 = e2.y;
+    let m13 = e3.y;
+    let r1 = IntervalRow {
+        c0: m10,
+        c1: m11,
+        c2: m12,
+        c3: m13,
+    };
+    let m20 = e0.z;
+    let m21 = e1.z;
+    let m22 = e2.z;
+    let m23 = e3.z;
+    let r2 = IntervalRow {
+        c0: m20,
+        c1: m21,
+        c2: m22,
+        c3: m23,
+    };
+    IntervalMatrix { r0, r1, r2 }
+}
+
+// The same, judged. Accuracy: encloses.
+pub fn translate_enclosure(m: u8, v: IntervalVector, b: IntervalMatrix) -> JudgedMatrix
+    ensures value { λ r. ⌜ r ≡ Pose·encloseMul m (IntervalMatrix·translation v) b ⌝ }
+{
+    let a = translation_matrix(v);
+    let product = translated(v, b);
+    let ends = pose_ends::matrix_ends_sum(a)
+        + pose_ends::matrix_ends_sum(b)
+        + pose_ends::matrix_ends_sum(product);
+    if float32::is_finite(ends) {
+        JudgedMatrix {
+            matrix: product,
+            refusal: m,
+        }
     } else {
         mul_judged(m, a, b)
     }

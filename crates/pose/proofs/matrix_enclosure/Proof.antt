@@ -16,18 +16,15 @@ scale-enclosure-requires c κs = search needs
 rotation-enclosure-requires : tie.Need-rotation-enclosure-requires
 rotation-enclosure-requires c κs = search needs
 
-translation-matrix-enclosure-requires : tie.Need-translation-matrix-enclosure-requires
-translation-matrix-enclosure-requires c κs = search needs
+translate-enclosure-requires : tie.Need-translate-enclosure-requires
+translate-enclosure-requires c κs = search needs
 
 mul-enclosure-requires : tie.Need-mul-enclosure-requires
 mul-enclosure-requires c κs = search needs
 
-mul-enclosure-requires-2 : tie.Need-mul-enclosure-requires-2
-mul-enclosure-requires-2 c κs = search needs
-
 returns : tie.Need-returns
 unfolding Pose·encloseMatrix
-returns c = rw (c .mul-enclosure2 .ensures, c .before .mul-enclosure .ensures, c .before .before .translation-matrix-enclosure .ensures, c .before .before .before .rotation-enclosure .ensures, c .before .before .before .before .scale-enclosure .ensures, c .before .before .before .before .before .slerp-enclosure .ensures, c .before .before .before .before .before .before .translation-enclosure .ensures)
+returns c = rw (c .mul-enclosure .ensures, c .before .translate-enclosure .ensures, c .before .before .rotation-enclosure .ensures, c .before .before .before .scale-enclosure .ensures, c .before .before .before .before .slerp-enclosure .ensures, c .before .before .before .before .before .translation-enclosure .ensures)
 
 pub matrix-enclosure-spec : {M : Type 1} → statement M
 matrix-enclosure-spec =
@@ -37,7 +34,6 @@ matrix-enclosure-spec =
     slerp-enclosure-requires
     scale-enclosure-requires
     rotation-enclosure-requires
-    translation-matrix-enclosure-requires
+    translate-enclosure-requires
     mul-enclosure-requires
-    mul-enclosure-requires-2
     returns)
