@@ -3,7 +3,8 @@ pub mod Refusal
 pub mod Extends
 pub mod Isotone
 pub mod Angles
-mod Places
+pub mod Places
 pub mod Divisor
 pub mod Points
+pub mod InOrder
 mod Cases

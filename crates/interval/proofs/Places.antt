@@ -1,10 +1,15 @@
--- Whether a place lies from one angle's u to the other's, as code tests it: without least and greatest, and with a u that is held at a bound beyond the place (`lies-test`).
+-- Whether a place lies from one angle's u to the other's, as code tests it: without least and greatest (`lies-is`), and with a u that is held at a bound beyond the place.
+-- So what an end's u, sine and cosine say is the sine and the cosine of the interval: `sin-range`, `cos-range`.
 use mathlib.Core.Path.{_≡_, refl, ap₂, _∙_}
 use mathlib.Core.Bool.{Bool, true, false, not, _&&_, _||_}
-use Prim.Native.Nat.{ℕ, _≤_, _<_, min, max}
+use Prim.Native.Nat.{ℕ, _*_, _^_, _≤_, _<_, min, max}
 use native.Mathlib.Omega.{arith}
 use lib.Dec.{T, leb, leb→le, le→leb, nleb→lt}
-use Rattle.trig_laws.specs.Range.{lies}
+use lib.Ieee.{Float}
+use Rattle.sine_table.specs.Table.{quarterTurn}
+use Rattle.trig.specs.Units.{angleUnits}
+use Rattle.trig_laws.specs.Range.{lies, sinLow, sinHigh, cosLow, cosHigh}
+use Rattle.interval.specs.Enclosure.{Interval·sinEnclosure, Interval·cosEnclosure, EndAngle·new, EndAngle·sinRange, EndAngle·cosRange}
 
 same-test : (x y : Bool) → (T x → T y) → (T y → T x) → x ≡ y
 same-test true true h k = refl
@@ -26,7 +31,7 @@ either-le a b c d x y f g h =
     join true q k = tt
     join false q k = k tt
 
-lies-is : (w u v : ℕ) → ((leb u w || leb v w) && (leb w u || leb w v)) ≡ lies w u v
+pub lies-is : (w u v : ℕ) → ((leb u w || leb v w) && (leb w u || leb w v)) ≡ lies w u v
 lies-is w u v =
     ap₂ _&&_ (either-le u w v w (min u v) w (λ h. omega arith) (λ h. omega arith) (λ h k. omega arith))
     (either-le w u w v w (max u v) (λ h. omega arith) (λ h. omega arith) (λ h k. omega arith))
@@ -39,5 +44,20 @@ lies-capped w u v c h =
     ap₂ _&&_ (leb-same (min (min u c) (min v c)) w (min u v) w (λ l. omega arith) (λ l. omega arith))
     (leb-same w (max (min u c) (min v c)) w (max u v) (λ l. omega arith) (λ l. omega arith))
 
-pub lies-test : (w u v c : ℕ) → w < c → ((leb (min u c) w || leb (min v c) w) && (leb w (min u c) || leb w (min v c))) ≡ lies w u v
-lies-test w u v c h = lies-is w (min u c) (min v c) ∙ lies-capped w u v c h
+pub sin-range : (a b : Float) → EndAngle·sinRange (EndAngle·new a) (EndAngle·new b) ≡ Interval·sinEnclosure (record { low = a; high = b })
+unfolding EndAngle·new EndAngle·sinRange Interval·sinEnclosure sinLow sinHigh
+sin-range a b =
+    let u = angleUnits a in
+    let v = angleUnits b in
+    rw (lies-capped (3 * quarterTurn) u v (2 ^ 52) (omega arith), lies-capped quarterTurn u v (2 ^ 52) (omega arith))
+
+pub cos-range : (a b : Float) → EndAngle·cosRange (EndAngle·new a) (EndAngle·new b) ≡ Interval·cosEnclosure (record { low = a; high = b })
+unfolding EndAngle·new EndAngle·cosRange Interval·cosEnclosure cosLow cosHigh
+cos-range a b =
+    let u = angleUnits a in
+    let v = angleUnits b in
+    rw (
+      lies-capped (2 * quarterTurn) u v (2 ^ 52) (omega arith),
+      lies-capped 0 u v (2 ^ 52) (omega arith),
+      lies-capped (4 * quarterTurn) u v (2 ^ 52) (omega arith),
+    )

@@ -1,13 +1,11 @@
 // Closed intervals of 32-bit floats. `Interval` has pbrt's own operations, with which the zero search bounds a function's range. `Judged` has those of document
 // 01's cover: an interval is judged as it is formed, and each operation takes the refusal number met before it, m, and hands the first number on.
 ghost use mathlib.Core.Path.{_≡_};
-ghost use Prim.Native.Nat.{_^_, _<_};
 ghost use mathlib.Core.Bool.{cond};
-ghost use Rattle.trig.specs.Units.{angleUnits};
 ghost use Rattle.trig.specs.SinCos.{sin, cos};
 ghost use Rattle.trig_laws.specs.Range.{lies};
 ghost use Rattle.interval.specs.Interval.{Interval·new, Interval·point, Interval·hull, Interval·ofFour, Interval·add, Interval·sub, Interval·mul, Interval·straddles, Interval·sin, Interval·cos};
-ghost use Rattle.interval.specs.Enclosure.{first, notFinite, notPositive, Judged·judge, Judged·addEnclosure, Judged·subEnclosure, Judged·mulEnclosure, Judged·divEnclosure, Judged·sqrtEnclosure, Judged·sinEnclosure, Judged·cosEnclosure};
+ghost use Rattle.interval.specs.Enclosure.{first, notFinite, notPositive, Judged·judge, Judged·addEnclosure, Judged·subEnclosure, Judged·mulEnclosure, Judged·divEnclosure, Judged·sqrtEnclosure, Judged·sinEnclosure, Judged·cosEnclosure, EndAngle·new, EndAngle·sinRange, EndAngle·cosRange};
 
 // pbrt's std::f32::consts::PI.
 const PI: f32 = 3.14159274;
@@ -43,6 +41,14 @@ pub struct IntervalSinCos {
 pub struct JudgedSinCos {
     pub cos: Judged,
     pub sin: Judged,
+}
+
+// An end of an interval of angles: the angle, its u held at 2^52, which is beyond every quarter, its sine and its cosine.
+pub struct EndAngle {
+    pub angle: f32,
+    pub units: u64,
+    pub sin: f32,
+    pub cos: f32,
 }
 
 impl Interval {
@@ -187,14 +193,62 @@ fn select(test: bool, x: f32, y: f32) -> f32
     if test { x } else { y }
 }
 
-// Whether the place w lies from one angle's u to the other's.
-fn lies(w: u64, a: f32, b: f32) -> bool
-    requires { ⌜ w < 2 ^ 52 ⌝ }
-    ensures value { λ r. ⌜ r ≡ lies w (angleUnits a) (angleUnits b) ⌝ }
+// Whether the place w lies from u to v.
+fn lies(w: u64, u: u64, v: u64) -> bool
+    ensures value { λ r. ⌜ r ≡ lies w u v ⌝ }
 {
-    let u = trig::angle_units(a);
-    let v = trig::angle_units(b);
     ((u <= w) | (v <= w)) & ((w <= u) | (w <= v))
+}
+
+impl EndAngle {
+    // Accuracy: exact; sine and cosine are document 01's.
+    pub fn new(a: f32) -> Self
+        ensures value { λ r. ⌜ r ≡ EndAngle·new a ⌝ }
+    {
+        let at = trig::sin_cos(a);
+        Self {
+            angle: a,
+            units: trig::angle_units(a),
+            sin: at.sin,
+            cos: at.cos,
+        }
+    }
+
+    // The sine from an end to another. Accuracy: encloses, for angles from 0 to a full turn.
+    pub fn sin_range(self, to: EndAngle) -> Interval
+        ensures value { λ r. ⌜ r ≡ EndAngle·sinRange self to ⌝ }
+    {
+        Interval {
+            low: select(
+                lies(THREE_QUARTERS, self.units, to.units),
+                -1.0,
+                float32::min(self.sin, to.sin),
+            ),
+            high: select(
+                lies(QUARTER_TURN, self.units, to.units),
+                1.0,
+                float32::max(self.sin, to.sin),
+            ),
+        }
+    }
+
+    // The cosine, likewise.
+    pub fn cos_range(self, to: EndAngle) -> Interval
+        ensures value { λ r. ⌜ r ≡ EndAngle·cosRange self to ⌝ }
+    {
+        Interval {
+            low: select(
+                lies(HALF_TURN, self.units, to.units),
+                -1.0,
+                float32::min(self.cos, to.cos),
+            ),
+            high: select(
+                lies(0, self.units, to.units) | lies(FULL_TURN, self.units, to.units),
+                1.0,
+                float32::max(self.cos, to.cos),
+            ),
+        }
+    }
 }
 
 // The first of two numbers met.
@@ -280,61 +334,32 @@ impl Judged {
         Judged::judge(first(m, x.not_positive()), roots)
     }
 
-    // The sine, by the sines of the ends.
-    fn sin_between(m: u8, x: Interval, a: f32, b: f32) -> Self
-        requires { ⌜ a ≡ sin (x .low) ⌝ ∗ ⌜ b ≡ sin (x .high) ⌝ }
-        ensures value { λ r. ⌜ r ≡ Judged·sinEnclosure m x ⌝ }
-    {
-        let range = Interval {
-            low: select(
-                lies(THREE_QUARTERS, x.low, x.high),
-                -1.0,
-                float32::min(a, b),
-            ),
-            high: select(lies(QUARTER_TURN, x.low, x.high), 1.0, float32::max(a, b)),
-        };
-        Judged::judge(m, range)
-    }
-
-    // The cosine, by the cosines of the ends.
-    fn cos_between(m: u8, x: Interval, a: f32, b: f32) -> Self
-        requires { ⌜ a ≡ cos (x .low) ⌝ ∗ ⌜ b ≡ cos (x .high) ⌝ }
-        ensures value { λ r. ⌜ r ≡ Judged·cosEnclosure m x ⌝ }
-    {
-        let range = Interval {
-            low: select(lies(HALF_TURN, x.low, x.high), -1.0, float32::min(a, b)),
-            high: select(
-                lies(0, x.low, x.high) | lies(FULL_TURN, x.low, x.high),
-                1.0,
-                float32::max(a, b),
-            ),
-        };
-        Judged::judge(m, range)
-    }
-
     // The sine. Accuracy: encloses, for angles from 0 to a full turn.
     pub fn sin_enclosure(m: u8, x: Interval) -> Self
         ensures value { λ r. ⌜ r ≡ Judged·sinEnclosure m x ⌝ }
     {
-        let ends = trig::sin_cos_pair(x.low, x.high);
-        Judged::sin_between(m, x, ends.sin_x, ends.sin_y)
+        let from = EndAngle::new(x.low);
+        let to = EndAngle::new(x.high);
+        Judged::judge(m, from.sin_range(to))
     }
 
     // The cosine. Accuracy: encloses, for angles from 0 to a full turn.
     pub fn cos_enclosure(m: u8, x: Interval) -> Self
         ensures value { λ r. ⌜ r ≡ Judged·cosEnclosure m x ⌝ }
     {
-        let ends = trig::sin_cos_pair(x.low, x.high);
-        Judged::cos_between(m, x, ends.cos_x, ends.cos_y)
+        let from = EndAngle::new(x.low);
+        let to = EndAngle::new(x.high);
+        Judged::judge(m, from.cos_range(to))
     }
 
     // The cosine, then the sine with the number that the cosine hands on. Accuracy: encloses, likewise.
     pub fn sin_cos_enclosure(m: u8, x: Interval) -> JudgedSinCos
         ensures value { λ r. ⌜ (r .cos ≡ Judged·cosEnclosure m x) × (r .sin ≡ Judged·sinEnclosure (r .cos .refusal) x) ⌝ }
     {
-        let ends = trig::sin_cos_pair(x.low, x.high);
-        let cos = Judged::cos_between(m, x, ends.cos_x, ends.cos_y);
-        let sin = Judged::sin_between(cos.refusal, x, ends.sin_x, ends.sin_y);
+        let from = EndAngle::new(x.low);
+        let to = EndAngle::new(x.high);
+        let cos = Judged::judge(m, from.cos_range(to));
+        let sin = Judged::judge(cos.refusal, from.sin_range(to));
         JudgedSinCos { cos, sin }
     }
 }

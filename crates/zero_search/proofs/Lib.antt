@@ -1,4 +1,3 @@
-pub mod InOrder
 pub mod Clauses
 pub mod Examined
 pub mod Stored

@@ -1,6 +1,6 @@
 -- `excludes_zero` meets its contract: where the angles at the ends are in order they are the ends of the angles' interval (`mul-ordered`).
 use Rattle.motion_derivative.specs.Derivative.{MotionDerivative·excludesZero}
-use Rattle.zero_search.proofs.InOrder.{mul-ordered}
+use Rattle.interval.proofs.InOrder.{mul-ordered}
 use borrow.Author.Needs.{needs}
 use Rattle.zero_search.proofs.excludes_zero.Statement.{statement}
 use Rattle.zero_search.proofs.excludes_zero.Tie as tie

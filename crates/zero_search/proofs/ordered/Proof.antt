@@ -1,7 +1,7 @@
 -- `ordered` meets its contract: ends in order stay as they are (`new-ordered`), and any others are worked out from `Interval::new`.
 use mathlib.Core.Path.{sym}
 use Rattle.interval.specs.Interval.{Interval·new}
-use Rattle.zero_search.proofs.InOrder.{new-ordered}
+use Rattle.interval.proofs.InOrder.{new-ordered}
 use Rattle.zero_search.proofs.ordered.Statement.{statement}
 use Rattle.zero_search.proofs.ordered.Tie as tie
 

@@ -18,7 +18,7 @@ below-asym false true a b h = absurd (true≢false (sym h))
 below-asym true false a b h = refl
 below-asym true true a b h = le-ltb a b (omega (arith, ltb-true b a h))
 
-lt-asym : (x y : Float) → lt x y ≡ true → lt y x ≡ false
+pub lt-asym : (x y : Float) → lt x y ≡ true → lt y x ≡ false
 unfolding lt
 lt-asym nan y h = absurd (true≢false (sym h))
 lt-asym (inf s) nan h = absurd (true≢false (sym h))
