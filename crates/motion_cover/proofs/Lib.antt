@@ -4,4 +4,5 @@ pub mod Number
 pub mod Proper
 pub mod Stored
 pub mod Slices
+mod Borders
 mod Cases

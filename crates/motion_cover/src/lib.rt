@@ -3,8 +3,12 @@
 use animated_transform::AnimatedTransform;
 use bounds3::Bounds3f;
 use bounds3::Point3f;
+use interval::EndAngle;
 use interval::Interval;
+use interval_unjudged::ends_sum;
+use pose_slerp::Perpendicular;
 use pose_steps::IntervalVector;
+use pose_steps::JudgedQuaternion;
 use pose_steps::JudgedVector;
 use pose_steps::RigidMotion;
 use transform::BoundsAnswer;
@@ -12,12 +16,20 @@ use transform::Transform;
 ghost use Prim.Native.Nat.{_^_, _≤_};
 ghost use mathlib.Core.Path.{_≡_};
 ghost use Rattle.transform.specs.declared.BoundsAnswer.the-variants.{Bounds};
-ghost use Rattle.pose_steps.specs.Enclose.{Bounds3f·intervals, IntervalVector·bounds};
+ghost use Rattle.pose_steps.specs.Enclose.{Pose·encloseSlerp, Bounds3f·intervals, IntervalVector·bounds};
+ghost use Rattle.pose_slerp.specs.Unjudged.{Perpendicular·of};
 ghost use Rattle.motion_point.specs.TransformPoint.{AnimatedTransform·rigidMotion};
 ghost use Rattle.motion_cover.specs.Cover.{BoundsAnswer·fromEnclosure, Transform·encloseBounds, AnimatedTransform·encloseBounds, AnimatedTransform·encloseEnds, unionSlices, AnimatedTransform·encloseMotion, maxDepth, coverRefusal, AnimatedTransform·cover};
+ghost use Rattle.motion_cover.specs.Border.{Border·at};
 ghost use Rattle.motion_cover.specs.Theorem.{CoverContainsMotion};
 
 const MAX_DEPTH: u32 = 12;
+
+// Where two slices meet: dt, and the angle that slerp has turned by there, which both of them ask for.
+struct Border {
+    t: f32,
+    angle: EndAngle,
+}
 
 // A box as three intervals, and back. Accuracy: exact.
 fn intervals(b: Bounds3f) -> IntervalVector
@@ -87,33 +99,107 @@ fn ends_enclosure(m: AnimatedTransform, b: Bounds3f) -> BoundsAnswer
     )
 }
 
-// The poses over an interval of dt over a box, with the move's constants at hand. Accuracy: encloses.
-fn slice_enclosure(m: AnimatedTransform, a: RigidMotion, dt: Interval, b: Bounds3f) -> BoundsAnswer
-    ensures value { λ r. ⌜ r ≡ AnimatedTransform·encloseBounds m a dt b ⌝ }
+// Where slerp is linear no angle is asked for, and a border has none.
+fn border_at(a: RigidMotion, t: f32) -> Border
+    ensures value { λ r. ⌜ r ≡ Border·at a t ⌝ }
 {
-    from_enclosure(pose::moved_point_enclosure(a, m.s0, m.s1, dt, intervals(b)))
+    if a.cos_theta > 0.9995 {
+        let angle = EndAngle {
+            angle: 0.0,
+            units: 0,
+            sin: 0.0,
+            cos: 1.0,
+        };
+        Border { t, angle }
+    } else {
+        let angle = EndAngle::new(a.theta * t);
+        Border { t, angle }
+    }
 }
 
-// The box `first` and those of the 2^d slices of dt. A slice's high end is the next one's low end. Accuracy: encloses.
+// The rotation from a border to another, by the angles that are kept there. Judging is left out where a sum over all ends is finite, which gives the same. Accuracy: encloses.
+fn slerp_enclosure(
+    m: u8,
+    a: RigidMotion,
+    perp: Perpendicular,
+    from: Border,
+    to: Border,
+) -> JudgedQuaternion
+    requires { ⌜ perp ≡ Perpendicular·of (a .r0) (a .r1) (a .«cos_theta») ⌝ ∗ ⌜ from ≡ Border·at a (from .t) ⌝ ∗ ⌜ to ≡ Border·at a (to .t) ⌝ }
+    ensures value { λ r. ⌜ r ≡ Pose·encloseSlerp m a (record { low = from .t; high = to .t }) ⌝ }
+{
+    let t = Interval {
+        low: from.t,
+        high: to.t,
+    };
+    if a.cos_theta > 0.9995 {
+        return pose_slerp::slerp_near_enclosure(m, a.r0, a.r1, t);
+    }
+    let x = from.angle;
+    let y = to.angle;
+    let c = x.cos_range(y);
+    let s = x.sin_range(y);
+    let quaternion = pose_slerp::combination_unjudged(a.r0, perp.q, c, s);
+    let ends = ends_sum(t)
+        + x.angle
+        + y.angle
+        + ends_sum(c)
+        + ends_sum(s)
+        + perp.length
+        + pose_ends::quaternion_ends_sum(quaternion);
+    if float32::is_finite(ends) & (0.0 < perp.length) & (x.angle < y.angle) {
+        JudgedQuaternion {
+            quaternion,
+            refusal: m,
+        }
+    } else {
+        pose_slerp::slerp_far_enclosure(m, a, t)
+    }
+}
+
+// The poses from a border to another over a box, with the move's constants at hand. Accuracy: encloses.
+fn slice_enclosure(
+    m: AnimatedTransform,
+    a: RigidMotion,
+    perp: Perpendicular,
+    from: Border,
+    to: Border,
+    b: Bounds3f,
+) -> BoundsAnswer
+    requires { ⌜ perp ≡ Perpendicular·of (a .r0) (a .r1) (a .«cos_theta») ⌝ ∗ ⌜ from ≡ Border·at a (from .t) ⌝ ∗ ⌜ to ≡ Border·at a (to .t) ⌝ }
+    ensures value { λ r. ⌜ r ≡ AnimatedTransform·encloseBounds m a (record { low = from .t; high = to .t }) b ⌝ }
+{
+    let dt = Interval {
+        low: from.t,
+        high: to.t,
+    };
+    let trans = pose_parts::translation_enclosure(0, a.t0, a.t1, dt);
+    let rotate = slerp_enclosure(trans.refusal, a, perp, from, to);
+    let pose = pose::composition_enclosure(trans.vector, rotate, m.s0, m.s1, dt);
+    from_enclosure(pose_point::transform_point_enclosure(pose.refusal, pose.matrix, intervals(b)))
+}
+
+// The box `first` and those of the 2^d slices of dt. A slice ends at the border where the next one begins. Accuracy: encloses.
 fn slices_enclosure(m: AnimatedTransform, b: Bounds3f, d: u32, first: Bounds3f) -> BoundsAnswer
     requires { ⌜ d ≤ maxDepth ⌝ }
     ensures value { λ r. ⌜ r ≡ unionSlices m (AnimatedTransform·rigidMotion m) b d (Bounds first) (2 ^ d) ⌝ }
 {
     let a = motion_point::rigid_motion(m);
+    let perp = pose_slerp::perpendicular_to(a.r0, a.r1, a.cos_theta);
     let slices = 1u64 << d;
     let mut union = first;
-    let mut low = 0.0;
+    let mut from = border_at(a, 0.0);
     let mut k = 0u64;
     while k < slices {
         let high = float_bits::from_fixed(k + 1, d);
-        let dt = Interval { low, high };
-        let slice = slice_enclosure(m, a, dt, b);
+        let to = border_at(a, high);
+        let slice = slice_enclosure(m, a, perp, from, to, b);
         let BoundsAnswer::Bounds(moved) = slice else {
             return slice;
         };
         let next = union.union_bounds(moved);
         union = next;
-        low = high;
+        from = to;
         k += 1;
     }
     BoundsAnswer::Bounds(union)

@@ -1,16 +1,15 @@
 // A move's pose between its two poses, and a point that it moves: the steps of pbrt's `interpolate` and `transform_point`, matrix half, in sequence.
-// In floats at a dt, where a finished value that isn't finite is refused with 5; in intervals over any interval of dt and any box of points, where each is judged as it is formed.
+// In floats at a dt, where a finished value that isn't finite is refused with 5; in intervals over any interval of dt, from a translation and a rotation at hand, where each is judged as it is formed.
 ghost use mathlib.Core.Path.{_≡_};
 ghost use Rattle.transform.specs.Transform.{translation};
 ghost use Rattle.pose_steps.specs.Pose.{allFinite, PoseAnswer·judged, Pose·matrix, Pose·movedPoint};
-ghost use Rattle.pose_steps.specs.Enclose.{Pose·encloseMatrix, Pose·enclosePoint};
+ghost use Rattle.pose_steps.specs.Enclose.{Pose·encloseComposition};
 use bounds3::Point3f;
 use interval::Interval;
 use matrix4x4::Matrix4x4;
-use pose_steps::IntervalMatrix;
 use pose_steps::IntervalVector;
 use pose_steps::JudgedMatrix;
-use pose_steps::JudgedVector;
+use pose_steps::JudgedQuaternion;
 use pose_steps::PoseAnswer;
 use pose_steps::RigidMotion;
 use transform::PointAnswer;
@@ -83,28 +82,18 @@ pub fn moved_point(a: RigidMotion, s0: Matrix4x4, s1: Matrix4x4, dt: f32, p: Poi
     }
 }
 
-// The pose over an interval of dt. Accuracy: encloses.
-pub fn matrix_enclosure(a: RigidMotion, s0: Matrix4x4, s1: Matrix4x4, dt: Interval) -> JudgedMatrix
-    ensures value { λ r. ⌜ r ≡ Pose·encloseMatrix a s0 s1 dt ⌝ }
-{
-    let trans = pose_parts::translation_enclosure(0, a.t0, a.t1, dt);
-    let rotate = pose_slerp::slerp_enclosure(trans.refusal, a, dt);
-    let scaling = pose_parts::scale_enclosure(rotate.refusal, s0, s1, dt);
-    let rotating = pose_rotation::rotation_enclosure(scaling.refusal, rotate.quaternion);
-    let first = pose_product::translate_enclosure(rotating.refusal, trans.vector, rotating.matrix);
-    pose_product::mul_enclosure(first.refusal, first.matrix, scaling.matrix)
-}
-
-// The box of points that a box is moved to over an interval of dt. Accuracy: encloses.
-pub fn moved_point_enclosure(
-    a: RigidMotion,
+// The pose over an interval of dt, from its translation and its rotation there. Accuracy: encloses.
+pub fn composition_enclosure(
+    trans: IntervalVector,
+    rotate: JudgedQuaternion,
     s0: Matrix4x4,
     s1: Matrix4x4,
     dt: Interval,
-    p: IntervalVector,
-) -> JudgedVector
-    ensures value { λ r. ⌜ r ≡ Pose·enclosePoint a s0 s1 dt p ⌝ }
+) -> JudgedMatrix
+    ensures value { λ r. ⌜ r ≡ Pose·encloseComposition trans rotate s0 s1 dt ⌝ }
 {
-    let pose = matrix_enclosure(a, s0, s1, dt);
-    pose_point::transform_point_enclosure(pose.refusal, pose.matrix, p)
+    let scaling = pose_parts::scale_enclosure(rotate.refusal, s0, s1, dt);
+    let rotating = pose_rotation::rotation_enclosure(scaling.refusal, rotate.quaternion);
+    let first = pose_product::translate_enclosure(rotating.refusal, trans, rotating.matrix);
+    pose_product::mul_enclosure(first.refusal, first.matrix, scaling.matrix)
 }

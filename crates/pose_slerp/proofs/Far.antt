@@ -14,17 +14,17 @@ use Rattle.square_root.specs.SquareRoot.{sqrt}
 use Rattle.float32.specs.Operators.{_⊕_, _⊖_, _⊗_, _⊘_}
 use Rattle.quaternion.specs.declared.Quaternion.{Quaternion}
 use Rattle.interval.specs.declared.Interval.{Interval}
-use Rattle.interval.specs.declared.Judged.{Judged}
-use Rattle.interval.specs.declared.JudgedSinCos.{JudgedSinCos}
+use Rattle.interval.specs.declared.EndAngle.{EndAngle}
 use Rattle.interval.specs.Contains.{Finite}
 use Rattle.interval.specs.Interval.{Interval·point}
-use Rattle.interval.specs.Enclosure.{Interval·addEnclosure, Interval·subEnclosure, Interval·sqrtEnclosure, Interval·sinEnclosure, Interval·cosEnclosure, Judged·judge, Judged·sinEnclosure, Judged·cosEnclosure}
+use Rattle.interval.specs.Enclosure.{Interval·addEnclosure, Interval·subEnclosure, Interval·sqrtEnclosure, Interval·sinEnclosure, Interval·cosEnclosure, EndAngle·new, EndAngle·sinRange, EndAngle·cosRange}
+use Rattle.interval.proofs.Places.{sin-range, cos-range}
 use Rattle.interval.proofs.Points.{add-point, sub-point, sqrt-point}
 use Rattle.interval_unjudged.specs.Ordered.{Interval·mulOrdered, Interval·divOrdered, Interval·endsSum}
 use Rattle.interval_unjudged.specs.Unjudged.{Expr·unjudged, Expr·unjudgedAll, Program·unjudged, All, Positive}
 use Rattle.interval_unjudged.proofs.Finite.{add-finite, sub-finite, mul-finite, div-finite, left-point, ends-finite}
 use Rattle.interval_unjudged.proofs.Positive.{above-zero, positive-finite, rooted-positive}
-use Rattle.interval_unjudged.proofs.Points.{mul-ordered-point, div-ordered-point}
+use Rattle.interval_unjudged.proofs.Points.{mul-ordered-point, div-ordered-point, mul-ordered-rising}
 use Rattle.interval_unjudged.proofs.Unjudged.{all-append, program-unjudged}
 use Rattle.pose_steps.specs.declared.IntervalQuaternion.{IntervalQuaternion}
 use Rattle.pose_steps.specs.Stages.{slerpFarStage}
@@ -203,31 +203,39 @@ module _ (m : ℕ) (q1 q2 : Quaternion) (cosθ θ : Float) (t : Interval) where
       )
       (pD, (pN, (pN, (pN, (pN, tt)))))))
 
--- As the code has it: r is the test of the sum.
-pub far-tested : (m : ℕ) (q1 q2 : Quaternion) (cosθ θ : Float) (t : Interval) {a : Interval} {j : JudgedSinCos} {p : Perpendicular} {v : IntervalQuaternion} {A B C D E : Float} {r : Bool}
-    → a ≡ Interval·mulOrdered (Interval·point θ) t → (j .cos ≡ Judged·cosEnclosure 0 a) × (j .sin ≡ Judged·sinEnclosure (j .cos .refusal) a)
-    → p ≡ Perpendicular·of q1 q2 cosθ
-    → v ≡ IntervalQuaternion·combination (IntervalQuaternion·point q1) (IntervalQuaternion·point (p .q)) (j .cos .interval) (j .sin .interval)
-    → A ≡ Interval·endsSum t → B ≡ Interval·endsSum a → C ≡ Interval·endsSum (j .cos .interval) → D ≡ Interval·endsSum (j .sin .interval) → E ≡ IntervalQuaternion·endsSum v
-    → r ≡ finite (A ⊕ B ⊕ C ⊕ D ⊕ p .length ⊕ E) → (r && lt (ofBits binary32 0) (p .length)) ≡ true
+-- As code has it that keeps the angles at both ends of t and the perpendicular: r is the test of the sum.
+pub far-tested : (m : ℕ) (q1 q2 : Quaternion) (cosθ θ : Float) (t : Interval) {from to : EndAngle} {p : Perpendicular} {c s : Interval} {v : IntervalQuaternion} {A C D E : Float} {r : Bool}
+    → from ≡ EndAngle·new (θ ⊗ t .low) → to ≡ EndAngle·new (θ ⊗ t .high) → p ≡ Perpendicular·of q1 q2 cosθ
+    → c ≡ EndAngle·cosRange from to → s ≡ EndAngle·sinRange from to → v ≡ IntervalQuaternion·combination (IntervalQuaternion·point q1) (IntervalQuaternion·point (p .q)) c s
+    → A ≡ Interval·endsSum t → C ≡ Interval·endsSum c → D ≡ Interval·endsSum s → E ≡ IntervalQuaternion·endsSum v
+    → r ≡ finite (A ⊕ from .angle ⊕ to .angle ⊕ C ⊕ D ⊕ p .length ⊕ E)
+    → (r && lt (ofBits binary32 0) (p .length) && lt (from .angle) (to .angle)) ≡ true
     → record { quaternion = v; refusal = m }
     ≡ Pose·encloseSlerpFar m (IntervalQuaternion·point q1) (IntervalQuaternion·point q2) (Interval·point cosθ) (Interval·point θ) t
-unfolding Judged·cosEnclosure Judged·sinEnclosure Judged·judge
-far-tested m q1 q2 cosθ θ t {a} {j} {p} {v} {A} {B} {C} {D} {E} {r} ea ej ep ev eA eB eC eD eE er h =
+unfolding EndAngle·new
+far-tested m q1 q2 cosθ θ t {from} {to} {p} {c} {s} {v} {A} {C} {D} {E} {r} ef et ep ec es ev eA eC eD eE er h =
     let K = angle m q1 q2 cosθ θ t in
     let P = Perpendicular·of q1 q2 cosθ in
     let U = turned m q1 q2 cosθ θ t in
-    let ec : j .cos .interval ≡ Interval·cosEnclosure K = ap (λ (x : Judged). x .interval) (ej .0) ∙ ap Interval·cosEnclosure ea in
-    let es : j .sin .interval ≡ Interval·sinEnclosure K = ap (λ (x : Judged). x .interval) (ej .1) ∙ ap Interval·sinEnclosure ea in
-    let eU : v ≡ U = ev ∙ rw (ec, es, ep) in
-    let positive-length = lt (ofBits binary32 0) (p .length) in
-    let k : T (r && positive-length) = rw h tt in
-    let f : T (finite (A ⊕ B ⊕ C ⊕ D ⊕ p .length ⊕ E)) = rw (← er) (and-l r positive-length k) in
-    let g = three-finite (A ⊕ B ⊕ C ⊕ D) (p .length) E f in
-    let i = three-finite (A ⊕ B) C D (g .0) in
-    let l = add-finite A B (i .0) in
-    let pl : T (positive (P .length)) = rw (← ep) (above-zero (p .length) (g .1 .0) (is-true positive-length (and-r r positive-length k))) in
+    let x = θ ⊗ t .low in
+    let y = θ ⊗ t .high in
+    let ex : from .angle ≡ x = ap (λ (a : EndAngle). a .angle) ef in
+    let ey : to .angle ≡ y = ap (λ (a : EndAngle). a .angle) et in
+    let long = lt (ofBits binary32 0) (p .length) in
+    let rising = lt (from .angle) (to .angle) in
+    let k : T (r && long && rising) = rw h tt in
+    let eK : K ≡ record { low = x; high = y } =
+    mul-ordered-rising θ t (rw (← ex, ← ey) (is-true rising (and-r (r && long) rising k))) in
+    let eC' : c ≡ Interval·cosEnclosure K = ec ∙ ap₂ EndAngle·cosRange ef et ∙ cos-range x y ∙ ap Interval·cosEnclosure (sym eK) in
+    let eS' : s ≡ Interval·sinEnclosure K = es ∙ ap₂ EndAngle·sinRange ef et ∙ sin-range x y ∙ ap Interval·sinEnclosure (sym eK) in
+    let eU : v ≡ U = ev ∙ rw (eC', eS', ep) in
+    let f : T (finite (A ⊕ from .angle ⊕ to .angle ⊕ C ⊕ D ⊕ p .length ⊕ E)) = rw (← er) (and-l r long (and-l (r && long) rising k)) in
+    let g = three-finite (A ⊕ from .angle ⊕ to .angle ⊕ C ⊕ D) (p .length) E f in
+    let i = three-finite (A ⊕ from .angle ⊕ to .angle) C D (g .0) in
+    let l = three-finite A (from .angle) (to .angle) (i .0) in
+    let fK : Finite K = subst Finite (sym eK) (record { low = rw (← ex) (l .1 .0); high = rw (← ey) (l .1 .1) }) in
+    let pl : T (positive (P .length)) = rw (← ep) (above-zero (p .length) (g .1 .0) (is-true long (and-r r long (and-l (r && long) rising k)))) in
     rw eU
-    (far-unjudged m q1 q2 cosθ θ t (ends-finite t (rw (← eA) (l .0))) (ends-finite K (rw (← ea, ← eB) (l .1)))
-    (ends-finite (Interval·cosEnclosure K) (rw (← ec, ← eC) (i .1 .0))) (ends-finite (Interval·sinEnclosure K) (rw (← es, ← eD) (i .1 .1)))
+    (far-unjudged m q1 q2 cosθ θ t (ends-finite t (rw (← eA) (l .0))) fK
+    (ends-finite (Interval·cosEnclosure K) (rw (← eC', ← eC) (i .1 .0))) (ends-finite (Interval·sinEnclosure K) (rw (← eS', ← eD) (i .1 .1)))
     pl (quaternion-finite U (rw (← eU, ← eE) (g .1 .1))))

@@ -1,5 +1,6 @@
 // The rotation of a pose at dt, pbrt's `slerp` with its dot product and angle given: in floats, and in intervals of which each is judged as it is formed.
 // Where a sum over ends is finite, judging is left out, which gives the same. slerp is linear above 0.9995. A squared length whose low end is zero or below is refused with 10 before it is rooted.
+// What far slerp needs that does not depend on t is worked out by `perpendicular_to`, so that a caller with many intervals of t keeps it.
 ghost use mathlib.Core.Path.{_≡_};
 ghost use Rattle.pose_steps.specs.Pose.{RigidMotion·new, Pose·slerpNear, Pose·slerpFar, Pose·slerp};
 ghost use Rattle.pose_steps.specs.Enclose.{IntervalQuaternion·point, Pose·encloseSlerpNear, Pose·encloseSlerpFar, Pose·encloseSlerp};
@@ -15,9 +16,9 @@ use quaternion::Quaternion;
 use vector3::Vector3f;
 
 // The unit quaternion that `slerp` turns the first one to, and the length that it was divided by.
-struct Perpendicular {
-    q: Quaternion,
-    length: f32,
+pub struct Perpendicular {
+    pub q: Quaternion,
+    pub length: f32,
 }
 
 // The constants of a move: the dot product of its rotations and the angle between them are worked out here, once.
@@ -214,7 +215,7 @@ fn quaternion_point(q: Quaternion) -> IntervalQuaternion
 }
 
 // p a + q b.
-fn combination_unjudged(
+pub fn combination_unjudged(
     p: Quaternion,
     q: Quaternion,
     a: Interval,
@@ -293,7 +294,7 @@ pub fn slerp_near_enclosure(m: u8, q1: Quaternion, q2: Quaternion, t: Interval) 
 }
 
 // As in `slerp_far`: nothing here depends on t.
-fn perpendicular_to(q1: Quaternion, q2: Quaternion, cos_theta: f32) -> Perpendicular
+pub fn perpendicular_to(q1: Quaternion, q2: Quaternion, cos_theta: f32) -> Perpendicular
     ensures value { λ r. ⌜ r ≡ Perpendicular·of q1 q2 «cos_theta» ⌝ }
 {
     let x = q2.v.x - q1.v.x * cos_theta;
@@ -310,52 +311,13 @@ fn perpendicular_to(q1: Quaternion, q2: Quaternion, cos_theta: f32) -> Perpendic
     Perpendicular { q, length: n }
 }
 
-// Accuracy: encloses.
-pub fn slerp_far_enclosure(
-    m: u8,
-    q1: Quaternion,
-    q2: Quaternion,
-    cos_theta: f32,
-    theta: f32,
-    t: Interval,
-) -> JudgedQuaternion
-    ensures value { λ r. ⌜ r ≡ Pose·encloseSlerpFar m (IntervalQuaternion·point q1) (IntervalQuaternion·point q2) (Interval·point «cos_theta») (Interval·point theta) t ⌝ }
+// With every interval judged. Accuracy: encloses.
+pub fn slerp_far_enclosure(m: u8, a: RigidMotion, t: Interval) -> JudgedQuaternion
+    ensures value { λ r. ⌜ r ≡ Pose·encloseSlerpFar m (IntervalQuaternion·point (a .r0)) (IntervalQuaternion·point (a .r1)) (Interval·point (a .«cos_theta»)) (Interval·point (a .theta)) t ⌝ }
 {
-    let whole = Interval {
-        low: theta,
-        high: theta,
-    };
-    let thetap = interval_unjudged::mul_ordered(whole, t);
-    let angle = Judged::sin_cos_enclosure(0, thetap);
-    let perp = perpendicular_to(q1, q2, cos_theta);
-    let c = angle.cos;
-    let s = angle.sin;
-    let quaternion = combination_unjudged(q1, perp.q, c.interval, s.interval);
-    let ends = ends_sum(t)
-        + ends_sum(thetap)
-        + ends_sum(c.interval)
-        + ends_sum(s.interval)
-        + perp.length
-        + pose_ends::quaternion_ends_sum(quaternion);
-    if float32::is_finite(ends) & (0.0 < perp.length) {
-        JudgedQuaternion {
-            quaternion,
-            refusal: m,
-        }
-    } else {
-        let a = quaternion_point(q1);
-        let b = quaternion_point(q2);
-        slerp_far_judged(m, a, b, Interval::point(cos_theta), whole, t)
-    }
-}
-
-// Accuracy: encloses.
-pub fn slerp_enclosure(m: u8, a: RigidMotion, t: Interval) -> JudgedQuaternion
-    ensures value { λ r. ⌜ r ≡ Pose·encloseSlerp m a t ⌝ }
-{
-    if a.cos_theta > 0.9995 {
-        slerp_near_enclosure(m, a.r0, a.r1, t)
-    } else {
-        slerp_far_enclosure(m, a.r0, a.r1, a.cos_theta, a.theta, t)
-    }
+    let p = quaternion_point(a.r0);
+    let q = quaternion_point(a.r1);
+    let cos_theta = Interval::point(a.cos_theta);
+    let theta = Interval::point(a.theta);
+    slerp_far_judged(m, p, q, cos_theta, theta, t)
 }

@@ -141,15 +141,20 @@ IntervalMatrix·translation v =
       r2 = record { c0 = 𝟎; c1 = 𝟎; c2 = 𝟏; c3 = v .z };
     }
 
+-- What follows once translation and rotation are known: the scale, the rotation's matrix, both products.
+abbrev pub Pose·encloseComposition : IntervalVector → JudgedQuaternion → Matrix4x4 → Matrix4x4 → Interval → JudgedMatrix
+Pose·encloseComposition trans rotate s0 s1 dt =
+    let scale = Pose·encloseScale (rotate .refusal) (IntervalMatrix·point s0) (IntervalMatrix·point s1) dt in
+    let rotation = Pose·encloseRotation (scale .refusal) (rotate .quaternion) in
+    let first = Pose·encloseMul (rotation .refusal) (IntervalMatrix·translation trans) (rotation .matrix) in
+    Pose·encloseMul (first .refusal) (first .matrix) (scale .matrix)
+
 -- document 01, Cover: "In a slice the steps of `interpolate` and `transform_point` are done in the Rust's order with each number an interval"
 unfoldable pub Pose·encloseMatrix : RigidMotion → Matrix4x4 → Matrix4x4 → Interval → JudgedMatrix
 Pose·encloseMatrix a s0 s1 dt =
     let trans = Pose·encloseTranslation 0 (IntervalVector·point (a .t0)) (IntervalVector·point (a .t1)) dt in
     let rotate = Pose·encloseSlerp (trans .refusal) a dt in
-    let scale = Pose·encloseScale (rotate .refusal) (IntervalMatrix·point s0) (IntervalMatrix·point s1) dt in
-    let rotation = Pose·encloseRotation (scale .refusal) (rotate .quaternion) in
-    let first = Pose·encloseMul (rotation .refusal) (IntervalMatrix·translation (trans .vector)) (rotation .matrix) in
-    Pose·encloseMul (first .refusal) (first .matrix) (scale .matrix)
+    Pose·encloseComposition (trans .vector) rotate s0 s1 dt
 
 -- The box that a box p of points is moved to.
 unfoldable pub Pose·enclosePoint : RigidMotion → Matrix4x4 → Matrix4x4 → Interval → IntervalVector → JudgedVector

@@ -1,21 +1,22 @@
--- `slice_enclosure` meets its contract: a chain of calls.
+-- `slice_enclosure` meets its contract: its calls in turn, from the last to the first.
+use Rattle.pose_steps.specs.Enclose.{Pose·encloseMatrix, Pose·enclosePoint}
 use Rattle.motion_cover.specs.Cover.{AnimatedTransform·encloseBounds}
-use borrow.Author.Needs.{needs}
 use Rattle.motion_cover.proofs.slice_enclosure.Statement.{statement}
 use Rattle.motion_cover.proofs.slice_enclosure.Tie as tie
 
-intervals-requires : tie.Need-intervals-requires
-intervals-requires c κs = search needs
-
-moved-point-enclosure-requires : tie.Need-moved-point-enclosure-requires
-moved-point-enclosure-requires c κs = search needs
-
-from-enclosure-requires : tie.Need-from-enclosure-requires
-from-enclosure-requires c κs = search needs
+slerp-enclosure-requires : tie.Need-slerp-enclosure-requires
+slerp-enclosure-requires c κs = c .before .pre
 
 returns : tie.Need-returns
-unfolding AnimatedTransform·encloseBounds
-returns c = cc
+unfolding AnimatedTransform·encloseBounds Pose·enclosePoint Pose·encloseMatrix
+returns c = rw (
+  c .from-enclosure .ensures,
+  c .before .transform-point-enclosure .ensures,
+  c .before .before .intervals .ensures,
+  c .before .before .before .composition-enclosure .ensures,
+  c .before .before .before .before .slerp-enclosure .ensures,
+  c .before .before .before .before .before .translation-enclosure .ensures,
+)
 
 pub slice-enclosure-spec : {M : Type 1} → statement M
-slice-enclosure-spec = tie.close (tie.spec intervals-requires moved-point-enclosure-requires from-enclosure-requires returns)
+slice-enclosure-spec = tie.close (tie.spec (λ c κs. tt) slerp-enclosure-requires (λ c κs. tt) (λ c κs. tt) (λ c κs. tt) (λ c κs. tt) returns)

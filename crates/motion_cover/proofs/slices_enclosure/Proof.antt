@@ -1,28 +1,36 @@
--- `slices_enclosure` meets its contract. The invariant: `union` is the box of `first` and the first k slices, and `low` is where the next begins.
+-- `slices_enclosure` meets its contract. The invariant: `union` is the box of `first` and the first k slices, and `from` is the border where the next begins.
 use Prim.Native.Nat.{_-_, _≤_}
-use mathlib.Core.Path.{sym}
+use mathlib.Core.Path.{_≡_, sym, _∙_}
 use native.Mathlib.Omega.{arith}
 use lib.Pow.{pow-lt}
 use borrow.Author.Needs.{needs}
 use Rattle.motion_cover.specs.Cover.{maxDepth}
+use Rattle.motion_cover.specs.Border.{Border·at}
+use Rattle.motion_cover.proofs.Borders.{border-time, border-own}
 use Rattle.motion_cover.proofs.Slices.{slice-count, slice-end, Reached, reached-first, reached-next, slice-refused, reached-last}
 use Rattle.motion_cover.proofs.slices_enclosure.Statement.{statement}
 use Rattle.motion_cover.proofs.slices_enclosure.Tie as tie
 
 abbrev Inv-loop : tie.InvT-loop
-Inv-loop m b d a slices union₀ low₀ k₀ union low k = (k ≤ slices) × Reached m a b d union₀ k union low
+Inv-loop m b d a perp slices union₀ from₀ k₀ union from k = (k ≤ slices) × Reached m a b d union₀ k union (from .t) × (from ≡ Border·at a (from .t))
 
 abbrev μ-loop : tie.MeasureT-loop
-μ-loop m b d a slices union₀ low₀ k₀ union low k = slices - k
+μ-loop m b d a perp slices union₀ from₀ k₀ union from k = slices - k
 
 rigid-motion-requires : tie.Need-rigid-motion-requires Inv-loop μ-loop
 rigid-motion-requires c κs = search needs
 
+perpendicular-to-requires : tie.Need-perpendicular-to-requires Inv-loop μ-loop
+perpendicular-to-requires c κs = search needs
+
 shl-slices : tie.Need-shl-slices Inv-loop μ-loop
 shl-slices c = omega arith
 
+border-at-requires : tie.Need-border-at-requires Inv-loop μ-loop
+border-at-requires c κs = search needs
+
 loop-holds : tie.Need-loop-holds Inv-loop μ-loop
-loop-holds c = (omega arith, reached-first _ _ _ _ _)
+loop-holds c = let e = c .border-at .ensures in (omega arith, rw (border-time _ _ _ e) (reached-first _ _ _ _ _), border-own _ _ _ e)
 
 add-from-fixed : tie.Need-add-from-fixed Inv-loop μ-loop
 add-from-fixed c = search needs
@@ -30,8 +38,11 @@ add-from-fixed c = search needs
 from-fixed-requires : tie.Need-from-fixed-requires Inv-loop μ-loop
 from-fixed-requires c κs = search needs
 
+border-at-requires-2 : tie.Need-border-at-requires-2 Inv-loop μ-loop
+border-at-requires-2 c κs = search needs
+
 slice-enclosure-requires : tie.Need-slice-enclosure-requires Inv-loop μ-loop
-slice-enclosure-requires c κs = search needs
+slice-enclosure-requires c κs = (c .before .before .before .before .before .perpendicular-to .ensures, (c .before .before .before .loop .inv .2, border-own _ _ _ (c .border-at2 .ensures)))
 
 enum-known-slice : tie.Need-enum-known-slice Inv-loop μ-loop
 enum-known-slice c = search needs
@@ -42,13 +53,14 @@ enum-told c = search needs
 returns : tie.Need-returns Inv-loop μ-loop
 returns c =
     let slice = c .before .before .slice-enclosure in
-    let high = c .before .before .before .from-fixed in
-    let l = c .before .before .before .before .before .loop in
-    let d = c .before .before .before .before .before .before .before .args .d in
-    let h : d ≤ maxDepth = c .before .before .before .before .before .before .before .pre in
-    rw (← c .before .before .before .before .before .before .rigid-motion .ensures)
+    let to = c .before .before .before .border-at2 in
+    let high = c .before .before .before .before .from-fixed in
+    let l = c .before .before .before .before .before .before .loop in
+    let d = c .before .before .before .before .before .before .before .before .before .before .args .d in
+    let h : d ≤ maxDepth = c .before .before .before .before .before .before .before .before .before .before .pre in
+    rw (← c .before .before .before .before .before .before .before .before .before .rigid-motion .ensures)
     (sym
-    (slice-refused (l .inv .1) (high .result) (rw (high .ensures) (slice-end d _ h)) (slice .result) (slice .ensures) (c .enum-told .given .0 .0) (c .enum-told .given .1)
+    (slice-refused (l .inv .1) (to .result .t) (border-time _ _ _ (to .ensures) ∙ rw (high .ensures) (slice-end d _ h)) (slice .result) (slice .ensures) (c .enum-told .given .0 .0) (c .enum-told .given .1)
     (omega (arith, slice-count d h))))
 
 union-bounds-requires : tie.Need-union-bounds-requires Inv-loop μ-loop
@@ -57,8 +69,8 @@ union-bounds-requires c κs = search needs
 -- k stays below 2^13
 add-k : tie.Need-add-k Inv-loop μ-loop
 add-k c =
-    let d = c .before .before .before .before .before .before .before .before .before .args .d in
-    let h : d ≤ maxDepth = c .before .before .before .before .before .before .before .before .before .pre in
+    let d = c .before .before .before .before .before .before .before .before .before .before .before .before .args .d in
+    let h : d ≤ maxDepth = c .before .before .before .before .before .before .before .before .before .before .before .before .pre in
     omega (arith, slice-count d h, pow-lt {i = d} {j = 13} (omega arith))
 
 loop-less : tie.Need-loop-less Inv-loop μ-loop
@@ -67,20 +79,22 @@ loop-less c = search needs
 loop-again : tie.Need-loop-again Inv-loop μ-loop
 loop-again c =
     let slice = c .before .before .before .before .slice-enclosure in
-    let high = c .before .before .before .before .before .from-fixed in
-    let l = c .before .before .before .before .before .before .before .loop in
-    let d = c .before .before .before .before .before .before .before .before .before .args .d in
-    let h : d ≤ maxDepth = c .before .before .before .before .before .before .before .before .before .pre in (
+    let to = c .before .before .before .before .before .border-at2 in
+    let high = c .before .before .before .before .before .before .from-fixed in
+    let l = c .before .before .before .before .before .before .before .before .loop in
+    let d = c .before .before .before .before .before .before .before .before .before .before .before .before .args .d in
+    let h : d ≤ maxDepth = c .before .before .before .before .before .before .before .before .before .before .before .before .pre in (
       omega arith,
-      reached-next (l .inv .1) (high .result) (rw (high .ensures) (slice-end d _ h)) (slice .result) (slice .ensures) (c .before .before .slice .given .0 .0) (c .before .before .slice .given .1) (c .union-bounds .result) (c .union-bounds .ensures),
+      reached-next (l .inv .1) (to .result .t) (border-time _ _ _ (to .ensures) ∙ rw (high .ensures) (slice-end d _ h)) (slice .result) (slice .ensures) (c .before .before .slice .given .0 .0) (c .before .before .slice .given .1) (c .union-bounds .result) (c .union-bounds .ensures),
+      border-own _ _ _ (to .ensures),
     )
 
 returns-2 : tie.Need-returns-2 Inv-loop μ-loop
 returns-2 c =
     let l = c .before .loop in
-    let d = c .before .before .before .args .d in
-    let h : d ≤ maxDepth = c .before .before .before .pre in
-    rw (← c .before .before .rigid-motion .ensures) (sym (reached-last (l .inv .1) (omega (arith, slice-count d h))))
+    let d = c .before .before .before .before .before .args .d in
+    let h : d ≤ maxDepth = c .before .before .before .before .before .pre in
+    rw (← c .before .before .before .before .rigid-motion .ensures) (sym (reached-last (l .inv .1) (omega (arith, slice-count d h))))
 
 pub slices-enclosure-spec : {M : Type 1} → statement M
 slices-enclosure-spec =
@@ -89,10 +103,13 @@ slices-enclosure-spec =
     Inv-loop
     μ-loop
     rigid-motion-requires
+    perpendicular-to-requires
     shl-slices
+    border-at-requires
     loop-holds
     add-from-fixed
     from-fixed-requires
+    border-at-requires-2
     slice-enclosure-requires
     enum-known-slice
     enum-told
