@@ -7,7 +7,6 @@ ghost use Rattle.pose_steps.specs.Enclose.{IntervalVector·point, IntervalRow·
 ghost use Rattle.pose_point.specs.Unjudged.{Pose·unjudgedTransformPoint};
 use bounds3::Point3f;
 use interval::Interval;
-use interval::Judged;
 use matrix4x4::Matrix4x4;
 use pose_steps::IntervalMatrix;
 use pose_steps::IntervalRow;
@@ -62,41 +61,6 @@ pub fn transform_point(m: Matrix4x4, p: Point3f) -> Point3f
     }
 }
 
-// With every interval judged.
-fn transform_point_judged(m: u8, a: IntervalMatrix, p: IntervalVector) -> JudgedVector
-    ensures value { λ r. ⌜ r ≡ Pose·encloseTransformPoint m a p ⌝ }
-{
-    let r0 = a.r0;
-    let r1 = a.r1;
-    let r2 = a.r2;
-    let p0 = Judged::mul_enclosure(m, p.x, r0.c0);
-    let q0 = Judged::mul_enclosure(p0.refusal, p.y, r0.c1);
-    let s0 = Judged::add_enclosure(q0.refusal, p0.interval, q0.interval);
-    let t0 = Judged::mul_enclosure(s0.refusal, p.z, r0.c2);
-    let u0 = Judged::add_enclosure(t0.refusal, s0.interval, t0.interval);
-    let w0 = Judged::add_enclosure(u0.refusal, u0.interval, r0.c3);
-    let p1 = Judged::mul_enclosure(w0.refusal, p.x, r1.c0);
-    let q1 = Judged::mul_enclosure(p1.refusal, p.y, r1.c1);
-    let s1 = Judged::add_enclosure(q1.refusal, p1.interval, q1.interval);
-    let t1 = Judged::mul_enclosure(s1.refusal, p.z, r1.c2);
-    let u1 = Judged::add_enclosure(t1.refusal, s1.interval, t1.interval);
-    let w1 = Judged::add_enclosure(u1.refusal, u1.interval, r1.c3);
-    let p2 = Judged::mul_enclosure(w1.refusal, p.x, r2.c0);
-    let q2 = Judged::mul_enclosure(p2.refusal, p.y, r2.c1);
-    let s2 = Judged::add_enclosure(q2.refusal, p2.interval, q2.interval);
-    let t2 = Judged::mul_enclosure(s2.refusal, p.z, r2.c2);
-    let u2 = Judged::add_enclosure(t2.refusal, s2.interval, t2.interval);
-    let w2 = Judged::add_enclosure(u2.refusal, u2.interval, r2.c3);
-    let x = w0.interval;
-    let y = w1.interval;
-    let z = w2.interval;
-    let vector = IntervalVector { x, y, z };
-    JudgedVector {
-        vector,
-        refusal: w2.refusal,
-    }
-}
-
 fn transform_point_unjudged(a: IntervalMatrix, p: IntervalVector) -> IntervalVector
     ensures value { λ r. ⌜ r ≡ Pose·unjudgedTransformPoint a p ⌝ }
 {
@@ -135,6 +99,6 @@ pub fn transform_point_enclosure(m: u8, a: IntervalMatrix, p: IntervalVector) ->
     if float32::is_finite(ends) {
         JudgedVector { vector, refusal: m }
     } else {
-        transform_point_judged(m, a, p)
+        pose_judged::transform_point_enclosure(m, a, p)
     }
 }

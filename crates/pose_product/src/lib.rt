@@ -2,18 +2,16 @@
 // of which each is judged as it is formed. Where a sum over all ends is finite, judging is left out, which gives the same.
 ghost use mathlib.Core.Path.{_≡_};
 ghost use Rattle.pose_steps.specs.Pose.{Pose·mulRow, Pose·mul};
-ghost use Rattle.pose_steps.specs.Enclose.{Pose·encloseMulRow, Pose·encloseMul, IntervalMatrix·translation};
+ghost use Rattle.pose_steps.specs.Enclose.{Pose·encloseMul, IntervalMatrix·translation};
 ghost use Rattle.pose_ends.specs.Ends.{RowEnds·of};
 ghost use Rattle.pose_product.specs.Unjudged.{Pose·unjudgedMulRow, Pose·unjudgedMul, Pose·translatedColumn};
 use interval::Interval;
-use interval::Judged;
 use matrix4x4::Matrix4x4;
 use pose_ends::RowEnds;
 use pose_steps::IntervalMatrix;
 use pose_steps::IntervalRow;
 use pose_steps::IntervalVector;
 use pose_steps::JudgedMatrix;
-use pose_steps::JudgedRow;
 
 // A row of the first matrix by the rows of the second, whose bottom row is 0, 0, 0, 1.
 pub fn mul_row(a: [f32; 4], b: Matrix4x4) -> [f32; 4]
@@ -41,76 +39,6 @@ pub fn mul(a: Matrix4x4, b: Matrix4x4) -> Matrix4x4
     let r2 = mul_row(a2, b);
     let r3 = [0.0, 0.0, 0.0, 1.0];
     Matrix4x4 { r0, r1, r2, r3 }
-}
-
-fn mul_row_enclosure(m: u8, a: IntervalRow, b: IntervalMatrix) -> JudgedRow
-    ensures value { λ r. ⌜ r ≡ Pose·encloseMulRow m a b ⌝ }
-{
-    let zero = Interval {
-        low: 0.0,
-        high: 0.0,
-    };
-    let one = Interval {
-        low: 1.0,
-        high: 1.0,
-    };
-    let r0 = b.r0;
-    let r1 = b.r1;
-    let r2 = b.r2;
-    let p0 = Judged::mul_enclosure(m, a.c0, r0.c0);
-    let q0 = Judged::mul_enclosure(p0.refusal, a.c1, r1.c0);
-    let s0 = Judged::add_enclosure(q0.refusal, p0.interval, q0.interval);
-    let t0 = Judged::mul_enclosure(s0.refusal, a.c2, r2.c0);
-    let u0 = Judged::add_enclosure(t0.refusal, s0.interval, t0.interval);
-    let v0 = Judged::mul_enclosure(u0.refusal, a.c3, zero);
-    let w0 = Judged::add_enclosure(v0.refusal, u0.interval, v0.interval);
-    let p1 = Judged::mul_enclosure(w0.refusal, a.c0, r0.c1);
-    let q1 = Judged::mul_enclosure(p1.refusal, a.c1, r1.c1);
-    let s1 = Judged::add_enclosure(q1.refusal, p1.interval, q1.interval);
-    let t1 = Judged::mul_enclosure(s1.refusal, a.c2, r2.c1);
-    let u1 = Judged::add_enclosure(t1.refusal, s1.interval, t1.interval);
-    let v1 = Judged::mul_enclosure(u1.refusal, a.c3, zero);
-    let w1 = Judged::add_enclosure(v1.refusal, u1.interval, v1.interval);
-    let p2 = Judged::mul_enclosure(w1.refusal, a.c0, r0.c2);
-    let q2 = Judged::mul_enclosure(p2.refusal, a.c1, r1.c2);
-    let s2 = Judged::add_enclosure(q2.refusal, p2.interval, q2.interval);
-    let t2 = Judged::mul_enclosure(s2.refusal, a.c2, r2.c2);
-    let u2 = Judged::add_enclosure(t2.refusal, s2.interval, t2.interval);
-    let v2 = Judged::mul_enclosure(u2.refusal, a.c3, zero);
-    let w2 = Judged::add_enclosure(v2.refusal, u2.interval, v2.interval);
-    let p3 = Judged::mul_enclosure(w2.refusal, a.c0, r0.c3);
-    let q3 = Judged::mul_enclosure(p3.refusal, a.c1, r1.c3);
-    let s3 = Judged::add_enclosure(q3.refusal, p3.interval, q3.interval);
-    let t3 = Judged::mul_enclosure(s3.refusal, a.c2, r2.c3);
-    let u3 = Judged::add_enclosure(t3.refusal, s3.interval, t3.interval);
-    let v3 = Judged::mul_enclosure(u3.refusal, a.c3, one);
-    let w3 = Judged::add_enclosure(v3.refusal, u3.interval, v3.interval);
-    let c0 = w0.interval;
-    let c1 = w1.interval;
-    let c2 = w2.interval;
-    let c3 = w3.interval;
-    let row = IntervalRow { c0, c1, c2, c3 };
-    JudgedRow {
-        row,
-        refusal: w3.refusal,
-    }
-}
-
-// The product with every interval judged.
-fn mul_judged(m: u8, a: IntervalMatrix, b: IntervalMatrix) -> JudgedMatrix
-    ensures value { λ r. ⌜ r ≡ Pose·encloseMul m a b ⌝ }
-{
-    let p = mul_row_enclosure(m, a.r0, b);
-    let q = mul_row_enclosure(p.refusal, a.r1, b);
-    let r = mul_row_enclosure(q.refusal, a.r2, b);
-    let r0 = p.row;
-    let r1 = q.row;
-    let r2 = r.row;
-    let matrix = IntervalMatrix { r0, r1, r2 };
-    JudgedMatrix {
-        matrix,
-        refusal: r.refusal,
-    }
 }
 
 // A function of its own for three calls, so that its low ends are returned side by side.
@@ -182,7 +110,7 @@ pub fn mul_enclosure(m: u8, a: IntervalMatrix, b: IntervalMatrix) -> JudgedMatri
     if float32::is_finite(ends) {
         JudgedMatrix { matrix, refusal: m }
     } else {
-        mul_judged(m, a, b)
+        pose_judged::mul_enclosure(m, a, b)
     }
 }
 
@@ -332,6 +260,6 @@ pub fn translate_enclosure(m: u8, v: IntervalVector, b: IntervalMatrix) -> Judge
             refusal: m,
         }
     } else {
-        mul_judged(m, a, b)
+        pose_judged::mul_enclosure(m, a, b)
     }
 }

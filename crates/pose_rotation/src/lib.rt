@@ -5,7 +5,6 @@ ghost use Rattle.pose_steps.specs.Pose.{Pose·rotation};
 ghost use Rattle.pose_steps.specs.Enclose.{Pose·encloseRotation};
 ghost use Rattle.pose_rotation.specs.Unjudged.{Products·of, Products·endsSum, Pose·unjudgedRotation};
 use interval::Interval;
-use interval::Judged;
 use interval_unjudged::ends_sum;
 use matrix4x4::Matrix4x4;
 use pose_steps::IntervalMatrix;
@@ -54,86 +53,6 @@ pub fn rotation(q: Quaternion) -> Matrix4x4
         r1: [m01, m11, m21, 0.0],
         r2: [m02, m12, m22, 0.0],
         r3: [0.0, 0.0, 0.0, 1.0],
-    }
-}
-
-// With every interval judged.
-fn rotation_judged(m: u8, q: IntervalQuaternion) -> JudgedMatrix
-    ensures value { λ r. ⌜ r ≡ Pose·encloseRotation m q ⌝ }
-{
-    let zero = Interval {
-        low: 0.0,
-        high: 0.0,
-    };
-    let one = Interval {
-        low: 1.0,
-        high: 1.0,
-    };
-    let two = Interval {
-        low: 2.0,
-        high: 2.0,
-    };
-    let xx = Judged::mul_enclosure(m, q.x, q.x);
-    let yy = Judged::mul_enclosure(xx.refusal, q.y, q.y);
-    let zz = Judged::mul_enclosure(yy.refusal, q.z, q.z);
-    let xy = Judged::mul_enclosure(zz.refusal, q.x, q.y);
-    let xz = Judged::mul_enclosure(xy.refusal, q.x, q.z);
-    let yz = Judged::mul_enclosure(xz.refusal, q.y, q.z);
-    let wx = Judged::mul_enclosure(yz.refusal, q.x, q.w);
-    let wy = Judged::mul_enclosure(wx.refusal, q.y, q.w);
-    let wz = Judged::mul_enclosure(wy.refusal, q.z, q.w);
-    let a00 = Judged::add_enclosure(wz.refusal, yy.interval, zz.interval);
-    let b00 = Judged::mul_enclosure(a00.refusal, two, a00.interval);
-    let m00 = Judged::sub_enclosure(b00.refusal, one, b00.interval);
-    let a01 = Judged::add_enclosure(m00.refusal, xy.interval, wz.interval);
-    let m01 = Judged::mul_enclosure(a01.refusal, two, a01.interval);
-    let a02 = Judged::sub_enclosure(m01.refusal, xz.interval, wy.interval);
-    let m02 = Judged::mul_enclosure(a02.refusal, two, a02.interval);
-    let a10 = Judged::sub_enclosure(m02.refusal, xy.interval, wz.interval);
-    let m10 = Judged::mul_enclosure(a10.refusal, two, a10.interval);
-    let a11 = Judged::add_enclosure(m10.refusal, xx.interval, zz.interval);
-    let b11 = Judged::mul_enclosure(a11.refusal, two, a11.interval);
-    let m11 = Judged::sub_enclosure(b11.refusal, one, b11.interval);
-    let a12 = Judged::add_enclosure(m11.refusal, yz.interval, wx.interval);
-    let m12 = Judged::mul_enclosure(a12.refusal, two, a12.interval);
-    let a20 = Judged::add_enclosure(m12.refusal, xz.interval, wy.interval);
-    let m20 = Judged::mul_enclosure(a20.refusal, two, a20.interval);
-    let a21 = Judged::sub_enclosure(m20.refusal, yz.interval, wx.interval);
-    let m21 = Judged::mul_enclosure(a21.refusal, two, a21.interval);
-    let a22 = Judged::add_enclosure(m21.refusal, xx.interval, yy.interval);
-    let b22 = Judged::mul_enclosure(a22.refusal, two, a22.interval);
-    let m22 = Judged::sub_enclosure(b22.refusal, one, b22.interval);
-    let c00 = m00.interval;
-    let c01 = m10.interval;
-    let c02 = m20.interval;
-    let r0 = IntervalRow {
-        c0: c00,
-        c1: c01,
-        c2: c02,
-        c3: zero,
-    };
-    let c10 = m01.interval;
-    let c11 = m11.interval;
-    let c12 = m21.interval;
-    let r1 = IntervalRow {
-        c0: c10,
-        c1: c11,
-        c2: c12,
-        c3: zero,
-    };
-    let c20 = m02.interval;
-    let c21 = m12.interval;
-    let c22 = m22.interval;
-    let r2 = IntervalRow {
-        c0: c20,
-        c1: c21,
-        c2: c22,
-        c3: zero,
-    };
-    let matrix = IntervalMatrix { r0, r1, r2 };
-    JudgedMatrix {
-        matrix,
-        refusal: m22.refusal,
     }
 }
 
@@ -241,6 +160,6 @@ pub fn rotation_enclosure(m: u8, q: IntervalQuaternion) -> JudgedMatrix
     if float32::is_finite(ends) {
         JudgedMatrix { matrix, refusal: m }
     } else {
-        rotation_judged(m, q)
+        pose_judged::rotation_enclosure(m, q)
     }
 }

@@ -15,7 +15,7 @@ returns c =
     (c .if1 .taken)
 
 returns-2 : tie.Need-returns-2
-returns-2 c = rw (c .scale-judged .ensures, c .before .matrix-point2 .ensures, c .before .before .matrix-point .ensures)
+returns-2 c = rw (c .scale-enclosure .ensures, c .before .matrix-point2 .ensures, c .before .before .matrix-point .ensures)
 
 pub scale-enclosure-spec : {M : Type 1} → statement M
 scale-enclosure-spec = tie.close (tie.spec (λ c κs. tt) (λ c κs. tt) (λ c κs. tt) (λ c κs. tt) (λ c κs. tt) (λ c κs. tt) (λ c κs. tt) (λ c κs. tt) (λ c κs. tt) returns returns-2)

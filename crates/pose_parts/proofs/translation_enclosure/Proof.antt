@@ -15,7 +15,7 @@ returns c =
     (c .if1 .taken)
 
 returns-2 : tie.Need-returns-2
-returns-2 c = rw (c .translation-judged .ensures, c .before .vector-point2 .ensures, c .before .before .vector-point .ensures)
+returns-2 c = rw (c .translation-enclosure .ensures, c .before .vector-point2 .ensures, c .before .before .vector-point .ensures)
 
 pub translation-enclosure-spec : {M : Type 1} → statement M
 translation-enclosure-spec = tie.close (tie.spec (λ c κs. tt) (λ c κs. tt) (λ c κs. tt) (λ c κs. tt) (λ c κs. tt) (λ c κs. tt) (λ c κs. tt) (λ c κs. tt) (λ c κs. tt) returns returns-2)

@@ -14,7 +14,7 @@ returns c =
     (c .if1 .taken)
 
 returns-2 : tie.Need-returns-2
-returns-2 c = c .transform-point-judged .ensures
+returns-2 c = c .transform-point-enclosure .ensures
 
 pub transform-point-enclosure-spec : {M : Type 1} → statement M
 transform-point-enclosure-spec = tie.close (tie.spec (λ c κs. tt) (λ c κs. tt) (λ c κs. tt) (λ c κs. tt) (λ c κs. tt) (λ c κs. tt) returns returns-2)

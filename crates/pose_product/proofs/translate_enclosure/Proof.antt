@@ -18,7 +18,7 @@ returns c =
     (c .if1 .taken)
 
 returns-2 : tie.Need-returns-2
-returns-2 c = c .mul-judged .ensures ∙ ap (λ (a : IntervalMatrix). Pose·encloseMul (c .before .before .before .before .before .before .before .before .args .m) a (c .before .before .before .before .before .before .before .before .args .b)) (c .before .before .before .before .before .before .before .translation-matrix .ensures)
+returns-2 c = c .mul-enclosure .ensures ∙ ap (λ (a : IntervalMatrix). Pose·encloseMul (c .before .before .before .before .before .before .before .before .args .m) a (c .before .before .before .before .before .before .before .before .args .b)) (c .before .before .before .before .before .before .before .translation-matrix .ensures)
 
 pub translate-enclosure-spec : {M : Type 1} → statement M
 translate-enclosure-spec = tie.close (tie.spec (λ c κs. tt) (λ c κs. tt) (λ c κs. tt) (λ c κs. tt) (λ c κs. tt) (λ c κs. tt) (λ c κs. tt) returns returns-2)

@@ -15,7 +15,7 @@ returns c =
     (c .if1 .taken)
 
 returns-2 : tie.Need-returns-2
-returns-2 c = c .rotation-judged .ensures
+returns-2 c = c .rotation-enclosure .ensures
 
 pub rotation-enclosure-spec : {M : Type 1} → statement M
 rotation-enclosure-spec = tie.close (tie.spec (λ c κs. tt) (λ c κs. tt) (λ c κs. tt) (λ c κs. tt) (λ c κs. tt) (λ c κs. tt) (λ c κs. tt) returns returns-2)

@@ -1,12 +1,12 @@
--- `scale_row_judged` meets its contract: its calls are the formula's operations in working order.
+-- `scale_row_enclosure` meets its contract: its calls are the formula's operations in working order.
 use mathlib.Core.Path.{ap}
 use mathlib.Core.List.{[], _∷_, _++_}
 use Rattle.formula.specs.Enclose.{enclosure}
 use Rattle.formula.proofs.Trace.{traced}
 use Rattle.pose_steps.specs.Stages.{scaleRowStage}
 use Rattle.pose_steps.specs.Enclose.{IntervalRow·three, JudgedRow·of, Pose·encloseScaleRow}
-use Rattle.pose_parts.proofs.scale_row_judged.Statement.{statement}
-use Rattle.pose_parts.proofs.scale_row_judged.Tie as tie
+use Rattle.pose_judged.proofs.scale_row_enclosure.Statement.{statement}
+use Rattle.pose_judged.proofs.scale_row_enclosure.Tie as tie
 
 returns : tie.Need-returns
 unfolding Pose·encloseScaleRow
@@ -25,5 +25,5 @@ returns c =
     _ (c .before .before .before .before .mul-enclosure6 .ensures)
     _ (c .before .before .before .add-enclosure3 .ensures))
 
-pub scale-row-judged-spec : {M : Type 1} → statement M
-scale-row-judged-spec = tie.close (tie.spec (λ c κs. tt) (λ c κs. tt) (λ c κs. tt) (λ c κs. tt) (λ c κs. tt) (λ c κs. tt) (λ c κs. tt) (λ c κs. tt) (λ c κs. tt) (λ c κs. tt) (λ c κs. tt) (λ c κs. tt) returns)
+pub scale-row-enclosure-spec : {M : Type 1} → statement M
+scale-row-enclosure-spec = tie.close (tie.spec (λ c κs. tt) (λ c κs. tt) (λ c κs. tt) (λ c κs. tt) (λ c κs. tt) (λ c κs. tt) (λ c κs. tt) (λ c κs. tt) (λ c κs. tt) (λ c κs. tt) (λ c κs. tt) (λ c κs. tt) returns)

@@ -1,8 +1,8 @@
--- `mul_judged` meets its contract, row by row, the last call first.
+-- `mul_enclosure` meets its contract, row by row, the last call first.
 use Rattle.pose_steps.specs.Enclose.{Pose·encloseMul}
 use borrow.Author.Needs.{needs}
-use Rattle.pose_product.proofs.mul_judged.Statement.{statement}
-use Rattle.pose_product.proofs.mul_judged.Tie as tie
+use Rattle.pose_judged.proofs.mul_enclosure.Statement.{statement}
+use Rattle.pose_judged.proofs.mul_enclosure.Tie as tie
 
 mul-row-enclosure-requires : tie.Need-mul-row-enclosure-requires
 mul-row-enclosure-requires c κs = search needs
@@ -17,8 +17,8 @@ returns : tie.Need-returns
 unfolding Pose·encloseMul
 returns c = rw (c .before .before .before .mul-row-enclosure3 .ensures, c .before .before .before .before .mul-row-enclosure2 .ensures, c .before .before .before .before .before .mul-row-enclosure .ensures)
 
-pub mul-judged-spec : {M : Type 1} → statement M
-mul-judged-spec =
+pub mul-enclosure-spec : {M : Type 1} → statement M
+mul-enclosure-spec =
     tie.close
     (tie.spec
     mul-row-enclosure-requires

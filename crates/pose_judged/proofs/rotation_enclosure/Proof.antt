@@ -1,11 +1,11 @@
--- `rotation_judged` meets its contract: its calls are the formula's operations in working order.
+-- `rotation_enclosure` meets its contract: its calls are the formula's operations in working order.
 use mathlib.Core.Path.{ap}
 use Rattle.formula.specs.Enclose.{enclosure}
 use Rattle.formula.proofs.Trace.{traced}
 use Rattle.pose_steps.specs.Stages.{rotationStage}
 use Rattle.pose_steps.specs.Enclose.{IntervalQuaternion·list, JudgedMatrix·of, Pose·encloseRotation}
-use Rattle.pose_rotation.proofs.rotation_judged.Statement.{statement}
-use Rattle.pose_rotation.proofs.rotation_judged.Tie as tie
+use Rattle.pose_judged.proofs.rotation_enclosure.Statement.{statement}
+use Rattle.pose_judged.proofs.rotation_enclosure.Tie as tie
 
 returns : tie.Need-returns
 unfolding Pose·encloseRotation
@@ -42,5 +42,5 @@ returns c =
     _ (c .before .before .before .before .before .before .before .before .before .before .mul-enclosure18 .ensures)
     _ (c .before .before .before .before .before .before .before .before .before .sub-enclosure6 .ensures))
 
-pub rotation-judged-spec : {M : Type 1} → statement M
-rotation-judged-spec = tie.close (tie.spec (λ c κs. tt) (λ c κs. tt) (λ c κs. tt) (λ c κs. tt) (λ c κs. tt) (λ c κs. tt) (λ c κs. tt) (λ c κs. tt) (λ c κs. tt) (λ c κs. tt) (λ c κs. tt) (λ c κs. tt) (λ c κs. tt) (λ c κs. tt) (λ c κs. tt) (λ c κs. tt) (λ c κs. tt) (λ c κs. tt) (λ c κs. tt) (λ c κs. tt) (λ c κs. tt) (λ c κs. tt) (λ c κs. tt) (λ c κs. tt) (λ c κs. tt) (λ c κs. tt) (λ c κs. tt) (λ c κs. tt) (λ c κs. tt) (λ c κs. tt) returns)
+pub rotation-enclosure-spec : {M : Type 1} → statement M
+rotation-enclosure-spec = tie.close (tie.spec (λ c κs. tt) (λ c κs. tt) (λ c κs. tt) (λ c κs. tt) (λ c κs. tt) (λ c κs. tt) (λ c κs. tt) (λ c κs. tt) (λ c κs. tt) (λ c κs. tt) (λ c κs. tt) (λ c κs. tt) (λ c κs. tt) (λ c κs. tt) (λ c κs. tt) (λ c κs. tt) (λ c κs. tt) (λ c κs. tt) (λ c κs. tt) (λ c κs. tt) (λ c κs. tt) (λ c κs. tt) (λ c κs. tt) (λ c κs. tt) (λ c κs. tt) (λ c κs. tt) (λ c κs. tt) (λ c κs. tt) (λ c κs. tt) (λ c κs. tt) returns)

@@ -1,12 +1,12 @@
--- `translation_judged` meets its contract: its calls are the formula's operations in working order.
+-- `translation_enclosure` meets its contract: its calls are the formula's operations in working order.
 use mathlib.Core.Path.{ap}
 use mathlib.Core.List.{[], _∷_, _++_}
 use Rattle.formula.specs.Enclose.{enclosure}
 use Rattle.formula.proofs.Trace.{traced}
 use Rattle.pose_steps.specs.Stages.{translationStage}
 use Rattle.pose_steps.specs.Enclose.{IntervalVector·list, JudgedVector·of, Pose·encloseTranslation}
-use Rattle.pose_parts.proofs.translation_judged.Statement.{statement}
-use Rattle.pose_parts.proofs.translation_judged.Tie as tie
+use Rattle.pose_judged.proofs.translation_enclosure.Statement.{statement}
+use Rattle.pose_judged.proofs.translation_enclosure.Tie as tie
 
 returns : tie.Need-returns
 unfolding Pose·encloseTranslation
@@ -23,5 +23,5 @@ returns c =
     _ (c .before .before .before .before .mul-enclosure6 .ensures)
     _ (c .before .before .before .add-enclosure3 .ensures))
 
-pub translation-judged-spec : {M : Type 1} → statement M
-translation-judged-spec = tie.close (tie.spec (λ c κs. tt) (λ c κs. tt) (λ c κs. tt) (λ c κs. tt) (λ c κs. tt) (λ c κs. tt) (λ c κs. tt) (λ c κs. tt) (λ c κs. tt) (λ c κs. tt) returns)
+pub translation-enclosure-spec : {M : Type 1} → statement M
+translation-enclosure-spec = tie.close (tie.spec (λ c κs. tt) (λ c κs. tt) (λ c κs. tt) (λ c κs. tt) (λ c κs. tt) (λ c κs. tt) (λ c κs. tt) (λ c κs. tt) (λ c κs. tt) (λ c κs. tt) returns)

@@ -5,8 +5,8 @@ use Rattle.formula.specs.Enclose.{enclosure}
 use Rattle.formula.proofs.Trace.{traced}
 use Rattle.pose_steps.specs.Stages.{mulRowStage}
 use Rattle.pose_steps.specs.Enclose.{IntervalMatrix·list, IntervalRow·list, JudgedRow·of, Pose·encloseMulRow}
-use Rattle.pose_product.proofs.mul_row_enclosure.Statement.{statement}
-use Rattle.pose_product.proofs.mul_row_enclosure.Tie as tie
+use Rattle.pose_judged.proofs.mul_row_enclosure.Statement.{statement}
+use Rattle.pose_judged.proofs.mul_row_enclosure.Tie as tie
 
 returns : tie.Need-returns
 unfolding Pose·encloseMulRow

@@ -1,12 +1,12 @@
--- `transform_point_judged` meets its contract: its calls are the formula's operations in working order.
+-- `transform_point_enclosure` meets its contract: its calls are the formula's operations in working order.
 use mathlib.Core.Path.{ap}
 use mathlib.Core.List.{_++_}
 use Rattle.formula.specs.Enclose.{enclosure}
 use Rattle.formula.proofs.Trace.{traced}
 use Rattle.pose_steps.specs.Stages.{transformPointStage}
 use Rattle.pose_steps.specs.Enclose.{IntervalMatrix·list, IntervalVector·list, JudgedVector·of, Pose·encloseTransformPoint}
-use Rattle.pose_point.proofs.transform_point_judged.Statement.{statement}
-use Rattle.pose_point.proofs.transform_point_judged.Tie as tie
+use Rattle.pose_judged.proofs.transform_point_enclosure.Statement.{statement}
+use Rattle.pose_judged.proofs.transform_point_enclosure.Tie as tie
 
 returns : tie.Need-returns
 unfolding Pose·encloseTransformPoint
@@ -31,5 +31,5 @@ returns c =
     _ (c .before .before .before .before .add-enclosure8 .ensures)
     _ (c .before .before .before .add-enclosure9 .ensures))
 
-pub transform-point-judged-spec : {M : Type 1} → statement M
-transform-point-judged-spec = tie.close (tie.spec (λ c κs. tt) (λ c κs. tt) (λ c κs. tt) (λ c κs. tt) (λ c κs. tt) (λ c κs. tt) (λ c κs. tt) (λ c κs. tt) (λ c κs. tt) (λ c κs. tt) (λ c κs. tt) (λ c κs. tt) (λ c κs. tt) (λ c κs. tt) (λ c κs. tt) (λ c κs. tt) (λ c κs. tt) (λ c κs. tt) returns)
+pub transform-point-enclosure-spec : {M : Type 1} → statement M
+transform-point-enclosure-spec = tie.close (tie.spec (λ c κs. tt) (λ c κs. tt) (λ c κs. tt) (λ c κs. tt) (λ c κs. tt) (λ c κs. tt) (λ c κs. tt) (λ c κs. tt) (λ c κs. tt) (λ c κs. tt) (λ c κs. tt) (λ c κs. tt) (λ c κs. tt) (λ c κs. tt) (λ c κs. tt) (λ c κs. tt) (λ c κs. tt) (λ c κs. tt) returns)
