@@ -52,20 +52,22 @@ halfPi = pi ⊘ two
 abbrev pub Interval·straddles : Interval → Float → Bool
 Interval·straddles X x = lt (X .low) x && lt x (X .high)
 
--- Interval::sin: the values at both ends, swapped if sin_low > sin_high, with high 1 across pi / 2 and low -1 across 3 pi / 2
-unfoldable pub Interval·sin : Interval → Interval
-Interval·sin X =
-    let a = sin (X .low) in
-    let b = sin (X .high) in
+-- Interval::sin, with a and b for the sines of both ends: swapped if sin_low > sin_high, with high 1 across pi / 2 and low -1 across 3 pi / 2
+unfoldable pub Interval·sinBetween : Interval → Float → Float → Interval
+Interval·sinBetween X a b =
     let swapped = lt b a in
     Interval·new
     (cond (Interval·straddles X threeHalvesPi) (neg one) (cond swapped b a))
     (cond (Interval·straddles X halfPi) one (cond swapped a b))
 
+unfoldable pub Interval·sin : Interval → Interval
+Interval·sin X = Interval·sinBetween X (sin (X .low)) (sin (X .high))
+
 -- Interval::cos: likewise, with low -1 across pi
-unfoldable pub Interval·cos : Interval → Interval
-Interval·cos X =
-    let a = cos (X .low) in
-    let b = cos (X .high) in
+unfoldable pub Interval·cosBetween : Interval → Float → Float → Interval
+Interval·cosBetween X a b =
     let swapped = lt b a in
     Interval·new (cond (Interval·straddles X pi) (neg one) (cond swapped b a)) (cond swapped a b)
+
+unfoldable pub Interval·cos : Interval → Interval
+Interval·cos X = Interval·cosBetween X (cos (X .low)) (cos (X .high))

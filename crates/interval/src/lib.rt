@@ -4,7 +4,7 @@ ghost use mathlib.Core.Path.{_≡_};
 ghost use mathlib.Core.Bool.{cond};
 ghost use Rattle.trig.specs.SinCos.{sin, cos};
 ghost use Rattle.trig_laws.specs.Range.{lies};
-ghost use Rattle.interval.specs.Interval.{Interval·new, Interval·point, Interval·hull, Interval·ofFour, Interval·add, Interval·sub, Interval·mul, Interval·straddles, Interval·sin, Interval·cos};
+ghost use Rattle.interval.specs.Interval.{Interval·new, Interval·point, Interval·hull, Interval·ofFour, Interval·add, Interval·sub, Interval·mul, Interval·straddles, Interval·sinBetween, Interval·sin, Interval·cosBetween, Interval·cos};
 ghost use Rattle.interval.specs.Enclosure.{first, notFinite, notPositive, Judged·judge, Judged·addEnclosure, Judged·subEnclosure, Judged·mulEnclosure, Judged·divEnclosure, Judged·sqrtEnclosure, Judged·sinEnclosure, Judged·cosEnclosure, EndAngle·new, EndAngle·sinRange, EndAngle·cosRange};
 
 // pbrt's std::f32::consts::PI.
@@ -120,10 +120,9 @@ impl Interval {
         (self.low < x) & (x < self.high)
     }
 
-    // pbrt's sine, by the sines of the ends.
-    fn sin_between(self, a: f32, b: f32) -> Self
-        requires { ⌜ a ≡ sin (self .low) ⌝ ∗ ⌜ b ≡ sin (self .high) ⌝ }
-        ensures value { λ r. ⌜ r ≡ Interval·sin self ⌝ }
+    // pbrt's sine, by a and b, the sines of the ends. Accuracy: heuristic.
+    pub fn sin_between(self, a: f32, b: f32) -> Self
+        ensures value { λ r. ⌜ r ≡ Interval·sinBetween self a b ⌝ }
     {
         let low = select(a > b, b, a);
         let high = select(a > b, a, b);
@@ -133,10 +132,9 @@ impl Interval {
         )
     }
 
-    // pbrt's cosine, by the cosines of the ends.
-    fn cos_between(self, a: f32, b: f32) -> Self
-        requires { ⌜ a ≡ cos (self .low) ⌝ ∗ ⌜ b ≡ cos (self .high) ⌝ }
-        ensures value { λ r. ⌜ r ≡ Interval·cos self ⌝ }
+    // pbrt's cosine, by a and b, the cosines of the ends. Accuracy: heuristic.
+    pub fn cos_between(self, a: f32, b: f32) -> Self
+        ensures value { λ r. ⌜ r ≡ Interval·cosBetween self a b ⌝ }
     {
         let low = select(a > b, b, a);
         let high = select(a > b, a, b);

@@ -1,9 +1,7 @@
 // The zero search of pbrt's motion box: where the derivative of a coordinate's motion may vanish, from 0 to 1.
 ghost use mathlib.Core.Path.{_≡_};
-ghost use mathlib.Core.Bool.{cond};
-ghost use Rattle.trig.specs.SinCos.{sin, cos};
-ghost use Rattle.interval.specs.Interval.{Interval·new, Interval·sin, Interval·cos};
-ghost use Rattle.motion_derivative.specs.Derivative.{MotionDerivative·angles, MotionDerivative·excludesZero};
+ghost use Rattle.interval.specs.Interval.{Interval·new};
+ghost use Rattle.motion_derivative.specs.Derivative.{MotionDerivative·excludesZero};
 ghost use Rattle.zero_search.specs.Search.{midpoint, Zeros·empty, Zeros·store, Zeros·accept, findZeros, intervalFindZeros};
 ghost use Rattle.zero_search.specs.Endpoints.{Endpoints·interval, AngleAt, AnglesAt};
 use interval::Interval;
@@ -18,9 +16,6 @@ const TOLERANCE: f32 = 0.001;
 const DEPTH: u32 = 8;
 
 const NEWTON_STEPS: u32 = 4;
-
-// pbrt's std::f32::consts::PI.
-const PI: f32 = 3.14159274;
 
 // The zeros found, in the order of their intervals, in the first `count` places; unused places are +0. The refusal is 9 where a ninth zero would be stored, and
 // then there are no zeros.
@@ -114,40 +109,6 @@ fn ordered(f: MotionDerivative, a: Endpoint, b: Endpoint) -> Endpoints
     Endpoints { low, high }
 }
 
-// x where the test holds, and y otherwise.
-fn select(test: bool, x: f32, y: f32) -> f32
-    ensures value { λ r. ⌜ r ≡ cond test x y ⌝ }
-{
-    if test { x } else { y }
-}
-
-// pbrt's sine of an interval, by the sines of its ends.
-fn sin_between(c: Interval, a: f32, b: f32) -> Interval
-    requires { ⌜ a ≡ sin (c .low) ⌝ ∗ ⌜ b ≡ sin (c .high) ⌝ }
-    ensures value { λ r. ⌜ r ≡ Interval·sin c ⌝ }
-{
-    let low = select(a > b, b, a);
-    let high = select(a > b, a, b);
-    Interval::new(
-        select(
-            (c.low < 3.0 / 2.0 * PI) & (3.0 / 2.0 * PI < c.high),
-            -1.0,
-            low,
-        ),
-        select((c.low < PI / 2.0) & (PI / 2.0 < c.high), 1.0, high),
-    )
-}
-
-// pbrt's cosine of an interval, by the cosines of its ends.
-fn cos_between(c: Interval, a: f32, b: f32) -> Interval
-    requires { ⌜ a ≡ cos (c .low) ⌝ ∗ ⌜ b ≡ cos (c .high) ⌝ }
-    ensures value { λ r. ⌜ r ≡ Interval·cos c ⌝ }
-{
-    let low = select(a > b, b, a);
-    let high = select(a > b, a, b);
-    Interval::new(select((c.low < PI) & (PI < c.high), -1.0, low), high)
-}
-
 // The range test of an interval, from what is known at its ends; without it where the angles there are not in order.
 fn excludes_zero(f: MotionDerivative, e: Endpoints) -> bool
     requires { ⌜ AnglesAt f e ⌝ }
@@ -162,8 +123,8 @@ fn excludes_zero(f: MotionDerivative, e: Endpoints) -> bool
         high: 2.0 * f.theta * e.high.t,
     };
     if c.low < c.high {
-        let sin = sin_between(c, e.low.sin, e.high.sin);
-        let cos = cos_between(c, e.low.cos, e.high.cos);
+        let sin = c.sin_between(e.low.sin, e.high.sin);
+        let cos = c.cos_between(e.low.cos, e.high.cos);
         return f.excludes_zero_at(i, IntervalSinCos { sin, cos });
     }
     f.excludes_zero(i)

@@ -1,10 +1,10 @@
 -- `Interval::sin_between` meets its contract: its calls in turn, from the last to the first.
-use Rattle.interval.specs.Interval.{Interval·sin}
+use Rattle.interval.specs.Interval.{Interval·sinBetween}
 use Rattle.interval.proofs.Interval.sin_between.Statement.{statement}
 use Rattle.interval.proofs.Interval.sin_between.Tie as tie
 
 returns : tie.Need-returns
-unfolding Interval·sin
+unfolding Interval·sinBetween
 returns c = rw (
   c .new .ensures,
   c .before .select4 .ensures,
@@ -13,8 +13,6 @@ returns c = rw (
   c .before .before .before .before .straddles .ensures,
   c .before .before .before .before .before .select2 .ensures,
   c .before .before .before .before .before .before .select .ensures,
-  c .before .before .before .before .before .before .before .pre .1,
-  c .before .before .before .before .before .before .before .pre .0,
 )
 
 pub sin-between-spec : {M : Type 1} → statement M
