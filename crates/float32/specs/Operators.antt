@@ -16,7 +16,10 @@ _⊗_ x y = mul binary32 x y
 abbrev pub _⊘_ : Float → Float → Float
 _⊘_ x y = div binary32 x y
 
--- The Rust's literals 1.0, 2.0, 4.0 and 0.5.
+-- The Rust's literals 0.0, 1.0, 2.0, 4.0 and 0.5.
+abbrev pub positiveZero : Float
+positiveZero = ofBits binary32 0
+
 abbrev pub one : Float
 one = ofBits binary32 0x3f800000
 

@@ -5,7 +5,8 @@ use Prim.Native.Nat.{ℕ}
 use mathlib.Core.Bool.{Bool, _&&_}
 use mathlib.Core.List.{List, [], _∷_}
 use lib.ListN.{getD}
-use lib.Ieee.{Float, nan, binary32, ofBits}
+use lib.Ieee.{Float, nan}
+pub use Rattle.float32.specs.Operators.{positiveZero}
 use Rattle.matrix4x4.specs.declared.Matrix4x4.{Matrix4x4}
 
 abbrev pub Row : Type 0
@@ -33,10 +34,6 @@ tabulate f = f 0 ∷ f 1 ∷ f 2 ∷ f 3 ∷ []
 -- whether p holds at 0, 1, 2 and 3
 abbrev pub all : (ℕ → Bool) → Bool
 all p = p 0 && p 1 && p 2 && p 3
-
--- the Rust's literal 0.0
-abbrev pub positiveZero : Float
-positiveZero = ofBits binary32 0
 
 abbrev pub Matrix4x4·toRows : Matrix4x4 → Rows
 Matrix4x4·toRows m = m .r0 ∷ m .r1 ∷ m .r2 ∷ m .r3 ∷ []

@@ -19,7 +19,7 @@ use Rattle.transform.specs.declared.PointAnswer.the-variants as point
 use Rattle.transform.specs.declared.BoundsAnswer.{BoundsAnswer}
 use Rattle.transform.specs.declared.BoundsAnswer.the-variants.{Bounds, Refused}
 use Rattle.transform.specs.TransformBounds.{BoundsAnswer·unionMoved}
-use Rattle.motion_derivative.specs.Derivative.{positiveZero}
+use Rattle.float32.specs.Operators.{positiveZero}
 use Rattle.pose_steps.specs.declared.RigidMotion.{RigidMotion}
 use Rattle.animated_transform.specs.declared.AnimatedTransform.{AnimatedTransform}
 use Rattle.motion_bounds.specs.MotionBounds.{pointAt, unionZero}

@@ -4,9 +4,9 @@ use mathlib.Core.Bool.{true, false, _||_}
 use Prim.Native.Nat.{ℕ, zero, suc, _-_}
 use native.Mathlib.Numerals.{sub-one}
 use lib.Ieee.{Float, eq}
-use Rattle.float32.specs.Operators.{_⊖_, _⊘_}
+use Rattle.float32.specs.Operators.{_⊖_, _⊘_, positiveZero}
 use Rattle.motion_derivative.specs.declared.MotionDerivative.{MotionDerivative}
-use Rattle.motion_derivative.specs.Derivative.{positiveZero, MotionDerivative·value, MotionDerivative·slope, MotionDerivative·newton}
+use Rattle.motion_derivative.specs.Derivative.{MotionDerivative·value, MotionDerivative·slope, MotionDerivative·newton}
 
 pub newton-none : (f : MotionDerivative) (t : Float) → MotionDerivative·newton f 0 t ≡ t
 unfolding MotionDerivative·newton

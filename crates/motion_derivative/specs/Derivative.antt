@@ -3,17 +3,13 @@
 use Prim.Native.Nat.{ℕ, zero, suc}
 use mathlib.Core.Bool.{Bool, cond, _||_}
 use mathlib.Core.Path.{_≡_}
-use lib.Ieee.{Float, binary32, ofBits, lt, eq}
-use Rattle.float32.specs.Operators.{_⊕_, _⊖_, _⊗_, _⊘_, two}
+use lib.Ieee.{Float, lt, eq}
+use Rattle.float32.specs.Operators.{_⊕_, _⊖_, _⊗_, _⊘_, positiveZero, two}
 use Rattle.trig.specs.declared.SinCos.{SinCos}
 use Rattle.trig.specs.SinCos.{sin, cos}
 use Rattle.interval.specs.declared.Interval.{Interval}
 use Rattle.interval.specs.Interval.{Interval·point, Interval·add, Interval·mul, Interval·sin, Interval·cos}
 use Rattle.motion_derivative.specs.declared.MotionDerivative.{MotionDerivative}
-
--- 0.0
-abbrev pub positiveZero : Float
-positiveZero = ofBits binary32 0
 
 -- I::from(a) + I::from(b) * i
 unfoldable pub affine : Float → Float → Interval → Interval

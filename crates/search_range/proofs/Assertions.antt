@@ -7,7 +7,7 @@ use lib.Ieee.Fits.{and-i}
 use Rattle.rounding.specs.Order.{_≼_}
 use Rattle.rounding.proofs.Order.{≼-trans}
 use Rattle.float32.specs.MinMax.{minNum, maxNum}
-use Rattle.float32.specs.Operators.{_⊗_, two}
+use Rattle.float32.specs.Operators.{_⊗_, positiveZero, two}
 use Rattle.trig_laws.specs.Range.{quarterTurnFloat, halfTurnFloat}
 use Rattle.interval.specs.declared.Interval.{Interval}
 use Rattle.interval.specs.Contains.{Contains, Subset, Finite}
@@ -20,7 +20,7 @@ use Rattle.unit_interval.specs.Unit.{unitInterval}
 use Rattle.pose_steps.specs.Promise.{quarterInterval}
 use Rattle.pose_steps.proofs.Angle.{quarter-finite, unit-finite}
 use Rattle.motion_derivative.specs.declared.MotionDerivative.{MotionDerivative}
-use Rattle.motion_derivative.specs.Derivative.{positiveZero, MotionDerivative·angles}
+use Rattle.motion_derivative.specs.Derivative.{MotionDerivative·angles}
 use Rattle.search_range.specs.Examined.{Examined}
 use Rattle.search_range.specs.Assertions.{rangeLimit, Interval·asserted}
 use Rattle.search_range.proofs.Examined.{examined-unit}

@@ -5,7 +5,7 @@ use lib.Ieee.{Float}
 use Rattle.rounding.specs.Order.{_≼_}
 use Rattle.trig_laws.specs.Range.{quarterTurnFloat}
 use Rattle.quaternion.specs.Quaternion.{Quaternion·dot}
-use Rattle.motion_derivative.specs.Derivative.{positiveZero}
+use Rattle.float32.specs.Operators.{positiveZero}
 use Rattle.animated_transform.specs.declared.AnimatedTransform.{AnimatedTransform}
 use Rattle.animated_transform.specs.Built.{Built}
 use Rattle.animated_transform.proofs.Built.{built-judged}

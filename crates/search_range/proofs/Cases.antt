@@ -4,10 +4,10 @@ use mathlib.Core.Path.{_≡_, refl}
 use mathlib.Core.Bool.{true, false}
 use mathlib.Core.List.{[], _∷_}
 use lib.Ieee.{Float, binary32, ofBits, neg}
-use Rattle.float32.specs.Operators.{one, two, four, half}
+use Rattle.float32.specs.Operators.{positiveZero, one, two, four, half}
 use Rattle.interval.specs.Interval.{Interval·new}
 use Rattle.motion_derivative.specs.declared.MotionDerivative.{MotionDerivative}
-use Rattle.motion_derivative.specs.Derivative.{positiveZero, MotionDerivative·angles}
+use Rattle.motion_derivative.specs.Derivative.{MotionDerivative·angles}
 use Rattle.zero_search.specs.Search.{Zeros·empty, unitInterval}
 use Rattle.zero_search.specs.Computing.{computing}
 use Rattle.search_range.specs.Examined.{searchIntervals, examinedIntervals}

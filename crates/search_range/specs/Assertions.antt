@@ -4,11 +4,11 @@ use mathlib.Core.Path.{_≡_}
 use mathlib.Core.Bool.{Bool, _&&_}
 use lib.Dec.{T}
 use lib.Ieee.{Float, binary32, ofBits, le}
-use Rattle.float32.specs.Operators.{_⊗_}
+use Rattle.float32.specs.Operators.{_⊗_, positiveZero}
 use Rattle.interval.specs.declared.Interval.{Interval}
 use Rattle.interval.specs.Interval.{pi}
 use Rattle.motion_derivative.specs.declared.MotionDerivative.{MotionDerivative}
-use Rattle.motion_derivative.specs.Derivative.{positiveZero, MotionDerivative·angles}
+use Rattle.motion_derivative.specs.Derivative.{MotionDerivative·angles}
 use Rattle.animated_transform.specs.declared.AnimatedTransform.{AnimatedTransform}
 use Rattle.motion_point.specs.TransformPoint.{AnimatedTransform·rigidMotion}
 use Rattle.search_range.specs.Examined.{Examined}

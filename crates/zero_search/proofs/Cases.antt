@@ -2,8 +2,7 @@
 use mathlib.Core.Path.{_≡_, refl}
 use mathlib.Core.List.{[], _∷_}
 use lib.Ieee.{neg}
-use Rattle.float32.specs.Operators.{one, half}
-use Rattle.motion_derivative.specs.Derivative.{positiveZero}
+use Rattle.float32.specs.Operators.{positiveZero, one, half}
 use Rattle.zero_search.specs.Search.{Zeros·empty, intervalFindZeros, examined}
 use Rattle.zero_search.specs.Computing.{computing}
 

@@ -11,7 +11,8 @@ use lib.Seq.{getD-set-other}
 use lib.Ieee.{Float, nan}
 use Rattle.interval.specs.declared.Interval.{Interval}
 use Rattle.motion_derivative.specs.declared.MotionDerivative.{MotionDerivative}
-use Rattle.motion_derivative.specs.Derivative.{positiveZero, MotionDerivative·excludesZero}
+use Rattle.float32.specs.Operators.{positiveZero}
+use Rattle.motion_derivative.specs.Derivative.{MotionDerivative·excludesZero}
 use Rattle.zero_search.specs.declared.Zeros.{Zeros}
 use Rattle.zero_search.specs.Search.{nearInterval, newtonZero, lowerHalf, upperHalf, Zeros·empty, Zeros·store, Zeros·accept, search, findZeros, maxDepth, unitInterval, intervalFindZeros}
 use Rattle.zero_search.specs.Stored.{Stored}

@@ -4,7 +4,7 @@ use mathlib.Core.Logic.{_⊎_}
 use Prim.Native.Nat.{ℕ, _≤_, _<_}
 use lib.ListN.{length, getD}
 use lib.Ieee.{nan}
-use Rattle.motion_derivative.specs.Derivative.{positiveZero}
+use Rattle.float32.specs.Operators.{positiveZero}
 use Rattle.zero_search.specs.declared.Zeros.{Zeros}
 
 -- At most eight are stored, every place after them is +0, and there is no refusal but 9, which leaves none.

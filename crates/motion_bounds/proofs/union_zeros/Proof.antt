@@ -7,7 +7,7 @@ use lib.Ieee.{nan}
 use borrow.Author.Needs.{needs}
 use Rattle.control_flow.specs.Loop.{loop}
 use Rattle.control_flow.proofs.Loop.{loop-start, loop-next, loop-end}
-use Rattle.motion_derivative.specs.Derivative.{positiveZero}
+use Rattle.float32.specs.Operators.{positiveZero}
 use Rattle.motion_bounds.specs.MotionBounds.{unionZero, unionZeros}
 use Rattle.motion_bounds.proofs.Unused.{unused-once}
 use Rattle.motion_bounds.proofs.union_zeros.Statement.{statement}
