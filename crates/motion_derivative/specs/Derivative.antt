@@ -26,9 +26,6 @@ MotionDerivative·rangeAt f i sines cosines =
     (Interval·add (Interval·point (f .c1)) (Interval·mul (affine (f .c2) (f .c3) i) cosines))
     (Interval·mul (affine (f .c4) (f .c5) i) sines)
 
-unfoldable pub MotionDerivative·range : MotionDerivative → Interval → Interval
-MotionDerivative·range f i = let c = MotionDerivative·angles f i in MotionDerivative·rangeAt f i (Interval·sin c) (Interval·cos c)
-
 -- range.low > 0.0 || range.high < 0.0 || range.low == range.high
 unfoldable pub MotionDerivative·excludesZeroAt : MotionDerivative → Interval → Interval → Interval → Bool
 MotionDerivative·excludesZeroAt f i sines cosines =

@@ -2,7 +2,7 @@
 ghost use mathlib.Core.Path.{_≡_};
 ghost use Rattle.float32.specs.Operators.{_⊗_, two};
 ghost use Rattle.interval.specs.Interval.{Interval·sin, Interval·cos};
-ghost use Rattle.motion_derivative.specs.Derivative.{affine, SinCosOf, MotionDerivative·angles, MotionDerivative·rangeAt, MotionDerivative·range, MotionDerivative·excludesZeroAt, MotionDerivative·excludesZero, MotionDerivative·value, MotionDerivative·slope, MotionDerivative·newton};
+ghost use Rattle.motion_derivative.specs.Derivative.{affine, SinCosOf, MotionDerivative·angles, MotionDerivative·rangeAt, MotionDerivative·excludesZeroAt, MotionDerivative·excludesZero, MotionDerivative·value, MotionDerivative·slope, MotionDerivative·newton};
 use interval::Interval;
 use interval::IntervalSinCos;
 use trig::SinCos;
@@ -41,13 +41,6 @@ impl MotionDerivative {
         Interval::point(2.0 * self.theta).mul(i).sin_cos()
     }
 
-    // pbrt's bounds of the values over an interval. Accuracy: heuristic.
-    pub fn range(self, i: Interval) -> Interval
-        ensures value { λ r. ⌜ r ≡ MotionDerivative·range self i ⌝ }
-    {
-        self.range_at(i, self.sin_cos(i))
-    }
-
     // Whether the bounds have no zero inside, or are one number, where the sine and the cosine of the interval's angles are known. Accuracy: heuristic.
     pub fn excludes_zero_at(self, i: Interval, angle: IntervalSinCos) -> bool
         ensures value { λ r. ⌜ r ≡ MotionDerivative·excludesZeroAt self i (angle .sin) (angle .cos) ⌝ }
@@ -78,20 +71,6 @@ impl MotionDerivative {
     {
         (self.c3 + 2.0 * (self.c4 + self.c5 * t) * self.theta) * angle.cos
             + (self.c5 - 2.0 * (self.c2 + self.c3 * t) * self.theta) * angle.sin
-    }
-
-    // The value at t, as pbrt works it out. Accuracy: heuristic.
-    pub fn value(self, t: f32) -> f32
-        ensures value { λ r. ⌜ r ≡ MotionDerivative·value self t ⌝ }
-    {
-        self.value_at(t, trig::sin_cos(2.0 * self.theta * t))
-    }
-
-    // The derivative of the value. Accuracy: heuristic.
-    pub fn slope(self, t: f32) -> f32
-        ensures value { λ r. ⌜ r ≡ MotionDerivative·slope self t ⌝ }
-    {
-        self.slope_at(t, trig::sin_cos(2.0 * t * self.theta))
     }
 }
 
