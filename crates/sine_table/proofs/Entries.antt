@@ -1,6 +1,6 @@
 -- The table as a list is T, `table-entries`, and T is what document 01 says of it, `sineTable-right`: its size, its ends, its strict rise and the Taylor rule at every
 -- entry come from one test that is computed over the whole table, `table-passes`, and one law that turns the test into what it says of each entry, `passes-at`.
--- From it the same of `sineEntry`, which is at most 2 ^ 30 and is the whole number nearest to 2 ^ 30 times the Taylor sum.
+-- From it that `sineEntry` rises; it is the whole number nearest to 2 ^ 30 times the Taylor sum, `entry-near`.
 use mathlib.Core.Path.{_≡_, refl, sym, ap, subst, subst₂, _∙_}
 use mathlib.Core.Bool.{Bool, true, _&&_}
 use mathlib.Core.List.{List, [], _∷_}
@@ -84,12 +84,6 @@ sineTable-right = subst SineTable table-entries table-right
 
 -- ---- the rule
 
-pub entry-first : sineEntry 0 ≡ 0
-entry-first = sym (table-right .rule 0 (omega arith)) ∙ table-right .first
-
-pub entry-last : sineEntry 2048 ≡ 2 ^ 30
-entry-last = sym (table-right .rule 2048 (omega arith)) ∙ table-right .last
-
 pub entry-rises : (i : ℕ) → i < 2048 → sineEntry i < sineEntry (suc i)
 entry-rises i h = subst₂ (λ (a b : ℕ). a < b) (table-right .rule i (omega arith)) (table-right .rule (suc i) (omega arith)) (table-right .rises i h)
 
@@ -97,9 +91,6 @@ pub entry-mono : (i j : ℕ) → i ≤ j → j ≤ 2048 → sineEntry i ≤ sine
 entry-mono i j h k =
     le-ind (λ (n : ℕ). n ≤ 2048 → sineEntry i ≤ sineEntry n) (λ l. le-refl (sineEntry i))
     (λ n g r l. let a : sineEntry i ≤ sineEntry n = r (omega arith) in let b = entry-rises n l in omega (arith, a, b)) j h k
-
-pub entry-le-one : (i : ℕ) → i ≤ 2048 → sineEntry i ≤ 2 ^ 30
-entry-le-one i h = subst (λ (n : ℕ). sineEntry i ≤ n) entry-last (entry-mono i 2048 h (le-refl 2048))
 
 -- T[i] is within a half of 2 ^ 30 times the Taylor sum: both sides times twice the denominator.
 pub entry-near : (i : ℕ) → (2 * taylorDenominator * sineEntry i ≤ 2 ^ 31 * taylorSum i + taylorDenominator)

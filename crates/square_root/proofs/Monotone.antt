@@ -9,7 +9,7 @@ use lib.IntN.{ℤ, pos}
 use lib.Dec.{T, leb, ltb, eqb, leb→le, ltb→lt, lt→ltb}
 use lib.Pow.{pow-pos}
 use lib.Ieee.{Float, nan, inf, fin, Format, binary32, binary64, prec, low, emax, up, down, round, fits, le, isNan}
-use lib.Ieee.Fits.{up-pos, down-pos, and-l, and-r, nan-fits, round-fits}
+use lib.Ieee.Fits.{up-pos, down-pos, and-l, and-r}
 use lib.Ieee.Scale.{finite}
 use lib.Ieee.Positive.{positive, positive-finite, num, den, den-pos, le→cross}
 use Rattle.rounding.specs.Order.{_≼_, Number}
@@ -116,12 +116,3 @@ sqrt-positive f x p h =
     let hi = roundSqrt-mono f (num x) (den x) (2 ^ suc (emax f)) 1 (den-pos x) (zero-lt-suc 0) (r .1) in
     let l = least-root f in
     rw (sqrt-is f x p) (above-positive l (between-finite (positive-finite (roundSqrt f 1 (2 ^ low f)) l) (largest-root f) lo hi) lo)
-
-pub sqrt-fits : (f : Format) (x : Float) → T (fits f x) → T (fits f (sqrt f x))
-unfolding sqrt roundSqrt
-sqrt-fits f nan h = h
-sqrt-fits f (inf true) h = nan-fits f
-sqrt-fits f (inf false) h = h
-sqrt-fits f (fin s zero e) h = h
-sqrt-fits f (fin true (suc m) e) h = nan-fits f
-sqrt-fits f (fin false (suc m) e) h = round-fits f false (stickySqrt (suc m * up e * 4 ^ (low f + 1)) (down e)) (2 ^ (low f + 2))
