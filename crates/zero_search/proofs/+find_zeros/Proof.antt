@@ -4,17 +4,23 @@ use native.Mathlib.Omega.{arith}
 use Rattle.zero_search.specs.Endpoints.{Endpoints·interval}
 use Rattle.zero_search.proofs.Clauses.{search-excluded, search-newton, search-ends, search-halves}
 use Prim.Native.Nat.{ℕ, _<_}
-use borrow.Fn.Kinds.{In}
+use borrow.Fn.Kinds.{In, Out}
 use borrow.Fn.PlainCycle.{Measures, is, falls, and}
 use Rattle.zero_search.proofs.find_zeros.Reads as find-zeros
 use Rattle.zero_search.proofs.find_zeros.Kinds as find-zeros-kinds
 use Rattle.zero_search.proofs.+find_zeros.Lts-find_zeros as find-zeros-lts
 use Rattle.motion_derivative.proofs.newton.Reads as newton-reads
+use Rattle.motion_derivative.proofs.newton.Kinds as newton-kinds
 use Rattle.zero_search.proofs.Zeros.accept.Reads as accept-reads
+use Rattle.zero_search.proofs.Zeros.accept.Kinds as accept-kinds
 use Rattle.zero_search.proofs.end_at.Reads as end-at-reads
+use Rattle.zero_search.proofs.end_at.Kinds as end-at-kinds
 use Rattle.zero_search.proofs.excludes_zero.Reads as excludes-zero-reads
+use Rattle.zero_search.proofs.excludes_zero.Kinds as excludes-zero-kinds
 use Rattle.zero_search.proofs.midpoint.Reads as midpoint-reads
+use Rattle.zero_search.proofs.midpoint.Kinds as midpoint-kinds
 use Rattle.zero_search.proofs.ordered.Reads as ordered-reads
+use Rattle.zero_search.proofs.ordered.Kinds as ordered-kinds
 use Rattle.zero_search.proofs.+find_zeros.{statement}
 use Rattle.zero_search.proofs.+find_zeros.Tie.{close}
 
@@ -27,239 +33,19 @@ find-zeros-at t = and 0 find-zeros-kinds.ps (is 0 find-zeros-kinds.ps μ-find-ze
 abbrev find-zeros-below : ℕ → In 0 find-zeros-kinds.ps
 find-zeros-below t = and 0 find-zeros-kinds.ps (falls 0 find-zeros-kinds.ps _<_ μ-find-zeros t) find-zeros.Pre
 
-excludes-zero-requires : (t : ℕ) → find-zeros-lts.Need-excludes-zero-requires (
-  excludes-zero-reads.Asked,
-  excludes-zero-reads.Learnt,
-  midpoint-reads.Asked,
-  midpoint-reads.Learnt,
-  newton-reads.Asked,
-  newton-reads.Learnt,
-  accept-reads.Asked,
-  accept-reads.Learnt,
-  end-at-reads.Asked,
-  end-at-reads.Learnt,
-  ordered-reads.Asked,
-  ordered-reads.Learnt,
-  find-zeros-below t,
-  find-zeros.Post,
-) (find-zeros-at t) find-zeros.Post
-excludes-zero-requires t c κs = c .pre .1
+-- what find_zeros calls, each with what it asks and what is learnt of it
+abbrev Calls : Type 1
+Calls =
+    In 0 excludes-zero-kinds.ps × Out 0 excludes-zero-kinds.ps excludes-zero-kinds.r ×
+    In 0 midpoint-kinds.ps × Out 0 midpoint-kinds.ps midpoint-kinds.r ×
+    In 0 newton-kinds.ps × Out 0 newton-kinds.ps newton-kinds.r ×
+    In 0 accept-kinds.ps × Out 0 accept-kinds.ps accept-kinds.r ×
+    In 0 end-at-kinds.ps × Out 0 end-at-kinds.ps end-at-kinds.r ×
+    In 0 ordered-kinds.ps × Out 0 ordered-kinds.ps ordered-kinds.r ×
+    In 0 find-zeros-kinds.ps × Out 0 find-zeros-kinds.ps find-zeros-kinds.r
 
-returns : (t : ℕ) → find-zeros-lts.Need-returns (
-  excludes-zero-reads.Asked,
-  excludes-zero-reads.Learnt,
-  midpoint-reads.Asked,
-  midpoint-reads.Learnt,
-  newton-reads.Asked,
-  newton-reads.Learnt,
-  accept-reads.Asked,
-  accept-reads.Learnt,
-  end-at-reads.Asked,
-  end-at-reads.Learnt,
-  ordered-reads.Asked,
-  ordered-reads.Learnt,
-  find-zeros-below t,
-  find-zeros.Post,
-) (find-zeros-at t) find-zeros.Post
-returns t c =
-    let a = c .before .before .args in
-    cc (search-excluded (a .depth) (a .f) (Endpoints·interval (a .e)) (a .found))
-
-returns-2 : (t : ℕ) → find-zeros-lts.Need-returns-2 (
-  excludes-zero-reads.Asked,
-  excludes-zero-reads.Learnt,
-  midpoint-reads.Asked,
-  midpoint-reads.Learnt,
-  newton-reads.Asked,
-  newton-reads.Learnt,
-  accept-reads.Asked,
-  accept-reads.Learnt,
-  end-at-reads.Asked,
-  end-at-reads.Learnt,
-  ordered-reads.Asked,
-  ordered-reads.Learnt,
-  find-zeros-below t,
-  find-zeros.Post,
-) (find-zeros-at t) find-zeros.Post
-returns-2 t c =
-    let mid = c .before .before .before in
-    let range = mid .before .before in
-    let a = range .before .args in
-    rw (
-      c .accept .ensures,
-      c .before .newton .ensures,
-      mid .midpoint .ensures,
-      sym (range .excludes-zero .ensures),
-      mid .before .if1 .left,
-      c .before .before .if2 .taken,
-      search-newton (a .f) (Endpoints·interval (a .e)) (a .found),
-    )
-
-ordered-requires : (t : ℕ) → find-zeros-lts.Need-ordered-requires (
-  excludes-zero-reads.Asked,
-  excludes-zero-reads.Learnt,
-  midpoint-reads.Asked,
-  midpoint-reads.Learnt,
-  newton-reads.Asked,
-  newton-reads.Learnt,
-  accept-reads.Asked,
-  accept-reads.Learnt,
-  end-at-reads.Asked,
-  end-at-reads.Learnt,
-  ordered-reads.Asked,
-  ordered-reads.Learnt,
-  find-zeros-below t,
-  find-zeros.Post,
-) (find-zeros-at t) find-zeros.Post
-ordered-requires t c κs = (c .before .before .before .before .before .pre .1 .0, c .end-at .ensures .1)
-
-sub-find-zeros : (t : ℕ) → find-zeros-lts.Need-sub-find-zeros (
-  excludes-zero-reads.Asked,
-  excludes-zero-reads.Learnt,
-  midpoint-reads.Asked,
-  midpoint-reads.Learnt,
-  newton-reads.Asked,
-  newton-reads.Learnt,
-  accept-reads.Asked,
-  accept-reads.Learnt,
-  end-at-reads.Asked,
-  end-at-reads.Learnt,
-  ordered-reads.Asked,
-  ordered-reads.Learnt,
-  find-zeros-below t,
-  find-zeros.Post,
-) (find-zeros-at t) find-zeros.Post
-sub-find-zeros t c = omega arith
-
-find-zeros-requires : (t : ℕ) → find-zeros-lts.Need-find-zeros-requires (
-  excludes-zero-reads.Asked,
-  excludes-zero-reads.Learnt,
-  midpoint-reads.Asked,
-  midpoint-reads.Learnt,
-  newton-reads.Asked,
-  newton-reads.Learnt,
-  accept-reads.Asked,
-  accept-reads.Learnt,
-  end-at-reads.Asked,
-  end-at-reads.Learnt,
-  ordered-reads.Asked,
-  ordered-reads.Learnt,
-  find-zeros-below t,
-  find-zeros.Post,
-) (find-zeros-at t) find-zeros.Post
-find-zeros-requires t c κs = (omega arith, c .ordered .ensures .1)
-
-returns-3 : (t : ℕ) → find-zeros-lts.Need-returns-3 (
-  excludes-zero-reads.Asked,
-  excludes-zero-reads.Learnt,
-  midpoint-reads.Asked,
-  midpoint-reads.Learnt,
-  newton-reads.Asked,
-  newton-reads.Learnt,
-  accept-reads.Asked,
-  accept-reads.Learnt,
-  end-at-reads.Asked,
-  end-at-reads.Learnt,
-  ordered-reads.Asked,
-  ordered-reads.Learnt,
-  find-zeros-below t,
-  find-zeros.Post,
-) (find-zeros-at t) find-zeros.Post
-returns-3 t c =
-    let lower = c .before .before in
-    let half = lower .before in
-    let mid = half .before .before .before in
-    let a = mid .before .before .before .args in
-    cc (search-ends (a .depth) (a .f) (Endpoints·interval (a .e)) (a .found) (lower .find-zeros .result) (half .before .before .if2 .left)
-    (rw (half .ordered .ensures .0, half .before .end-at .ensures .0, mid .midpoint .ensures) at (lower .find-zeros .ensures)) (c .if3 .taken))
-
-ordered-requires-2 : (t : ℕ) → find-zeros-lts.Need-ordered-requires-2 (
-  excludes-zero-reads.Asked,
-  excludes-zero-reads.Learnt,
-  midpoint-reads.Asked,
-  midpoint-reads.Learnt,
-  newton-reads.Asked,
-  newton-reads.Learnt,
-  accept-reads.Asked,
-  accept-reads.Learnt,
-  end-at-reads.Asked,
-  end-at-reads.Learnt,
-  ordered-reads.Asked,
-  ordered-reads.Learnt,
-  find-zeros-below t,
-  find-zeros.Post,
-) (find-zeros-at t) find-zeros.Post
-ordered-requires-2 t c κs = (c .before .before .before .before .end-at .ensures .1, c .before .before .before .before .before .before .before .before .before .pre .1 .1)
-
-sub-find-zeros-2 : (t : ℕ) → find-zeros-lts.Need-sub-find-zeros-2 (
-  excludes-zero-reads.Asked,
-  excludes-zero-reads.Learnt,
-  midpoint-reads.Asked,
-  midpoint-reads.Learnt,
-  newton-reads.Asked,
-  newton-reads.Learnt,
-  accept-reads.Asked,
-  accept-reads.Learnt,
-  end-at-reads.Asked,
-  end-at-reads.Learnt,
-  ordered-reads.Asked,
-  ordered-reads.Learnt,
-  find-zeros-below t,
-  find-zeros.Post,
-) (find-zeros-at t) find-zeros.Post
-sub-find-zeros-2 t c = omega arith
-
-find-zeros-requires-2 : (t : ℕ) → find-zeros-lts.Need-find-zeros-requires-2 (
-  excludes-zero-reads.Asked,
-  excludes-zero-reads.Learnt,
-  midpoint-reads.Asked,
-  midpoint-reads.Learnt,
-  newton-reads.Asked,
-  newton-reads.Learnt,
-  accept-reads.Asked,
-  accept-reads.Learnt,
-  end-at-reads.Asked,
-  end-at-reads.Learnt,
-  ordered-reads.Asked,
-  ordered-reads.Learnt,
-  find-zeros-below t,
-  find-zeros.Post,
-) (find-zeros-at t) find-zeros.Post
-find-zeros-requires-2 t c κs =
-    let split = c .before .before .before .before .before .before in
-    (omega (arith, split .if2 .left, split .before .before .before .before .pre .0), c .ordered2 .ensures .1)
-
-returns-4 : (t : ℕ) → find-zeros-lts.Need-returns-4 (
-  excludes-zero-reads.Asked,
-  excludes-zero-reads.Learnt,
-  midpoint-reads.Asked,
-  midpoint-reads.Learnt,
-  newton-reads.Asked,
-  newton-reads.Learnt,
-  accept-reads.Asked,
-  accept-reads.Learnt,
-  end-at-reads.Asked,
-  end-at-reads.Learnt,
-  ordered-reads.Asked,
-  ordered-reads.Learnt,
-  find-zeros-below t,
-  find-zeros.Post,
-) (find-zeros-at t) find-zeros.Post
-returns-4 t c =
-    let upper = c .before in
-    let lower = upper .before .before .before in
-    let half = lower .before in
-    let middle = half .before in
-    let mid = middle .before .before in
-    let a = mid .before .before .before .args in
-    cc (
-      search-halves (a .depth) (a .f) (Endpoints·interval (a .e)) (a .found) (lower .find-zeros .result) (middle .before .if2 .left)
-          (rw (half .ordered .ensures .0, middle .end-at .ensures .0, mid .midpoint .ensures) at (lower .find-zeros .ensures)) (upper .before .if3 .left),
-      rw (upper .ordered2 .ensures .0, middle .end-at .ensures .0, mid .midpoint .ensures) at (c .find-zeros2 .ensures),
-    )
-
-pub +find-zeros-spec : {M : Type 1} → statement M
-+find-zeros-spec = close μ-find-zeros λ t. find-zeros-lts.spec (
+abbrev calls : ℕ → Calls
+calls t = (
   excludes-zero-reads.Asked,
   excludes-zero-reads.Learnt,
   midpoint-reads.Asked,
@@ -275,6 +61,75 @@ pub +find-zeros-spec : {M : Type 1} → statement M
   find-zeros-below t,
   find-zeros.Post,
 )
+
+excludes-zero-requires : (t : ℕ) → find-zeros-lts.Need-excludes-zero-requires (calls t) (find-zeros-at t) find-zeros.Post
+excludes-zero-requires t c κs = c .pre .1
+
+returns : (t : ℕ) → find-zeros-lts.Need-returns (calls t) (find-zeros-at t) find-zeros.Post
+returns t c =
+    let a = c .before .before .args in
+    cc (search-excluded (a .depth) (a .f) (Endpoints·interval (a .e)) (a .found))
+
+returns-2 : (t : ℕ) → find-zeros-lts.Need-returns-2 (calls t) (find-zeros-at t) find-zeros.Post
+returns-2 t c =
+    let mid = c .before .before .before in
+    let range = mid .before .before in
+    let a = range .before .args in
+    rw (
+      c .accept .ensures,
+      c .before .newton .ensures,
+      mid .midpoint .ensures,
+      sym (range .excludes-zero .ensures),
+      mid .before .if1 .left,
+      c .before .before .if2 .taken,
+      search-newton (a .f) (Endpoints·interval (a .e)) (a .found),
+    )
+
+ordered-requires : (t : ℕ) → find-zeros-lts.Need-ordered-requires (calls t) (find-zeros-at t) find-zeros.Post
+ordered-requires t c κs = (c .before .before .before .before .before .pre .1 .0, c .end-at .ensures .1)
+
+sub-find-zeros : (t : ℕ) → find-zeros-lts.Need-sub-find-zeros (calls t) (find-zeros-at t) find-zeros.Post
+sub-find-zeros t c = omega arith
+
+find-zeros-requires : (t : ℕ) → find-zeros-lts.Need-find-zeros-requires (calls t) (find-zeros-at t) find-zeros.Post
+find-zeros-requires t c κs = (omega arith, c .ordered .ensures .1)
+
+returns-3 : (t : ℕ) → find-zeros-lts.Need-returns-3 (calls t) (find-zeros-at t) find-zeros.Post
+returns-3 t c =
+    let lower = c .before .before in
+    let half = lower .before in
+    let mid = half .before .before .before in
+    let a = mid .before .before .before .args in
+    cc (search-ends (a .depth) (a .f) (Endpoints·interval (a .e)) (a .found) (lower .find-zeros .result) (half .before .before .if2 .left)
+    (rw (half .ordered .ensures .0, half .before .end-at .ensures .0, mid .midpoint .ensures) at (lower .find-zeros .ensures)) (c .if3 .taken))
+
+ordered-requires-2 : (t : ℕ) → find-zeros-lts.Need-ordered-requires-2 (calls t) (find-zeros-at t) find-zeros.Post
+ordered-requires-2 t c κs = (c .before .before .before .before .end-at .ensures .1, c .before .before .before .before .before .before .before .before .before .pre .1 .1)
+
+sub-find-zeros-2 : (t : ℕ) → find-zeros-lts.Need-sub-find-zeros-2 (calls t) (find-zeros-at t) find-zeros.Post
+sub-find-zeros-2 t c = omega arith
+
+find-zeros-requires-2 : (t : ℕ) → find-zeros-lts.Need-find-zeros-requires-2 (calls t) (find-zeros-at t) find-zeros.Post
+find-zeros-requires-2 t c κs =
+    let split = c .before .before .before .before .before .before in
+    (omega (arith, split .if2 .left, split .before .before .before .before .pre .0), c .ordered2 .ensures .1)
+
+returns-4 : (t : ℕ) → find-zeros-lts.Need-returns-4 (calls t) (find-zeros-at t) find-zeros.Post
+returns-4 t c =
+    let upper = c .before in
+    let lower = upper .before .before .before in
+    let half = lower .before in
+    let middle = half .before in
+    let mid = middle .before .before in
+    let a = mid .before .before .before .args in
+    cc (
+      search-halves (a .depth) (a .f) (Endpoints·interval (a .e)) (a .found) (lower .find-zeros .result) (middle .before .if2 .left)
+          (rw (half .ordered .ensures .0, middle .end-at .ensures .0, mid .midpoint .ensures) at (lower .find-zeros .ensures)) (upper .before .if3 .left),
+      rw (upper .ordered2 .ensures .0, middle .end-at .ensures .0, mid .midpoint .ensures) at (c .find-zeros2 .ensures),
+    )
+
+pub +find-zeros-spec : {M : Type 1} → statement M
++find-zeros-spec = close μ-find-zeros λ t. find-zeros-lts.spec (calls t)
     (find-zeros-at t)
     find-zeros.Post
     (excludes-zero-requires t)
