@@ -63,13 +63,13 @@ bounds i = record { below = i .low; above = i .high }
 contains : {X : Interval} {x : Float} → Bounds (X .low) (X .high) x → Contains X x
 contains b = record { low = b .below; high = b .above }
 
-mul-number : (x y : Float) → T (finite x) → T (finite y) → Number (x ⊗ y)
+pub mul-number : (x y : Float) → T (finite x) → T (finite y) → Number (x ⊗ y)
 mul-number x y f g = let r = ≼-refl x (finite-number x f) in elim (mul-between-left binary32 y f f f g r r) [
   | inl b ↦ number-left (b .0)
   | inr b ↦ number-left (b .0)
 ]
 
-div-number : (x y : Float) → T (finite x) → T (positive y) → Number (x ⊘ y)
+pub div-number : (x y : Float) → T (finite x) → T (positive y) → Number (x ⊘ y)
 div-number x y f p = number-left (div-mono binary32 y f f p (≼-refl x (finite-number x f)))
 
 module _ {X Y : Interval} {x y : Float} (f : Finite X) (g : Finite Y) (i : Contains X x) (j : Contains Y y) where

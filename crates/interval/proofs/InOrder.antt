@@ -1,7 +1,7 @@
 -- Intervals whose ends are in order: `new-ordered`, that sorting leaves such ends as they are, and `mul-ordered`, that a number times an interval has the products of the ends
 -- where these are in order. Both rest on `min-ordered` and `max-ordered`.
 use mathlib.Core.Path.{_≡_, refl, sym}
-use mathlib.Core.Bool.{Bool, true, false, cond, true≢false}
+use mathlib.Core.Bool.{Bool, true, false, true≢false}
 use Prim.Native.Nat.{ℕ}
 use native.Mathlib.Omega.{arith}
 use borrow.Author.Tests.{ltb-true, le-ltb}
@@ -10,6 +10,7 @@ use Rattle.float32.specs.MinMax.{minNum, maxNum}
 use Rattle.float32.specs.Operators.{_⊗_}
 use Rattle.interval.specs.declared.Interval.{Interval}
 use Rattle.interval.specs.Interval.{Interval·new, Interval·point, Interval·hull, Interval·ofFour, Interval·mul}
+use Rattle.interval.proofs.Points.{min-same, max-same}
 
 -- ---- what is below another number is a number, and the other is not below it
 below-asym : (s t : Bool) (a b : ℕ) → below s a t b ≡ true → below t b s a ≡ false
@@ -38,19 +39,7 @@ lt-number nan y h = absurd (true≢false (sym h))
 lt-number (inf s) y h = refl
 lt-number (fin s m e) y h = refl
 
--- ---- the least and the greatest of two in order, and of a number and itself
-cond-same : (b : Bool) (x : Float) → cond b x x ≡ x
-cond-same true x = refl
-cond-same false x = refl
-
-min-same : (x : Float) → minNum x x ≡ x
-unfolding minNum
-min-same x = rw (cond-same (lt x x) x, cond-same (isNan x) x)
-
-max-same : (x : Float) → maxNum x x ≡ x
-unfolding maxNum
-max-same x = rw (cond-same (lt x x) x, cond-same (isNan x) x)
-
+-- ---- the least and the greatest of two in order
 module _ (x y : Float) (h : lt x y ≡ true) where
   min-ordered : minNum x y ≡ x
   unfolding minNum

@@ -1,4 +1,5 @@
 pub mod Contains
+pub mod Finite
 pub mod Refusal
 pub mod Extends
 pub mod Isotone

@@ -29,11 +29,11 @@ same x true c = refl
 same x false true = refl
 same x false false = refl
 
-min-same : (x : Float) → minNum x x ≡ x
+pub min-same : (x : Float) → minNum x x ≡ x
 unfolding minNum
 min-same x = same x (isNan x) (lt x x)
 
-max-same : (x : Float) → maxNum x x ≡ x
+pub max-same : (x : Float) → maxNum x x ≡ x
 unfolding maxNum
 max-same x = same x (isNan x) (lt x x)
 

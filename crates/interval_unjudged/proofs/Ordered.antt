@@ -2,20 +2,17 @@
 -- is a quotient by a positive one; so product and quotient by comparisons are the cover's there: `mul-ordered`, `div-ordered`. And four numbers are finite where the least and
 -- the greatest of them are: `corners-finite`.
 use mathlib.Core.Path.{_≡_, refl, sym, subst}
-use mathlib.Core.Logic.{inl, inr}
 use mathlib.Core.Bool.{Bool, true, false, not, cond}
 use lib.Dec.{T}
-use lib.Ieee.{Float, binary32, isNan, lt}
+use lib.Ieee.{Float, isNan, lt}
 use lib.Ieee.Scale.{finite}
-use lib.Ieee.Positive.{positive}
-use Rattle.rounding.specs.Order.{Number, _≼_}
-use Rattle.rounding.proofs.Order.{≼-refl, number-left, finite-number}
-use Rattle.rounding.proofs.Arithmetic.{mul-between-left, div-mono}
+use Rattle.rounding.specs.Order.{Number}
 use Rattle.float32.specs.MinMax.{minNum, maxNum}
 use Rattle.float32.specs.Operators.{_⊗_, _⊘_}
 use Rattle.interval.specs.declared.Interval.{Interval}
 use Rattle.interval.specs.Contains.{Finite}
 use Rattle.interval.proofs.Contains.{contains-finite, new-left, new-right, hull-left, hull-right}
+pub use Rattle.interval.proofs.Extends.{mul-number, div-number}
 use Rattle.interval.specs.Interval.{Interval·new, Interval·hull, Interval·ofFour}
 use Rattle.interval.specs.Enclosure.{Interval·mulEnclosure, Interval·divEnclosure}
 use Rattle.interval_unjudged.specs.Ordered.{lesser, greater, Interval·ofFourOrdered, Interval·mulOrdered, Interval·divOrdered}
@@ -77,14 +74,6 @@ corners-finite a b c d n f =
     }
 
 -- ---- products and quotients
-pub mul-number : (x y : Float) → T (finite x) → T (finite y) → Number (x ⊗ y)
-mul-number x y f g =
-    let r = ≼-refl x (finite-number x f) in
-    elim (mul-between-left binary32 y f f f g r r) [ inl h ↦ number-left (h .0) | inr h ↦ number-left (h .0) ]
-
-pub div-number : (x y : Float) → T (finite x) → T (positive y) → Number (x ⊘ y)
-div-number x y f p = number-left (div-mono binary32 y f f p (≼-refl x (finite-number x f)))
-
 pub mul-ordered : (X Y : Interval) → Finite X → Finite Y → Interval·mulOrdered X Y ≡ Interval·mulEnclosure X Y
 unfolding Interval·mulOrdered Interval·mulEnclosure
 mul-ordered X Y f g =

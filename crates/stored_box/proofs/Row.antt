@@ -1,14 +1,14 @@
 -- A stored matrix over a box of points, by interval steps, a row at a time. Each end of a row's interval is the coordinate that some corner of the box is moved to (`row-picks`),
 -- since a product with a constant is least and greatest at the ends. So the intervals lie in every box that holds the moved corners (`rows-subset`), and nothing is refused
--- where these are finite (`rows-accepted`), since a finite sum has finite terms (`sum-finite`). The number is 0 or 5 (`rows-number`).
+-- where these are finite (`rows-accepted`), since a finite sum has finite terms (`add-operands` of `interval`). The number is 0 or 5 (`rows-number`).
 -- Rests on `min-picks` and `max-picks` of `float32`.
 use mathlib.Core.Path.{_≡_, refl, sym, subst}
 use mathlib.Core.Logic.{inl, inr}
-use mathlib.Core.Bool.{Bool, true, false, cond, Bool·beq, _&&_}
+use mathlib.Core.Bool.{Bool, true, false, cond, _&&_}
 use mathlib.Core.List.{_++_}
 use Prim.Native.Nat.{ℕ, zero, suc}
 use lib.Dec.{T}
-use lib.Ieee.{Float, nan, inf, fin, add}
+use lib.Ieee.{Float}
 use lib.Ieee.Scale.{finite}
 use Rattle.rounding.specs.Order.{_≼_}
 use Rattle.float32.specs.Operators.{_⊕_, _⊗_}
@@ -25,6 +25,7 @@ use Rattle.interval.specs.declared.Judged.{Judged}
 use Rattle.interval.specs.Contains.{Finite}
 use Rattle.interval.specs.Interval.{Interval·point, Interval·new, Interval·hull, Interval·ofFour}
 use Rattle.interval.specs.Enclosure.{first, notFinite, Interval·addEnclosure, Interval·mulEnclosure, Judged·judge, Judged·addEnclosure, Judged·mulEnclosure}
+use Rattle.interval.proofs.Finite.{add-operands}
 use Rattle.interval.proofs.Refusal.{zero-first, finite-accepted}
 use Rattle.formula.specs.Enclose.{Expr·enclose, Expr·encloseAll, Program·enclose}
 use Rattle.pose_steps.specs.declared.IntervalVector.{IntervalVector}
@@ -88,27 +89,6 @@ module _ (n : ℕ) (r : Row) (B : IntervalVector) where
   row-between {l} {h} m = (row-picks (λ v. l ≼ v) (λ i j k. m i j k .0) false, row-picks (λ v. v ≼ h) (λ i j k. m i j k .1) true)
 
 -- ---- nothing is refused on the way to a finite interval
-sum-finite : (x y : Float) → T (finite (x ⊕ y)) → T (finite x) × T (finite y)
-unfolding add
-sum-finite nan y f = absurd f
-sum-finite (inf s) nan f = absurd f
-sum-finite (inf s) (inf t) f = absurd (go (Bool·beq s t) f)
-  where
-    go : (b : Bool) → T (finite (cond b (inf s) nan)) → ⊥
-    go true f = f
-    go false f = f
-sum-finite (inf s) (fin t n d) f = absurd f
-sum-finite (fin s m e) nan f = absurd f
-sum-finite (fin s m e) (inf t) f = absurd f
-sum-finite (fin s m e) (fin t n d) f = (tt, tt)
-
-add-finite : (X Y : Interval) → Finite (Interval·addEnclosure X Y) → Finite X × Finite Y
-unfolding Interval·addEnclosure
-add-finite X Y f =
-    let (a, b) = sum-finite (X .low) (Y .low) (f .low) in
-    let (c, d) = sum-finite (X .high) (Y .high) (f .high) in
-    (record { low = a; high = c }, record { low = b; high = d })
-
 judge-accepted : (n : ℕ) (X : Interval) → n ≡ 0 → Finite X → Judged·judge n X .refusal ≡ 0
 unfolding Judged·judge
 judge-accepted n X z f = zero-first n (notFinite X) z (finite-accepted X f)
@@ -131,9 +111,9 @@ module _ (n : ℕ) (r : Row) (B : IntervalVector) where
       let R = Interval·addEnclosure P Q in
       let S = scaled (B .z) (col r 2) in
       let U = Interval·addEnclosure R S in
-      let (u, w) = add-finite U (Interval·point (col r 3)) f in
-      let (t, s) = add-finite R S u in
-      let (p, q) = add-finite P Q t in
+      let (u, w) = add-operands U (Interval·point (col r 3)) f in
+      let (t, s) = add-operands R S u in
+      let (p, q) = add-operands P Q t in
       judge-accepted _ _ (judge-accepted _ _ (judge-accepted _ _ (judge-accepted _ _ (judge-accepted _ _ (judge-accepted n P z p) q) t) s) u) f
 
   row-number : StoredNumber n → StoredNumber (encloseRow n r B .refusal)
