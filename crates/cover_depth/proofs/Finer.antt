@@ -31,7 +31,7 @@ use Rattle.motion_cover.proofs.Proper.{BoxRefines, box-refines, piece-proper, e
 use Rattle.cover_depth.specs.Finer.{Within, CoverFiner}
 
 -- ---- answers within a box
-within-subset : {r : BoundsAnswer} {c c' : Bounds3f} → Within r c → Subset c c' → Within r c'
+pub within-subset : {r : BoundsAnswer} {c c' : Bounds3f} → Within r c → Subset c c' → Within r c'
 within-subset w s = record { box = w .box; accepted = w .accepted; subset = subset-trans (w .subset) s }
 
 proper-within : (r : BoundsAnswer) (c : Bounds3f) → Proper r → r ≡ Bounds c → Within r c

@@ -6,8 +6,7 @@ use mathlib.Core.Bool.{Bool, true, false, cond}
 use mathlib.Core.List.{List, [], _∷_}
 use lib.Ieee.{Float, le}
 use Rattle.bounds3.specs.declared.Bounds3f.{Bounds3f}
-use Rattle.bounds3.specs.Inside.{Subset}
-use Rattle.bounds3.proofs.Union.{subset-inside, subset-trans}
+use Rattle.bounds3.proofs.Union.{subset-inside}
 use Rattle.transform.specs.declared.BoundsAnswer.{BoundsAnswer}
 use Rattle.transform.specs.declared.BoundsAnswer.the-variants.{Bounds}
 use Rattle.bounds_query.specs.Query.{BoundsAnswer·unionBounds}
@@ -19,7 +18,7 @@ use Rattle.motion_cover.specs.Answer.{Proper}
 use Rattle.motion_cover.proofs.Contains.{cover-contains}
 use Rattle.motion_cover.proofs.Proper.{union-proper, cover-proper}
 use Rattle.cover_depth.specs.Finer.{Within}
-use Rattle.cover_depth.proofs.Finer.{union-within, parts-within, cover-finer}
+use Rattle.cover_depth.proofs.Finer.{within-subset, union-within, parts-within, cover-finer}
 use Rattle.motion_chain.specs.Chain.{Chain, Chain·moves, moveFrom, Chain·moveAt, Chain·transformPoint, unionCovers, Chain·cover}
 use Rattle.motion_chain.specs.Built.{BuiltChain, Each}
 use Rattle.motion_chain.specs.Theorem.{ChainContainsMotion, ChainCoverFiner}
@@ -41,9 +40,6 @@ module _ (P : AnimatedTransform → Type 0) (time : Float) where
   each-move-at c h = each-move-from (c .first) (c .rest) h
 
 -- ---- the covers of the moves, in an accepted union of them
-within-subset : {r : BoundsAnswer} {c c' : Bounds3f} → Within r c → Subset c c' → Within r c'
-within-subset w s = record { box = w .box; accepted = w .accepted; subset = subset-trans (w .subset) s }
-
 module _ (b : Bounds3f) (d : ℕ) where
   covers-proper : (r : BoundsAnswer) (moves : List AnimatedTransform) → Proper r → Each Built moves → Proper (unionCovers b d r moves)
   unfolding unionCovers
