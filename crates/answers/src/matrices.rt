@@ -66,7 +66,7 @@ pub fn answer(m: Matrix, q: Question, out: &mut [u8], at: usize) -> usize {
             put_ok_matrix(out, at, product)
         }
         Matrix::Quat => {
-            let r = rotation::quaternion_from_matrix(matrix_at(words, 0));
+            let r = matrix_quaternion::quaternion_from_matrix(matrix_at(words, 0));
             put_ok_quaternion(out, at, r)
         }
         Matrix::Rotation => {

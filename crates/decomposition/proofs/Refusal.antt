@@ -19,7 +19,7 @@ use Rattle.control_flow.proofs.Loop.{loop-keeps}
 use Rattle.matrix_inverse.proofs.Refusal.{inverse-refusal}
 use Rattle.quaternion.specs.declared.Quaternion.{Quaternion}
 use Rattle.quaternion.specs.IsFinite.{Quaternion·isFinite}
-use Rattle.rotation.specs.FromMatrix.{Quaternion·fromMatrix}
+use Rattle.matrix_quaternion.specs.FromMatrix.{Quaternion·fromMatrix}
 use Rattle.decomposition.specs.declared.Decomposition.{Decomposition}
 use Rattle.decomposition.specs.Polar.{linearPart, mean, distance, settledNorm, Polar, refused, unsettled, settled, judgedRound, round, polar}
 use Rattle.decomposition.specs.Decompose.{Decomposition·refused, translationOf, judged, parts, finish, Matrix4x4·decompose}

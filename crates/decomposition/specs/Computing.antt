@@ -2,10 +2,10 @@
 use lib.Ieee.{isNan, le}
 use Rattle.float32.specs.MinMax.{maxNum}
 use Rattle.matrix_inverse.specs.Computing as inverse
-use Rattle.rotation.specs.Computing as rotation
+use Rattle.matrix_quaternion.specs.Computing as quaternion
 use Rattle.decomposition.specs.Polar.{linearPart, mean, rowDistance, distance, judgedRound, round, polar}
 use Rattle.decomposition.specs.Decompose.{judged, parts, finish, Matrix4x4·decompose}
 
 unfoldable pub computing : Unit {0}
-unfolding isNan le maxNum inverse.computing rotation.computing linearPart mean rowDistance distance judgedRound round polar judged parts finish Matrix4x4·decompose
+unfolding isNan le maxNum inverse.computing quaternion.computing linearPart mean rowDistance distance judgedRound round polar judged parts finish Matrix4x4·decompose
 computing = tt

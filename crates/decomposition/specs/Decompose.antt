@@ -10,7 +10,7 @@ use Rattle.matrix4x4.specs.IsFinite.{Matrix4x4·isFinite}
 use Rattle.matrix_inverse.specs.Inverse.{Matrix4x4·inverse}
 use Rattle.quaternion.specs.declared.Quaternion.{Quaternion}
 use Rattle.quaternion.specs.IsFinite.{Quaternion·isFinite}
-use Rattle.rotation.specs.FromMatrix.{Quaternion·fromMatrix}
+use Rattle.matrix_quaternion.specs.FromMatrix.{Quaternion·fromMatrix}
 use Rattle.decomposition.specs.declared.Decomposition.{Decomposition}
 use Rattle.decomposition.specs.Polar.{Polar, refused, unsettled, settled, polar}
 

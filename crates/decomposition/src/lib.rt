@@ -130,7 +130,7 @@ fn parts(m: [[f32; 4]; 4], r: [[f32; 4]; 4]) -> Decomposition
     if inverse.refusal == 0 {
         judged(
             m,
-            rotation::quaternion_from_matrix(r),
+            matrix_quaternion::quaternion_from_matrix(r),
             matrix4x4::mul(inverse.m.to_rows(), m),
         )
     } else {

@@ -1,12 +1,10 @@
--- Cases of the definitions, by computing: a third of a turn about (1, 1, 1) takes x to y, y to z and z to x, and its matrix gives the quaternion back;
--- a half turn about y does so through the largest entry of the diagonal, the identity through the trace.
+-- A case of the definition, by computing: a third of a turn about (1, 1, 1) takes x to y, y to z and z to x.
 use mathlib.Core.Path.{_≡_, refl}
-use mathlib.Core.Bool.{true, false}
+use mathlib.Core.Bool.{false}
 use mathlib.Core.List.{[], _∷_}
 use lib.Ieee.{Float, binary32, round}
-use Rattle.matrix4x4.specs.Rows.{Row, Rows, Matrix4x4·fromRows}
+use Rattle.matrix4x4.specs.Rows.{Rows, Matrix4x4·fromRows}
 use Rattle.quaternion.specs.declared.Quaternion.{Quaternion}
-use Rattle.rotation.specs.FromMatrix.{Quaternion·fromMatrix}
 use Rattle.rotation.specs.FromQuaternion.{Transform·fromQuaternion}
 use Rattle.rotation.specs.Computing.{computing}
 
@@ -19,33 +17,12 @@ abbrev ½f : Float
 abbrev 1f : Float
 1f = round binary32 false 1 1
 
-abbrev -1f : Float
--1f = round binary32 true 1 1
-
-abbrev quaternion : Float → Float → Float → Float → Quaternion
-quaternion x y z w = record { v = record { x = x; y = y; z = z }; w = w }
-
-abbrev row : Float → Float → Float → Row
-row a b c = a ∷ b ∷ c ∷ 0f ∷ []
-
-abbrev linear : Row → Row → Row → Rows
-linear a b c = a ∷ b ∷ c ∷ (0f ∷ 0f ∷ 0f ∷ 1f ∷ []) ∷ []
+abbrev half-each : Quaternion
+half-each = record { v = record { x = ½f; y = ½f; z = ½f }; w = ½f }
 
 abbrev x-to-y : Rows
-x-to-y = linear (row 0f 0f 1f) (row 1f 0f 0f) (row 0f 1f 0f)
+x-to-y = (0f ∷ 0f ∷ 1f ∷ 0f ∷ []) ∷ (1f ∷ 0f ∷ 0f ∷ 0f ∷ []) ∷ (0f ∷ 1f ∷ 0f ∷ 0f ∷ []) ∷ (0f ∷ 0f ∷ 0f ∷ 1f ∷ []) ∷ []
 
-third-turn : Transform·fromQuaternion (quaternion ½f ½f ½f ½f) .m ≡ Matrix4x4·fromRows x-to-y
+third-turn : Transform·fromQuaternion half-each .m ≡ Matrix4x4·fromRows x-to-y
 unfolding computing
 third-turn = refl
-
-third-turn-back : Quaternion·fromMatrix x-to-y ≡ quaternion ½f ½f ½f ½f
-unfolding computing
-third-turn-back = refl
-
-half-turn-back : Quaternion·fromMatrix (linear (row -1f 0f 0f) (row 0f 1f 0f) (row 0f 0f -1f)) ≡ quaternion 0f 1f 0f 0f
-unfolding computing
-half-turn-back = refl
-
-identity-back : Quaternion·fromMatrix (linear (row 1f 0f 0f) (row 0f 1f 0f) (row 0f 0f 1f)) ≡ quaternion 0f 0f 0f 1f
-unfolding computing
-identity-back = refl

@@ -1,2 +1,2 @@
--- Cases of rotations.
+-- A case of rotations.
 pub mod Cases

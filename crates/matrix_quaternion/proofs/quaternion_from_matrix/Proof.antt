@@ -1,8 +1,8 @@
 -- `quaternion_from_matrix` meets its contract: the trace's sign, then the largest of the diagonal, choose the case.
-use Rattle.rotation.specs.FromMatrix.{Quaternion·fromMatrix}
+use Rattle.matrix_quaternion.specs.FromMatrix.{Quaternion·fromMatrix}
 use borrow.Author.Needs.{needs}
-use Rattle.rotation.proofs.quaternion_from_matrix.Statement.{statement}
-use Rattle.rotation.proofs.quaternion_from_matrix.Tie as tie
+use Rattle.matrix_quaternion.proofs.quaternion_from_matrix.Statement.{statement}
+use Rattle.matrix_quaternion.proofs.quaternion_from_matrix.Tie as tie
 
 array-copy-out-m0 : tie.Need-array-copy-out-m0
 array-copy-out-m0 c = search needs

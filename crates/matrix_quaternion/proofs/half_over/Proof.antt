@@ -1,7 +1,7 @@
 -- `half_over` meets its contract: each branch is its case of the definition.
-use Rattle.rotation.specs.FromMatrix.{halfOver}
-use Rattle.rotation.proofs.half_over.Statement.{statement}
-use Rattle.rotation.proofs.half_over.Tie as tie
+use Rattle.matrix_quaternion.specs.FromMatrix.{halfOver}
+use Rattle.matrix_quaternion.proofs.half_over.Statement.{statement}
+use Rattle.matrix_quaternion.proofs.half_over.Tie as tie
 
 returns : tie.Need-returns
 unfolding halfOver

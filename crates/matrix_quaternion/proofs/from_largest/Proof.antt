@@ -1,8 +1,8 @@
 -- `from_largest` meets its contract: its operations are the definition's, about one root and one quotient.
-use Rattle.rotation.specs.FromMatrix.{fromLargest}
+use Rattle.matrix_quaternion.specs.FromMatrix.{fromLargest}
 use borrow.Author.Needs.{needs}
-use Rattle.rotation.proofs.from_largest.Statement.{statement}
-use Rattle.rotation.proofs.from_largest.Tie as tie
+use Rattle.matrix_quaternion.proofs.from_largest.Statement.{statement}
+use Rattle.matrix_quaternion.proofs.from_largest.Tie as tie
 
 mul-mi : tie.Need-mul-mi
 mul-mi c = search needs

@@ -4,10 +4,10 @@ use mathlib.Core.Path.{sym, ap, _∙_}
 use mathlib.Core.Bool.{Bool, cond}
 use lib.Ieee.{lt}
 use Rattle.matrix4x4.specs.Rows.{Rows, at}
-use Rattle.rotation.specs.FromMatrix.{largest}
+use Rattle.matrix_quaternion.specs.FromMatrix.{largest}
 use borrow.Author.Needs.{needs}
-use Rattle.rotation.proofs.largest.Statement.{statement}
-use Rattle.rotation.proofs.largest.Tie as tie
+use Rattle.matrix_quaternion.proofs.largest.Statement.{statement}
+use Rattle.matrix_quaternion.proofs.largest.Tie as tie
 
 -- by the answers of the two tests
 abbrev first : Rows → Bool → ℕ

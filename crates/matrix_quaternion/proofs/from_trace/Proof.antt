@@ -1,8 +1,8 @@
 -- `from_trace` meets its contract: its operations are the definition's, about one root.
-use Rattle.rotation.specs.FromMatrix.{fromTrace}
+use Rattle.matrix_quaternion.specs.FromMatrix.{fromTrace}
 use borrow.Author.Needs.{needs}
-use Rattle.rotation.proofs.from_trace.Statement.{statement}
-use Rattle.rotation.proofs.from_trace.Tie as tie
+use Rattle.matrix_quaternion.proofs.from_trace.Statement.{statement}
+use Rattle.matrix_quaternion.proofs.from_trace.Tie as tie
 
 array-copy-out-m0 : tie.Need-array-copy-out-m0
 array-copy-out-m0 c = search needs

@@ -2,8 +2,8 @@
 use mathlib.Core.Path.{_≡_}
 use native.Mathlib.Omega.{arith}
 use borrow.Author.Needs.{needs}
-use Rattle.rotation.proofs.nxt.Statement.{statement}
-use Rattle.rotation.proofs.nxt.Tie as tie
+use Rattle.matrix_quaternion.proofs.nxt.Statement.{statement}
+use Rattle.matrix_quaternion.proofs.nxt.Tie as tie
 
 returns : tie.Need-returns
 returns c = search needs

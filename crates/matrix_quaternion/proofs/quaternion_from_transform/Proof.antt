@@ -1,8 +1,8 @@
 -- `quaternion_from_transform` meets its contract: that of the matrix half.
-use Rattle.rotation.specs.FromMatrix.{Quaternion·fromTransform}
+use Rattle.matrix_quaternion.specs.FromMatrix.{Quaternion·fromTransform}
 use borrow.Author.Needs.{needs}
-use Rattle.rotation.proofs.quaternion_from_transform.Statement.{statement}
-use Rattle.rotation.proofs.quaternion_from_transform.Tie as tie
+use Rattle.matrix_quaternion.proofs.quaternion_from_transform.Statement.{statement}
+use Rattle.matrix_quaternion.proofs.quaternion_from_transform.Tie as tie
 
 to-rows-requires : tie.Need-to-rows-requires
 to-rows-requires c κs = search needs

@@ -1,0 +1,2 @@
+-- Cases of quaternions of matrices.
+pub mod Cases
