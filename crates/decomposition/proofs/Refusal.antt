@@ -21,7 +21,8 @@ use Rattle.quaternion.specs.declared.Quaternion.{Quaternion}
 use Rattle.quaternion.specs.IsFinite.{Quaternion·isFinite}
 use Rattle.matrix_quaternion.specs.FromMatrix.{Quaternion·fromMatrix}
 use Rattle.decomposition.specs.declared.Decomposition.{Decomposition}
-use Rattle.decomposition.specs.Polar.{linearPart, mean, distance, settledNorm, Polar, refused, unsettled, settled, judgedRound, round, polar}
+use Rattle.polar_round.specs.PolarRound.{linearPart, mean, distance}
+use Rattle.decomposition.specs.Polar.{settledNorm, Polar, refused, unsettled, settled, judgedRound, round, polar}
 use Rattle.decomposition.specs.Decompose.{Decomposition·refused, translationOf, judged, parts, finish, Matrix4x4·decompose}
 
 -- The parts of m that were not refused: the translation as it stands in m, a finite quaternion, a finite scale.

@@ -16,7 +16,8 @@ use Rattle.matrix4x4.specs.IsFinite.{Matrix4x4·isFinite}
 use Rattle.control_flow.specs.Loop.{loop}
 use Rattle.matrix_inverse.specs.declared.InverseAnswer.{InverseAnswer}
 use Rattle.matrix_inverse.specs.Inverse.{Matrix4x4·inverse}
-use Rattle.decomposition.specs.Polar.{linearPart, mean, distance, settledNorm, Polar, refused, unsettled, settled, judgedRound, round, polar}
+use Rattle.polar_round.specs.PolarRound.{linearPart, mean, distance}
+use Rattle.decomposition.specs.Polar.{settledNorm, Polar, refused, unsettled, settled, judgedRound, round, polar}
 use Rattle.decomposition.specs.Decompose.{Decomposition·refused, parts, finish, Matrix4x4·decompose}
 
 loop-fixed : {S : Type 0} (body : ℕ → S → S) (s₀ s : S) → ((k : ℕ) → body k s ≡ s)

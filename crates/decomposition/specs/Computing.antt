@@ -3,7 +3,8 @@ use lib.Ieee.{isNan, le}
 use Rattle.float32.specs.MinMax.{maxNum}
 use Rattle.matrix_inverse.specs.Computing as inverse
 use Rattle.matrix_quaternion.specs.Computing as quaternion
-use Rattle.decomposition.specs.Polar.{linearPart, mean, rowDistance, distance, judgedRound, round, polar}
+use Rattle.polar_round.specs.PolarRound.{linearPart, mean, rowDistance, distance}
+use Rattle.decomposition.specs.Polar.{judgedRound, round, polar}
 use Rattle.decomposition.specs.Decompose.{judged, parts, finish, Matrix4x4·decompose}
 
 unfoldable pub computing : Unit {0}

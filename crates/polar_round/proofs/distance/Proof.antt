@@ -1,8 +1,8 @@
 -- `distance` meets its contract: each row is taken into the greatest so far.
-use Rattle.decomposition.specs.Polar.{distance}
+use Rattle.polar_round.specs.PolarRound.{distance}
 use borrow.Author.Needs.{needs}
-use Rattle.decomposition.proofs.distance.Statement.{statement}
-use Rattle.decomposition.proofs.distance.Tie as tie
+use Rattle.polar_round.proofs.distance.Statement.{statement}
+use Rattle.polar_round.proofs.distance.Tie as tie
 
 array-copy-out-a1 : tie.Need-array-copy-out-a1
 array-copy-out-a1 c = search needs

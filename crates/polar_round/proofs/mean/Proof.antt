@@ -1,8 +1,8 @@
 -- `mean` meets its contract: each call is the mean of two rows.
-use Rattle.decomposition.specs.Polar.{mean}
+use Rattle.polar_round.specs.PolarRound.{mean}
 use borrow.Author.Needs.{needs}
-use Rattle.decomposition.proofs.mean.Statement.{statement}
-use Rattle.decomposition.proofs.mean.Tie as tie
+use Rattle.polar_round.proofs.mean.Statement.{statement}
+use Rattle.polar_round.proofs.mean.Tie as tie
 
 array-copy-out-a1 : tie.Need-array-copy-out-a1
 array-copy-out-a1 c = search needs

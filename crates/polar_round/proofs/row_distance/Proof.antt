@@ -1,8 +1,8 @@
 -- `row_distance` meets its contract: each call is an absolute value.
-use Rattle.decomposition.specs.Polar.{rowDistance}
+use Rattle.polar_round.specs.PolarRound.{rowDistance}
 use borrow.Author.Needs.{needs}
-use Rattle.decomposition.proofs.row_distance.Statement.{statement}
-use Rattle.decomposition.proofs.row_distance.Tie as tie
+use Rattle.polar_round.proofs.row_distance.Statement.{statement}
+use Rattle.polar_round.proofs.row_distance.Tie as tie
 
 array-read-abs : tie.Need-array-read-abs
 array-read-abs c = search needs

@@ -1,9 +1,9 @@
 -- `linear_part` meets its contract: it is the definition, written out.
 use mathlib.Core.Path.{refl}
-use Rattle.decomposition.specs.Polar.{linearPart}
+use Rattle.polar_round.specs.PolarRound.{linearPart}
 use borrow.Author.Needs.{needs}
-use Rattle.decomposition.proofs.linear_part.Statement.{statement}
-use Rattle.decomposition.proofs.linear_part.Tie as tie
+use Rattle.polar_round.proofs.linear_part.Statement.{statement}
+use Rattle.polar_round.proofs.linear_part.Tie as tie
 
 array-copy-out-a : tie.Need-array-copy-out-a
 array-copy-out-a c = search needs
