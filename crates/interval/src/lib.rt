@@ -332,25 +332,7 @@ impl Judged {
         Judged::judge(first(m, x.not_positive()), roots)
     }
 
-    // The sine. Accuracy: encloses, for angles from 0 to a full turn.
-    pub fn sin_enclosure(m: u8, x: Interval) -> Self
-        ensures value { λ r. ⌜ r ≡ Judged·sinEnclosure m x ⌝ }
-    {
-        let from = EndAngle::new(x.low);
-        let to = EndAngle::new(x.high);
-        Judged::judge(m, from.sin_range(to))
-    }
-
-    // The cosine. Accuracy: encloses, for angles from 0 to a full turn.
-    pub fn cos_enclosure(m: u8, x: Interval) -> Self
-        ensures value { λ r. ⌜ r ≡ Judged·cosEnclosure m x ⌝ }
-    {
-        let from = EndAngle::new(x.low);
-        let to = EndAngle::new(x.high);
-        Judged::judge(m, from.cos_range(to))
-    }
-
-    // The cosine, then the sine with the number that the cosine hands on. Accuracy: encloses, likewise.
+    // The cosine, then the sine with the number that the cosine hands on. Accuracy: encloses, for angles from 0 to a full turn.
     pub fn sin_cos_enclosure(m: u8, x: Interval) -> JudgedSinCos
         ensures value { λ r. ⌜ (r .cos ≡ Judged·cosEnclosure m x) × (r .sin ≡ Judged·sinEnclosure (r .cos .refusal) x) ⌝ }
     {

@@ -17,10 +17,7 @@ use Rattle.pose_steps.specs.declared.IntervalMatrix.{IntervalMatrix}
 use Rattle.pose_steps.specs.Enclose.{IntervalVector·list, IntervalQuaternion·list, IntervalRow·list, IntervalMatrix·list}
 use Rattle.pose_ends.specs.Ends.{IntervalVector·endsSum, IntervalQuaternion·endsSum, IntervalRow·endsSum, IntervalMatrix·endsSum}
 
--- ---- sums of two, three and four
-pub two-finite : (x y : Float) → T (finite (x ⊕ y)) → T (finite x) × T (finite y)
-two-finite x y h = add-finite x y h
-
+-- ---- sums of three, and of the ends of two and four intervals
 pub three-finite : (x y z : Float) → T (finite (x ⊕ y ⊕ z)) → T (finite x) × (T (finite y) × T (finite z))
 three-finite x y z h =
     let f = add-finite (x ⊕ y) z h in
