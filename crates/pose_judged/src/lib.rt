@@ -1,7 +1,7 @@
 // The stages of a pose in intervals, each interval judged as it is formed: the first number that is met stands.
 // Where all ends are finite nothing is refused, and the stages' own crates leave the judging out; these are what they fall back on where the test of the ends fails.
 ghost use mathlib.Core.Path.{_≡_};
-ghost use Rattle.pose_steps.specs.Enclose.{Pose·encloseTranslation, Pose·encloseScaleRow, Pose·encloseScale, Pose·encloseRotation, Pose·encloseMulRow, Pose·encloseMul, Pose·encloseTransformPoint};
+ghost use Rattle.pose_steps.specs.Enclose.{Pose·encloseTranslation, Pose·encloseSlerpNear, Pose·encloseSlerpFar, Pose·encloseScaleRow, Pose·encloseScale, Pose·encloseRotation, Pose·encloseMulRow, Pose·encloseMul, Pose·encloseTransformPoint};
 use interval::Interval;
 use interval::Judged;
 use pose_steps::IntervalMatrix;
@@ -9,6 +9,7 @@ use pose_steps::IntervalQuaternion;
 use pose_steps::IntervalRow;
 use pose_steps::IntervalVector;
 use pose_steps::JudgedMatrix;
+use pose_steps::JudgedQuaternion;
 use pose_steps::JudgedRow;
 use pose_steps::JudgedVector;
 
@@ -42,6 +43,123 @@ pub fn translation_enclosure(
     JudgedVector {
         vector,
         refusal: rz.refusal,
+    }
+}
+
+// slerp where it is linear. Accuracy: encloses.
+pub fn slerp_near_enclosure(
+    m: u8,
+    q1: IntervalQuaternion,
+    q2: IntervalQuaternion,
+    t: Interval,
+) -> JudgedQuaternion
+    ensures value { λ r. ⌜ r ≡ Pose·encloseSlerpNear m q1 q2 t ⌝ }
+{
+    let one = Interval {
+        low: 1.0,
+        high: 1.0,
+    };
+    let s = Judged::sub_enclosure(m, one, t);
+    let px = Judged::mul_enclosure(s.refusal, q1.x, s.interval);
+    let qx = Judged::mul_enclosure(px.refusal, q2.x, t);
+    let x = Judged::add_enclosure(qx.refusal, px.interval, qx.interval);
+    let py = Judged::mul_enclosure(x.refusal, q1.y, s.interval);
+    let qy = Judged::mul_enclosure(py.refusal, q2.y, t);
+    let y = Judged::add_enclosure(qy.refusal, py.interval, qy.interval);
+    let pz = Judged::mul_enclosure(y.refusal, q1.z, s.interval);
+    let qz = Judged::mul_enclosure(pz.refusal, q2.z, t);
+    let z = Judged::add_enclosure(qz.refusal, pz.interval, qz.interval);
+    let pw = Judged::mul_enclosure(z.refusal, q1.w, s.interval);
+    let qw = Judged::mul_enclosure(pw.refusal, q2.w, t);
+    let w = Judged::add_enclosure(qw.refusal, pw.interval, qw.interval);
+    let xx = Judged::mul_enclosure(w.refusal, x.interval, x.interval);
+    let yy = Judged::mul_enclosure(xx.refusal, y.interval, y.interval);
+    let xy = Judged::add_enclosure(yy.refusal, xx.interval, yy.interval);
+    let zz = Judged::mul_enclosure(xy.refusal, z.interval, z.interval);
+    let xyz = Judged::add_enclosure(zz.refusal, xy.interval, zz.interval);
+    let ww = Judged::mul_enclosure(xyz.refusal, w.interval, w.interval);
+    let dot = Judged::add_enclosure(ww.refusal, xyz.interval, ww.interval);
+    let n = Judged::sqrt_enclosure(dot.refusal, dot.interval);
+    let nx = Judged::div_enclosure(n.refusal, x.interval, n.interval);
+    let ny = Judged::div_enclosure(nx.refusal, y.interval, n.interval);
+    let nz = Judged::div_enclosure(ny.refusal, z.interval, n.interval);
+    let nw = Judged::div_enclosure(nz.refusal, w.interval, n.interval);
+    let ix = nx.interval;
+    let iy = ny.interval;
+    let iz = nz.interval;
+    let iw = nw.interval;
+    let quaternion = IntervalQuaternion {
+        x: ix,
+        y: iy,
+        z: iz,
+        w: iw,
+    };
+    JudgedQuaternion {
+        quaternion,
+        refusal: nw.refusal,
+    }
+}
+
+// slerp where it is not, with its dot product and angle given. Accuracy: encloses.
+pub fn slerp_far_enclosure(
+    m: u8,
+    q1: IntervalQuaternion,
+    q2: IntervalQuaternion,
+    cos_theta: Interval,
+    theta: Interval,
+    t: Interval,
+) -> JudgedQuaternion
+    ensures value { λ r. ⌜ r ≡ Pose·encloseSlerpFar m q1 q2 «cos_theta» theta t ⌝ }
+{
+    let thetap = Judged::mul_enclosure(m, theta, t);
+    let px = Judged::mul_enclosure(thetap.refusal, q1.x, cos_theta);
+    let x = Judged::sub_enclosure(px.refusal, q2.x, px.interval);
+    let py = Judged::mul_enclosure(x.refusal, q1.y, cos_theta);
+    let y = Judged::sub_enclosure(py.refusal, q2.y, py.interval);
+    let pz = Judged::mul_enclosure(y.refusal, q1.z, cos_theta);
+    let z = Judged::sub_enclosure(pz.refusal, q2.z, pz.interval);
+    let pw = Judged::mul_enclosure(z.refusal, q1.w, cos_theta);
+    let w = Judged::sub_enclosure(pw.refusal, q2.w, pw.interval);
+    let xx = Judged::mul_enclosure(w.refusal, x.interval, x.interval);
+    let yy = Judged::mul_enclosure(xx.refusal, y.interval, y.interval);
+    let xy = Judged::add_enclosure(yy.refusal, xx.interval, yy.interval);
+    let zz = Judged::mul_enclosure(xy.refusal, z.interval, z.interval);
+    let xyz = Judged::add_enclosure(zz.refusal, xy.interval, zz.interval);
+    let ww = Judged::mul_enclosure(xyz.refusal, w.interval, w.interval);
+    let dot = Judged::add_enclosure(ww.refusal, xyz.interval, ww.interval);
+    let n = Judged::sqrt_enclosure(dot.refusal, dot.interval);
+    let nx = Judged::div_enclosure(n.refusal, x.interval, n.interval);
+    let ny = Judged::div_enclosure(nx.refusal, y.interval, n.interval);
+    let nz = Judged::div_enclosure(ny.refusal, z.interval, n.interval);
+    let nw = Judged::div_enclosure(nz.refusal, w.interval, n.interval);
+    let angle = Judged::sin_cos_enclosure(nw.refusal, thetap.interval);
+    let c = angle.cos;
+    let s = angle.sin;
+    let ax = Judged::mul_enclosure(s.refusal, q1.x, c.interval);
+    let bx = Judged::mul_enclosure(ax.refusal, nx.interval, s.interval);
+    let rx = Judged::add_enclosure(bx.refusal, ax.interval, bx.interval);
+    let ay = Judged::mul_enclosure(rx.refusal, q1.y, c.interval);
+    let by = Judged::mul_enclosure(ay.refusal, ny.interval, s.interval);
+    let ry = Judged::add_enclosure(by.refusal, ay.interval, by.interval);
+    let az = Judged::mul_enclosure(ry.refusal, q1.z, c.interval);
+    let bz = Judged::mul_enclosure(az.refusal, nz.interval, s.interval);
+    let rz = Judged::add_enclosure(bz.refusal, az.interval, bz.interval);
+    let aw = Judged::mul_enclosure(rz.refusal, q1.w, c.interval);
+    let bw = Judged::mul_enclosure(aw.refusal, nw.interval, s.interval);
+    let rw = Judged::add_enclosure(bw.refusal, aw.interval, bw.interval);
+    let ix = rx.interval;
+    let iy = ry.interval;
+    let iz = rz.interval;
+    let iw = rw.interval;
+    let quaternion = IntervalQuaternion {
+        x: ix,
+        y: iy,
+        z: iz,
+        w: iw,
+    };
+    JudgedQuaternion {
+        quaternion,
+        refusal: rw.refusal,
     }
 }
 

@@ -1,4 +1,4 @@
-// The rotation of a pose at dt, pbrt's `slerp` with its dot product and angle given: in floats, and in intervals of which each is judged as it is formed.
+// The rotation of a pose at dt, pbrt's `slerp` with its dot product and angle given: in floats and in intervals.
 // Where a sum over ends is finite, judging is left out, which gives the same. slerp is linear above 0.9995. A squared length whose low end is zero or below is refused with 10 before it is rooted.
 // What far slerp needs that does not depend on t is worked out by `perpendicular_to`, so that a caller with many intervals of t keeps it.
 ghost use mathlib.Core.Path.{_≡_};
@@ -7,7 +7,6 @@ ghost use Rattle.pose_steps.specs.Enclose.{IntervalQuaternion·point, Pose·enc
 ghost use Rattle.interval.specs.Interval.{Interval·point};
 ghost use Rattle.pose_slerp.specs.Unjudged.{Perpendicular·of, IntervalQuaternion·combination, IntervalQuaternion·squared, IntervalQuaternion·quotient};
 use interval::Interval;
-use interval::Judged;
 use interval_unjudged::ends_sum;
 use pose_steps::IntervalQuaternion;
 use pose_steps::JudgedQuaternion;
@@ -84,123 +83,6 @@ pub fn slerp(a: RigidMotion, t: f32) -> Quaternion
         slerp_near(a.r0, a.r1, t)
     } else {
         slerp_far(a.r0, a.r1, a.cos_theta, a.theta, t)
-    }
-}
-
-// With every interval judged.
-fn slerp_near_judged(
-    m: u8,
-    q1: IntervalQuaternion,
-    q2: IntervalQuaternion,
-    t: Interval,
-) -> JudgedQuaternion
-    ensures value { λ r. ⌜ r ≡ Pose·encloseSlerpNear m q1 q2 t ⌝ }
-{
-    let one = Interval {
-        low: 1.0,
-        high: 1.0,
-    };
-    let s = Judged::sub_enclosure(m, one, t);
-    let px = Judged::mul_enclosure(s.refusal, q1.x, s.interval);
-    let qx = Judged::mul_enclosure(px.refusal, q2.x, t);
-    let x = Judged::add_enclosure(qx.refusal, px.interval, qx.interval);
-    let py = Judged::mul_enclosure(x.refusal, q1.y, s.interval);
-    let qy = Judged::mul_enclosure(py.refusal, q2.y, t);
-    let y = Judged::add_enclosure(qy.refusal, py.interval, qy.interval);
-    let pz = Judged::mul_enclosure(y.refusal, q1.z, s.interval);
-    let qz = Judged::mul_enclosure(pz.refusal, q2.z, t);
-    let z = Judged::add_enclosure(qz.refusal, pz.interval, qz.interval);
-    let pw = Judged::mul_enclosure(z.refusal, q1.w, s.interval);
-    let qw = Judged::mul_enclosure(pw.refusal, q2.w, t);
-    let w = Judged::add_enclosure(qw.refusal, pw.interval, qw.interval);
-    let xx = Judged::mul_enclosure(w.refusal, x.interval, x.interval);
-    let yy = Judged::mul_enclosure(xx.refusal, y.interval, y.interval);
-    let xy = Judged::add_enclosure(yy.refusal, xx.interval, yy.interval);
-    let zz = Judged::mul_enclosure(xy.refusal, z.interval, z.interval);
-    let xyz = Judged::add_enclosure(zz.refusal, xy.interval, zz.interval);
-    let ww = Judged::mul_enclosure(xyz.refusal, w.interval, w.interval);
-    let dot = Judged::add_enclosure(ww.refusal, xyz.interval, ww.interval);
-    let n = Judged::sqrt_enclosure(dot.refusal, dot.interval);
-    let nx = Judged::div_enclosure(n.refusal, x.interval, n.interval);
-    let ny = Judged::div_enclosure(nx.refusal, y.interval, n.interval);
-    let nz = Judged::div_enclosure(ny.refusal, z.interval, n.interval);
-    let nw = Judged::div_enclosure(nz.refusal, w.interval, n.interval);
-    let ix = nx.interval;
-    let iy = ny.interval;
-    let iz = nz.interval;
-    let iw = nw.interval;
-    let quaternion = IntervalQuaternion {
-        x: ix,
-        y: iy,
-        z: iz,
-        w: iw,
-    };
-    JudgedQuaternion {
-        quaternion,
-        refusal: nw.refusal,
-    }
-}
-
-// With every interval judged.
-fn slerp_far_judged(
-    m: u8,
-    q1: IntervalQuaternion,
-    q2: IntervalQuaternion,
-    cos_theta: Interval,
-    theta: Interval,
-    t: Interval,
-) -> JudgedQuaternion
-    ensures value { λ r. ⌜ r ≡ Pose·encloseSlerpFar m q1 q2 «cos_theta» theta t ⌝ }
-{
-    let thetap = Judged::mul_enclosure(m, theta, t);
-    let px = Judged::mul_enclosure(thetap.refusal, q1.x, cos_theta);
-    let x = Judged::sub_enclosure(px.refusal, q2.x, px.interval);
-    let py = Judged::mul_enclosure(x.refusal, q1.y, cos_theta);
-    let y = Judged::sub_enclosure(py.refusal, q2.y, py.interval);
-    let pz = Judged::mul_enclosure(y.refusal, q1.z, cos_theta);
-    let z = Judged::sub_enclosure(pz.refusal, q2.z, pz.interval);
-    let pw = Judged::mul_enclosure(z.refusal, q1.w, cos_theta);
-    let w = Judged::sub_enclosure(pw.refusal, q2.w, pw.interval);
-    let xx = Judged::mul_enclosure(w.refusal, x.interval, x.interval);
-    let yy = Judged::mul_enclosure(xx.refusal, y.interval, y.interval);
-    let xy = Judged::add_enclosure(yy.refusal, xx.interval, yy.interval);
-    let zz = Judged::mul_enclosure(xy.refusal, z.interval, z.interval);
-    let xyz = Judged::add_enclosure(zz.refusal, xy.interval, zz.interval);
-    let ww = Judged::mul_enclosure(xyz.refusal, w.interval, w.interval);
-    let dot = Judged::add_enclosure(ww.refusal, xyz.interval, ww.interval);
-    let n = Judged::sqrt_enclosure(dot.refusal, dot.interval);
-    let nx = Judged::div_enclosure(n.refusal, x.interval, n.interval);
-    let ny = Judged::div_enclosure(nx.refusal, y.interval, n.interval);
-    let nz = Judged::div_enclosure(ny.refusal, z.interval, n.interval);
-    let nw = Judged::div_enclosure(nz.refusal, w.interval, n.interval);
-    let angle = Judged::sin_cos_enclosure(nw.refusal, thetap.interval);
-    let c = angle.cos;
-    let s = angle.sin;
-    let ax = Judged::mul_enclosure(s.refusal, q1.x, c.interval);
-    let bx = Judged::mul_enclosure(ax.refusal, nx.interval, s.interval);
-    let rx = Judged::add_enclosure(bx.refusal, ax.interval, bx.interval);
-    let ay = Judged::mul_enclosure(rx.refusal, q1.y, c.interval);
-    let by = Judged::mul_enclosure(ay.refusal, ny.interval, s.interval);
-    let ry = Judged::add_enclosure(by.refusal, ay.interval, by.interval);
-    let az = Judged::mul_enclosure(ry.refusal, q1.z, c.interval);
-    let bz = Judged::mul_enclosure(az.refusal, nz.interval, s.interval);
-    let rz = Judged::add_enclosure(bz.refusal, az.interval, bz.interval);
-    let aw = Judged::mul_enclosure(rz.refusal, q1.w, c.interval);
-    let bw = Judged::mul_enclosure(aw.refusal, nw.interval, s.interval);
-    let rw = Judged::add_enclosure(bw.refusal, aw.interval, bw.interval);
-    let ix = rx.interval;
-    let iy = ry.interval;
-    let iz = rz.interval;
-    let iw = rw.interval;
-    let quaternion = IntervalQuaternion {
-        x: ix,
-        y: iy,
-        z: iz,
-        w: iw,
-    };
-    JudgedQuaternion {
-        quaternion,
-        refusal: rw.refusal,
     }
 }
 
@@ -289,7 +171,7 @@ pub fn slerp_near_enclosure(m: u8, q1: Quaternion, q2: Quaternion, t: Interval) 
     } else {
         let a = quaternion_point(q1);
         let b = quaternion_point(q2);
-        slerp_near_judged(m, a, b, t)
+        pose_judged::slerp_near_enclosure(m, a, b, t)
     }
 }
 
@@ -319,5 +201,5 @@ pub fn slerp_far_enclosure(m: u8, a: RigidMotion, t: Interval) -> JudgedQuaterni
     let q = quaternion_point(a.r1);
     let cos_theta = Interval::point(a.cos_theta);
     let theta = Interval::point(a.theta);
-    slerp_far_judged(m, p, q, cos_theta, theta, t)
+    pose_judged::slerp_far_enclosure(m, p, q, cos_theta, theta, t)
 }

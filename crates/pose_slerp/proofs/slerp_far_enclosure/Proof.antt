@@ -4,7 +4,7 @@ use Rattle.pose_slerp.proofs.slerp_far_enclosure.Tie as tie
 
 returns : tie.Need-returns
 returns c = rw (
-  c .slerp-far-judged .ensures,
+  c .slerp-far-enclosure .ensures,
   c .before .point2 .ensures,
   c .before .before .point .ensures,
   c .before .before .before .quaternion-point2 .ensures,

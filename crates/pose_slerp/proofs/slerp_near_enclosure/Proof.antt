@@ -20,7 +20,7 @@ returns c =
     (c .if1 .taken)
 
 returns-2 : tie.Need-returns-2
-returns-2 c = rw (c .slerp-near-judged .ensures, c .before .quaternion-point2 .ensures, c .before .before .quaternion-point .ensures)
+returns-2 c = rw (c .slerp-near-enclosure .ensures, c .before .quaternion-point2 .ensures, c .before .before .quaternion-point .ensures)
 
 pub slerp-near-enclosure-spec : {M : Type 1} → statement M
 slerp-near-enclosure-spec = tie.close (tie.spec (λ c κs. tt) (λ c κs. tt) (λ c κs. tt) (λ c κs. tt) (λ c κs. tt) (λ c κs. tt) (λ c κs. tt) (λ c κs. tt) (λ c κs. tt) (λ c κs. tt) (λ c κs. tt) (λ c κs. tt) (λ c κs. tt) (λ c κs. tt) returns returns-2)

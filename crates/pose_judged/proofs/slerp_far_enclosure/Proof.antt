@@ -1,12 +1,12 @@
--- `slerp_far_judged` meets its contract: its calls are the formula's operations in working order.
+-- `slerp_far_enclosure` meets its contract: its calls are the formula's operations in working order.
 use mathlib.Core.Path.{ap}
 use mathlib.Core.List.{[], _∷_, _++_}
 use Rattle.formula.specs.Enclose.{enclosure}
 use Rattle.formula.proofs.Trace.{traced}
 use Rattle.pose_steps.specs.Stages.{slerpFarStage}
 use Rattle.pose_steps.specs.Enclose.{IntervalQuaternion·list, JudgedQuaternion·of, Pose·encloseSlerpFar}
-use Rattle.pose_slerp.proofs.slerp_far_judged.Statement.{statement}
-use Rattle.pose_slerp.proofs.slerp_far_judged.Tie as tie
+use Rattle.pose_judged.proofs.slerp_far_enclosure.Statement.{statement}
+use Rattle.pose_judged.proofs.slerp_far_enclosure.Tie as tie
 
 returns : tie.Need-returns
 unfolding Pose·encloseSlerpFar
@@ -48,5 +48,5 @@ returns c =
     _ (c .before .before .before .before .before .mul-enclosure17 .ensures)
     _ (c .before .before .before .before .add-enclosure7 .ensures))
 
-pub slerp-far-judged-spec : {M : Type 1} → statement M
-slerp-far-judged-spec = tie.close (tie.spec (λ c κs. tt) (λ c κs. tt) (λ c κs. tt) (λ c κs. tt) (λ c κs. tt) (λ c κs. tt) (λ c κs. tt) (λ c κs. tt) (λ c κs. tt) (λ c κs. tt) (λ c κs. tt) (λ c κs. tt) (λ c κs. tt) (λ c κs. tt) (λ c κs. tt) (λ c κs. tt) (λ c κs. tt) (λ c κs. tt) (λ c κs. tt) (λ c κs. tt) (λ c κs. tt) (λ c κs. tt) (λ c κs. tt) (λ c κs. tt) (λ c κs. tt) (λ c κs. tt) (λ c κs. tt) (λ c κs. tt) (λ c κs. tt) (λ c κs. tt) (λ c κs. tt) (λ c κs. tt) (λ c κs. tt) (λ c κs. tt) returns)
+pub slerp-far-enclosure-spec : {M : Type 1} → statement M
+slerp-far-enclosure-spec = tie.close (tie.spec (λ c κs. tt) (λ c κs. tt) (λ c κs. tt) (λ c κs. tt) (λ c κs. tt) (λ c κs. tt) (λ c κs. tt) (λ c κs. tt) (λ c κs. tt) (λ c κs. tt) (λ c κs. tt) (λ c κs. tt) (λ c κs. tt) (λ c κs. tt) (λ c κs. tt) (λ c κs. tt) (λ c κs. tt) (λ c κs. tt) (λ c κs. tt) (λ c κs. tt) (λ c κs. tt) (λ c κs. tt) (λ c κs. tt) (λ c κs. tt) (λ c κs. tt) (λ c κs. tt) (λ c κs. tt) (λ c κs. tt) (λ c κs. tt) (λ c κs. tt) (λ c κs. tt) (λ c κs. tt) (λ c κs. tt) (λ c κs. tt) returns)

@@ -1,12 +1,12 @@
--- `slerp_near_judged` meets its contract: its calls are the formula's operations in working order.
+-- `slerp_near_enclosure` meets its contract: its calls are the formula's operations in working order.
 use mathlib.Core.Path.{ap}
 use mathlib.Core.List.{[], _∷_, _++_}
 use Rattle.formula.specs.Enclose.{enclosure}
 use Rattle.formula.proofs.Trace.{traced}
 use Rattle.pose_steps.specs.Stages.{slerpNearStage}
 use Rattle.pose_steps.specs.Enclose.{IntervalQuaternion·list, JudgedQuaternion·of, Pose·encloseSlerpNear}
-use Rattle.pose_slerp.proofs.slerp_near_judged.Statement.{statement}
-use Rattle.pose_slerp.proofs.slerp_near_judged.Tie as tie
+use Rattle.pose_judged.proofs.slerp_near_enclosure.Statement.{statement}
+use Rattle.pose_judged.proofs.slerp_near_enclosure.Tie as tie
 
 returns : tie.Need-returns
 unfolding Pose·encloseSlerpNear
@@ -38,5 +38,5 @@ returns c =
     _ (c .before .before .before .before .before .div-enclosure3 .ensures)
     _ (c .before .before .before .before .div-enclosure4 .ensures))
 
-pub slerp-near-judged-spec : {M : Type 1} → statement M
-slerp-near-judged-spec = tie.close (tie.spec (λ c κs. tt) (λ c κs. tt) (λ c κs. tt) (λ c κs. tt) (λ c κs. tt) (λ c κs. tt) (λ c κs. tt) (λ c κs. tt) (λ c κs. tt) (λ c κs. tt) (λ c κs. tt) (λ c κs. tt) (λ c κs. tt) (λ c κs. tt) (λ c κs. tt) (λ c κs. tt) (λ c κs. tt) (λ c κs. tt) (λ c κs. tt) (λ c κs. tt) (λ c κs. tt) (λ c κs. tt) (λ c κs. tt) (λ c κs. tt) (λ c κs. tt) returns)
+pub slerp-near-enclosure-spec : {M : Type 1} → statement M
+slerp-near-enclosure-spec = tie.close (tie.spec (λ c κs. tt) (λ c κs. tt) (λ c κs. tt) (λ c κs. tt) (λ c κs. tt) (λ c κs. tt) (λ c κs. tt) (λ c κs. tt) (λ c κs. tt) (λ c κs. tt) (λ c κs. tt) (λ c κs. tt) (λ c κs. tt) (λ c κs. tt) (λ c κs. tt) (λ c κs. tt) (λ c κs. tt) (λ c κs. tt) (λ c κs. tt) (λ c κs. tt) (λ c κs. tt) (λ c κs. tt) (λ c κs. tt) (λ c κs. tt) (λ c κs. tt) returns)
