@@ -1,5 +1,5 @@
 -- Chains built and asked by computing: the identity at 0, the identity with m03 = 1 at 1, the identity at 2. Its inner time belongs to the earlier move, and it meets the guarantee's
--- hypotheses (`hypotheses-met`). The counts, the times and the order of the checks: 12 after 1 and before 3, and 3 before anything is worked.
+-- hypotheses (`hypotheses-met`). Lists of times asked of it, answered and refused. The counts, the times and the order of the checks: 12 after 1 and before 3, and 3 before anything is worked.
 use Prim.Native.Nat.{ℕ, zero, suc, _*_, _^_}
 use mathlib.Core.Path.{_≡_, refl}
 use mathlib.Core.Bool.{true, false}
@@ -18,6 +18,9 @@ use Rattle.motion_cover.specs.Theorem.{MovedInside}
 use Rattle.motion_chain.specs.Chain.{chainRefusal, Chain, built, refused, Chain·new, Chain·transformPoint, Chain·cover}
 use Rattle.motion_chain.specs.Built.{BuiltChain}
 use Rattle.motion_chain.specs.MoveAt.{indexFrom, Chain·indexAt}
+use Rattle.motion_chain.specs.Times as times
+use Rattle.motion_chain.specs.Times.{Chain·transformPoints, Chain·pointsLeft}
+use Rattle.motion_chain.specs.Stretches.{Chain·stretches}
 use Rattle.motion_chain.specs.Computing.{computing}
 use Rattle.motion_chain.proofs.Cover.{chain-contains}
 
@@ -35,6 +38,9 @@ o = fraction 0 1
 
 abbrev one : Float
 one = fraction 1 1
+
+abbrev far : Float
+far = fraction (3 * 10 ^ 38) 1
 
 -- The diagonal d, d, d, 1 with m03 = x.
 abbrev pose : Float → Float → Float → Pose
@@ -118,6 +124,68 @@ way-back-covered =
     chain-contains chain (segment o o) 1 (segment o one) (fraction 3 2) (onX o) (hypotheses-met .built) (hypotheses-met .accepted) tt
     (record { x = (zero-refl, zero-refl); y = (zero-refl, zero-refl); z = (zero-refl, zero-refl) })
 
+-- ---- lists of times
+abbrev onTheWay : List Float
+onTheWay = inf true ∷ one ∷ one ∷ fraction 3 2 ∷ []
+
+abbrev ninePlaces : List Float
+ninePlaces = o ∷ o ∷ o ∷ o ∷ o ∷ o ∷ o ∷ o ∷ o ∷ []
+
+-- The inner time, asked twice, ends the first move's stretch.
+list-in-two-stretches : Chain·stretches chain onTheWay ≡ (inf true ∷ one ∷ one ∷ []) ∷ (fraction 3 2 ∷ []) ∷ []
+unfolding computing
+list-in-two-stretches = refl
+
+list-answered : Chain·transformPoints chain onTheWay (onX o) 12 ≡ times.moved (onX o ∷ onX one ∷ onX one ∷ onX (fraction 1 2) ∷ [])
+unfolding computing
+list-answered = refl
+
+list-left : Chain·pointsLeft chain (one ∷ fraction 3 2 ∷ []) (onX o) (nan ∷ nan ∷ nan ∷ nan ∷ nan ∷ nan ∷ []) ≡ one ∷ o ∷ o ∷ fraction 1 2 ∷ o ∷ o ∷ []
+unfolding computing
+list-left = refl
+
+empty-list-answered : Chain·transformPoints chain [] (onX o) 0 ≡ times.moved []
+unfolding computing
+empty-list-answered = refl
+
+-- 6 is judged before 13, of every time and of the point, also where there is no time.
+nan-in-falling-list-refused : Chain·transformPoints chain (one ∷ o ∷ nan ∷ []) (onX o) 0 ≡ times.refused 6
+unfolding computing
+nan-in-falling-list-refused = refl
+
+point-of-empty-list-refused : Chain·transformPoints chain [] (onX nan) 0 ≡ times.refused 6
+unfolding computing
+point-of-empty-list-refused = refl
+
+falling-list-refused : Chain·pointsLeft chain (o ∷ fraction 3 2 ∷ one ∷ []) (onX o) ninePlaces ≡ ninePlaces
+unfolding computing
+falling-list-refused = refl
+
+place-too-many-refused : Chain·transformPoints chain (o ∷ one ∷ []) (onX o) 7 ≡ times.refused 13
+unfolding computing
+place-too-many-refused = refl
+
+places-for-empty-list-refused : Chain·transformPoints chain [] (onX o) 3 ≡ times.refused 13
+unfolding computing
+places-for-empty-list-refused = refl
+
+-- A chain that doubles: the first time is answered, the second is 5, and that stands for the list.
+abbrev doubling : Chain
+doubling = record { first = AnimatedTransform·new (identityAt o) (pose one (fraction 2 1) o) .value; rest = [] }
+
+second-time-refused : Chain·transformPoints doubling (o ∷ one ∷ fraction 2 1 ∷ []) (onX far) 9 ≡ times.refused 5
+unfolding computing
+second-time-refused = refl
+
+second-time-leaves-all : Chain·pointsLeft doubling (o ∷ one ∷ fraction 2 1 ∷ []) (onX far) ninePlaces ≡ ninePlaces
+unfolding computing
+second-time-leaves-all = refl
+
+-- -0 after +0 does not fall.
+zeros-do-not-fall : Chain·transformPoints chain (o ∷ negative 0 1 ∷ []) (onX o) 6 ≡ times.moved (onX o ∷ onX o ∷ [])
+unfolding computing
+zeros-do-not-fall = refl
+
 -- ---- counts
 
 -- n poses at the times 0 to n − 1, in front of some.
@@ -154,9 +222,6 @@ inner-time-falling-refused = refl
 nan-time-of-one-pose-refused : Chain·new (identityAt nan ∷ []) ≡ refused 1
 unfolding computing
 nan-time-of-one-pose-refused = refl
-
-abbrev far : Float
-far = fraction (3 * 10 ^ 38) 1
 
 abbrev farBelow : Float
 farBelow = negative (3 * 10 ^ 38) 1

@@ -4,4 +4,6 @@ pub mod Cover
 pub mod MoveAt
 pub mod Answer
 pub mod TwoPoses
+pub mod Times
+pub mod Stretches
 pub mod Cases

@@ -39,12 +39,12 @@ above-earlier {t} {s} time h k = go (le time t) (λ e. ≼-trans {x = time} (rec
 
 -- ---- the move
 module _ (time : Float) where
-  first-move : (m : AnimatedTransform) (moves : List AnimatedTransform) → T (le time (m .«end_time»)) → moveFrom m moves time ≡ m
+  pub first-move : (m : AnimatedTransform) (moves : List AnimatedTransform) → T (le time (m .«end_time»)) → moveFrom m moves time ≡ m
   unfolding moveFrom
   first-move m [] h = refl
   first-move m (next ∷ moves) h = rw (is-true (le time (m .«end_time»)) h)
 
-  later-move : (m next : AnimatedTransform) (moves : List AnimatedTransform) → le time (m .«end_time») ≡ false → moveFrom m (next ∷ moves) time ≡ moveFrom next moves time
+  pub later-move : (m next : AnimatedTransform) (moves : List AnimatedTransform) → le time (m .«end_time») ≡ false → moveFrom m (next ∷ moves) time ≡ moveFrom next moves time
   unfolding moveFrom
   later-move m next moves h = rw h
 

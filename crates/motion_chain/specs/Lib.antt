@@ -4,4 +4,7 @@ pub mod Theorem
 pub mod MoveAt
 pub mod Answer
 pub mod TwoPoses
+pub mod Times
+pub mod Stretches
+pub mod TimesAnswer
 pub mod Computing
