@@ -9,7 +9,8 @@ use lib.Ieee.{Float}
 use Rattle.sine_table.specs.Table.{quarterTurn}
 use Rattle.trig.specs.Units.{angleUnits}
 use Rattle.trig_laws.specs.Range.{lies, sinLow, sinHigh, cosLow, cosHigh}
-use Rattle.interval.specs.Enclosure.{Interval·sinEnclosure, Interval·cosEnclosure, EndAngle·new, EndAngle·sinRange, EndAngle·cosRange}
+use Rattle.interval.specs.Enclosure.{Interval·sinEnclosure, Interval·cosEnclosure}
+use Rattle.interval.specs.EndAngle.{EndAngle·new, EndAngle·sinRange, EndAngle·cosRange}
 
 same-test : (x y : Bool) → (T x → T y) → (T y → T x) → x ≡ y
 same-test true true h k = refl

@@ -1,19 +1,15 @@
 -- The interval operations of document 01's cover, and each with its refusal number. Definitions only.
 -- An operation's ends are rounded to nearest, as every float operation is: since rounding keeps the order, they enclose what the operation gives at any point.
 -- Least and greatest of four are taken in 000's order, that of its own product; the order decides no more than the sign of a zero.
-use Prim.Native.Nat.{ℕ, zero, suc, _*_, _^_, min}
-use mathlib.Core.Bool.{Bool, cond, _&&_, _||_}
-use lib.Ieee.{Float, binary32, ofBits, le}
+use Prim.Native.Nat.{ℕ, zero, suc}
+use mathlib.Core.Bool.{Bool, cond, _&&_}
+use lib.Ieee.{binary32, ofBits, le}
 use lib.Ieee.Scale.{finite}
 use Rattle.square_root.specs.SquareRoot.{sqrt}
-use Rattle.sine_table.specs.Table.{quarterTurn}
-use Rattle.trig.specs.Units.{angleUnits}
-use Rattle.trig.specs.SinCos.{sin, cos}
-use Rattle.trig_laws.specs.Range.{lies, rangeLow, rangeHigh, sinLow, sinHigh, cosLow, cosHigh, fullTurnFloat}
+use Rattle.trig_laws.specs.Range.{sinLow, sinHigh, cosLow, cosHigh, fullTurnFloat}
 use Rattle.float32.specs.Operators.{_⊕_, _⊖_, _⊗_, _⊘_}
 use Rattle.interval.specs.declared.Interval.{Interval}
 use Rattle.interval.specs.declared.Judged.{Judged}
-use Rattle.interval.specs.declared.EndAngle.{EndAngle}
 use Rattle.interval.specs.Interval.{Interval·ofFour}
 
 -- ---- document 01, Cover
@@ -45,25 +41,7 @@ Interval·sinEnclosure X = record { low = sinLow (X .low) (X .high); high = sinH
 unfoldable pub Interval·cosEnclosure : Interval → Interval
 Interval·cosEnclosure X = record { low = cosLow (X .low) (X .high); high = cosHigh (X .low) (X .high) }
 
--- The same of two ends whose u, sine and cosine are at hand (`sin-range`, `cos-range`). u is held at 2 ^ 52, which is beyond every place that is asked for.
-unfoldable pub EndAngle·new : Float → EndAngle
-EndAngle·new a = record { angle = a; units = min (angleUnits a) (2 ^ 52); sin = sin a; cos = cos a }
-
-unfoldable pub EndAngle·sinRange : EndAngle → EndAngle → Interval
-EndAngle·sinRange p q =
-    record {
-      low = rangeLow (lies (3 * quarterTurn) (p .units) (q .units)) (p .sin) (q .sin);
-      high = rangeHigh (lies quarterTurn (p .units) (q .units)) (p .sin) (q .sin);
-    }
-
-unfoldable pub EndAngle·cosRange : EndAngle → EndAngle → Interval
-EndAngle·cosRange p q =
-    record {
-      low = rangeLow (lies (2 * quarterTurn) (p .units) (q .units)) (p .cos) (q .cos);
-      high = rangeHigh (lies 0 (p .units) (q .units) || lies (4 * quarterTurn) (p .units) (q .units)) (p .cos) (q .cos);
-    }
-
--- Angles from 0 to a full turn, where these two enclose; below zero, and far beyond a full turn, document 01's rule does not.
+-- Angles from 0 to a full turn, where `Interval·sinEnclosure` and `Interval·cosEnclosure` enclose; below zero, and far beyond a full turn, document 01's rule does not.
 abbrev pub areAngles : Interval → Bool
 areAngles X = le (ofBits binary32 0) (X .low) && le (X .high) fullTurnFloat
 

@@ -17,7 +17,8 @@ use Rattle.interval.specs.declared.Interval.{Interval}
 use Rattle.interval.specs.declared.EndAngle.{EndAngle}
 use Rattle.interval.specs.Contains.{Finite}
 use Rattle.interval.specs.Interval.{Interval·point}
-use Rattle.interval.specs.Enclosure.{Interval·addEnclosure, Interval·subEnclosure, Interval·sqrtEnclosure, Interval·sinEnclosure, Interval·cosEnclosure, EndAngle·new, EndAngle·sinRange, EndAngle·cosRange}
+use Rattle.interval.specs.Enclosure.{Interval·addEnclosure, Interval·subEnclosure, Interval·sqrtEnclosure, Interval·sinEnclosure, Interval·cosEnclosure}
+use Rattle.interval.specs.EndAngle.{EndAngle·new, EndAngle·sinRange, EndAngle·cosRange}
 use Rattle.interval.proofs.Places.{sin-range, cos-range}
 use Rattle.interval.proofs.Points.{add-point, sub-point, sqrt-point}
 use Rattle.interval_unjudged.specs.Ordered.{Interval·mulOrdered, Interval·divOrdered, Interval·endsSum}

@@ -1,5 +1,5 @@
 -- `EndAngle::new` meets its contract: its calls in turn, from the last to the first.
-use Rattle.interval.specs.Enclosure.{EndAngle·new}
+use Rattle.interval.specs.EndAngle.{EndAngle·new}
 use Rattle.interval.proofs.EndAngle.new.Statement.{statement}
 use Rattle.interval.proofs.EndAngle.new.Tie as tie
 
