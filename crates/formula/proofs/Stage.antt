@@ -1,6 +1,4 @@
--- Programs in sequence enclose and narrow as one: `then-extends`, `then-isotone`. For stages that hand structs on: what a struct lists is what it was filled from
--- (`stage-is`), so that `stage-extends` and `stage-isotone` are the promises from struct to struct. Inputs from several places are joined by `join-encloses`
--- and `join-narrower`; what was enclosed before a stage is so after it (`later-encloses`, `later-narrower`).
+-- For stages that hand structs on: what a struct lists is what it was filled from (`stage-is`), so that `stage-extends` and `stage-isotone` are the promises from struct to struct.
 use mathlib.Core.Path.{_≡_, refl, sym, ap, ap₂, _∙_, subst, subst₂}
 use Prim.Native.Nat.{ℕ, suc}
 use mathlib.Core.List.{List, [], _∷_, _++_, append-assoc}
@@ -9,52 +7,13 @@ use lib.Seq.{getD-append-seam}
 use lib.Dec.{T}
 use lib.Ieee.{Float}
 use Rattle.interval.specs.declared.Interval.{Interval}
-use Rattle.interval.specs.Contains.{Encloses, Refines}
 use Rattle.formula.specs.Program.{Expr, var, Program, _>>=_, give}
 use Rattle.formula.specs.Eval.{Program·eval}
 use Rattle.formula.specs.Enclose.{unbound, Expr·enclose, Enclosure, enclosure, Expr·encloseAll, extend, Program·enclose, Program·valid}
-use Rattle.formula.specs.Promise.{Pairwise, EnclosesAll, NarrowerAll}
-use Rattle.formula.specs.Stage.{outputs, fields, Program·stage, evalThen, inputsThen, encloseThen}
-use Rattle.formula.proofs.Pairwise.{pairwise-append}
-use Rattle.formula.proofs.Carries.{program-zero}
+use Rattle.formula.specs.Promise.{EnclosesAll, NarrowerAll}
+use Rattle.formula.specs.Stage.{outputs, fields, Program·stage}
 use Rattle.formula.proofs.Extends.{program-extends}
 use Rattle.formula.proofs.Isotone.{program-isotone}
-
--- ---- inputs from several places
-pub join-encloses : (m : ℕ) (σ τ : List Interval) (ρ π : List Float)
-    → EnclosesAll (enclosure m σ) ρ → EnclosesAll (enclosure m τ) π → EnclosesAll (enclosure m (σ ++ τ)) (ρ ++ π)
-join-encloses m σ τ ρ π a b z = pairwise-append Encloses σ τ ρ π (a z) (b z)
-
-pub join-narrower : (m m' : ℕ) (σ σ' τ τ' : List Interval) → NarrowerAll (enclosure m σ) (enclosure m' σ') → NarrowerAll (enclosure m τ) (enclosure m' τ')
-    → NarrowerAll (enclosure m (σ ++ τ)) (enclosure m' (σ' ++ τ'))
-join-narrower m m' σ σ' τ τ' a b z = (a z .0, pairwise-append Refines σ τ σ' τ' (a z .1) (b z .1))
-
--- ---- after a stage
-pub later-encloses : (c : Enclosure) (p : Program) (τ : List Interval) (π : List Float)
-    → EnclosesAll (enclosure (c .refusal) τ) π → EnclosesAll (enclosure (Program·enclose c p .refusal) τ) π
-later-encloses c p τ π a z = a (program-zero c p z)
-
-pub later-narrower : (c c' : Enclosure) (p : Program) (τ τ' : List Interval) → T (Program·valid c' p) → NarrowerAll c c' → Pairwise Refines τ τ'
-    → NarrowerAll (enclosure (Program·enclose c p .refusal) τ) (enclosure (Program·enclose c' p .refusal) τ')
-later-narrower c c' p τ τ' v a b z = (program-isotone p c c' v a z .0, b)
-
--- ---- in sequence
-pub then-extends : (c : Enclosure) (ρ : List Float) (p : Program) (τ : List Interval) (π : List Float) (q : Program)
-    → T (Program·valid c p) → T (Program·valid (inputsThen c p τ) q)
-    → EnclosesAll c ρ → EnclosesAll (enclosure (c .refusal) τ) π → EnclosesAll (encloseThen c p τ q) (evalThen ρ p π q)
-then-extends c ρ p τ π q v w a b =
-    let o = Program·enclose c p in
-    program-extends q (inputsThen c p τ) (Program·eval ρ p ++ π) w
-    (join-encloses (o .refusal) (o .intervals) τ (Program·eval ρ p) π (program-extends p c ρ v a) (later-encloses c p τ π b))
-
-pub then-isotone : (c c' : Enclosure) (p : Program) (τ τ' : List Interval) (q : Program)
-    → T (Program·valid c' p) → T (Program·valid (inputsThen c' p τ') q)
-    → NarrowerAll c c' → Pairwise Refines τ τ' → NarrowerAll (encloseThen c p τ q) (encloseThen c' p τ' q)
-then-isotone c c' p τ τ' q v w a b =
-    let o = Program·enclose c p in
-    let o' = Program·enclose c' p in
-    program-isotone q (inputsThen c p τ) (inputsThen c' p τ') w
-    (join-narrower (o .refusal) (o' .refusal) (o .intervals) (o' .intervals) τ τ' (program-isotone p c c' v a) (later-narrower c c' p τ τ' v a b))
 
 -- ---- over structs
 append-one : (σ : List Interval) (X : Interval) → length (σ ++ X ∷ []) ≡ suc (length σ)

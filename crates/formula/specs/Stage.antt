@@ -1,11 +1,9 @@
--- Programs in sequence. A stage's outputs are put into a struct, and its fields are the next stage's inputs, with what else that stage takes. Definitions only.
+-- A stage: a program whose outputs are put into a struct, whose fields are the next stage's inputs. Definitions only.
 use Prim.Native.Nat.{ℕ, zero, suc}
-use mathlib.Core.List.{List, [], _∷_, _++_}
+use mathlib.Core.List.{List, [], _∷_}
 use lib.ListN.{length, getD}
-use lib.Ieee.{Float}
 use Rattle.interval.specs.declared.Interval.{Interval}
 use Rattle.formula.specs.Program.{var, Program, _>>=_, give}
-use Rattle.formula.specs.Eval.{Program·eval}
 use Rattle.formula.specs.Enclose.{unbound, Enclosure, enclosure, Program·enclose}
 
 -- The number of outputs of a program with n inputs.
@@ -21,13 +19,3 @@ fields i (suc n) σ = getD σ i unbound ∷ fields (suc i) n σ
 -- A program's intervals, as the struct that they are put into lists them.
 abbrev pub Program·stage : Enclosure → Program → Enclosure
 Program·stage c p = let o = Program·enclose c p in enclosure (o .refusal) (fields 0 (outputs (length (c .intervals)) p) (o .intervals))
-
--- The outputs of p, and π besides, are the inputs of q.
-abbrev pub evalThen : List Float → Program → List Float → Program → List Float
-evalThen ρ p π q = Program·eval (Program·eval ρ p ++ π) q
-
-abbrev pub inputsThen : Enclosure → Program → List Interval → Enclosure
-inputsThen c p τ = let o = Program·enclose c p in enclosure (o .refusal) (o .intervals ++ τ)
-
-abbrev pub encloseThen : Enclosure → Program → List Interval → Program → Enclosure
-encloseThen c p τ q = Program·enclose (inputsThen c p τ) q
