@@ -23,7 +23,7 @@ use Rattle.motion_derivative.specs.declared.MotionDerivative.{MotionDerivative}
 use Rattle.motion_derivative.specs.Derivative.{MotionDerivative·excludesZero}
 use Rattle.zero_search.specs.declared.Zeros.{Zeros}
 use Rattle.zero_search.specs.Search as search
-use Rattle.zero_search.specs.Search.{midpoint, lowerHalf, upperHalf, findZeros, searchExamined, examined, maxDepth, Zeros·empty}
+use Rattle.zero_search.specs.Search.{midpoint, lowerHalf, upperHalf, findZeros, searchExamined, examined, searchDepth, Zeros·empty}
 use Rattle.search_range.specs.Examined.{searchIntervals, examinedIntervals, Examined}
 
 -- ---- the halves of an interval in 0 to 1
@@ -88,7 +88,7 @@ whole-unit = record { low = record { holds = tt }; proper = record { holds = tt 
 
 pub examined-unit : (f : MotionDerivative) (j : Interval) → Examined f j → Subset j unitInterval
 unfolding examinedIntervals
-examined-unit f j m = search-unit maxDepth (MotionDerivative·excludesZero f search.unitInterval) f search.unitInterval (Zeros·empty 0) whole-unit j m
+examined-unit f j m = search-unit searchDepth (MotionDerivative·excludesZero f search.unitInterval) f search.unitInterval (Zeros·empty 0) whole-unit j m
 
 -- ---- how many there are
 cond-length : (b : Bool) (l : List Interval) → length (cond b l []) ≡ cond b (length l) 0
@@ -117,4 +117,4 @@ pub examinedIntervals-count : (c1 c2 c3 c4 c5 theta : Float)
 unfolding examinedIntervals examined
 examinedIntervals-count c1 c2 c3 c4 c5 theta =
     let f : MotionDerivative = record { c1 = c1; c2 = c2; c3 = c3; c4 = c4; c5 = c5; theta = theta } in
-    searchIntervals-count maxDepth (MotionDerivative·excludesZero f search.unitInterval) f search.unitInterval (Zeros·empty 0)
+    searchIntervals-count searchDepth (MotionDerivative·excludesZero f search.unitInterval) f search.unitInterval (Zeros·empty 0)

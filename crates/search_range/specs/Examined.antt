@@ -9,7 +9,7 @@ use Rattle.interval.specs.declared.Interval.{Interval}
 use Rattle.motion_derivative.specs.declared.MotionDerivative.{MotionDerivative}
 use Rattle.motion_derivative.specs.Derivative.{MotionDerivative·excludesZero}
 use Rattle.zero_search.specs.declared.Zeros.{Zeros}
-use Rattle.zero_search.specs.Search.{lowerHalf, upperHalf, findZeros, maxDepth, unitInterval, Zeros·empty}
+use Rattle.zero_search.specs.Search.{lowerHalf, upperHalf, findZeros, searchDepth, unitInterval, Zeros·empty}
 
 -- The search's own interval; then, unless the range test leaves it out or the depth is 0, those of its lower half, and those of its upper half unless 9 was met.
 unfoldable pub searchIntervals : ℕ → Bool → MotionDerivative → Interval → Zeros → List Interval
@@ -26,7 +26,7 @@ searchIntervals (suc d) false f i z =
 
 -- Those of intervalFindZeros on the six numbers of f.
 unfoldable pub examinedIntervals : MotionDerivative → List Interval
-examinedIntervals f = searchIntervals maxDepth (MotionDerivative·excludesZero f unitInterval) f unitInterval (Zeros·empty 0)
+examinedIntervals f = searchIntervals searchDepth (MotionDerivative·excludesZero f unitInterval) f unitInterval (Zeros·empty 0)
 
 -- j is one of them.
 abbrev pub Examined : MotionDerivative → Interval → Type 0

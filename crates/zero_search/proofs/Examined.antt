@@ -10,7 +10,7 @@ use Rattle.interval.specs.declared.Interval.{Interval}
 use Rattle.motion_derivative.specs.declared.MotionDerivative.{MotionDerivative}
 use Rattle.zero_search.specs.declared.Zeros.{Zeros}
 use Rattle.motion_derivative.specs.Derivative.{MotionDerivative·excludesZero}
-use Rattle.zero_search.specs.Search.{lowerHalf, upperHalf, findZeros, searchExamined, examined, maxDepth, Zeros·empty, unitInterval}
+use Rattle.zero_search.specs.Search.{lowerHalf, upperHalf, findZeros, searchExamined, examined, searchDepth, Zeros·empty, unitInterval}
 
 cond-below : (b : Bool) (m n : ℕ) → m < n → cond b m 0 < n
 cond-below true m n h = h
@@ -34,4 +34,4 @@ pub examined-below : (c1 c2 c3 c4 c5 theta : Float) → examined c1 c2 c3 c4 c5 
 unfolding examined
 examined-below c1 c2 c3 c4 c5 theta =
     let f : MotionDerivative = record { c1 = c1; c2 = c2; c3 = c3; c4 = c4; c5 = c5; theta = theta } in
-    omega (arith, searchExamined-below maxDepth (MotionDerivative·excludesZero f unitInterval) f unitInterval (Zeros·empty 0))
+    omega (arith, searchExamined-below searchDepth (MotionDerivative·excludesZero f unitInterval) f unitInterval (Zeros·empty 0))

@@ -14,7 +14,7 @@ use Rattle.motion_derivative.specs.declared.MotionDerivative.{MotionDerivative}
 use Rattle.float32.specs.Operators.{positiveZero}
 use Rattle.motion_derivative.specs.Derivative.{MotionDerivative·excludesZero}
 use Rattle.zero_search.specs.declared.Zeros.{Zeros}
-use Rattle.zero_search.specs.Search.{nearInterval, newtonZero, lowerHalf, upperHalf, Zeros·empty, Zeros·store, Zeros·accept, search, findZeros, maxDepth, unitInterval, intervalFindZeros}
+use Rattle.zero_search.specs.Search.{nearInterval, newtonZero, lowerHalf, upperHalf, Zeros·empty, Zeros·store, Zeros·accept, search, findZeros, searchDepth, unitInterval, intervalFindZeros}
 use Rattle.zero_search.specs.Stored.{Stored}
 
 cond-stored : (b : Bool) (y z : Zeros) → Stored y → Stored z → Stored (cond b y z)
@@ -67,4 +67,4 @@ pub intervalFindZeros-stored : (c1 c2 c3 c4 c5 theta : Float) → Stored (interv
 unfolding intervalFindZeros
 intervalFindZeros-stored c1 c2 c3 c4 c5 theta =
     let f : MotionDerivative = record { c1 = c1; c2 = c2; c3 = c3; c4 = c4; c5 = c5; theta = theta } in
-    search-stored maxDepth (MotionDerivative·excludesZero f unitInterval) f unitInterval (Zeros·empty 0) empty-stored
+    search-stored searchDepth (MotionDerivative·excludesZero f unitInterval) f unitInterval (Zeros·empty 0) empty-stored

@@ -83,8 +83,8 @@ searchExamined (suc d) false f i z =
     0
 
 -- How often 0 to 1 is halved.
-abbrev pub maxDepth : ℕ
-maxDepth = 8
+abbrev pub searchDepth : ℕ
+searchDepth = 8
 
 abbrev pub unitInterval : Interval
 unitInterval = Interval·new positiveZero one
@@ -92,10 +92,10 @@ unitInterval = Interval·new positiveZero one
 -- interval_find_zeros from 0 to 1 at depth 8, as bound_point_motion calls it
 unfoldable pub intervalFindZeros : Float → Float → Float → Float → Float → Float → Zeros
 intervalFindZeros c1 c2 c3 c4 c5 theta =
-    findZeros maxDepth (record { c1 = c1; c2 = c2; c3 = c3; c4 = c4; c5 = c5; theta = theta }) unitInterval (Zeros·empty 0)
+    findZeros searchDepth (record { c1 = c1; c2 = c2; c3 = c3; c4 = c4; c5 = c5; theta = theta }) unitInterval (Zeros·empty 0)
 
 -- How many intervals intervalFindZeros examines.
 unfoldable pub examined : Float → Float → Float → Float → Float → Float → ℕ
 examined c1 c2 c3 c4 c5 theta =
     let f : MotionDerivative = record { c1 = c1; c2 = c2; c3 = c3; c4 = c4; c5 = c5; theta = theta } in
-    searchExamined maxDepth (MotionDerivative·excludesZero f unitInterval) f unitInterval (Zeros·empty 0)
+    searchExamined searchDepth (MotionDerivative·excludesZero f unitInterval) f unitInterval (Zeros·empty 0)
