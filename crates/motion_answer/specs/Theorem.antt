@@ -1,4 +1,4 @@
--- The guarantee for a file: where the program prints a box, the boom stands inside it at every time.
+-- The guarantee for a file: where the text that answers it is a box, the boom stands inside it at every time.
 --
 -- Whatever bytes are read, the text is that of a refusal, or that of a box such that the file's move is built and, at every time but NaN and for every point of the file's box,
 -- the point query answers a moved point inside the printed box. The statement of `answer-contains`; it is `CoverContainsMotion` of crates/motion_cover/specs/Theorem.antt

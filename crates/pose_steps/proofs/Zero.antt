@@ -1,4 +1,4 @@
--- A stage that was not refused had not been refused before: `translation-zero` and its like, from `program-zero` of formula.
+-- A stage that was not refused had not been refused before: `slerp-zero` and its like, from `program-zero` of formula.
 use mathlib.Core.Path.{_≡_}
 use Prim.Native.Nat.{ℕ}
 use mathlib.Core.Bool.{Bool, true, false}

@@ -39,5 +39,5 @@ pub record EveryAnswer : Type 0 where
   pub point-motion : (m : AnimatedTransform) (p : Point3f) → BoundsAnswer·RefusedBy (5 ∷ 6 ∷ 9 ∷ []) (AnimatedTransform·boundPointMotion m p)
   pub motion : (m : AnimatedTransform) (b : Bounds3f) → BoundsAnswer·RefusedBy (5 ∷ 6 ∷ 7 ∷ 9 ∷ []) (AnimatedTransform·motionBounds m b)
   pub cover : (m : AnimatedTransform) (b : Bounds3f) (depth : ℕ) → BoundsAnswer·RefusedBy (5 ∷ 6 ∷ 7 ∷ 8 ∷ 10 ∷ []) (AnimatedTransform·cover m b depth)
-  -- the program: whatever bytes it reads, it answers at depth 10 and searches for no zeros, so that neither 8 nor 9 is among its numbers
+  -- the text for a file, whatever its bytes: it is asked at depth 10 and searches for no zeros, so that neither 8 nor 9 is among its numbers; 2 is listed with building's, though a file's bottom row is always right
   pub file : (bytes : List ℕ) → BoundsAnswer·RefusedBy (1 ∷ 2 ∷ 3 ∷ 4 ∷ 5 ∷ 6 ∷ 7 ∷ 10 ∷ 11 ∷ []) (MoveFile·cover (MoveFile·read bytes))

@@ -1,1 +1,1 @@
-// Laws only: which refusal numbers building and each query can give.
+// Laws only: which refusal numbers building, each query and the answer to any file can give.
