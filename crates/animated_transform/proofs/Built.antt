@@ -28,7 +28,8 @@ use Rattle.decomposition.specs.Decompose.{Matrix4x4·decompose}
 use Rattle.decomposition.proofs.Refusal.{Accepted, decompose-accepted}
 use Rattle.coefficients.specs.declared.Coefficients.{Coefficients}
 use Rattle.coefficients.specs.Coefficients.{Coefficients·zero}
-use Rattle.coefficients.specs.IsFinite.{DerivativeTerm·isFinite, Derivative·isFinite, Coefficients·isFinite}
+use Rattle.axis_derivative.specs.IsFinite.{DerivativeTerm·isFinite, Derivative·isFinite}
+use Rattle.coefficients.specs.IsFinite.{Coefficients·isFinite}
 use Rattle.pose_pair.specs.declared.Pose.{Pose}
 use Rattle.animated_transform.specs.declared.AnimatedTransform.{AnimatedTransform}
 use Rattle.animated_transform.specs.declared.AnimatedTransformAnswer.{AnimatedTransformAnswer}

@@ -30,7 +30,7 @@ use Rattle.transform.specs.TransformPoint.{Transform·transformPoint}
 use Rattle.transform.specs.TransformBounds.{BoundsAnswer·fromMoved, BoundsAnswer·unionMoved}
 use Rattle.transform.proofs.Judged.{transform-point-judged, transform-bounds-judged}
 use Rattle.bounds_query.specs.Query.{Bounds3f·refusal, BoundsAnswer·unionBounds}
-use Rattle.coefficients.specs.declared.Derivative.{Derivative}
+use Rattle.axis_derivative.specs.declared.Derivative.{Derivative}
 use Rattle.zero_search.specs.declared.Zeros.{Zeros}
 use Rattle.zero_search.specs.Stored.{Stored}
 use Rattle.pose_steps.specs.declared.RigidMotion.{RigidMotion}

@@ -23,7 +23,7 @@ use Rattle.transform.specs.Answer.{OneOf, origin, PointAnswer·Judged, BoundsAn
 use Rattle.transform.specs.TransformBounds.{BoundsAnswer·fromMoved, BoundsAnswer·unionMoved}
 use Rattle.transform.proofs.Judged.{transform-point-judged, transform-bounds-judged}
 use Rattle.bounds_query.specs.Query.{Bounds3f·isOrdered, Bounds3f·refusal, BoundsAnswer·unionBounds}
-use Rattle.coefficients.specs.declared.Derivative.{Derivative}
+use Rattle.axis_derivative.specs.declared.Derivative.{Derivative}
 use Rattle.zero_search.specs.Stored.{Stored}
 use Rattle.zero_search.proofs.Stored.{intervalFindZeros-stored}
 use Rattle.pose_steps.specs.declared.RigidMotion.{RigidMotion}

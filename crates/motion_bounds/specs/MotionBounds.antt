@@ -21,8 +21,8 @@ use Rattle.transform.specs.declared.BoundsAnswer.the-variants.{Bounds, Refused}
 use Rattle.transform.specs.TransformPoint.{Transform·transformPoint}
 use Rattle.transform.specs.TransformBounds.{BoundsAnswer·fromMoved, BoundsAnswer·unionMoved, Transform·transformBounds}
 use Rattle.bounds_query.specs.Query.{Bounds3f·refusal, BoundsAnswer·unionBounds}
-use Rattle.coefficients.specs.declared.DerivativeTerm.{DerivativeTerm}
-use Rattle.coefficients.specs.declared.Derivative.{Derivative}
+use Rattle.axis_derivative.specs.declared.DerivativeTerm.{DerivativeTerm}
+use Rattle.axis_derivative.specs.declared.Derivative.{Derivative}
 use Rattle.zero_search.specs.declared.Zeros.{Zeros}
 use Rattle.zero_search.specs.Search.{intervalFindZeros}
 use Rattle.pose_steps.specs.declared.RigidMotion.{RigidMotion}

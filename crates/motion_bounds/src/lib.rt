@@ -1,10 +1,10 @@
 // The motion box: pbrt's `bound_point_motion` and `motion_bounds`. It holds where the two poses take a point, and where the move takes it at the times that the zero search
 // found, so that it isn't a cover of the motion. What is asked of the arguments (6, 7) stands apart from the work (5, 9).
 use animated_transform::AnimatedTransform;
+use axis_derivative::Derivative;
+use axis_derivative::DerivativeTerm;
 use bounds3::Bounds3f;
 use bounds3::Point3f;
-use coefficients::Derivative;
-use coefficients::DerivativeTerm;
 use pose_steps::RigidMotion;
 use transform::BoundsAnswer;
 use transform::PointAnswer;

@@ -13,8 +13,8 @@ use Rattle.vector3.specs.declared.Vector3f.{Vector3f}
 use Rattle.quaternion.specs.declared.Quaternion.{Quaternion}
 use Rattle.transform.specs.declared.Transform.{Transform}
 use Rattle.lent_arrays.specs.Arrays.{transformRows}
-use Rattle.coefficients.specs.declared.DerivativeTerm.{DerivativeTerm}
-use Rattle.coefficients.specs.declared.Derivative.{Derivative}
+use Rattle.axis_derivative.specs.declared.DerivativeTerm.{DerivativeTerm}
+use Rattle.axis_derivative.specs.declared.Derivative.{Derivative}
 use Rattle.coefficients.specs.declared.Coefficients.{Coefficients}
 use Rattle.pose_steps.specs.declared.RigidMotion.{RigidMotion}
 use Rattle.animated_transform.specs.declared.AnimatedTransform.{AnimatedTransform}

@@ -1,10 +1,10 @@
 // A move as 44 rows of four floats, and back: the form in which a caller of the library keeps a built move, with the constants that a point query needs worked out once.
 use animated_transform::AnimatedTransform;
 use animated_transform::AnimatedTransformAnswer;
+use axis_derivative::Derivative;
+use axis_derivative::DerivativeTerm;
 use bounds3::Point3f;
 use coefficients::Coefficients;
-use coefficients::Derivative;
-use coefficients::DerivativeTerm;
 use matrix4x4::Matrix4x4;
 use pose_steps::RigidMotion;
 use quaternion::Quaternion;

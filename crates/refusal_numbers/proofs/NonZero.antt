@@ -24,7 +24,7 @@ use Rattle.transform.specs.declared.BoundsAnswer.the-variants as bounds
 use Rattle.transform.specs.TransformPoint.{movedPoint, judged, Transform·transformPoint}
 use Rattle.transform.specs.TransformBounds as transform
 use Rattle.bounds_query.specs.Query.{Bounds3f·refusal, BoundsAnswer·unionBounds}
-use Rattle.coefficients.specs.declared.Derivative.{Derivative}
+use Rattle.axis_derivative.specs.declared.Derivative.{Derivative}
 use Rattle.unit_interval.specs.Unit.{slice, dt}
 use Rattle.pose_steps.specs.declared.RigidMotion.{RigidMotion}
 use Rattle.pose_steps.specs.declared.JudgedVector.{JudgedVector}

@@ -1,6 +1,7 @@
 -- `new` meets its contract: the rows of a transposed scale matrix are its columns.
 use Rattle.matrix4x4.specs.Transpose.{Matrix4x4·transpose}
-use Rattle.coefficients.specs.Coefficients.{Coefficients·new, derivative}
+use Rattle.axis_derivative.specs.AxisDerivative.{derivative}
+use Rattle.coefficients.specs.Coefficients.{Coefficients·new}
 use borrow.Author.Needs.{needs}
 use Rattle.coefficients.proofs.Coefficients.new.Statement.{statement}
 use Rattle.coefficients.proofs.Coefficients.new.Tie as tie

@@ -1,8 +1,8 @@
--- `along_y` meets its contract: each call of `column_y` is a column.
-use Rattle.coefficients.specs.Coefficients.{derivative}
+-- `along_z` meets its contract: each call of `column_z` is a column.
+use Rattle.axis_derivative.specs.AxisDerivative.{derivative}
 use borrow.Author.Needs.{needs}
-use Rattle.coefficients.proofs.along_y.Statement.{statement}
-use Rattle.coefficients.proofs.along_y.Tie as tie
+use Rattle.axis_derivative.proofs.along_z.Statement.{statement}
+use Rattle.axis_derivative.proofs.along_z.Tie as tie
 
 array-copy-out-a0 : tie.Need-array-copy-out-a0
 array-copy-out-a0 c = search needs
@@ -22,24 +22,24 @@ array-copy-out-b1 c = search needs
 array-copy-out-b2 : tie.Need-array-copy-out-b2
 array-copy-out-b2 c = search needs
 
-column-y-requires : tie.Need-column-y-requires
-column-y-requires c κs = search needs
+column-z-requires : tie.Need-column-z-requires
+column-z-requires c κs = search needs
 
-column-y-requires-2 : tie.Need-column-y-requires-2
-column-y-requires-2 c κs = search needs
+column-z-requires-2 : tie.Need-column-z-requires-2
+column-z-requires-2 c κs = search needs
 
-column-y-requires-3 : tie.Need-column-y-requires-3
-column-y-requires-3 c κs = search needs
+column-z-requires-3 : tie.Need-column-z-requires-3
+column-z-requires-3 c κs = search needs
 
 from-columns-requires : tie.Need-from-columns-requires
 from-columns-requires c κs = search needs
 
 returns : tie.Need-returns
 unfolding derivative
-returns c = rw (c .from-columns .ensures, c .before .column-y3 .ensures, c .before .before .column-y2 .ensures, c .before .before .before .column-y .ensures)
+returns c = rw (c .from-columns .ensures, c .before .column-z3 .ensures, c .before .before .column-z2 .ensures, c .before .before .before .column-z .ensures)
 
-pub along-y-spec : {M : Type 1} → statement M
-along-y-spec =
+pub along-z-spec : {M : Type 1} → statement M
+along-z-spec =
     tie.close
     (tie.spec
     array-copy-out-a0
@@ -48,8 +48,8 @@ along-y-spec =
     array-copy-out-b0
     array-copy-out-b1
     array-copy-out-b2
-    column-y-requires
-    column-y-requires-2
-    column-y-requires-3
+    column-z-requires
+    column-z-requires-2
+    column-z-requires-3
     from-columns-requires
     returns)

@@ -1,8 +1,8 @@
 -- `column_y` meets its contract: each call is a formula.
-use Rattle.coefficients.specs.Coefficients.{columnTerms}
+use Rattle.axis_derivative.specs.AxisDerivative.{columnTerms}
 use borrow.Author.Needs.{needs}
-use Rattle.coefficients.proofs.column_y.Statement.{statement}
-use Rattle.coefficients.proofs.column_y.Tie as tie
+use Rattle.axis_derivative.proofs.column_y.Statement.{statement}
+use Rattle.axis_derivative.proofs.column_y.Tie as tie
 
 array-read-a0 : tie.Need-array-read-a0
 array-read-a0 c = search needs

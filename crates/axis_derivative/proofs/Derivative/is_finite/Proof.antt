@@ -1,8 +1,8 @@
 -- `is_finite` meets its contract: each call tests a term.
-use Rattle.coefficients.specs.IsFinite.{Derivative·isFinite}
+use Rattle.axis_derivative.specs.IsFinite.{Derivative·isFinite}
 use borrow.Author.Needs.{needs}
-use Rattle.coefficients.proofs.Derivative.is_finite.Statement.{statement}
-use Rattle.coefficients.proofs.Derivative.is_finite.Tie as tie
+use Rattle.axis_derivative.proofs.Derivative.is_finite.Statement.{statement}
+use Rattle.axis_derivative.proofs.Derivative.is_finite.Tie as tie
 
 is-finite-requires : tie.Need-is-finite-requires
 is-finite-requires c κs = search needs

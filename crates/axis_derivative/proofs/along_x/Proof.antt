@@ -1,8 +1,8 @@
 -- `along_x` meets its contract: each call of `column_x` is a column.
-use Rattle.coefficients.specs.Coefficients.{derivative}
+use Rattle.axis_derivative.specs.AxisDerivative.{derivative}
 use borrow.Author.Needs.{needs}
-use Rattle.coefficients.proofs.along_x.Statement.{statement}
-use Rattle.coefficients.proofs.along_x.Tie as tie
+use Rattle.axis_derivative.proofs.along_x.Statement.{statement}
+use Rattle.axis_derivative.proofs.along_x.Tie as tie
 
 array-copy-out-a0 : tie.Need-array-copy-out-a0
 array-copy-out-a0 c = search needs

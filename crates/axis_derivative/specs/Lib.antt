@@ -1,0 +1,2 @@
+pub mod AxisDerivative
+pub mod IsFinite
