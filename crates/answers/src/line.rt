@@ -75,17 +75,25 @@ fn make_room(out: &[u8], s: State) -> State {
     s
 }
 
-// Answers a question by the function of its group.
+// Answers a question: a move that is built is kept.
 fn answer(q: Question, out: &mut [u8], s: State) -> State {
-    let at = s.written;
+    let kind = q.kind;
+    if let Kind::Build = kind {
+        return moves::build(q, out, s);
+    }
+    s.at(put_answer(q, out, s.written, s.kept))
+}
+
+// Answers a question by the function of its group.
+fn put_answer(q: Question, out: &mut [u8], at: usize, kept: AnimatedTransformAnswer) -> usize {
     let kind = q.kind;
     match kind {
-        Kind::Malformed => s.at(put_error(out, at)),
-        Kind::Number(n) => s.at(numbers::answer(n, q, out, at)),
-        Kind::Angle(a) => s.at(angles::answer(a, q, out, at)),
-        Kind::Matrix(m) => s.at(matrices::answer(m, q, out, at)),
-        Kind::Part(p) => s.at(parts::answer(p, q, out, at)),
-        Kind::Build => moves::build(q, out, s),
-        Kind::Move(m) => s.at(moves::answer(m, q, out, at, s.kept)),
+        Kind::Malformed => put_error(out, at),
+        Kind::Number(n) => numbers::answer(n, q, out, at),
+        Kind::Angle(a) => angles::answer(a, q, out, at),
+        Kind::Matrix(m) => matrices::answer(m, q, out, at),
+        Kind::Part(p) => parts::answer(p, q, out, at),
+        Kind::Build => at,
+        Kind::Move(m) => moves::answer(m, q, out, at, kept),
     }
 }

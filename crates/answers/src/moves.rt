@@ -28,6 +28,7 @@ use coefficients::Coefficients;
 use matrix4x4::Matrix4x4;
 use pose_pair::Pose;
 use quaternion::Quaternion;
+use transform::BoundsAnswer;
 use transform::PointAnswer;
 use transform::Transform;
 use transform::TransformAnswer;
@@ -125,18 +126,17 @@ pub fn answer(
             let pose = interpolation::interpolate(value, float_at(words, 0));
             put_transform_answer(out, at, pose)
         }
-        Move::Bounds => {
-            let moved = motion_bounds::motion_bounds(value, bounds_at(words, 0));
-            put_bounds_answer(out, at, moved)
-        }
-        Move::PointBounds => {
-            let moved = motion_bounds::bound_point_motion(value, point_at(words, 0));
-            put_bounds_answer(out, at, moved)
-        }
-        Move::Cover => {
-            let c = motion_cover::cover(value, bounds_at(words, 0), depth(q.decimal));
-            put_bounds_answer(out, at, c)
-        }
+        _ => put_bounds_answer(out, at, moved_bounds(m, q, value)),
+    }
+}
+
+// The box that a question asks for.
+fn moved_bounds(m: Move, q: Question, value: AnimatedTransform) -> BoundsAnswer {
+    let words = q.words;
+    match m {
+        Move::Bounds => motion_bounds::motion_bounds(value, bounds_at(words, 0)),
+        Move::PointBounds => motion_bounds::bound_point_motion(value, point_at(words, 0)),
+        _ => motion_cover::cover(value, bounds_at(words, 0), depth(q.decimal)),
     }
 }
 
