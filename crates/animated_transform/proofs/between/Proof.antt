@@ -1,4 +1,8 @@
 -- `between` meets its contract: the number that was met chooses the case.
+use mathlib.Core.Path.{_≡_}
+use lib.Ieee.{lt}
+use Rattle.quaternion.specs.Slerp.{slerpThreshold}
+use Rattle.rotation_arc.specs.ArcCoefficients.{pairCoefficients}
 use Rattle.animated_transform.specs.New.{between}
 use borrow.Author.Tests.{eq-eqb, ne-eqb}
 use borrow.Author.Needs.{needs}
@@ -28,7 +32,10 @@ refused-requires c κs = search needs
 
 returns : tie.Need-returns
 unfolding between
-returns c = rw (← c .before .before .before .before .before .before .before .before .before .flip .ensures, ← c .before .before .before .before .before .before .dot .ensures, ← c .before .before .before .before .before .pair-coefficients .ensures, ← c .before .before .before .before .dot2 .ensures, ← c .before .before .before .dots-refusal .ensures, ← c .before .before .first-refusal .ensures, ne-eqb _ 0 (c .before .if1 .taken)) (c .refused .ensures)
+returns c =
+    let dot = c .before .before .before .before .before .before .dot in
+    let coefficients : c .before .before .before .before .before .pair-coefficients .result ≡ pairCoefficients (lt (dot .result) slerpThreshold) _ _ _ _ _ _ (dot .result) = c .before .before .before .before .before .pair-coefficients .ensures in
+    rw (← c .before .before .before .before .before .before .before .before .before .flip .ensures, ← c .before .before .before .before .before .before .dot .ensures, ← coefficients, ← c .before .before .before .before .dot2 .ensures, ← c .before .before .before .dots-refusal .ensures, ← c .before .before .first-refusal .ensures, ne-eqb _ 0 (c .before .if1 .taken)) (c .refused .ensures)
 
 eq-requires : tie.Need-eq-requires
 eq-requires c κs = search needs

@@ -1,5 +1,6 @@
 -- `work` meets its contract: the first number that was met chooses the case.
-use Rattle.animated_transform.specs.New.{work}
+use mathlib.Core.Path.{_≡_}
+use Rattle.animated_transform.specs.New.{firstRefusal, work}
 use borrow.Author.Tests.{eq-eqb, ne-eqb}
 use borrow.Author.Needs.{needs}
 use Rattle.animated_transform.proofs.work.Statement.{statement}
@@ -37,7 +38,9 @@ refused-requires c κs = search needs
 
 returns : tie.Need-returns
 unfolding work
-returns c = rw (← c .before .before .before .before .before .before .before .before .before .before .to-rows .ensures, ← c .before .before .before .before .before .before .before .before .before .to-rows2 .ensures, ← c .before .before .before .before .before .before .before .before .from-matrix .ensures, ← c .before .before .before .before .before .before .before .from-matrix2 .ensures, ← c .before .before .before .before .before .before .decompose .ensures, ← c .before .before .before .before .before .decompose2 .ensures, ← c .before .before .before .before .first-refusal .ensures, ← c .before .before .before .first-refusal2 .ensures, ← c .before .before .first-refusal3 .ensures, ne-eqb _ 0 (c .before .if1 .taken)) (c .refused .ensures)
+returns c =
+    let inverses : c .before .before .before .before .first-refusal .result ≡ firstRefusal (c .before .before .before .before .before .before .before .before .from-matrix .result .refusal) (c .before .before .before .before .before .before .before .from-matrix2 .result .refusal) = c .before .before .before .before .first-refusal .ensures in
+    rw (← c .before .before .before .before .before .before .before .before .before .before .to-rows .ensures, ← c .before .before .before .before .before .before .before .before .before .to-rows2 .ensures, ← c .before .before .before .before .before .before .before .before .from-matrix .ensures, ← c .before .before .before .before .before .before .before .from-matrix2 .ensures, ← c .before .before .before .before .before .before .decompose .ensures, ← c .before .before .before .before .before .decompose2 .ensures, ← inverses, ← c .before .before .before .first-refusal2 .ensures, ← c .before .before .first-refusal3 .ensures, ne-eqb _ 0 (c .before .if1 .taken)) (c .refused .ensures)
 
 between-requires : tie.Need-between-requires
 between-requires c κs = search needs

@@ -1,5 +1,7 @@
 -- `parts` meets its contract: the inverse's number chooses the case.
 use borrow.Author.Tests.{eq-eqb, ne-eqb}
+use mathlib.Core.Path.{_≡_}
+use Rattle.matrix_quaternion.specs.FromMatrix.{Quaternion·fromMatrix}
 use Rattle.decomposition.specs.Decompose.{parts}
 use borrow.Author.Needs.{needs}
 use Rattle.decomposition.proofs.parts.Statement.{statement}
@@ -25,7 +27,9 @@ refused-requires c κs = search needs
 
 returns : tie.Need-returns
 unfolding parts
-returns c = rw (← c .before .before .before .before .before .before .inverse .ensures, eq-eqb _ 0 (c .before .before .before .before .if1 .taken), ← c .before .before .before .quaternion-from-matrix .ensures, ← c .before .before .to-rows .ensures, ← c .before .mul .ensures) (c .judged .ensures)
+returns c =
+    let rotation : c .before .before .before .quaternion-from-matrix .result ≡ Quaternion·fromMatrix (c .before .before .before .before .before .before .before .args .r) = c .before .before .before .quaternion-from-matrix .ensures in
+    rw (← c .before .before .before .before .before .before .inverse .ensures, eq-eqb _ 0 (c .before .before .before .before .if1 .taken), ← rotation, ← c .before .before .to-rows .ensures, ← c .before .mul .ensures) (c .judged .ensures)
 
 returns-2 : tie.Need-returns-2
 unfolding parts

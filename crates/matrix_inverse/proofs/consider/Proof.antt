@@ -1,4 +1,14 @@
 -- `consider` meets its contract: its test is the definition's.
+use Prim.Native.Nat.{ℕ}
+use mathlib.Core.Path.{_≡_}
+use mathlib.Core.Bool.{true, _&&_}
+use mathlib.Core.List.{List}
+use lib.Dec.{eqb}
+use lib.ListN.{getD}
+use lib.Ieee.{le}
+use Rattle.float32.specs.Abs.{abs}
+use Rattle.matrix4x4.specs.Rows.{Row, col}
+use Rattle.matrix_inverse.specs.declared.Pivot.{Pivot}
 use Rattle.matrix_inverse.specs.Pivot.{consider}
 use borrow.Author.Needs.{needs}
 use Rattle.matrix_inverse.proofs.consider.Statement.{statement}
@@ -19,9 +29,14 @@ mul-if1 c = search needs
 array-read-if1 : tie.Need-array-read-if1
 array-read-if1 c = search needs
 
-returns : tie.Need-returns
+-- the column is taken where it is free and its entry is not below the greatest so far
+taken : (r : Row) (ipiv : List ℕ) (j k : ℕ) (p : Pivot) → (eqb (getD ipiv k 0) 0 && le (p .big) (abs (col r k))) ≡ true
+    → record { big = abs (col r k); irow = j; icol = k } ≡ consider r ipiv j k p
 unfolding consider
-returns c = rw (← c .before .before .abs .ensures, c .if1 .taken)
+taken r ipiv j k p e = rw e
+
+returns : tie.Need-returns
+returns c = rw (c .before .before .abs .ensures) (taken _ _ _ _ _ (rw (c .before .before .abs .ensures) at (c .if1 .taken)))
 
 returns-2 : tie.Need-returns-2
 unfolding consider

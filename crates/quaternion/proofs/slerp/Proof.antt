@@ -1,5 +1,8 @@
 -- `slerp` meets its contract: the dot product chooses the case.
-use Rattle.quaternion.specs.Slerp.{Quaternion·slerp, slerpBy}
+use mathlib.Core.Path.{_≡_}
+use mathlib.Core.Bool.{true}
+use lib.Ieee.{lt}
+use Rattle.quaternion.specs.Slerp.{slerpThreshold, Quaternion·slerp, slerpBy}
 use borrow.Author.Needs.{needs}
 use Rattle.quaternion.proofs.slerp.Statement.{statement}
 use Rattle.quaternion.proofs.slerp.Tie as tie
@@ -15,7 +18,9 @@ slerp-far-requires c κs = search needs
 
 returns : tie.Need-returns
 unfolding Quaternion·slerp slerpBy
-returns c = rw (rw (c .before .before .dot .ensures) at (c .before .if1 .taken), c .slerp-near .ensures)
+returns c =
+    let taken : lt slerpThreshold (c .before .before .dot .result) ≡ true = c .before .if1 .taken in
+    rw (rw (c .before .before .dot .ensures) at taken, c .slerp-near .ensures)
 
 returns-2 : tie.Need-returns-2
 unfolding Quaternion·slerp slerpBy

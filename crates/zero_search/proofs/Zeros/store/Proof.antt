@@ -7,11 +7,11 @@ use Rattle.zero_search.proofs.Zeros.store.Tie as tie
 
 returns : tie.Need-returns
 unfolding Zeros·store
-returns c = rw (lt-ltb _ _ (c .before .if1 .taken))
+returns c = rw (lt-ltb _ 8 (c .before .if1 .taken))
 
 returns-2 : tie.Need-returns-2
 unfolding Zeros·store
-returns-2 c = rw (c .empty .ensures, le-ltb _ _ (c .before .if1 .left))
+returns-2 c = rw (c .empty .ensures, le-ltb _ 8 (c .before .if1 .left))
 
 pub store-spec : {M : Type 1} → statement M
 store-spec = tie.close (tie.spec (λ c. search needs) (λ c. search needs) (λ c. search needs) returns (λ c κs. tt) returns-2)
