@@ -1,5 +1,5 @@
 // The stages of a pose in intervals, each interval judged as it is formed: the first number that is met stands.
-// Where all ends are finite nothing is refused, and the stages' own crates leave the judging out; these are what they fall back on where the test of the ends fails.
+// Where all ends are finite, and slerp's length above zero, nothing is refused, and the stages' own crates leave the judging out; these are what they fall back on where that test fails.
 ghost use mathlib.Core.Path.{_≡_};
 ghost use Rattle.pose_steps.specs.Enclose.{Pose·encloseTranslation, Pose·encloseSlerpNear, Pose·encloseSlerpFar, Pose·encloseScaleRow, Pose·encloseScale, Pose·encloseRotation, Pose·encloseMulRow, Pose·encloseMul, Pose·encloseTransformPoint};
 use interval::Interval;
