@@ -164,7 +164,8 @@ fn from_columns(kc: f32, x: ColumnTerms, y: ColumnTerms, z: ColumnTerms) -> Deri
     Derivative { c1, c2, c3, c4, c5 }
 }
 
-// The derivative along an axis, the scale matrices given transposed, so that their columns are rows. Accuracy: each operation is correctly rounded.
+// The derivative along x, pbrt's c1[0] to c5[0]: kc is the constant of c1, and the scale matrices are given transposed, so that their columns are rows.
+// Accuracy: each operation is correctly rounded.
 pub fn along_x(
     kc: f32,
     q0: Quaternion,
@@ -187,6 +188,7 @@ pub fn along_x(
     from_columns(kc, x, y, z)
 }
 
+// The derivative along y, pbrt's c1[1] to c5[1], likewise. Accuracy: each operation is correctly rounded.
 pub fn along_y(
     kc: f32,
     q0: Quaternion,
@@ -209,6 +211,7 @@ pub fn along_y(
     from_columns(kc, x, y, z)
 }
 
+// The derivative along z, pbrt's c1[2] to c5[2], likewise. Accuracy: each operation is correctly rounded.
 pub fn along_z(
     kc: f32,
     q0: Quaternion,
@@ -232,6 +235,7 @@ pub fn along_z(
 }
 
 impl DerivativeTerm {
+    // Whether none of the four coefficients is a NaN or an infinity. Accuracy: exact.
     pub fn is_finite(self) -> bool
         ensures value { λ r. ⌜ r ≡ DerivativeTerm·isFinite self ⌝ }
     {
@@ -243,6 +247,7 @@ impl DerivativeTerm {
 }
 
 impl Derivative {
+    // Whether all five terms are finite. Accuracy: exact.
     pub fn is_finite(self) -> bool
         ensures value { λ r. ⌜ r ≡ Derivative·isFinite self ⌝ }
     {

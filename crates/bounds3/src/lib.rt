@@ -1,5 +1,5 @@
-// pbrt's Point3f and Bounds3f: an axis-aligned box from a least to a greatest corner. Nothing is refused here: each function is stated for all boxes and points,
-// NaN, infinities and a least corner above the greatest included.
+// pbrt's Point3f and Bounds3f: an axis-aligned box from a least to a greatest corner.
+// Nothing is refused here: each function is stated for all boxes and points, NaN, infinities and a least corner above the greatest included.
 ghost use mathlib.Core.Path.{_≡_};
 ghost use Rattle.bounds3.specs.Point3f.{Point3f·min, Point3f·max, Point3f·div};
 ghost use Rattle.bounds3.specs.Bounds3f.{Bounds3f·fromPoint, Bounds3f·fromPoints, Bounds3f·default, Bounds3f·index, Bounds3f·corner, Bounds3f·unionPoint, Bounds3f·unionBounds};
@@ -50,6 +50,7 @@ impl Point3f {
         }
     }
 
+    // Whether no coordinate is a NaN or an infinity. Accuracy: exact.
     pub fn is_finite(self) -> bool
         ensures value { λ r. ⌜ r ≡ Point3f·isFinite self ⌝ }
     {
@@ -58,12 +59,14 @@ impl Point3f {
 }
 
 impl Bounds3f {
+    // pbrt's `from_point`: the box of one point, which is both of its corners. Accuracy: exact.
     pub fn from_point(p: Point3f) -> Bounds3f
         ensures value { λ r. ⌜ r ≡ Bounds3f·fromPoint p ⌝ }
     {
         Bounds3f { p_min: p, p_max: p }
     }
 
+    // pbrt's `from_points`: the smallest box that holds both points. Accuracy: exact.
     pub fn from_points(p1: Point3f, p2: Point3f) -> Bounds3f
         ensures value { λ r. ⌜ r ≡ Bounds3f·fromPoints p1 p2 ⌝ }
     {
@@ -72,7 +75,7 @@ impl Bounds3f {
         Bounds3f { p_min, p_max }
     }
 
-    // The empty box: from the greatest finite float down to the least.
+    // pbrt's default, the empty box: from the greatest finite float down to the least. Accuracy: exact.
     pub fn default() -> Bounds3f
         ensures value { λ r. ⌜ r ≡ Bounds3f·default ⌝ }
     {
@@ -98,7 +101,8 @@ impl Bounds3f {
         if i { self.p_max } else { self.p_min }
     }
 
-    // Departs from pbrt, which asserts that c is below 8: only its three lowest bits are read.
+    // pbrt's `corner`: bits 0, 1 and 2 of c choose between the least and the greatest x, y and z; pbrt asserts that c is below 8, and here its other bits are
+    // not read. Accuracy: exact.
     pub fn corner(self, c: usize) -> Point3f
         ensures value { λ r. ⌜ r ≡ Bounds3f·corner self c ⌝ }
     {
@@ -112,6 +116,7 @@ impl Bounds3f {
         }
     }
 
+    // pbrt's `union_point`: the smallest box that holds the box and the point. Accuracy: exact.
     pub fn union_point(self, p: Point3f) -> Bounds3f
         ensures value { λ r. ⌜ r ≡ Bounds3f·unionPoint self p ⌝ }
     {
@@ -120,6 +125,7 @@ impl Bounds3f {
         Bounds3f { p_min, p_max }
     }
 
+    // pbrt's `union_bounds`: the smallest box that holds both boxes. Accuracy: exact.
     pub fn union_bounds(self, b: Bounds3f) -> Bounds3f
         ensures value { λ r. ⌜ r ≡ Bounds3f·unionBounds self b ⌝ }
     {
@@ -128,6 +134,7 @@ impl Bounds3f {
         Bounds3f { p_min, p_max }
     }
 
+    // Whether both corners are finite. Accuracy: exact.
     pub fn is_finite(self) -> bool
         ensures value { λ r. ⌜ r ≡ Bounds3f·isFinite self ⌝ }
     {

@@ -4,7 +4,7 @@ use transform::BoundsAnswer;
 ghost use mathlib.Core.Path.{_≡_};
 ghost use Rattle.bounds_query.specs.Query.{Bounds3f·isOrdered, Bounds3f·refusal, BoundsAnswer·unionBounds};
 
-// Whether no least coordinate is above its greatest.
+// Whether no least coordinate is above its greatest. Accuracy: exact.
 pub fn is_ordered(b: Bounds3f) -> bool
     ensures value { λ r. ⌜ r ≡ Bounds3f·isOrdered b ⌝ }
 {
@@ -13,7 +13,7 @@ pub fn is_ordered(b: Bounds3f) -> bool
     !((l.x > h.x) | (l.y > h.y) | (l.z > h.z))
 }
 
-// 6 for a coordinate that isn't finite, then 7 for a least corner above its greatest, 0 for neither.
+// 6 for a coordinate that isn't finite, then 7 for a least corner above its greatest, 0 for neither. Accuracy: exact.
 pub fn refusal(b: Bounds3f) -> u8
     ensures value { λ r. ⌜ r ≡ Bounds3f·refusal b ⌝ }
 {
@@ -26,6 +26,7 @@ pub fn refusal(b: Bounds3f) -> u8
     0
 }
 
+// pbrt's `union_bounds` of two answers: the smallest box that holds both, or the first refusal of the two. Accuracy: exact.
 pub fn union_bounds(r: BoundsAnswer, s: BoundsAnswer) -> BoundsAnswer
     ensures value { λ u. ⌜ u ≡ BoundsAnswer·unionBounds r s ⌝ }
 {

@@ -15,8 +15,8 @@ pub struct Coefficients {
 }
 
 impl Coefficients {
-    // From the translations, the start's rotation, the quaternion perpendicular to it towards the end's, the angle between the two, and the scale matrices.
-    // Accuracy: each operation is correctly rounded.
+    // pbrt's c1 to c5 from the translations, the start's rotation, the quaternion perpendicular to it towards the end's, the angle between the two, and the
+    // scale matrices. Accuracy: each operation is correctly rounded.
     pub fn new(
         t0: Vector3f,
         t1: Vector3f,
@@ -36,6 +36,7 @@ impl Coefficients {
         Coefficients { x, y, z }
     }
 
+    // The coefficient set of a move without rotation: every number is +0. Accuracy: exact.
     pub fn zero() -> Coefficients
         ensures value { λ r. ⌜ r ≡ Coefficients·zero ⌝ }
     {
@@ -55,6 +56,7 @@ impl Coefficients {
         Coefficients { x: d, y: d, z: d }
     }
 
+    // Whether the derivatives along all three axes are finite. Accuracy: exact.
     pub fn is_finite(self) -> bool
         ensures value { λ r. ⌜ r ≡ Coefficients·isFinite self ⌝ }
     {

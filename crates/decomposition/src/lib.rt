@@ -1,4 +1,5 @@
-// pbrt's `AnimatedTransform::decompose`: a matrix as a translation, a rotation and a scale. The rotation is the limit of polar rounds, the scale what is left of the matrix.
+// pbrt's `AnimatedTransform::decompose`: a matrix as a translation, a rotation and a scale.
+// The rotation is where the polar rounds end, the scale what is left of the matrix.
 use matrix4x4::Matrix4x4;
 use quaternion::Quaternion;
 use vector3::Vector3f;
@@ -55,7 +56,7 @@ fn judged(m: [[f32; 4]; 4], r: Quaternion, s: [[f32; 4]; 4]) -> Decomposition
     }
 }
 
-// The parts of m, whose rotation is the matrix r. pbrt works the inverse of r twice; it is the same both times.
+// The parts of m, whose rotation is the matrix r. pbrt computes the inverse of r twice; it is the same both times.
 fn parts(m: [[f32; 4]; 4], r: [[f32; 4]; 4]) -> Decomposition
     ensures value { λ d. ⌜ d ≡ parts m r ⌝ }
 {
@@ -71,8 +72,8 @@ fn parts(m: [[f32; 4]; 4], r: [[f32; 4]; 4]) -> Decomposition
     }
 }
 
-// pbrt's `decompose`, which goes on where this refuses: 4 at a zero pivot, 5 where a matrix or the quaternion holds a value that isn't finite.
-// Accuracy: each operation is correctly rounded.
+// pbrt's `decompose`: translation, rotation and scale of a matrix; pbrt goes on where this refuses: 4 at a zero pivot, 5 where a matrix or the quaternion holds
+// a value that isn't finite. Accuracy: each operation is correctly rounded.
 pub fn decompose(m: [[f32; 4]; 4]) -> Decomposition
     ensures value { λ r. ⌜ r ≡ Matrix4x4·decompose m ⌝ }
 {

@@ -2,6 +2,7 @@
 ghost use mathlib.Core.Path.{_≡_};
 ghost use Rattle.derivative_x.specs.Terms.{c1x, c2x, c3x, c4x, c5x};
 
+// pbrt's c1 along x at one column of the scale matrices: the derivative's constant term. Accuracy: each operation is correctly rounded.
 pub fn c1x(
     q0x: f32,
     q0y: f32,
@@ -41,6 +42,7 @@ pub fn c1x(
         + q0x * (-(q0y * s01) - q0z * s02 + q0y * s11 + q0z * s12)
 }
 
+// pbrt's c2, likewise: the factor of cos(2 theta t) in the derivative. Accuracy: each operation is correctly rounded.
 pub fn c2x(
     q0x: f32,
     q0y: f32,
@@ -84,6 +86,7 @@ pub fn c2x(
                 - 2.0 * (2.0 * qperpz * s00 + qperpw * s01 - qperpx * s02) * theta)
 }
 
+// pbrt's c3, likewise: the factor of t cos(2 theta t) in the derivative. Accuracy: each operation is correctly rounded.
 pub fn c3x(
     q0x: f32,
     q0y: f32,
@@ -122,6 +125,7 @@ pub fn c3x(
         * theta
 }
 
+// pbrt's c4, likewise: the factor of sin(2 theta t) in the derivative. Accuracy: each operation is correctly rounded.
 pub fn c4x(
     q0x: f32,
     q0y: f32,
@@ -168,6 +172,7 @@ pub fn c4x(
                 - 2.0 * q0x * s02 * theta)
 }
 
+// pbrt's c5, likewise: the factor of t sin(2 theta t) in the derivative. Accuracy: each operation is correctly rounded.
 pub fn c5x(
     q0x: f32,
     q0y: f32,

@@ -2,6 +2,7 @@
 ghost use mathlib.Core.Path.{_≡_};
 ghost use Rattle.derivative_y.specs.Terms.{c1y, c2y, c3y, c4y, c5y};
 
+// pbrt's c1 along y at one column of the scale matrices: the derivative's constant term. Accuracy: each operation is correctly rounded.
 pub fn c1y(
     q0x: f32,
     q0y: f32,
@@ -42,6 +43,7 @@ pub fn c1y(
         + qperpy * qperpz * s12
 }
 
+// pbrt's c2, likewise: the factor of cos(2 theta t) in the derivative. Accuracy: each operation is correctly rounded.
 pub fn c2y(
     q0x: f32,
     q0y: f32,
@@ -88,6 +90,7 @@ pub fn c2y(
         + q0w * (-(q0z * s00) + q0z * s10 + 2.0 * qperpz * s00 * theta - 2.0 * qperpx * s02 * theta)
 }
 
+// pbrt's c3, likewise: the factor of t cos(2 theta t) in the derivative. Accuracy: each operation is correctly rounded.
 pub fn c3y(
     q0x: f32,
     q0y: f32,
@@ -124,6 +127,7 @@ pub fn c3y(
         * theta
 }
 
+// pbrt's c4, likewise: the factor of sin(2 theta t) in the derivative. Accuracy: each operation is correctly rounded.
 pub fn c4y(
     q0x: f32,
     q0y: f32,
@@ -171,6 +175,7 @@ pub fn c4y(
                 - 2.0 * q0y * s02 * theta)
 }
 
+// pbrt's c5, likewise: the factor of t sin(2 theta t) in the derivative. Accuracy: each operation is correctly rounded.
 pub fn c5y(
     q0x: f32,
     q0y: f32,

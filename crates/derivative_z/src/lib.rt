@@ -2,6 +2,7 @@
 ghost use mathlib.Core.Path.{_≡_};
 ghost use Rattle.derivative_z.specs.Terms.{c1z, c2z, c3z, c4z, c5z};
 
+// pbrt's c1 along z at one column of the scale matrices: the derivative's constant term. Accuracy: each operation is correctly rounded.
 pub fn c1z(
     q0x: f32,
     q0y: f32,
@@ -44,6 +45,7 @@ pub fn c1z(
         - qperpy * qperpy * s12
 }
 
+// pbrt's c2, likewise: the factor of cos(2 theta t) in the derivative. Accuracy: each operation is correctly rounded.
 pub fn c2z(
     q0x: f32,
     q0y: f32,
@@ -96,6 +98,7 @@ pub fn c2z(
         - 4.0 * q0y * qperpy * s02 * theta
 }
 
+// pbrt's c3, likewise: the factor of t cos(2 theta t) in the derivative. Accuracy: each operation is correctly rounded.
 pub fn c3z(
     q0x: f32,
     q0y: f32,
@@ -130,6 +133,7 @@ pub fn c3z(
         * theta
 }
 
+// pbrt's c4, likewise: the factor of sin(2 theta t) in the derivative. Accuracy: each operation is correctly rounded.
 pub fn c4z(
     q0x: f32,
     q0y: f32,
@@ -175,6 +179,7 @@ pub fn c4z(
                 - 2.0 * q0z * s01 * theta)
 }
 
+// pbrt's c5, likewise: the factor of t sin(2 theta t) in the derivative. Accuracy: each operation is correctly rounded.
 pub fn c5z(
     q0x: f32,
     q0y: f32,

@@ -55,7 +55,7 @@ pub fn clamp(v: f32, a: f32, b: f32) -> f32
     if v > b { b } else { v }
 }
 
-// Neither NaN nor an infinity.
+// Whether x is neither NaN nor an infinity. Accuracy: exact.
 pub fn is_finite(x: f32) -> bool
     ensures value { λ r. ⌜ r ≡ finite x ⌝ }
 {

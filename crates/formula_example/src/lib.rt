@@ -30,7 +30,8 @@ pub fn normalize(v: Vector2) -> Vector2
     }
 }
 
-// The same in intervals, with the refusal number met before. Accuracy: encloses.
+// The same in intervals, with m the refusal number met before; refused with 5 where an end isn't finite, and with 10 where the low end of the squared length is
+// zero or below. Accuracy: encloses.
 pub fn normalize_enclosure(m: u8, v: IntervalVector2) -> JudgedVector2
     ensures value { λ r. ⌜ r ≡ Vector2·normalizeEnclosure m v ⌝ }
     ensures encloses { λ r. ⌜ EnclosesNormalized v r ⌝ }

@@ -12,7 +12,7 @@ pub enum Word {
     Malformed,
 }
 
-// The value of a digit of either case, and 16 for a byte that is no digit.
+// The value of a digit of either case, and 16 for a byte that is no digit. Accuracy: exact.
 pub fn digit_value(b: u8) -> u32
     ensures value { λ r. ⌜ r ≡ digitValue b ⌝ }
     ensures bound { λ r. ⌜ r ≤ 16 ⌝ }
@@ -31,7 +31,7 @@ pub fn digit_value(b: u8) -> u32
     16
 }
 
-// The eight digits from `at` on.
+// The bits that the eight digits from `at` on write; malformed where there are fewer bytes, or one is no digit. Accuracy: exact.
 pub fn read_word(s: &[u8], at: usize) -> Word
     ensures value { λ r. ⌜ r ≡ Word·read (now (s .entry)) at ⌝ }
 {
@@ -64,7 +64,8 @@ fn read_half(s: &[u8], at: usize) -> u32
     65536
 }
 
-// Writes the eight digits of `n` into `out` from `at` on, in lower case. Where they do not fit it writes nothing and says so.
+// Writes the eight digits of `n`, in lower case, into `out` from `at` on and gives true; where they don't fit it writes nothing and gives false.
+// Accuracy: exact.
 pub fn write_word(n: u32, out: &mut [u8], at: usize) -> bool
     ensures value { λ _. ⌜ now (out .exit) ≡ Word·write (now (out .entry)) at n ⌝ }
     ensures fits { λ r. ⌜ r ≡ Word·fits (length (now (out .entry))) at ⌝ }

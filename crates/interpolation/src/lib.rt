@@ -1,5 +1,6 @@
 // pbrt's `AnimatedTransform::interpolate`: the transform of a move at a time, both halves, judged.
-// At and outside the end times, and where the two poses are equal, it is a stored transform; between them it is worked out, and refused by 4 or 5, whichever is met first.
+// At and outside the end times, and where the two poses are equal, it is a stored transform; between them it is computed, and refused with 4 or 5, whichever is
+// met first.
 use animated_transform::AnimatedTransform;
 use matrix4x4::Matrix4x4;
 use quaternion::Quaternion;
@@ -61,7 +62,7 @@ fn composed(trans: Vector3f, rotate: Quaternion, scale: Matrix4x4) -> TransformA
     }
 }
 
-// The work between the two poses: dt runs from 0 to 1.
+// The transform between the two poses: dt runs from 0 to 1.
 fn pose_at(m: AnimatedTransform, dt: f32) -> TransformAnswer
     ensures value { λ r. ⌜ r ≡ AnimatedTransform·poseAt m dt ⌝ }
 {
@@ -71,8 +72,8 @@ fn pose_at(m: AnimatedTransform, dt: f32) -> TransformAnswer
     composed(trans, rotate, scale)
 }
 
-// Refused with 6 for a NaN time, and between the two poses with 4 or 5; pbrt goes on where this refuses.
-// Accuracy: each sum, difference, product and quotient is correctly rounded.
+// pbrt's `interpolate`: the transform at a time; refused with 6 for a NaN time, and between the two poses with 4 or 5; pbrt goes on where this refuses.
+// Accuracy: each operation but sine, cosine and arc cosine is correctly rounded.
 pub fn interpolate(m: AnimatedTransform, time: f32) -> TransformAnswer
     ensures value { λ r. ⌜ r ≡ AnimatedTransform·interpolate m time ⌝ }
 {

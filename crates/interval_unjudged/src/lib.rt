@@ -1,5 +1,6 @@
-// Operations of document 01's cover on intervals, of which none is judged. Least and greatest are taken by a comparison alone, which is right where no NaN is compared:
-// where the operands of a product are finite, it is the product of `interval`. One test of what comes out may then stand for judging every interval on the way.
+// Operations of document 01's cover on intervals, of which none is judged. Least and greatest are taken by a comparison alone, which is right where no NaN is
+// compared: where the operands of a product are finite, it is the product of `interval`. One test of what comes out may then stand for judging every interval
+// on the way.
 ghost use mathlib.Core.Path.{_≡_};
 ghost use Rattle.interval.specs.Enclosure.{Interval·addEnclosure, Interval·subEnclosure, Interval·sqrtEnclosure};
 ghost use Rattle.interval_unjudged.specs.Ordered.{lesser, greater, Interval·ofFourOrdered, Interval·mulOrdered, Interval·divOrdered, Interval·endsSum};

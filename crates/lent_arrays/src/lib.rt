@@ -1,5 +1,5 @@
-// Points, boxes and transforms that cross to Rust and C in arrays of floats, and answers put into a lent array: the answer's number is returned, 0 for none, and after a refusal
-// the array is as it was. A box is its least corner and its greatest, a transform the four rows of its matrix and those of its inverse.
+// Points, boxes and transforms that cross to Rust and C in arrays of floats, and answers put into a lent array: the answer's number is returned, 0 for none,
+// and after a refusal the array is as it was. A box is its least corner and its greatest, a transform the four rows of its matrix and those of its inverse.
 use bounds3::Bounds3f;
 use bounds3::Point3f;
 use transform::BoundsAnswer;
@@ -11,6 +11,7 @@ ghost use Rattle.bounds3.specs.List.{Point3f·ofList, Bounds3f·list, Bounds3f�
 ghost use Rattle.transform.specs.Answer.{PointAnswer·refusal, BoundsAnswer·refusal};
 ghost use Rattle.lent_arrays.specs.Arrays.{transformRows, PointAnswer·left, BoundsAnswer·left, TransformAnswer·left};
 
+// The point of three coordinates. Accuracy: exact.
 pub fn point(p: &[f32; 3]) -> Point3f
     ensures value { λ r. ⌜ r ≡ Point3f·ofList (now (p .entry)) ⌝ }
 {
@@ -21,6 +22,7 @@ pub fn point(p: &[f32; 3]) -> Point3f
     }
 }
 
+// The box of six coordinates, those of its least corner first. Accuracy: exact.
 pub fn bounds(b: &[f32; 6]) -> Bounds3f
     ensures value { λ r. ⌜ r ≡ Bounds3f·ofList (now (b .entry)) ⌝ }
 {
@@ -37,6 +39,7 @@ pub fn bounds(b: &[f32; 6]) -> Bounds3f
     Bounds3f { p_min, p_max }
 }
 
+// The six coordinates of a box, those of its least corner first. Accuracy: exact.
 pub fn bounds_values(b: Bounds3f) -> [f32; 6]
     ensures value { λ r. ⌜ r ≡ Bounds3f·list b ⌝ }
 {
@@ -45,6 +48,7 @@ pub fn bounds_values(b: Bounds3f) -> [f32; 6]
     [l.x, l.y, l.z, h.x, h.y, h.z]
 }
 
+// Puts a moved point into `out`, or after a refusal nothing, and gives the refusal's number, 0 for none. Accuracy: exact.
 pub fn put_point(answer: PointAnswer, out: &mut [f32; 3]) -> u8
     ensures refusal { λ r. ⌜ r ≡ PointAnswer·refusal answer ⌝ }
     ensures left { λ _. ⌜ now (out .exit) ≡ PointAnswer·left answer (now (out .entry)) ⌝ }
@@ -58,6 +62,7 @@ pub fn put_point(answer: PointAnswer, out: &mut [f32; 3]) -> u8
     }
 }
 
+// Puts a box into `out`, or after a refusal nothing, and gives the refusal's number, 0 for none. Accuracy: exact.
 pub fn put_bounds(answer: BoundsAnswer, out: &mut [f32; 6]) -> u8
     ensures refusal { λ r. ⌜ r ≡ BoundsAnswer·refusal answer ⌝ }
     ensures left { λ _. ⌜ now (out .exit) ≡ BoundsAnswer·left answer (now (out .entry)) ⌝ }
@@ -88,6 +93,7 @@ fn transform_rows(t: Transform) -> [[f32; 4]; 8]
     [a0, a1, a2, a3, b0, b1, b2, b3]
 }
 
+// Puts both halves of a transform into `out`, or after a refusal nothing, and gives the refusal's number, 0 for none. Accuracy: exact.
 pub fn put_transform(answer: TransformAnswer, out: &mut [[f32; 4]; 8]) -> u8
     ensures refusal { λ r. ⌜ r ≡ answer .refusal ⌝ }
     ensures left { λ _. ⌜ now (out .exit) ≡ TransformAnswer·left answer (now (out .entry)) ⌝ }

@@ -18,6 +18,7 @@ pub struct Matrix4x4 {
 }
 
 impl Matrix4x4 {
+    // The matrix of four rows, as a struct holds it. Accuracy: exact.
     pub fn from_rows(m: [[f32; 4]; 4]) -> Matrix4x4
         ensures value { λ r. ⌜ r ≡ Matrix4x4·fromRows m ⌝ }
     {
@@ -28,6 +29,7 @@ impl Matrix4x4 {
         Matrix4x4 { r0, r1, r2, r3 }
     }
 
+    // The four rows of a matrix, as an array. Accuracy: exact.
     pub fn to_rows(self) -> [[f32; 4]; 4]
         ensures value { λ r. ⌜ r ≡ Matrix4x4·toRows self ⌝ }
     {
@@ -90,7 +92,7 @@ fn row_eq(r: [f32; 4], s: [f32; 4]) -> bool
     (r[0] == s[0]) & (r[1] == s[1]) & (r[2] == s[2]) & (r[3] == s[3])
 }
 
-// pbrt's `==`: a NaN differs from itself, and the two zeros are equal.
+// pbrt's `==`: a NaN differs from itself, and the two zeros are equal. Accuracy: exact.
 pub fn eq(m1: [[f32; 4]; 4], m2: [[f32; 4]; 4]) -> bool
     ensures value { λ r. ⌜ r ≡ Matrix4x4·eq m1 m2 ⌝ }
 {
@@ -114,7 +116,7 @@ fn row_is_finite(r: [f32; 4]) -> bool
         & float32::is_finite(r[3])
 }
 
-// Every entry is neither NaN nor an infinity.
+// Whether no entry is a NaN or an infinity. Accuracy: exact.
 pub fn is_finite(m: [[f32; 4]; 4]) -> bool
     ensures value { λ r. ⌜ r ≡ Matrix4x4·isFinite m ⌝ }
 {
@@ -125,7 +127,7 @@ pub fn is_finite(m: [[f32; 4]; 4]) -> bool
     row_is_finite(a) & row_is_finite(b) & row_is_finite(c) & row_is_finite(d)
 }
 
-// The bottom row is 0 0 0 1, with a zero of either sign.
+// Whether the bottom row is 0 0 0 1, with a zero of either sign. Accuracy: exact.
 pub fn is_affine(m: [[f32; 4]; 4]) -> bool
     ensures value { λ r. ⌜ r ≡ Matrix4x4·isAffine m ⌝ }
 {

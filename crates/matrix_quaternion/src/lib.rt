@@ -79,7 +79,8 @@ fn from_largest(m: [[f32; 4]; 4], i: usize, j: usize, k: usize) -> Quaternion
     Quaternion { v, w }
 }
 
-// A rotation's matrix as a quaternion.
+// The quaternion of a rotation's matrix, by its trace where that is positive, and otherwise by the largest entry of its diagonal.
+// Accuracy: each operation is correctly rounded.
 pub fn quaternion_from_matrix(m: [[f32; 4]; 4]) -> Quaternion
     ensures value { λ r. ⌜ r ≡ Quaternion·fromMatrix m ⌝ }
 {
@@ -96,7 +97,7 @@ pub fn quaternion_from_matrix(m: [[f32; 4]; 4]) -> Quaternion
     from_largest(m, i, j, k)
 }
 
-// Only the transform's matrix half is read.
+// pbrt's `From<Transform> for Quaternion`: the quaternion of a rotation, of which only the matrix half is read. Accuracy: each operation is correctly rounded.
 pub fn quaternion_from_transform(t: Transform) -> Quaternion
     ensures value { λ r. ⌜ r ≡ Quaternion·fromTransform t ⌝ }
 {

@@ -1,5 +1,5 @@
-// The motion box: pbrt's `bound_point_motion` and `motion_bounds`. It holds where the two poses take a point, and where the move takes it at the times that the zero search
-// found, so that it isn't a cover of the motion. What is asked of the arguments (6, 7) stands apart from the work (5, 9).
+// The motion box: pbrt's `bound_point_motion` and `motion_bounds`. It holds where the two poses take a point, and where the move takes it at the times that the
+// zero search found, so that it isn't a cover of the motion. What is asked of the arguments (6, 7) stands apart from what is met on the way (5, 9).
 use animated_transform::AnimatedTransform;
 use axis_derivative::Derivative;
 use axis_derivative::DerivativeTerm;
@@ -40,7 +40,7 @@ fn point_at(m: AnimatedTransform, a: RigidMotion, p: Point3f, zero: f32) -> Poin
     motion_point::moved_point(m, a, float32::lerp(zero, m.start_time, m.end_time), p)
 }
 
-// The box with the point at one zero's time; after a refusal nothing is worked out.
+// The box with the point at one zero's time; after a refusal nothing is computed.
 fn union_zero(
     m: AnimatedTransform,
     a: RigidMotion,
@@ -121,7 +121,7 @@ fn union_axis(
     }
 }
 
-// The work of `bound_point_motion`, with the move's constants at hand. Accuracy: heuristic.
+// `bound_point_motion` of a finite point, with the move's constants at hand. Accuracy: heuristic.
 fn point_bounds(m: AnimatedTransform, a: RigidMotion, p: Point3f) -> BoundsAnswer
     ensures value { λ r. ⌜ r ≡ pointBounds allPlaces m a p ⌝ }
 {
@@ -136,7 +136,7 @@ fn point_bounds(m: AnimatedTransform, a: RigidMotion, p: Point3f) -> BoundsAnswe
     union_axis(m, a, p, c.z, y)
 }
 
-// The box with one corner's motion; after a refusal nothing is worked out.
+// The box with one corner's motion; after a refusal nothing is computed.
 fn union_corner(
     m: AnimatedTransform,
     a: RigidMotion,
@@ -163,7 +163,7 @@ fn union_corners(m: AnimatedTransform, a: RigidMotion, b: Bounds3f) -> BoundsAns
     r
 }
 
-// The work of `motion_bounds`. Accuracy: heuristic.
+// `motion_bounds` of a box that isn't refused. Accuracy: heuristic.
 fn box_bounds(m: AnimatedTransform, b: Bounds3f) -> BoundsAnswer
     ensures value { λ r. ⌜ r ≡ boxBounds allPlaces m b ⌝ }
 {
@@ -177,8 +177,8 @@ fn box_bounds(m: AnimatedTransform, b: Bounds3f) -> BoundsAnswer
     union_corners(m, motion_point::rigid_motion(m), b)
 }
 
-// Refused with 6 for a coordinate that isn't finite; then with 5 for a moved point that isn't and with 9 for a ninth zero of an axis, whichever is met first.
-// pbrt goes on in the first two cases and panics in the last. Accuracy: heuristic.
+// pbrt's `bound_point_motion`: the motion box of a point. Refused with 6 for a coordinate that isn't finite; then with 5 for a moved point that isn't and with
+// 9 for a ninth zero of an axis, whichever is met first: pbrt goes on in the first two cases and panics in the last. Accuracy: heuristic.
 pub fn bound_point_motion(m: AnimatedTransform, p: Point3f) -> BoundsAnswer
     ensures value { λ r. ⌜ r ≡ AnimatedTransform·boundPointMotion m p ⌝ }
 {
@@ -188,7 +188,8 @@ pub fn bound_point_motion(m: AnimatedTransform, p: Point3f) -> BoundsAnswer
     point_bounds(m, motion_point::rigid_motion(m), p)
 }
 
-// Refused with 6 and 7 for a box with a coordinate that isn't finite or with a least corner above its greatest; then as each corner is. Accuracy: heuristic.
+// pbrt's `motion_bounds`: the union of the two poses' boxes without rotation, and with it that of the corners' motion boxes. Refused with 6 and 7 for a box
+// with a coordinate that isn't finite or with a least corner above its greatest; then as each corner is. Accuracy: heuristic.
 pub fn motion_bounds(m: AnimatedTransform, b: Bounds3f) -> BoundsAnswer
     ensures value { λ r. ⌜ r ≡ AnimatedTransform·motionBounds m b ⌝ }
 {

@@ -20,7 +20,7 @@ pub struct MoveFile {
     pub refusal: u8,
 }
 
-// Reads a whole file.
+// The two poses and the box that a file's bytes hold; refused with 11 where they depart from the layout. Accuracy: exact; every pattern of a NaN gives NaN.
 pub fn read(bytes: &[u8]) -> MoveFile
     ensures value { λ r. ⌜ r ≡ MoveFile·read (now (bytes .entry)) ⌝ }
 {

@@ -7,14 +7,15 @@ use transform::PointAnswer;
 ghost use mathlib.Core.Path.{_≡_};
 ghost use Rattle.motion_point.specs.TransformPoint.{AnimatedTransform·rigidMotion, AnimatedTransform·movedPoint, AnimatedTransform·transformPoint};
 
-// The constants of the pose between, worked out once for any number of points.
+// The constants of the pose between, computed once for any number of points. Accuracy: each operation but the arc cosine is correctly rounded.
 pub fn rigid_motion(m: AnimatedTransform) -> RigidMotion
     ensures value { λ r. ⌜ r ≡ AnimatedTransform·rigidMotion m ⌝ }
 {
     pose_slerp::rigid_motion(m.t0, m.t1, m.r0, m.r1)
 }
 
-// The work of the point query, with the move's constants at hand. Accuracy: each operation is correctly rounded.
+// Where a move with its constants at hand takes a point at a time, neither of which is judged here; refused with 5 where a finished value isn't finite.
+// Accuracy: each operation but sine and cosine is correctly rounded.
 pub fn moved_point(m: AnimatedTransform, a: RigidMotion, time: f32, p: Point3f) -> PointAnswer
     ensures value { λ r. ⌜ r ≡ AnimatedTransform·movedPoint m a time p ⌝ }
 {
@@ -33,7 +34,8 @@ pub fn moved_point(m: AnimatedTransform, a: RigidMotion, time: f32, p: Point3f) 
     )
 }
 
-// Refused with 6 for a NaN time or a coordinate that isn't finite, and with 5 where a value on the way isn't; pbrt goes on in both cases.
+// pbrt's `transform_point` of two arguments: where a move takes a point at a time. Refused with 6 for a NaN time or a coordinate that isn't finite, and with 5
+// where a finished value isn't; pbrt goes on in both cases. Accuracy: each operation but sine, cosine and arc cosine is correctly rounded.
 pub fn transform_point(m: AnimatedTransform, time: f32, p: Point3f) -> PointAnswer
     ensures value { λ r. ⌜ r ≡ AnimatedTransform·transformPoint m time p ⌝ }
 {

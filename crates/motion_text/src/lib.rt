@@ -8,8 +8,8 @@ ghost use lib.Seq.{paste};
 ghost use Rattle.motion_file.specs.Text.{lineFeed, space};
 ghost use Rattle.motion_text.specs.Answer.{line, wordOf, zerosInFront, boundsText, refusalText, front, lengthIn};
 
-// Writes a box, its least corner and its greatest, as a line of names and a line of values into the front of `out`, and gives the length of the text. Where that
-// doesn't fit, `out` is kept as it is and the answer is 0.
+// Writes a box, its least corner and its greatest, as a line of names and a line of values into the front of `out`, and gives the length of the text; where
+// that doesn't fit, `out` is kept as it is and the answer is 0. Accuracy: exact; a NaN is written as 7fc00000.
 pub fn write_bounds(bounds: [f32; 6], out: &mut [u8]) -> usize
     ensures value { λ r. ⌜ r ≡ lengthIn (boundsText bounds) (now (out .entry)) ⌝ }
     ensures text { λ _. ⌜ now (out .exit) ≡ front (boundsText bounds) (now (out .entry)) ⌝ }
@@ -23,8 +23,8 @@ pub fn write_bounds(bounds: [f32; 6], out: &mut [u8]) -> usize
     72
 }
 
-// Writes the line `refused` and a line with the number in decimal into the front of `out`, and gives the length of the text. Where that doesn't fit, `out` is kept as
-// it is and the answer is 0.
+// Writes the line `refused` and a line with the number in decimal into the front of `out`, and gives the length of the text; where that doesn't fit, `out` is
+// kept as it is and the answer is 0. Accuracy: exact.
 pub fn write_refusal(number: u8, out: &mut [u8]) -> usize
     ensures value { λ r. ⌜ r ≡ lengthIn (refusalText number) (now (out .entry)) ⌝ }
     ensures text { λ _. ⌜ now (out .exit) ≡ front (refusalText number) (now (out .entry)) ⌝ }

@@ -2,7 +2,7 @@
 ghost use mathlib.Core.Path.{_≡_};
 ghost use Rattle.polar_round.specs.PolarRound.{linearPart, mean, meanRow, rowDistance, distance};
 
-// The matrix without its translation.
+// The matrix without its translation: its right column and its bottom row are the identity's. Accuracy: exact.
 pub fn linear_part(m: [[f32; 4]; 4]) -> [[f32; 4]; 4]
     ensures value { λ r. ⌜ r ≡ linearPart m ⌝ }
 {
@@ -28,7 +28,7 @@ fn mean_row(r: [f32; 4], s: [f32; 4]) -> [f32; 4]
     ]
 }
 
-// Accuracy: each operation is correctly rounded.
+// The mean of two matrices, entry by entry. Accuracy: each operation is correctly rounded.
 pub fn mean(m1: [[f32; 4]; 4], m2: [[f32; 4]; 4]) -> [[f32; 4]; 4]
     ensures value { λ r. ⌜ r ≡ mean m1 m2 ⌝ }
 {
@@ -54,7 +54,8 @@ fn row_distance(r: [f32; 4], s: [f32; 4]) -> f32
     float32::abs(r[0] - s[0]) + float32::abs(r[1] - s[1]) + float32::abs(r[2] - s[2])
 }
 
-// pbrt's `norm` of the difference: the greatest of the rows' sums, over the linear part.
+// pbrt's `norm` of the difference of two matrices: the greatest of the rows' sums of absolute values, over the linear part.
+// Accuracy: each operation is correctly rounded.
 pub fn distance(m1: [[f32; 4]; 4], m2: [[f32; 4]; 4]) -> f32
     ensures value { λ d. ⌜ d ≡ distance m1 m2 ⌝ }
 {

@@ -1,5 +1,6 @@
 // A move's pose between its two poses, and a point that it moves: the steps of pbrt's `interpolate` and `transform_point`, matrix half, in sequence.
-// In floats at a dt, where a finished value that isn't finite is refused with 5; in intervals over any interval of dt, from a translation and a rotation at hand, where each is judged as it is formed.
+// In floats at a dt, where a finished value that isn't finite is refused with 5; in intervals over any interval of dt, from a translation and a rotation at
+// hand, where each is judged as it is formed.
 ghost use mathlib.Core.Path.{_≡_};
 ghost use Rattle.transform.specs.Transform.{translation};
 ghost use Rattle.pose_steps.specs.Pose.{allFinite, PoseAnswer·judged, Pose·matrix, Pose·movedPoint};
@@ -49,7 +50,8 @@ fn judged(finite: bool, m: Matrix4x4) -> PoseAnswer
     }
 }
 
-// `interpolate`, matrix half, between the two poses.
+// pbrt's `interpolate`, matrix half, at a dt between the two poses; refused with 5 where a finished value isn't finite.
+// Accuracy: each operation but sine and cosine is correctly rounded.
 pub fn matrix(a: RigidMotion, s0: Matrix4x4, s1: Matrix4x4, dt: f32) -> PoseAnswer
     ensures value { λ r. ⌜ r ≡ Pose·matrix a s0 s1 dt ⌝ }
 {
@@ -69,7 +71,8 @@ pub fn matrix(a: RigidMotion, s0: Matrix4x4, s1: Matrix4x4, dt: f32) -> PoseAnsw
     judged(finite, last)
 }
 
-// `transform_point` between the two poses.
+// pbrt's `transform_point` at a dt between the two poses; refused with 5 where a finished value isn't finite.
+// Accuracy: each operation but sine and cosine is correctly rounded.
 pub fn moved_point(a: RigidMotion, s0: Matrix4x4, s1: Matrix4x4, dt: f32, p: Point3f) -> PointAnswer
     ensures value { λ r. ⌜ r ≡ Pose·movedPoint a s0 s1 dt p ⌝ }
 {
@@ -82,7 +85,8 @@ pub fn moved_point(a: RigidMotion, s0: Matrix4x4, s1: Matrix4x4, dt: f32, p: Poi
     }
 }
 
-// The pose over an interval of dt, from its translation and its rotation there. Accuracy: encloses.
+// The pose's matrix over an interval of dt, from its translation and its rotation there, with the refusal number met before; refused with 5.
+// Accuracy: encloses.
 pub fn composition_enclosure(
     trans: IntervalVector,
     rotate: JudgedQuaternion,

@@ -1,5 +1,7 @@
 // The stages of a pose in intervals, each interval judged as it is formed: the first number that is met stands.
-// Where all ends are finite, and slerp's length above zero, nothing is refused, and the stages' own crates leave the judging out; these are what they fall back on where that test fails.
+// m is the number met before a stage; a stage gives 5 for an end that isn't finite, and slerp 10 for a squared length whose low end is zero or below.
+// Where all ends are finite, and slerp's length above zero, nothing is refused, and the stages' own crates leave the judging out; these are what they fall back
+// on where that test fails.
 ghost use mathlib.Core.Path.{_≡_};
 ghost use Rattle.pose_steps.specs.Enclose.{Pose·encloseTranslation, Pose·encloseSlerpNear, Pose·encloseSlerpFar, Pose·encloseScaleRow, Pose·encloseScale, Pose·encloseRotation, Pose·encloseMulRow, Pose·encloseMul, Pose·encloseTransformPoint};
 use interval::Interval;
@@ -100,7 +102,7 @@ pub fn slerp_near_enclosure(
     }
 }
 
-// slerp where it is not, with its dot product and angle given. Accuracy: encloses.
+// slerp where it isn't linear, with its dot product and angle given. Accuracy: encloses, for an angle from 0 to a quarter turn and t from 0 to 1.
 pub fn slerp_far_enclosure(
     m: u8,
     q1: IntervalQuaternion,

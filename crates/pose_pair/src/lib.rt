@@ -1,4 +1,4 @@
-// A pose, and what the building of a move asks of two of them before it works anything.
+// A pose, and what the building of a move asks of two of them before it computes anything.
 use matrix4x4::Matrix4x4;
 ghost use mathlib.Core.Path.{_≡_};
 ghost use Rattle.pose_pair.specs.Pose.{Pose·isFinite, Pose·isAffine, timesRefusal, posesRefusal};
@@ -10,14 +10,14 @@ pub struct Pose {
 }
 
 impl Pose {
-    // The time and every entry are finite.
+    // Whether the time and every entry are finite. Accuracy: exact.
     pub fn is_finite(self) -> bool
         ensures value { λ r. ⌜ r ≡ Pose·isFinite self ⌝ }
     {
         float32::is_finite(self.time) & matrix4x4::is_finite(self.m.to_rows())
     }
 
-    // The bottom row is 0 0 0 1, with a zero of either sign.
+    // Whether the matrix's bottom row is 0 0 0 1, with a zero of either sign. Accuracy: exact.
     pub fn is_affine(self) -> bool
         ensures value { λ r. ⌜ r ≡ Pose·isAffine self ⌝ }
     {
@@ -25,6 +25,7 @@ impl Pose {
     }
 }
 
+// 3 where the end time is below the start time, or their rounded difference isn't finite, and 0 otherwise. Accuracy: exact.
 pub fn times_refusal(start: f32, end: f32) -> u8
     ensures value { λ r. ⌜ r ≡ timesRefusal start end ⌝ }
 {
@@ -35,7 +36,7 @@ pub fn times_refusal(start: f32, end: f32) -> u8
     }
 }
 
-// What is refused before anything is worked: 1, 2, 3, or 0 for none.
+// 1 for a time or an entry that isn't finite, then 2 for a bottom row other than 0 0 0 1, then 3 for the times, 0 for none. Accuracy: exact.
 pub fn poses_refusal(start: Pose, end: Pose) -> u8
     ensures value { λ r. ⌜ r ≡ posesRefusal start end ⌝ }
 {

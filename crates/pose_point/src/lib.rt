@@ -1,5 +1,5 @@
-// A point moved by a matrix whose bottom row is 0, 0, 0, 1, pbrt's `transform_point` with wp = 1: in floats, and in intervals of which each is judged as it is formed.
-// Where a sum over all ends is finite, judging is left out, which gives the same.
+// A point moved by a matrix whose bottom row is 0, 0, 0, 1, pbrt's `transform_point` with wp = 1: in floats, and in intervals of which each is judged as it is
+// formed. Where a sum over all ends is finite, judging is left out, which gives the same.
 // And vectors and matrices of floats as intervals with equal ends.
 ghost use mathlib.Core.Path.{_≡_};
 ghost use Rattle.pose_steps.specs.Pose.{Pose·transformPoint};
@@ -48,6 +48,8 @@ pub fn matrix_point(m: Matrix4x4) -> IntervalMatrix
     IntervalMatrix { r0, r1, r2 }
 }
 
+// pbrt's `transform_point` with wp = 1: the three upper rows of a matrix times (x, y, z, 1), summed from the left.
+// Accuracy: each operation is correctly rounded.
 pub fn transform_point(m: Matrix4x4, p: Point3f) -> Point3f
     ensures value { λ r. ⌜ r ≡ Pose·transformPoint m p ⌝ }
 {
@@ -88,7 +90,7 @@ fn transform_point_unjudged(a: IntervalMatrix, p: IntervalVector) -> IntervalVec
     IntervalVector { x, y, z }
 }
 
-// Accuracy: encloses.
+// The same over a box of points, with m the refusal number met before; refused with 5 where an end isn't finite. Accuracy: encloses.
 pub fn transform_point_enclosure(m: u8, a: IntervalMatrix, p: IntervalVector) -> JudgedVector
     ensures value { λ r. ⌜ r ≡ Pose·encloseTransformPoint m a p ⌝ }
 {

@@ -26,7 +26,7 @@ struct Products {
     wz: Interval,
 }
 
-// Transposed once. Accuracy: each operation is correctly rounded.
+// pbrt's `From<Quaternion> for Transform`, matrix half: the matrix of a quaternion, transposed once. Accuracy: each operation is correctly rounded.
 pub fn rotation(q: Quaternion) -> Matrix4x4
     ensures value { λ r. ⌜ r ≡ Pose·rotation q ⌝ }
 {
@@ -148,7 +148,7 @@ fn rotation_unjudged(p: Products) -> IntervalMatrix
     IntervalMatrix { r0, r1, r2 }
 }
 
-// Accuracy: encloses.
+// The same in intervals, with m the refusal number met before; refused with 5 where an end isn't finite. Accuracy: encloses.
 pub fn rotation_enclosure(m: u8, q: IntervalQuaternion) -> JudgedMatrix
     ensures value { λ r. ⌜ r ≡ Pose·encloseRotation m q ⌝ }
 {

@@ -1,6 +1,7 @@
 // The rotation of a pose at dt, pbrt's `slerp` with its dot product and angle given: in floats and in intervals.
-// Where a sum over ends is finite, judging is left out, which gives the same. slerp is linear above 0.9995. A squared length whose low end is zero or below is refused with 10 before it is rooted.
-// What far slerp needs that does not depend on t is worked out by `perpendicular_to`, so that a caller with many intervals of t keeps it.
+// Where a sum over ends is finite, judging is left out, which gives the same. slerp is linear above 0.9995. A squared length whose low end is zero or below is
+// refused with 10 before its root is taken.
+// What far slerp needs that does not depend on t is computed by `perpendicular_to`, so that a caller with many intervals of t keeps it.
 ghost use mathlib.Core.Path.{_≡_};
 ghost use Rattle.pose_steps.specs.Pose.{RigidMotion·new, Pose·slerpNear, Pose·slerpFar, Pose·slerp};
 ghost use Rattle.pose_steps.specs.Enclose.{IntervalQuaternion·point, Pose·encloseSlerpNear, Pose·encloseSlerpFar, Pose·encloseSlerp};
@@ -20,7 +21,8 @@ pub struct Perpendicular {
     pub length: f32,
 }
 
-// The constants of a move: the dot product of its rotations and the angle between them are worked out here, once.
+// The constants of a move: the dot product of its rotations and the angle between them are computed here, once.
+// Accuracy: each operation but the arc cosine is correctly rounded.
 pub fn rigid_motion(t0: Vector3f, t1: Vector3f, r0: Quaternion, r1: Quaternion) -> RigidMotion
     ensures value { λ r. ⌜ r ≡ RigidMotion·new t0 t1 r0 r1 ⌝ }
 {
@@ -36,6 +38,7 @@ pub fn rigid_motion(t0: Vector3f, t1: Vector3f, r0: Quaternion, r1: Quaternion) 
     }
 }
 
+// pbrt's `slerp` where it is linear: the straight line from q1 to q2, normalized. Accuracy: each operation is correctly rounded.
 pub fn slerp_near(q1: Quaternion, q2: Quaternion, t: f32) -> Quaternion
     ensures value { λ r. ⌜ r ≡ Pose·slerpNear q1 q2 t ⌝ }
 {
@@ -53,6 +56,7 @@ pub fn slerp_near(q1: Quaternion, q2: Quaternion, t: f32) -> Quaternion
     Quaternion { v, w: w / n }
 }
 
+// pbrt's `slerp` where it isn't linear: the arc from q1 towards q2, through theta t. Accuracy: each operation but sine and cosine is correctly rounded.
 pub fn slerp_far(q1: Quaternion, q2: Quaternion, cos_theta: f32, theta: f32, t: f32) -> Quaternion
     ensures value { λ r. ⌜ r ≡ Pose·slerpFar q1 q2 «cos_theta» theta t ⌝ }
 {
@@ -76,6 +80,7 @@ pub fn slerp_far(q1: Quaternion, q2: Quaternion, cos_theta: f32, theta: f32, t: 
     }
 }
 
+// pbrt's `slerp` of a move's two rotations, linear where their dot product is above 0.9995. Accuracy: each operation but sine and cosine is correctly rounded.
 pub fn slerp(a: RigidMotion, t: f32) -> Quaternion
     ensures value { λ r. ⌜ r ≡ Pose·slerp a t ⌝ }
 {
@@ -96,7 +101,7 @@ fn quaternion_point(q: Quaternion) -> IntervalQuaternion
     IntervalQuaternion { x, y, z, w }
 }
 
-// p a + q b.
+// p a + q b, with no interval judged. Accuracy: encloses, for finite ends.
 pub fn combination_unjudged(
     p: Quaternion,
     q: Quaternion,
@@ -145,7 +150,8 @@ fn quotient_unjudged(q: IntervalQuaternion, n: Interval) -> IntervalQuaternion
     IntervalQuaternion { x, y, z, w }
 }
 
-// Accuracy: encloses.
+// Linear slerp over an interval of t, with m the refusal number met before; refused with 5 where an end isn't finite, and with 10 where the low end of the
+// squared length is zero or below. Accuracy: encloses.
 pub fn slerp_near_enclosure(m: u8, q1: Quaternion, q2: Quaternion, t: Interval) -> JudgedQuaternion
     ensures value { λ r. ⌜ r ≡ Pose·encloseSlerpNear m (IntervalQuaternion·point q1) (IntervalQuaternion·point q2) t ⌝ }
 {
@@ -175,7 +181,7 @@ pub fn slerp_near_enclosure(m: u8, q1: Quaternion, q2: Quaternion, t: Interval) 
     }
 }
 
-// As in `slerp_far`: nothing here depends on t.
+// The unit quaternion perpendicular to q1, towards q2, as in `slerp_far`: it doesn't depend on t. Accuracy: each operation is correctly rounded.
 pub fn perpendicular_to(q1: Quaternion, q2: Quaternion, cos_theta: f32) -> Perpendicular
     ensures value { λ r. ⌜ r ≡ Perpendicular·of q1 q2 «cos_theta» ⌝ }
 {
@@ -193,7 +199,8 @@ pub fn perpendicular_to(q1: Quaternion, q2: Quaternion, cos_theta: f32) -> Perpe
     Perpendicular { q, length: n }
 }
 
-// With every interval judged. Accuracy: encloses.
+// slerp by the angle over an interval of t, with every interval judged, and refused as linear slerp is.
+// Accuracy: encloses, for an angle from 0 to a quarter turn and t from 0 to 1.
 pub fn slerp_far_enclosure(m: u8, a: RigidMotion, t: Interval) -> JudgedQuaternion
     ensures value { λ r. ⌜ r ≡ Pose·encloseSlerpFar m (IntervalQuaternion·point (a .r0)) (IntervalQuaternion·point (a .r1)) (Interval·point (a .«cos_theta»)) (Interval·point (a .theta)) t ⌝ }
 {

@@ -1,5 +1,5 @@
-// pbrt's Quaternion: a vector and a scalar, which rotates where its length is 1. Nothing is refused here: each function is stated for all arguments, NaN and infinities
-// included, and the functions that build and that answer queries judge what comes out.
+// pbrt's Quaternion: a vector and a scalar, which rotates where its length is 1. Nothing is refused here: each function is stated for all arguments, NaN and
+// infinities included, and the functions that build and that answer queries judge what comes out.
 ghost use mathlib.Core.Path.{_≡_};
 ghost use Rattle.quaternion.specs.Quaternion.{Quaternion·dot, Quaternion·normalize, Quaternion·add, Quaternion·sub, Quaternion·neg, Quaternion·mul, Quaternion·div};
 ghost use Rattle.quaternion.specs.IsFinite.{Quaternion·isFinite};
@@ -11,20 +11,22 @@ pub struct Quaternion {
     pub w: f32,
 }
 
-// Accuracy: each operation on components is correctly rounded.
 impl Quaternion {
+    // pbrt's `dot`: the sum of the products of the components, those of v first. Accuracy: each operation is correctly rounded.
     pub fn dot(self, q: Quaternion) -> f32
         ensures value { λ r. ⌜ r ≡ Quaternion·dot self q ⌝ }
     {
         self.v.dot(q.v) + self.w * q.w
     }
 
+    // pbrt's `normalize`: the quaternion divided by its length. Accuracy: each operation is correctly rounded.
     pub fn normalize(self) -> Quaternion
         ensures value { λ r. ⌜ r ≡ Quaternion·normalize self ⌝ }
     {
         self.div(square_root::sqrt(self.dot(self)))
     }
 
+    // pbrt's sum, component by component. Accuracy: correctly rounded.
     pub fn add(self, q: Quaternion) -> Quaternion
         ensures value { λ r. ⌜ r ≡ Quaternion·add self q ⌝ }
     {
@@ -32,6 +34,7 @@ impl Quaternion {
         Quaternion { v, w: self.w + q.w }
     }
 
+    // pbrt's difference, component by component. Accuracy: correctly rounded.
     pub fn sub(self, q: Quaternion) -> Quaternion
         ensures value { λ r. ⌜ r ≡ Quaternion·sub self q ⌝ }
     {
@@ -39,6 +42,7 @@ impl Quaternion {
         Quaternion { v, w: self.w - q.w }
     }
 
+    // pbrt's negative, which is the same rotation. Accuracy: exact.
     pub fn neg(self) -> Quaternion
         ensures value { λ r. ⌜ r ≡ Quaternion·neg self ⌝ }
     {
@@ -46,6 +50,7 @@ impl Quaternion {
         Quaternion { v, w: -self.w }
     }
 
+    // Each component times f. Accuracy: correctly rounded.
     pub fn mul(self, f: f32) -> Quaternion
         ensures value { λ r. ⌜ r ≡ Quaternion·mul self f ⌝ }
     {
@@ -53,6 +58,7 @@ impl Quaternion {
         Quaternion { v, w: self.w * f }
     }
 
+    // Each component divided by f. Accuracy: correctly rounded.
     pub fn div(self, f: f32) -> Quaternion
         ensures value { λ r. ⌜ r ≡ Quaternion·div self f ⌝ }
     {
@@ -60,6 +66,7 @@ impl Quaternion {
         Quaternion { v, w: self.w / f }
     }
 
+    // Whether no component is a NaN or an infinity. Accuracy: exact.
     pub fn is_finite(self) -> bool
         ensures value { λ r. ⌜ r ≡ Quaternion·isFinite self ⌝ }
     {
@@ -93,7 +100,8 @@ fn slerp_far(q1: Quaternion, q2: Quaternion, t: f32, cos_theta: f32) -> Quaterni
     a.add(b)
 }
 
-// Spherical interpolation from q1 at t = 0 to q2 at t = 1. slerp is linear above 0.9995 and has_rotation asks for less: at 0.9995 itself neither holds.
+// pbrt's `slerp`: spherical interpolation from q1 at t = 0 to q2 at t = 1, linear where the dot product is above 0.9995; has_rotation asks for less: at 0.9995
+// itself neither holds. Accuracy: each operation but sine, cosine and arc cosine is correctly rounded.
 pub fn slerp(q1: Quaternion, q2: Quaternion, t: f32) -> Quaternion
     ensures value { λ r. ⌜ r ≡ Quaternion·slerp q1 q2 t ⌝ }
 {

@@ -4,7 +4,7 @@ ghost use Rattle.rotation.specs.FromQuaternion.{inverseRotation, Transfo
 use quaternion::Quaternion;
 use transform::Transform;
 
-// The matrix that pbrt works out before it transposes it: the inverse half of the rotation.
+// The matrix that pbrt computes before it transposes it: the inverse half of the rotation.
 fn inverse_rotation(q: Quaternion) -> [[f32; 4]; 4]
     ensures value { λ r. ⌜ r ≡ inverseRotation q ⌝ }
 {
@@ -25,7 +25,7 @@ fn inverse_rotation(q: Quaternion) -> [[f32; 4]; 4]
     ]
 }
 
-// The rotation of a quaternion: transposed once, for the matrix half.
+// pbrt's `From<Quaternion> for Transform`: the rotation of a quaternion, transposed once, for the matrix half. Accuracy: each operation is correctly rounded.
 pub fn transform_from_quaternion(q: Quaternion) -> Transform
     ensures value { λ r. ⌜ r ≡ Transform·fromQuaternion q ⌝ }
 {

@@ -13,14 +13,14 @@ pub struct CoefficientsAnswer {
     pub refusal: u8,
 }
 
-// The end's quaternion, negated where the dot product is below zero, so that slerp takes the shorter arc.
+// The end's quaternion, negated where the rounded dot product with the start's is below zero, so that slerp takes the shorter arc. Accuracy: exact.
 pub fn flip(r0: Quaternion, r1: Quaternion) -> Quaternion
     ensures value { λ r. ⌜ r ≡ flip r0 r1 ⌝ }
 {
     if r0.dot(r1) < 0.0 { r1.neg() } else { r1 }
 }
 
-// The dot products of the two quaternions, before and after the flip.
+// 5 where the dot product of the two quaternions isn't finite, before or after the flip, and 0 otherwise. Accuracy: exact.
 pub fn dots_refusal(before: f32, after: f32) -> u8
     ensures value { λ r. ⌜ r ≡ dotsRefusal before after ⌝ }
 {
@@ -65,7 +65,8 @@ fn rotation_coefficients(
     )
 }
 
-// Without rotation every coefficient is +0.
+// pbrt's c1 to c5 of a move, of which each is +0 without rotation; refused with 5 where the perpendicular quaternion or a coefficient isn't finite.
+// Accuracy: each operation but the arc cosine is correctly rounded.
 pub fn pair_coefficients(
     has_rotation: bool,
     t0: Vector3f,

@@ -42,7 +42,7 @@ fn heron_root(n: u64) -> u64
     q + 1
 }
 
-// An estimate of √n, or its neighbour where that is nearer. Nothing is promised of it but that its square fits.
+// An estimate of √n, or its neighbour where that is nearer. Nothing is promised about it but that its square fits.
 fn corrected(n: u64, estimate: u64) -> u64
     requires { ⌜ 0 < n ⌝ ∗ ⌜ n < 2 ^ 48 ⌝ ∗ ⌜ estimate < 2 ^ 32 ⌝ }
     ensures { λ r. ⌜ r < 2 ^ 32 ⌝ }

@@ -1,6 +1,6 @@
 // pbrt's Transform: a 4x4 matrix with its inverse, applied to points, vectors and boxes.
-// Who judges what: `transform_point` and `transform_bounds` answer a refusal, 5, for a moved point that isn't finite; `from_matrix` hands on the inverse's, 4 or 5.
-// All others refuse nothing. Neither a matrix nor a point is asked to be finite here: that is for the functions that build and that answer queries.
+// Who judges what: `transform_point` and `transform_bounds` answer a refusal, 5, for a moved point that isn't finite; `from_matrix` hands on the inverse's,
+// 4 or 5. All others refuse nothing. Neither a matrix nor a point is asked to be finite here: that is for the functions that build and that answer queries.
 ghost use mathlib.Core.Path.{_≡_};
 ghost use Rattle.matrix4x4.specs.Rows.{Matrix4x4·toRows};
 ghost use Rattle.transform.specs.Transform.{TransformAnswer·refused, Transform·fromMatrices, Transform·fromMatrix, Transform·mul, Transform·translate, Transform·eq};
@@ -37,7 +37,7 @@ pub enum BoundsAnswer {
     Refused(u8),
 }
 
-// A transform that was refused, by the number: every entry is +0.
+// A transform that was refused, by the number: every entry is +0. Accuracy: exact.
 pub fn refused(refusal: u8) -> TransformAnswer
     ensures value { λ r. ⌜ r ≡ TransformAnswer·refused refusal ⌝ }
 {
@@ -82,7 +82,7 @@ fn moved_point(m: Matrix4x4, p: Point3f) -> Point3f
     if wp == 1.0 { q } else { q.div(wp) }
 }
 
-// The box of a moved point.
+// The box of a moved point, or its refusal. Accuracy: exact.
 pub fn from_moved(a: PointAnswer) -> BoundsAnswer
     ensures value { λ r. ⌜ r ≡ BoundsAnswer·fromMoved a ⌝ }
 {
@@ -112,6 +112,7 @@ fn not_one(x: f32) -> bool
 }
 
 impl Transform {
+    // pbrt's `from_matrices`: a transform of two halves, of which nothing asks that they are inverse to each other. Accuracy: exact.
     pub fn from_matrices(m: [[f32; 4]; 4], m_inv: [[f32; 4]; 4]) -> Transform
         ensures value { λ r. ⌜ r ≡ Transform·fromMatrices m «m_inv» ⌝ }
     {
@@ -120,7 +121,8 @@ impl Transform {
         Transform { m: a, m_inv: b }
     }
 
-    // Departs from pbrt, which goes on past a zero pivot: the refusal of the inverse, 4 or 5, is handed on.
+    // pbrt's `from_matrix`: a matrix with its inverse; pbrt goes on past a zero pivot, and here the refusal of the inverse, 4 or 5, is handed on.
+    // Accuracy: each operation is correctly rounded.
     pub fn from_matrix(m: [[f32; 4]; 4]) -> TransformAnswer
         ensures value { λ r. ⌜ r ≡ Transform·fromMatrix m ⌝ }
     {
@@ -138,6 +140,7 @@ impl Transform {
         }
     }
 
+    // pbrt's `translate`: the matrix that adds delta to a point, and the one that subtracts it. Accuracy: exact.
     pub fn translate(delta: Vector3f) -> Transform
         ensures value { λ r. ⌜ r ≡ Transform·translate delta ⌝ }
     {
@@ -156,7 +159,7 @@ impl Transform {
         Transform { m, m_inv }
     }
 
-    // First other, then self.
+    // pbrt's product: first other, then self. Accuracy: each operation is correctly rounded.
     pub fn mul(self, other: Transform) -> Transform
         ensures value { λ r. ⌜ r ≡ Transform·mul self other ⌝ }
     {
@@ -165,6 +168,7 @@ impl Transform {
         Transform::from_matrices(m, m_inv)
     }
 
+    // pbrt's `==` of both halves: a NaN differs from itself, and the two zeros are equal. Accuracy: exact.
     pub fn eq(self, other: Transform) -> bool
         ensures value { λ r. ⌜ r ≡ Transform·eq self other ⌝ }
     {
@@ -172,6 +176,8 @@ impl Transform {
             & matrix4x4::eq(self.m_inv.to_rows(), other.m_inv.to_rows())
     }
 
+    // pbrt's `transform_point`: the matrix half times (x, y, z, 1), divided by the fourth coordinate where that isn't 1; refused with 5 where a moved
+    // coordinate isn't finite. Accuracy: each operation is correctly rounded.
     pub fn transform_point(self, p: Point3f) -> PointAnswer
         ensures value { λ r. ⌜ r ≡ Transform·transformPoint self p ⌝ }
         ensures judged { λ r. ⌜ PointAnswer·Judged r ⌝ }
@@ -184,6 +190,7 @@ impl Transform {
         }
     }
 
+    // pbrt's `transform_vector`: the matrix half times (x, y, z, 0). Accuracy: each operation is correctly rounded.
     pub fn transform_vector(self, v: Vector3f) -> Vector3f
         ensures value { λ r. ⌜ r ≡ Transform·transformVector self v ⌝ }
     {
@@ -204,7 +211,8 @@ impl Transform {
         v.dot(v)
     }
 
-    // Whether the image of a unit vector on some axis has a squared length that isn't near 1.
+    // pbrt's `has_scale`: whether the image of a unit vector on some axis has a squared length below 0.999 or above 1.001.
+    // Accuracy: heuristic, by rounded squared lengths.
     pub fn has_scale(self) -> bool
         ensures value { λ r. ⌜ r ≡ Transform·hasScale self ⌝ }
     {
@@ -219,7 +227,8 @@ impl Transform {
         union_moved(r, self.transform_point(Point3f { x, y, z }))
     }
 
-    // The box of the eight moved corners, in pbrt's order: of two equal zeros the first stands.
+    // pbrt's `transform_bounds`: the box of the eight moved corners, in pbrt's order: of two equal zeros the first stands; refused with 5 where a moved corner
+    // isn't finite. Accuracy: encloses, for an affine matrix and a box with ordered corners, both finite.
     pub fn transform_bounds(self, b: Bounds3f) -> BoundsAnswer
         ensures value { λ r. ⌜ r ≡ Transform·transformBounds self b ⌝ }
         ensures judged { λ r. ⌜ BoundsAnswer·Judged r ⌝ }

@@ -8,16 +8,15 @@ pub struct Vector3f {
     pub z: f32,
 }
 
-// Accuracy: each operation on components is correctly rounded.
 impl Vector3f {
-    // The dot product, summed x, y, z.
+    // The dot product, summed x, y, z. Accuracy: each operation is correctly rounded.
     pub fn dot(self, other: Vector3f) -> f32
         ensures value { λ r. ⌜ r ≡ Vector3f·dot self other ⌝ }
     {
         self.x * other.x + self.y * other.y + self.z * other.z
     }
 
-    // Each component divided by s.
+    // Each component divided by s. Accuracy: correctly rounded.
     pub fn div(self, s: f32) -> Vector3f
         ensures value { λ r. ⌜ r ≡ Vector3f·div self s ⌝ }
     {
@@ -28,6 +27,7 @@ impl Vector3f {
         }
     }
 
+    // The sum, component by component. Accuracy: correctly rounded.
     pub fn add(self, other: Vector3f) -> Vector3f
         ensures value { λ r. ⌜ r ≡ Vector3f·add self other ⌝ }
     {
@@ -38,6 +38,7 @@ impl Vector3f {
         }
     }
 
+    // The difference, component by component. Accuracy: correctly rounded.
     pub fn sub(self, other: Vector3f) -> Vector3f
         ensures value { λ r. ⌜ r ≡ Vector3f·sub self other ⌝ }
     {
@@ -48,7 +49,7 @@ impl Vector3f {
         }
     }
 
-    // Each component times s.
+    // Each component times s. Accuracy: correctly rounded.
     pub fn mul(self, s: f32) -> Vector3f
         ensures value { λ r. ⌜ r ≡ Vector3f·mul self s ⌝ }
     {
@@ -59,6 +60,7 @@ impl Vector3f {
         }
     }
 
+    // The vector of the same length in the opposite direction. Accuracy: exact.
     pub fn neg(self) -> Vector3f
         ensures value { λ r. ⌜ r ≡ Vector3f·neg self ⌝ }
     {
