@@ -1,8 +1,10 @@
 #!/usr/bin/env bash
-# Runs the program `cover` on each move file of examples/ and holds what it prints to the file's .expected; zeros count as equal whatever their sign.
+# Runs the program `cover` on each move file of examples/ and examples/refused/ and holds what it prints to the file's .expected; zeros count as equal
+# whatever their sign. Then on a file of as many bytes as one may have, and of one more: `main` has no contract, and these runs hold what it reads and prints.
 # Exit status 1 where one differs.
 #   tools/examples.sh                     compares; target/bin/cover must be built
-#   tools/examples.sh --expect PROGRAM    writes the .expected files by what PROGRAM answers at depth 10: the oracle's `answers`, so that they come from outside the libraries
+#   tools/examples.sh --expect PROGRAM    writes the .expected files of examples/ by what PROGRAM answers at depth 10: the oracle's `answers`, so that they
+#                                         come from outside the libraries; those of examples/refused/ are document 01's numbers
 set -u
 cd "$(dirname "$0")/.." || exit 2
 # A move file as two questions: the move, with the bottom rows that the file leaves out, and its cover.
@@ -20,20 +22,37 @@ if [ $# -eq 2 ] && [ "$1" = --expect ]; then
     done
     exit
 fi
-[ $# -eq 0 ] || { sed -n '2,5s/^# \{0,1\}//p' "$0"; exit 2; }
+[ $# -eq 0 ] || { sed -n '2,7s/^# \{0,1\}//p' "$0"; exit 2; }
 same_zeros() { sed 's/\b80000000\b/00000000/g' "$1"; }
-made=$(mktemp)
-trap 'rm -f "$made"' EXIT
+made=$(mktemp) input=$(mktemp) eleven=$(mktemp)
+trap 'rm -f "$made" "$input" "$eleven"' EXIT
 count=0 status=0
-for file in examples/*.txt; do
-    expected=${file%.txt}.expected
-    if target/bin/cover <"$file" >"$made" 2>&1 && [ -s "$expected" ] && diff -q <(same_zeros "$expected") <(same_zeros "$made") >/dev/null; then
+# Runs the program on a file and compares.
+try() { # NAME FILE EXPECTED [WORDS FOR IT]
+    if target/bin/cover <"$2" >"$made" 2>&1 && [ -s "$3" ] && diff -q <(same_zeros "$3") <(same_zeros "$made") >/dev/null; then
         count=$((count + 1))
     else
-        echo "EXAMPLE $file: target/bin/cover does not print what $expected has:"
-        diff "$expected" "$made"
+        echo "EXAMPLE $1: target/bin/cover does not print what ${4:-$3} has:"
+        diff "$3" "$made"
         status=1
     fi
-done 2>&1
+}
+# examples/swing.txt made as long as that by spaces between its first two words.
+swing_of() { # BYTES
+    printf 'time%*s' "$(($1 - $(wc -c <examples/swing.txt)))" ''
+    tail -c +5 examples/swing.txt
+}
+{
+    for file in examples/*.txt examples/refused/*.txt; do
+        try "$file" "$file" "${file%.txt}.expected"
+    done
+    printf 'refused\n11\n' >"$eleven"
+    swing_of 65536 >"$input"
+    try "swing.txt of 65,536 bytes" "$input" examples/swing.expected
+    echo >>"$input"
+    try "swing.txt of 65,536 bytes and a line feed more" "$input" "$eleven" "refusal 11"
+    swing_of 65537 >"$input"
+    try "swing.txt of 65,537 bytes" "$input" "$eleven" "refusal 11"
+} 2>&1
 [ "$status" -ne 0 ] || echo "examples: $count move files, each with the expected output"
 exit "$status"
