@@ -1,5 +1,5 @@
--- The table as a list is T, `table-entries`, and T is what document 01 says of it, `sineTable-right`: its size, its ends, its strict rise and the Taylor rule at every
--- entry come from one test that is computed over the whole table, `table-passes`, and one law that turns the test into what it says of each entry, `passes-at`.
+-- One test of a whole list, `tableTest`: its size, its ends, its strict rise and the Taylor rule at every entry. A list that passes is T, `tested-entries`, and
+-- is what document 01 says of it, `tested-right`. The code's table is tested so (proofs/table), and T itself, `sineTable-right`.
 -- From it that `sineEntry` rises; it is the whole number nearest to 2 ^ 30 times the Taylor sum, `entry-near`.
 use mathlib.Core.Path.{_≡_, refl, sym, ap, subst, subst₂, _∙_}
 use mathlib.Core.Bool.{Bool, true, _&&_}
@@ -12,7 +12,6 @@ use lib.Dec.{T, eqb, ltb, eqb→eq, ltb→lt, lit<}
 use lib.ListN.{length, getD}
 use lib.Ieee.Fits.{and-l, and-r}
 use Rattle.sine_table.specs.Table.{taylorDenominator, taylorSum, sineEntry, entries, sineTable, SineTable}
-use Rattle.sine_table.proofs.Table.{table}
 
 -- ---- the test
 
@@ -51,41 +50,46 @@ passes-entries i (x ∷ xs) t =
 
 -- ---- the table
 
-table-passes : T (eqb (length table) 2049 && eqb (getD table 0 0) 0 && eqb (getD table 2048 0) (2 ^ 30) && passes 0 table)
-unfolding table sineEntry taylorSum
-table-passes = tt
+-- The whole of it at one go: size, ends, rule and rise.
+abbrev pub tableTest : List ℕ → Bool
+tableTest t = eqb (length t) 2049 && eqb (getD t 0 0) 0 && eqb (getD t 2048 0) (2 ^ 30) && passes 0 t
 
-table-follows : T (passes 0 table)
-table-follows = and-r (eqb (length table) 2049 && eqb (getD table 0 0) 0 && eqb (getD table 2048 0) (2 ^ 30)) (passes 0 table) table-passes
+module _ (t : List ℕ) (test : T (tableTest t)) where
+  follows : T (passes 0 t)
+  follows = and-r (eqb (length t) 2049 && eqb (getD t 0 0) 0 && eqb (getD t 2048 0) (2 ^ 30)) (passes 0 t) test
 
-table-right : SineTable table
-table-right =
-    let size : length table ≡ 2049 = eqb→eq (length table) 2049 (and-l (eqb (length table) 2049) (eqb (getD table 0 0) 0) ends-l) in
-    record {
-      size = size;
-      first = eqb→eq (getD table 0 0) 0 (and-r (eqb (length table) 2049) (eqb (getD table 0 0) 0) ends-l);
-      last = eqb→eq (getD table 2048 0) (2 ^ 30) (and-r (eqb (length table) 2049 && eqb (getD table 0 0) 0) (eqb (getD table 2048 0) (2 ^ 30)) ends);
-      rises = λ i h. passes-at 0 table table-follows i (rw size (omega arith)) .1 (rw size (omega arith));
-      rule = λ i h. passes-at 0 table table-follows i (rw size (omega arith)) .0 ∙ ap sineEntry (zero-add i);
-    }
-  where
-    ends : T (eqb (length table) 2049 && eqb (getD table 0 0) 0 && eqb (getD table 2048 0) (2 ^ 30))
-    ends = and-l (eqb (length table) 2049 && eqb (getD table 0 0) 0 && eqb (getD table 2048 0) (2 ^ 30)) (passes 0 table) table-passes
+  ends : T (eqb (length t) 2049 && eqb (getD t 0 0) 0 && eqb (getD t 2048 0) (2 ^ 30))
+  ends = and-l (eqb (length t) 2049 && eqb (getD t 0 0) 0 && eqb (getD t 2048 0) (2 ^ 30)) (passes 0 t) test
 
-    ends-l : T (eqb (length table) 2049 && eqb (getD table 0 0) 0)
-    ends-l = and-l (eqb (length table) 2049 && eqb (getD table 0 0) 0) (eqb (getD table 2048 0) (2 ^ 30)) ends
+  start : T (eqb (length t) 2049 && eqb (getD t 0 0) 0)
+  start = and-l (eqb (length t) 2049 && eqb (getD t 0 0) 0) (eqb (getD t 2048 0) (2 ^ 30)) ends
 
-pub table-entries : table ≡ sineTable
-unfolding sineTable
-table-entries = passes-entries 0 table table-follows ∙ ap (λ (n : ℕ). entries n 0) (table-right .size)
+  pub tested-right : SineTable t
+  tested-right =
+      let size : length t ≡ 2049 = eqb→eq (length t) 2049 (and-l (eqb (length t) 2049) (eqb (getD t 0 0) 0) start) in
+      record {
+        size = size;
+        first = eqb→eq (getD t 0 0) 0 (and-r (eqb (length t) 2049) (eqb (getD t 0 0) 0) start);
+        last = eqb→eq (getD t 2048 0) (2 ^ 30) (and-r (eqb (length t) 2049 && eqb (getD t 0 0) 0) (eqb (getD t 2048 0) (2 ^ 30)) ends);
+        rises = λ i h. passes-at 0 t follows i (rw size (omega arith)) .1 (rw size (omega arith));
+        rule = λ i h. passes-at 0 t follows i (rw size (omega arith)) .0 ∙ ap sineEntry (zero-add i);
+      }
+
+  pub tested-entries : t ≡ sineTable
+  unfolding sineTable
+  tested-entries = passes-entries 0 t follows ∙ ap (λ (n : ℕ). entries n 0) (tested-right .size)
+
+pub tested : {t : List ℕ} → T (tableTest t) → (t ≡ sineTable) × SineTable t
+tested {t} test = (tested-entries t test, tested-right t test)
 
 pub sineTable-right : SineTable sineTable
-sineTable-right = subst SineTable table-entries table-right
+unfolding sineTable entries sineEntry taylorSum
+sineTable-right = tested-right sineTable tt
 
 -- ---- the rule
 
 pub entry-rises : (i : ℕ) → i < 2048 → sineEntry i < sineEntry (suc i)
-entry-rises i h = subst₂ (λ (a b : ℕ). a < b) (table-right .rule i (omega arith)) (table-right .rule (suc i) (omega arith)) (table-right .rises i h)
+entry-rises i h = subst₂ (λ (a b : ℕ). a < b) (sineTable-right .rule i (omega arith)) (sineTable-right .rule (suc i) (omega arith)) (sineTable-right .rises i h)
 
 pub entry-mono : (i j : ℕ) → i ≤ j → j ≤ 2048 → sineEntry i ≤ sineEntry j
 entry-mono i j h k =

@@ -1,4 +1,2 @@
-mod Table
 pub mod Entries
-mod BlockEntries
 pub mod QuarterSine

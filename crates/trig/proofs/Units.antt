@@ -3,6 +3,7 @@
 -- The cosine is the sine a quarter turn on: it falls to 2 Q, rises to 4 Q and falls again, `cos-..` likewise. All rest on the rise of `quarterSine`.
 use mathlib.Core.Path.{_≡_, refl, sym, ap, ap₂, subst₂, _∙_}
 use mathlib.Core.Logic.{_⊎_, inl, inr}
+use mathlib.Core.List.{List}
 use Prim.Native.Nat.{ℕ, zero, suc, _+_, _-_, _*_, _/_, _%_, _^_, _≤_, _<_, min}
 use native.Mathlib.Nat.{le-trans, eq-or-lt-of-le}
 use native.Mathlib.Decide.{decLt}
@@ -11,10 +12,10 @@ use borrow.Author.Tests.{le-leb, lt-leb}
 use mathlib.Core.Bool.{Bool, cond}
 use lib.IntN.{pos, negsuc, negℤ}
 use lib.Ieee.{minus}
-use Rattle.sine_table.specs.Table.{quarterTurn}
-use Rattle.sine_table.specs.QuarterSine.{quarterSine}
-use Rattle.sine_table.proofs.QuarterSine.{quarterSine-mono, quarterSine-zero, quarterSine-le-one}
-use Rattle.trig.specs.Units.{sinQuarter, sinUnits, cosUnits}
+use Rattle.sine_table.specs.Table.{quarterTurn, sineTable}
+use Rattle.sine_table.specs.QuarterSine.{quarterSineOver, quarterSine, entry}
+use Rattle.sine_table.proofs.QuarterSine.{quarterSine-mono, quarterSine-zero, quarterSine-le-one, quarterSineOver-table}
+use Rattle.trig.specs.Units.{sinQuarter, sinUnitsOver, sinUnits, cosUnits}
 use Rattle.trig.specs.Biased.{biased, biasedSin}
 use Rattle.trig.specs.Computing.{computing}
 
@@ -48,7 +49,7 @@ biasedQuarter (suc zero) v = 2 ^ 30 + quarterSine (quarterTurn - v)
 biasedQuarter (suc (suc zero)) v = 2 ^ 30 - quarterSine v
 biasedQuarter (suc (suc (suc k))) v = 2 ^ 30 - quarterSine (quarterTurn - v)
 
-quarter : (k v : ℕ) → biased (sinQuarter k v) ≡ biasedQuarter k v
+quarter : (k v : ℕ) → biased (sinQuarter quarterSine k v) ≡ biasedQuarter k v
 unfolding biased sinQuarter
 quarter zero v = refl
 quarter (suc zero) v = refl
@@ -56,24 +57,27 @@ quarter (suc (suc zero)) v = biased-negative (quarterSine v)
 quarter (suc (suc (suc k))) v = biased-negative (quarterSine (quarterTurn - v))
 
 sin-quarter : (u k v : ℕ) → u / quarterTurn % 4 ≡ k → u % quarterTurn ≡ v → biasedSin u ≡ biasedQuarter k v
-unfolding sinUnits
+unfolding sinUnits sinUnitsOver quarterSine
 sin-quarter u k v e f = quarter (u / quarterTurn % 4) (u % quarterTurn) ∙ ap₂ biasedQuarter e f
 
--- What the code reads from the table at v.
+-- What the code reads at v from the sine table.
 pub record Read (v r : ℕ) : Type 0 where
   pub small : r ≤ 2 ^ 30
   pub value : r ≡ quarterSine v
 
-pub read : (v r : ℕ) → v ≤ quarterTurn → r ≡ quarterSine (min v quarterTurn) → Read v r
-read v r h e =
-    let f : r ≡ quarterSine v = e ∙ ap quarterSine (let z : min v quarterTurn ≡ v = omega arith in z) in
+pub read : (t : List ℕ) → t ≡ sineTable → (v r : ℕ) → v ≤ quarterTurn → r ≡ quarterSineOver (entry t) (min v quarterTurn) → Read v r
+read t s v r h e =
+    let f : r ≡ quarterSine v =
+    e ∙ ap (quarterSineOver (entry t)) (let z : min v quarterTurn ≡ v = omega arith in z)
+    ∙ ap (λ (l : List ℕ). quarterSineOver (entry l) v) s ∙ quarterSineOver-table v h
+    in
     record { small = rw f (quarterSine-le-one v h); value = f }
 
 pub sin-unbiased : (u : ℕ) → minus (biasedSin u) (2 ^ 30) ≡ sinUnits u
-unfolding sinUnits sinQuarter
+unfolding sinUnits sinUnitsOver quarterSine sinQuarter
 sin-unbiased u = go (u / quarterTurn % 4) (u % quarterTurn) (let l : u % quarterTurn ≤ quarterTurn = omega arith in l)
   where
-    go : (k v : ℕ) → v ≤ quarterTurn → minus (biased (sinQuarter k v)) (2 ^ 30) ≡ sinQuarter k v
+    go : (k v : ℕ) → v ≤ quarterTurn → minus (biased (sinQuarter quarterSine k v)) (2 ^ 30) ≡ sinQuarter quarterSine k v
     go zero v h = unbiased-positive (quarterSine v)
     go (suc zero) v h = unbiased-positive (quarterSine (quarterTurn - v))
     go (suc (suc zero)) v h = unbiased-negative (quarterSine v) (quarterSine-le-one v h)

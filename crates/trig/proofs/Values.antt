@@ -8,8 +8,8 @@ use lib.Ieee.{Float, nan, binary32, lt, div, round, minus, ofBits}
 use Rattle.float32.specs.Abs.{abs}
 use Rattle.float_bits.specs.declared.Decoded.{Decoded}
 use Rattle.float_bits.specs.Decode.{negative, integerDecode}
-use Rattle.trig.specs.Units.{angleUnits, sinUnits, cosUnits, nearestFloat, withSign}
-use Rattle.trig.specs.SinCos.{near, farSin, farCos, sin, cos}
+use Rattle.trig.specs.Units.{angleUnits, sinUnitsOver, cosUnitsOver, nearestFloat, withSign}
+use Rattle.trig.specs.SinCos.{near, farSin, farCos, sinOver, cosOver}
 use Rattle.trig.specs.Acos.{inDomain, leastAngle, floorUnits, acos}
 use Rattle.trig.proofs.Fixed.{near-units}
 
@@ -23,28 +23,28 @@ taken b x y e = sym (ap (λ (t : Bool). cond t x y) e)
 left : (b : Bool) (x y : Float) → b ≡ false → y ≡ cond b x y
 left b x y e = sym (ap (λ (t : Bool). cond t x y) e)
 
-module _ (a : Float) (h : near a ≡ true) (u : ℕ) (z : Float) (U : u ≡ min (angleUnits a) (2 ^ 52)) where
+module _ (T : ℕ → ℕ) (a : Float) (h : near a ≡ true) (u : ℕ) (z : Float) (U : u ≡ min (angleUnits a) (2 ^ 52)) where
   units : u ≡ angleUnits a
   units = let l = near-units a h in omega (arith, l)
 
-  pub sin-value : (d : Decoded) → d ≡ integerDecode a → z ≡ nearestFloat (withSign (d .negative) (sinUnits u)) → z ≡ sin a
-  unfolding sin integerDecode
+  pub sin-value : (d : Decoded) → d ≡ integerDecode a → z ≡ nearestFloat (withSign (d .negative) (sinUnitsOver T u)) → z ≡ sinOver T a
+  unfolding sinOver integerDecode
   sin-value d D Z =
-      Z ∙ ap (λ (v : ℕ). nearestFloat (withSign (d .negative) (sinUnits v))) units
-      ∙ ap (λ (p : Decoded). nearestFloat (withSign (p .negative) (sinUnits (angleUnits a)))) D
-      ∙ taken (near a) (nearestFloat (withSign (negative a) (sinUnits (angleUnits a)))) farSin h
+      Z ∙ ap (λ (v : ℕ). nearestFloat (withSign (d .negative) (sinUnitsOver T v))) units
+      ∙ ap (λ (p : Decoded). nearestFloat (withSign (p .negative) (sinUnitsOver T (angleUnits a)))) D
+      ∙ taken (near a) (nearestFloat (withSign (negative a) (sinUnitsOver T (angleUnits a)))) farSin h
 
-  pub cos-value : z ≡ nearestFloat (cosUnits u) → z ≡ cos a
-  unfolding cos
-  cos-value Z = Z ∙ ap (λ (v : ℕ). nearestFloat (cosUnits v)) units ∙ taken (near a) (nearestFloat (cosUnits (angleUnits a))) farCos h
+  pub cos-value : z ≡ nearestFloat (cosUnitsOver T u) → z ≡ cosOver T a
+  unfolding cosOver
+  cos-value Z = Z ∙ ap (λ (v : ℕ). nearestFloat (cosUnitsOver T v)) units ∙ taken (near a) (nearestFloat (cosUnitsOver T (angleUnits a))) farCos h
 
-pub sin-far : (a : Float) → near a ≡ false → farSin ≡ sin a
-unfolding sin
-sin-far a h = left (near a) (nearestFloat (withSign (negative a) (sinUnits (angleUnits a)))) farSin h
+pub sin-far : (T : ℕ → ℕ) (a : Float) → near a ≡ false → farSin ≡ sinOver T a
+unfolding sinOver
+sin-far T a h = left (near a) (nearestFloat (withSign (negative a) (sinUnitsOver T (angleUnits a)))) farSin h
 
-pub cos-far : (a : Float) → near a ≡ false → farCos ≡ cos a
-unfolding cos
-cos-far a h = left (near a) (nearestFloat (cosUnits (angleUnits a))) farCos h
+pub cos-far : (T : ℕ → ℕ) (a : Float) → near a ≡ false → farCos ≡ cosOver T a
+unfolding cosOver
+cos-far T a h = left (near a) (nearestFloat (cosUnitsOver T (angleUnits a))) farCos h
 
 pub acos-value : (c : Float) (w u : ℕ) (z : Float) → inDomain c ≡ true → minus w (2 ^ 30) ≡ floorUnits c → u ≡ leastAngle (minus w (2 ^ 30)) → z ≡ round binary32 false u (2 ^ 28) → z ≡ acos c
 unfolding acos

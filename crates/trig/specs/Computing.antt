@@ -3,11 +3,11 @@ use lib.Ieee.{neg, lt, le, round, ofBits}
 use Rattle.sine_table.specs.QuarterSine as table
 use Rattle.float32.specs.Abs.{abs}
 use Rattle.float_bits.specs.Decode.{negative}
-use Rattle.trig.specs.Units.{fixed, sinQuarter, sinUnits, cosUnits, nearestFloat}
+use Rattle.trig.specs.Units.{fixed, sinQuarter, sinUnitsOver, sinUnits, cosUnits, nearestFloat}
 use Rattle.trig.specs.SinCos.{sin, cos}
 use Rattle.trig.specs.Acos.{floorUnits}
 use Rattle.trig.specs.Biased.{biased}
 
 unfoldable pub computing : Unit {0}
-unfolding table.computing neg lt le round ofBits abs negative fixed sinQuarter sinUnits cosUnits nearestFloat sin cos floorUnits biased
+unfolding table.computing neg lt le round ofBits abs negative fixed sinQuarter sinUnitsOver sinUnits cosUnits nearestFloat sin cos floorUnits biased
 computing = tt

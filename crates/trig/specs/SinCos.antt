@@ -1,10 +1,13 @@
--- Document 01's sine and cosine of a float, for every float. What is said of far angles, those of 2 ^ 24 or more and those that are not finite, stands here alone.
+-- Document 01's sine and cosine of a float, for every float: `sin` and `cos`; `sinOver` and `cosOver` over any entries in place of the table's.
+-- What is said of far angles, those of 2 ^ 24 or more and those that are not finite, stands here alone.
+use Prim.Native.Nat.{ℕ}
 use mathlib.Core.Bool.{Bool, cond}
+use lib.IntN.{ℤ}
 use lib.Ieee.{Float, binary32, lt, ofBits}
 use Rattle.float32.specs.Abs.{abs}
 use Rattle.float32.specs.Operators.{one}
 use Rattle.float_bits.specs.Decode.{negative}
-use Rattle.trig.specs.Units.{angleUnits, sinUnits, cosUnits, nearestFloat, withSign}
+use Rattle.trig.specs.Units.{angleUnits, sinUnitsOver, cosUnitsOver, sinUnits, cosUnits, nearestFloat, withSign}
 
 -- |a| is below 2 ^ 24; of a NaN and of an infinity it is not.
 abbrev pub near : Float → Bool
@@ -17,10 +20,23 @@ farSin = ofBits binary32 0
 abbrev pub farCos : Float
 farCos = one
 
--- The sine in units of |a|, negated for a negative a, as the nearest float.
-unfoldable pub sin : Float → Float
-sin a = cond (near a) (nearestFloat (withSign (negative a) (sinUnits (angleUnits a)))) farSin
+-- The sine in units of |a|, by the rule S, negated for a negative a, as the nearest float.
+abbrev pub sinBy : (ℕ → ℤ) → Float → Float
+sinBy S a = cond (near a) (nearestFloat (withSign (negative a) (S (angleUnits a)))) farSin
 
--- The cosine in units of |a|, whichever sign a has, as the nearest float.
+-- The cosine in units of |a|, by the rule C, whichever sign a has, as the nearest float.
+abbrev pub cosBy : (ℕ → ℤ) → Float → Float
+cosBy C a = cond (near a) (nearestFloat (C (angleUnits a))) farCos
+
+unfoldable pub sin : Float → Float
+sin a = sinBy sinUnits a
+
 unfoldable pub cos : Float → Float
-cos a = cond (near a) (nearestFloat (cosUnits (angleUnits a))) farCos
+cos a = cosBy cosUnits a
+
+-- Both over the entries T. Over those of `sineTable` they are `sin` and `cos` (`sin-over-table`, `cos-over-table`).
+unfoldable pub sinOver : (ℕ → ℕ) → Float → Float
+sinOver T a = sinBy (sinUnitsOver T) a
+
+unfoldable pub cosOver : (ℕ → ℕ) → Float → Float
+cosOver T a = cosBy (cosUnitsOver T) a

@@ -1,11 +1,12 @@
 -- Document 01's angles in whole units: an angle u in units of 2 ^ -28, Q = `quarterTurn` of them to a quarter turn, and a sine or a cosine in units of 2 ^ -30.
 -- `angleUnits` is u of a float, `sinUnits` and `cosUnits` the rule for every u, `nearestFloat` what such a number of units is as a float.
+-- `sinUnitsOver` and `cosUnitsOver` are the rule over any entries in place of the table's: what code gives that is lent a table.
 use Prim.Native.Nat.{ℕ, zero, suc, _+_, _-_, _*_, _/_, _%_, _^_}
 use mathlib.Core.Bool.{Bool, true, false}
 use lib.IntN.{ℤ, pos, negsuc, negℤ}
 use lib.Ieee.{Float, nan, inf, fin, binary32, up, down, round}
-use Rattle.sine_table.specs.Table.{quarterTurn}
-use Rattle.sine_table.specs.QuarterSine.{quarterSine}
+use Rattle.sine_table.specs.Table.{quarterTurn, sineEntry}
+use Rattle.sine_table.specs.QuarterSine.{quarterSineOver}
 
 -- |x| * 2 ^ d rounded down, for a finite x.
 unfoldable pub fixed : ℕ → Float → ℕ
@@ -18,17 +19,24 @@ abbrev pub angleUnits : Float → ℕ
 angleUnits a = fixed 28 a
 
 -- H(v), H(Q - v), -H(v), -H(Q - v) for k = 0, 1, 2, 3.
-unfoldable pub sinQuarter : ℕ → ℕ → ℤ
-sinQuarter zero v = pos (quarterSine v)
-sinQuarter (suc zero) v = pos (quarterSine (quarterTurn - v))
-sinQuarter (suc (suc zero)) v = negℤ (pos (quarterSine v))
-sinQuarter (suc (suc (suc k))) v = negℤ (pos (quarterSine (quarterTurn - v)))
+unfoldable pub sinQuarter : (ℕ → ℕ) → ℕ → ℕ → ℤ
+sinQuarter H zero v = pos (H v)
+sinQuarter H (suc zero) v = pos (H (quarterTurn - v))
+sinQuarter H (suc (suc zero)) v = negℤ (pos (H v))
+sinQuarter H (suc (suc (suc k))) v = negℤ (pos (H (quarterTurn - v)))
 
--- The sine of u: k is u div Q, taken modulo 4; v is u mod Q.
-unfoldable pub sinUnits : ℕ → ℤ
-sinUnits u = sinQuarter (u / quarterTurn % 4) (u % quarterTurn)
+-- The sine of u over the entries T: k is u div Q, taken modulo 4; v is u mod Q.
+unfoldable pub sinUnitsOver : (ℕ → ℕ) → ℕ → ℤ
+sinUnitsOver T u = sinQuarter (quarterSineOver T) (u / quarterTurn % 4) (u % quarterTurn)
 
 -- The cosine of u is the sine's rule for u + Q.
+unfoldable pub cosUnitsOver : (ℕ → ℕ) → ℕ → ℤ
+cosUnitsOver T u = sinUnitsOver T (u + quarterTurn)
+
+-- Both over the table's own entries.
+unfoldable pub sinUnits : ℕ → ℤ
+sinUnits u = sinUnitsOver sineEntry u
+
 unfoldable pub cosUnits : ℕ → ℤ
 cosUnits u = sinUnits (u + quarterTurn)
 

@@ -1,14 +1,15 @@
-// Sine, cosine and arc cosine, by document 01's table of sines. Angles are in units of 2^-28, sines and cosines in units of 2^-30,
-// which the arc cosine carries 2^30 more than they are.
+// Sine, cosine and arc cosine, by document 01's table of sines, which a caller with many angles lends. Angles are in units of 2^-28, sines and cosines in units
+// of 2^-30, which the arc cosine carries 2^30 more than they are.
 ghost use mathlib.Core.Path.{_≡_};
 ghost use mathlib.Core.Bool.{true, cond};
 ghost use Prim.Native.Nat.{_-_, _*_, _/_, _%_, _^_, _≤_, _<_, min};
 ghost use lib.Dec.{eqb};
 ghost use lib.IntN.{pos};
 ghost use lib.Ieee.{minus};
-ghost use Rattle.sine_table.specs.Table.{quarterTurn};
-ghost use Rattle.trig.specs.Units.{angleUnits, sinUnits, cosUnits, nearestFloat, withSign};
-ghost use Rattle.trig.specs.SinCos.{sin, cos};
+ghost use Rattle.sine_table.specs.Table.{quarterTurn, sineTable};
+ghost use Rattle.sine_table.specs.QuarterSine.{entry};
+ghost use Rattle.trig.specs.Units.{angleUnits, sinUnitsOver, cosUnitsOver, cosUnits, nearestFloat, withSign};
+ghost use Rattle.trig.specs.SinCos.{sin, cos, sinOver, cosOver};
 ghost use Rattle.trig.specs.Acos.{inDomain, leastAngle, floorUnits, acos};
 ghost use Rattle.trig.specs.Biased.{biased};
 
@@ -82,30 +83,39 @@ fn units_float(negative: bool, n: u64) -> f32
 }
 
 // The sine of u, negated where the sign says so, and the cosine. A quarter turn on, k is one more and v the same.
-fn units_sin_cos(negative: bool, u: u64) -> SinCos
-    ensures value { λ r. ⌜ (r .sin ≡ nearestFloat (withSign negative (sinUnits u))) × (r .cos ≡ nearestFloat (cosUnits u)) ⌝ }
+fn units_sin_cos(table: &[u32; 2049], negative: bool, u: u64) -> SinCos
+    ensures sin { λ r. ⌜ r .sin ≡ nearestFloat (withSign negative (sinUnitsOver (entry (now (table .entry))) u)) ⌝ }
+    ensures cos { λ r. ⌜ r .cos ≡ nearestFloat (cosUnitsOver (entry (now (table .entry))) u) ⌝ }
 {
     let k = u / QUARTER_TURN % 4;
     let v = folded(k, u % QUARTER_TURN);
     SinCos {
-        sin: units_float(negative != (k >= 2), sine_table::quarter_sine(v)),
+        sin: units_float(negative != (k >= 2), sine_table::quarter_sine_in(table, v)),
         cos: units_float(
             (k == 1) | (k == 2),
-            sine_table::quarter_sine(QUARTER_TURN - v),
+            sine_table::quarter_sine_in(table, QUARTER_TURN - v),
         ),
     }
 }
 
-// Document 01's sine and cosine, which is the sine a quarter turn on; of a far angle 0 and 1. Accuracy: heuristic, the floats nearest to straight lines
-// between the table's entries.
-pub fn sin_cos(a: f32) -> SinCos
-    ensures value { λ r. ⌜ (r .sin ≡ sin a) × (r .cos ≡ cos a) ⌝ }
+// Document 01's sine and cosine, which is the sine a quarter turn on, over the entries of a table; of a far angle 0 and 1. Over the sine table they are those
+// of `sin_cos` (`sin-over-table`, `cos-over-table`). Accuracy: heuristic, the floats nearest to straight lines between the table's entries.
+pub fn sin_cos_in(table: &[u32; 2049], a: f32) -> SinCos
+    ensures value { λ r. ⌜ (r .sin ≡ sinOver (entry (now (table .entry))) a) × (r .cos ≡ cosOver (entry (now (table .entry))) a) ⌝ }
 {
     if float32::abs(a) < FAR {
         let d = float_bits::integer_decode(a);
-        return units_sin_cos(d.negative, angle_units(a));
+        return units_sin_cos(table, d.negative, angle_units(a));
     }
     SinCos { sin: 0.0, cos: 1.0 }
+}
+
+// Document 01's sine and cosine. Accuracy: heuristic, likewise.
+pub fn sin_cos(a: f32) -> SinCos
+    ensures value { λ r. ⌜ (r .sin ≡ sin a) × (r .cos ≡ cos a) ⌝ }
+{
+    let table = sine_table::table();
+    sin_cos_in(&table, a)
 }
 
 // The sine. Accuracy: heuristic, likewise.
@@ -126,8 +136,9 @@ pub fn cos(a: f32) -> f32
 pub fn sin_cos_pair(x: f32, y: f32) -> SinCosPair
     ensures value { λ r. ⌜ (r .«sin_x» ≡ sin x) × (r .«cos_x» ≡ cos x) × (r .«sin_y» ≡ sin y) × (r .«cos_y» ≡ cos y) ⌝ }
 {
-    let p = sin_cos(x);
-    let q = sin_cos(y);
+    let table = sine_table::table();
+    let p = sin_cos_in(&table, x);
+    let q = sin_cos_in(&table, y);
     SinCosPair {
         sin_x: p.sin,
         cos_x: p.cos,
@@ -137,18 +148,19 @@ pub fn sin_cos_pair(x: f32, y: f32) -> SinCosPair
 }
 
 // The cosine of u, biased.
-fn biased_cos(u: u64) -> u64
-    requires { ⌜ u ≤ 2 * quarterTurn ⌝ }
+fn biased_cos(table: &[u32; 2049], u: u64) -> u64
+    requires { ⌜ now table ≡ sineTable ⌝ ∗ ⌜ u ≤ 2 * quarterTurn ⌝ }
     ensures value { λ r. ⌜ r ≡ biased (cosUnits u) ⌝ }
 {
     if u < QUARTER_TURN {
-        return ONE + sine_table::quarter_sine(QUARTER_TURN - u);
+        return ONE + sine_table::quarter_sine_in(table, QUARTER_TURN - u);
     }
-    ONE - sine_table::quarter_sine(u - QUARTER_TURN)
+    ONE - sine_table::quarter_sine_in(table, u - QUARTER_TURN)
 }
 
 // The least angle in 0 to a half turn whose cosine is at most w, both biased.
-fn least_angle(w: u64) -> u64
+fn least_angle(table: &[u32; 2049], w: u64) -> u64
+    requires { ⌜ now table ≡ sineTable ⌝ }
     ensures value { λ r. ⌜ r ≡ leastAngle (minus w (2 ^ 30)) ⌝ }
 {
     // The cosine of 0 is 1.
@@ -160,7 +172,7 @@ fn least_angle(w: u64) -> u64
     let mut high: u64 = HALF_TURN;
     while high - low > 1 {
         let middle = (low + high) / 2;
-        if biased_cos(middle) > w {
+        if biased_cos(table, middle) > w {
             low = middle;
         } else {
             high = middle;
@@ -187,7 +199,8 @@ pub fn acos(c: f32) -> f32
     ensures value { λ r. ⌜ r ≡ acos c ⌝ }
 {
     if (-1.0 <= c) & (c <= 1.0) {
-        return float_bits::from_fixed(least_angle(biased_floor(c)), 28);
+        let table = sine_table::table();
+        return float_bits::from_fixed(least_angle(&table, biased_floor(c)), 28);
     }
     0.0 / 0.0
 }

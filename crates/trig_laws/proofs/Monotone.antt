@@ -28,7 +28,7 @@ use Rattle.float_bits.specs.Decode.{negative}
 use Rattle.sine_table.specs.Table.{quarterTurn}
 use Rattle.sine_table.specs.QuarterSine.{quarterSine}
 use Rattle.sine_table.proofs.QuarterSine.{quarterSine-le-one}
-use Rattle.trig.specs.Units.{fixed, angleUnits, sinQuarter, sinUnits, cosUnits, nearestFloat, withSign}
+use Rattle.trig.specs.Units.{fixed, angleUnits, sinQuarter, sinUnitsOver, sinUnits, cosUnits, nearestFloat, withSign}
 use Rattle.trig.specs.SinCos.{near, farSin, farCos, sin, cos}
 use Rattle.trig.specs.Biased.{biased, biasedSin}
 use Rattle.trig.specs.Computing.{computing}
@@ -165,11 +165,12 @@ negative-unit h l =
     subst (λ (z : ℤ). Bounds (neg one) one (nearestFloat z)) (unbiased-negative h l)
     (biased-unit (biased (negℤ (pos h))) (rw (biased-negative h) (omega arith)))
 
-quarter-unit : (s : Bool) (k v : ℕ) → v ≤ quarterTurn → Bounds (neg one) one (nearestFloat (withSign s (sinQuarter k v)))
+quarter-unit : (s : Bool) (k v : ℕ) → v ≤ quarterTurn → Bounds (neg one) one (nearestFloat (withSign s (sinQuarter quarterSine k v)))
 unfolding sinQuarter
 quarter-unit s k v l = go s k (quarterSine-le-one v l) (quarterSine-le-one (quarterTurn - v) (omega arith))
   where
-    go : (s : Bool) (k : ℕ) → quarterSine v ≤ 2 ^ 30 → quarterSine (quarterTurn - v) ≤ 2 ^ 30 → Bounds (neg one) one (nearestFloat (withSign s (sinQuarter k v)))
+    go : (s : Bool) (k : ℕ) → quarterSine v ≤ 2 ^ 30 → quarterSine (quarterTurn - v) ≤ 2 ^ 30
+        → Bounds (neg one) one (nearestFloat (withSign s (sinQuarter quarterSine k v)))
     go false zero p q = positive-unit (quarterSine v) p
     go false (suc zero) p q = positive-unit (quarterSine (quarterTurn - v)) q
     go false (suc (suc zero)) p q = negative-unit (quarterSine v) p
@@ -180,7 +181,7 @@ quarter-unit s k v l = go s k (quarterSine-le-one v l) (quarterSine-le-one (quar
     go true (suc (suc (suc k))) p q = rw (negℤ-negℤ (pos (quarterSine (quarterTurn - v)))) (positive-unit (quarterSine (quarterTurn - v)) q)
 
 units-unit : (s : Bool) (u : ℕ) → Bounds (neg one) one (nearestFloat (withSign s (sinUnits u)))
-unfolding sinUnits
+unfolding sinUnits sinUnitsOver quarterSine
 units-unit s u = quarter-unit s (u / quarterTurn % 4) (u % quarterTurn) (let l : u % quarterTurn ≤ quarterTurn = omega arith in l)
 
 pub sin-unit : (a : Float) → near a ≡ true → Bounds (neg one) one (sin a)

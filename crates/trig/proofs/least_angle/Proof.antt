@@ -7,10 +7,10 @@ use Rattle.trig.proofs.least_angle.Statement.{statement}
 use Rattle.trig.proofs.least_angle.Tie as tie
 
 abbrev Inv-loop : tie.InvT-loop
-Inv-loop w low₀ high₀ low high = Halving w low high
+Inv-loop table w low₀ high₀ low high = Halving w low high
 
 abbrev μ-loop : tie.MeasureT-loop
-μ-loop w low₀ high₀ low high = high - low
+μ-loop table w low₀ high₀ low high = high - low
 
 mul-if1 : tie.Need-mul-if1 Inv-loop μ-loop
 mul-if1 c = search needs
@@ -28,7 +28,7 @@ add-middle : tie.Need-add-middle Inv-loop μ-loop
 add-middle c = search needs
 
 biased-cos-requires : tie.Need-biased-cos-requires Inv-loop μ-loop
-biased-cos-requires c κs = let l = c .before .loop .inv .inside in omega (arith, l)
+biased-cos-requires c κs = let l = c .before .loop .inv .inside in (search needs, omega (arith, l))
 
 loop-less : tie.Need-loop-less Inv-loop μ-loop
 loop-less c = omega arith

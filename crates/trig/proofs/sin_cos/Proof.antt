@@ -1,47 +1,21 @@
--- Near, the calls in turn (`sin-value`, `cos-value`); far, what `farSin` and `farCos` say.
-use mathlib.Core.Bool.{true, false}
+-- Over the table that `table` gives, by `sin-lent` and `cos-lent`.
 use borrow.Author.Needs.{needs}
-use Rattle.trig.proofs.Values.{near-test, sin-value, cos-value, sin-far, cos-far}
+use Rattle.trig.proofs.OverTable.{sin-lent, cos-lent}
 use Rattle.trig.proofs.sin_cos.Statement.{statement}
 use Rattle.trig.proofs.sin_cos.Tie as tie
 
-abs-requires : tie.Need-abs-requires
-abs-requires c κs = search needs
+table-requires : tie.Need-table-requires
+table-requires c κs = search needs
 
-integer-decode-requires : tie.Need-integer-decode-requires
-integer-decode-requires c κs = search needs
-
-angle-units-requires : tie.Need-angle-units-requires
-angle-units-requires c κs = search needs
-
-units-sin-cos-requires : tie.Need-units-sin-cos-requires
-units-sin-cos-requires c κs = search needs
+sin-cos-in-requires : tie.Need-sin-cos-in-requires
+sin-cos-in-requires c κs = search needs
 
 returns : tie.Need-returns
 returns c =
-    let a = c .before .before .before .before .before .args .a in
-    let t = c .before .before .before .before .abs in
-    let near = near-test a (t .result) true (t .ensures) (c .before .before .before .if1 .taken) in
-    let d = c .before .before .integer-decode in
-    let u = c .before .angle-units in
-    let r = c .units-sin-cos in (
-      sin-value a near (u .result) (r .result .sin) (u .ensures) (d .result) (d .ensures) (r .ensures .0),
-      cos-value a near (u .result) (r .result .cos) (u .ensures) (r .ensures .1),
-    )
-
-returns-2 : tie.Need-returns-2
-returns-2 c =
-    let a = c .before .before .args .a in
-    let far = near-test a (c .before .abs .result) false (c .before .abs .ensures) (c .if1 .left) in
-    (sin-far a far, cos-far a far)
+    let t = c .before .before .table .ensures .0 in
+    let s = c .sin-cos-in .ensures in
+    let a = c .before .before .before .args .a in
+    (sin-lent t a (s .0), cos-lent t a (s .1))
 
 pub sin-cos-spec : {M : Type 1} → statement M
-sin-cos-spec =
-    tie.close
-    (tie.spec
-    abs-requires
-    integer-decode-requires
-    angle-units-requires
-    units-sin-cos-requires
-    returns
-    returns-2)
+sin-cos-spec = tie.close (tie.spec table-requires sin-cos-in-requires returns)
