@@ -1,11 +1,10 @@
--- The function whose zeros pbrt's motion box needs, c1 + (c2 + c3 t) cos(2 theta t) + (c4 + c5 t) sin(2 theta t): its bounds over an interval, its value, its slope
--- and Newton's steps, each from the lines of 000's `interval_find_zeros`, in their order of operations. Definitions only. A zero is of either sign.
+-- The function whose zeros pbrt's motion box needs, c1 + (c2 + c3 t) cos(2 theta t) + (c4 + c5 t) sin(2 theta t): its bounds over an interval,
+-- its value, its slope and Newton's steps, each from the lines of 000's `interval_find_zeros`, in their order of operations. Definitions only.
+-- A zero is of either sign.
 use Prim.Native.Nat.{ℕ, zero, suc}
 use mathlib.Core.Bool.{Bool, cond, _||_}
-use mathlib.Core.Path.{_≡_}
 use lib.Ieee.{Float, lt, eq}
 use Rattle.float32.specs.Operators.{_⊕_, _⊖_, _⊗_, _⊘_, positiveZero, two}
-use Rattle.trig.specs.declared.SinCos.{SinCos}
 use Rattle.trig.specs.SinCos.{sin, cos}
 use Rattle.interval.specs.declared.Interval.{Interval}
 use Rattle.interval.specs.Interval.{Interval·point, Interval·add, Interval·mul, Interval·sin, Interval·cos}
@@ -35,20 +34,23 @@ MotionDerivative·excludesZeroAt f i sines cosines =
 unfoldable pub MotionDerivative·excludesZero : MotionDerivative → Interval → Bool
 MotionDerivative·excludesZero f i = let c = MotionDerivative·angles f i in MotionDerivative·excludesZeroAt f i (Interval·sin c) (Interval·cos c)
 
--- s is the sine and the cosine of a.
-abbrev pub SinCosOf : SinCos → Float → Type 0
-SinCosOf s a = (s .sin ≡ sin a) × (s .cos ≡ cos a)
+-- f_newton, with the sine and the cosine of its angle given
+unfoldable pub MotionDerivative·valueAt : MotionDerivative → Float → Float → Float → Float
+MotionDerivative·valueAt f t sine cosine = f .c1 ⊕ (f .c2 ⊕ f .c3 ⊗ t) ⊗ cosine ⊕ (f .c4 ⊕ f .c5 ⊗ t) ⊗ sine
 
--- f_newton
+-- its angle is 2.0 * theta * t
 unfoldable pub MotionDerivative·value : MotionDerivative → Float → Float
-MotionDerivative·value f t =
-    f .c1 ⊕ (f .c2 ⊕ f .c3 ⊗ t) ⊗ cos (two ⊗ f .theta ⊗ t) ⊕ (f .c4 ⊕ f .c5 ⊗ t) ⊗ sin (two ⊗ f .theta ⊗ t)
+MotionDerivative·value f t = let a = two ⊗ f .theta ⊗ t in MotionDerivative·valueAt f t (sin a) (cos a)
 
--- fprime_newton; its angle is 2.0 * t * theta, where the value's is 2.0 * theta * t
+-- fprime_newton, likewise
+unfoldable pub MotionDerivative·slopeAt : MotionDerivative → Float → Float → Float → Float
+MotionDerivative·slopeAt f t sine cosine =
+    (f .c3 ⊕ two ⊗ (f .c4 ⊕ f .c5 ⊗ t) ⊗ f .theta) ⊗ cosine ⊕
+    (f .c5 ⊖ two ⊗ (f .c2 ⊕ f .c3 ⊗ t) ⊗ f .theta) ⊗ sine
+
+-- its angle is 2.0 * t * theta
 unfoldable pub MotionDerivative·slope : MotionDerivative → Float → Float
-MotionDerivative·slope f t =
-    (f .c3 ⊕ two ⊗ (f .c4 ⊕ f .c5 ⊗ t) ⊗ f .theta) ⊗ cos (two ⊗ t ⊗ f .theta) ⊕
-    (f .c5 ⊖ two ⊗ (f .c2 ⊕ f .c3 ⊗ t) ⊗ f .theta) ⊗ sin (two ⊗ t ⊗ f .theta)
+MotionDerivative·slope f t = let a = two ⊗ t ⊗ f .theta in MotionDerivative·slopeAt f t (sin a) (cos a)
 
 -- At most n rounds of the Newton loop from t: it is left where f_newton == 0.0 || fprime_newton == 0.0, and otherwise t_newton -= f_newton / fprime_newton.
 unfoldable pub MotionDerivative·newton : MotionDerivative → ℕ → Float → Float

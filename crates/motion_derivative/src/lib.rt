@@ -1,8 +1,8 @@
-// The derivative of a coordinate's motion, whose zeros pbrt's motion box needs: its bounds over an interval, its value, its slope and Newton's steps towards a zero.
+// The derivative of a coordinate's motion, whose zeros pbrt's motion box needs: its bounds over an interval, its value and its slope.
 ghost use mathlib.Core.Path.{_≡_};
-ghost use Rattle.float32.specs.Operators.{_⊗_, two};
 ghost use Rattle.interval.specs.Interval.{Interval·sin, Interval·cos};
-ghost use Rattle.motion_derivative.specs.Derivative.{affine, SinCosOf, MotionDerivative·angles, MotionDerivative·rangeAt, MotionDerivative·excludesZeroAt, MotionDerivative·excludesZero, MotionDerivative·value, MotionDerivative·slope, MotionDerivative·newton};
+ghost use Rattle.motion_derivative.specs.Derivative.{affine, MotionDerivative·angles, MotionDerivative·rangeAt, MotionDerivative·excludesZeroAt};
+ghost use Rattle.motion_derivative.specs.Derivative.{MotionDerivative·excludesZero, MotionDerivative·valueAt, MotionDerivative·slopeAt};
 use interval::Interval;
 use interval::IntervalSinCos;
 use trig::SinCos;
@@ -56,48 +56,18 @@ impl MotionDerivative {
         self.excludes_zero_at(i, self.sin_cos(i))
     }
 
-    // The value at t, by the sine and the cosine of its angle.
-    fn value_at(self, t: f32, angle: SinCos) -> f32
-        requires { ⌜ SinCosOf angle (two ⊗ self .theta ⊗ t) ⌝ }
-        ensures value { λ r. ⌜ r ≡ MotionDerivative·value self t ⌝ }
+    // The value at t, by the sine and the cosine of its angle. Accuracy: each operation is correctly rounded.
+    pub fn value_at(self, t: f32, angle: SinCos) -> f32
+        ensures value { λ r. ⌜ r ≡ MotionDerivative·valueAt self t (angle .sin) (angle .cos) ⌝ }
     {
         self.c1 + (self.c2 + self.c3 * t) * angle.cos + (self.c4 + self.c5 * t) * angle.sin
     }
 
     // The slope at t, likewise.
-    fn slope_at(self, t: f32, angle: SinCos) -> f32
-        requires { ⌜ SinCosOf angle (two ⊗ t ⊗ self .theta) ⌝ }
-        ensures value { λ r. ⌜ r ≡ MotionDerivative·slope self t ⌝ }
+    pub fn slope_at(self, t: f32, angle: SinCos) -> f32
+        ensures value { λ r. ⌜ r ≡ MotionDerivative·slopeAt self t (angle .sin) (angle .cos) ⌝ }
     {
         (self.c3 + 2.0 * (self.c4 + self.c5 * t) * self.theta) * angle.cos
             + (self.c5 - 2.0 * (self.c2 + self.c3 * t) * self.theta) * angle.sin
     }
-}
-
-// The sine and the cosine of y, where those of x are known: equal angles have the same.
-fn sin_cos_beside(x: f32, angle: SinCos, y: f32) -> SinCos
-    requires { ⌜ SinCosOf angle x ⌝ }
-    ensures value { λ r. ⌜ SinCosOf r y ⌝ }
-{
-    if x == y {
-        return angle;
-    }
-    trig::sin_cos(y)
-}
-
-// At most so many of Newton's steps from t; they stop where the value or the slope is zero. Accuracy: heuristic.
-pub fn newton(f: MotionDerivative, steps: u32, t: f32) -> f32
-    ensures value { λ r. ⌜ r ≡ MotionDerivative·newton f steps t ⌝ }
-{
-    if steps == 0 {
-        return t;
-    }
-    let x = 2.0 * f.theta * t;
-    let angle = trig::sin_cos(x);
-    let value = f.value_at(t, angle);
-    let slope = f.slope_at(t, sin_cos_beside(x, angle, 2.0 * t * f.theta));
-    if (value == 0.0) | (slope == 0.0) {
-        return t;
-    }
-    newton(f, steps - 1, t - value / slope)
 }

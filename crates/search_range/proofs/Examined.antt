@@ -1,10 +1,10 @@
 -- Every interval that a zero search examines lies in 0 to 1, its ends in order: `examined-unit`. The midpoint of such an interval lies in 0 to 1, since rounding keeps
 -- the order, so that its halves are again such. There are as many as zero_search counts: `searchIntervals-count`, `examinedIntervals-count`.
-use mathlib.Core.Path.{_≡_, refl, sym, ap, subst, _∙_}
+use mathlib.Core.Path.{_≡_, refl, sym, subst}
 use mathlib.Core.Bool.{Bool, true, false, cond}
 use mathlib.Core.Logic.{inl, inr}
-use mathlib.Core.List.{List, [], List·Memᴰ, List·Memᴰ·not-nil, List·Memᴰ·cases-cons, List·Memᴰ·append-cases, List·Memᴰ·eq-of-singleton}
-use Prim.Native.Nat.{ℕ, zero, suc}
+use mathlib.Core.List.{List, [], _∷_, _++_, List·Memᴰ, List·Memᴰ·not-nil, List·Memᴰ·cases-cons, List·Memᴰ·append-cases, List·Memᴰ·eq-of-singleton}
+use Prim.Native.Nat.{ℕ, zero, suc, _+_}
 use native.Mathlib.Omega.{arith}
 use lib.Dec.{eqb}
 use lib.ListN.{length, length-append}
@@ -23,7 +23,7 @@ use Rattle.motion_derivative.specs.declared.MotionDerivative.{MotionDerivative}
 use Rattle.motion_derivative.specs.Derivative.{MotionDerivative·excludesZero}
 use Rattle.zero_search.specs.declared.Zeros.{Zeros}
 use Rattle.zero_search.specs.Search as search
-use Rattle.zero_search.specs.Search.{midpoint, lowerHalf, upperHalf, findZeros, searchExamined, examined, searchDepth, Zeros·empty}
+use Rattle.zero_search.specs.Search.{midpoint, lowerHalf, upperHalf, Search, findZeros, examined, searchDepth, Zeros·empty}
 use Rattle.search_range.specs.Examined.{searchIntervals, examinedIntervals, Examined}
 
 -- ---- the halves of an interval in 0 to 1
@@ -69,7 +69,7 @@ search-unit zero true f i z s j m = equal-unit (List·Memᴰ·eq-of-singleton m)
 search-unit (suc d) true f i z s j m = equal-unit (List·Memᴰ·eq-of-singleton m) s
 search-unit zero false f i z s j m = equal-unit (List·Memᴰ·eq-of-singleton m) s
 search-unit (suc d) false f i z s j m =
-    let lower = findZeros d f (lowerHalf i) z in
+    let lower = findZeros d f (lowerHalf i) z .zeros in
     let below = searchIntervals d (MotionDerivative·excludesZero f (lowerHalf i)) f (lowerHalf i) z in
     elim (List·Memᴰ·cases-cons m) [
       | inl e ↦ equal-unit e s
@@ -91,26 +91,31 @@ unfolding examinedIntervals
 examined-unit f j m = search-unit searchDepth (MotionDerivative·excludesZero f search.unitInterval) f search.unitInterval (Zeros·empty 0) whole-unit j m
 
 -- ---- how many there are
-cond-length : (b : Bool) (l : List Interval) → length (cond b l []) ≡ cond b (length l) 0
-cond-length true l = refl
-cond-length false l = refl
-
-pub searchIntervals-count : (d : ℕ) (b : Bool) (f : MotionDerivative) (i : Interval) (z : Zeros) → length (searchIntervals d b f i z) ≡ searchExamined d b f i z
-unfolding searchIntervals searchExamined
+pub searchIntervals-count : (d : ℕ) (b : Bool) (f : MotionDerivative) (i : Interval) (z : Zeros)
+    → length (searchIntervals d b f i z) ≡ search.search d b f i z .examined
+unfolding searchIntervals search.search
 searchIntervals-count zero true f i z = refl
 searchIntervals-count (suc d) true f i z = refl
 searchIntervals-count zero false f i z = refl
 searchIntervals-count (suc d) false f i z =
-    let lower : Zeros = findZeros d f (lowerHalf i) z in
-    let l : List Interval = searchIntervals d (MotionDerivative·excludesZero f (lowerHalf i)) f (lowerHalf i) z in
-    let u : List Interval = searchIntervals d (MotionDerivative·excludesZero f (upperHalf i)) f (upperHalf i) lower in
-    let b : Bool = eqb (lower .refusal) 0 in
-    omega (
-      arith,
-      length-append l (cond b u []),
-      cond-length b u ∙ ap (λ (n : ℕ). cond b n 0) (searchIntervals-count d (MotionDerivative·excludesZero f (upperHalf i)) f (upperHalf i) lower),
-      searchIntervals-count d (MotionDerivative·excludesZero f (lowerHalf i)) f (lowerHalf i) z,
-    )
+    let lower : Search = findZeros d f (lowerHalf i) z in
+    let upper : Search = findZeros d f (upperHalf i) (lower .zeros) in
+    halved (eqb (lower .zeros .refusal) 0)
+    (searchIntervals d (MotionDerivative·excludesZero f (lowerHalf i)) f (lowerHalf i) z)
+    (searchIntervals d (MotionDerivative·excludesZero f (upperHalf i)) f (upperHalf i) (lower .zeros))
+    lower
+    upper
+    (searchIntervals-count d (MotionDerivative·excludesZero f (lowerHalf i)) f (lowerHalf i) z)
+    (searchIntervals-count d (MotionDerivative·excludesZero f (upperHalf i)) f (upperHalf i) (lower .zeros))
+  where
+    -- with the upper half unless something was refused in the lower
+    halved : (b : Bool) (l u : List Interval) (x y : Search) → length l ≡ x .examined → length u ≡ y .examined
+        → length (i ∷ l ++ cond b u []) ≡
+        cond {A = Search} b (record { zeros = y .zeros; examined = 1 + x .examined + y .examined })
+        (record { zeros = x .zeros; examined = 1 + x .examined })
+        .examined
+    halved true l u x y below above = omega (arith, length-append l u, below, above)
+    halved false l u x y below above = omega (arith, length-append l [], below)
 
 pub examinedIntervals-count : (c1 c2 c3 c4 c5 theta : Float)
     → length (examinedIntervals (record { c1 = c1; c2 = c2; c3 = c3; c4 = c4; c5 = c5; theta = theta })) ≡ examined c1 c2 c3 c4 c5 theta

@@ -1,5 +1,5 @@
 -- The intervals that a zero search examines, in its order: `searchIntervals`, and `Examined` for the search from 0 to 1 at depth 8. Definitions only.
--- They follow the search itself, as `searchExamined`, which counts them (`searchIntervals-count`): one is examined where the range test is made for it, and so
+-- They follow the search itself, which counts them (`searchIntervals-count`): one is examined where the range test is made for it, and so
 -- where 000 takes the sine and the cosine of its angles. 000 panics where a ninth zero would be stored, so that it too examines none after that.
 use Prim.Native.Nat.{ℕ, zero, suc}
 use mathlib.Core.Bool.{Bool, true, false, cond}
@@ -17,7 +17,7 @@ searchIntervals zero true f i z = i ∷ []
 searchIntervals (suc d) true f i z = i ∷ []
 searchIntervals zero false f i z = i ∷ []
 searchIntervals (suc d) false f i z =
-    let lower = findZeros d f (lowerHalf i) z in
+    let lower = findZeros d f (lowerHalf i) z .zeros in
     i ∷
     searchIntervals d (MotionDerivative·excludesZero f (lowerHalf i)) f (lowerHalf i) z ++
     cond (eqb (lower .refusal) 0)

@@ -14,8 +14,10 @@ use Rattle.motion_derivative.specs.declared.MotionDerivative.{MotionDerivative}
 use Rattle.float32.specs.Operators.{positiveZero}
 use Rattle.motion_derivative.specs.Derivative.{MotionDerivative·excludesZero}
 use Rattle.zero_search.specs.declared.Zeros.{Zeros}
-use Rattle.zero_search.specs.Search.{nearInterval, newtonZero, lowerHalf, upperHalf, Zeros·empty, Zeros·store, Zeros·accept, search, findZeros, searchDepth, unitInterval, intervalFindZeros}
+use Rattle.zero_search.specs.Search.{nearInterval, newtonZero, lowerHalf, upperHalf, Zeros·empty, Zeros·store, Zeros·accept}
+use Rattle.zero_search.specs.Search.{search, findZeros, searchDepth, unitInterval, intervalFindZeros}
 use Rattle.zero_search.specs.Stored.{Stored}
+use Rattle.zero_search.proofs.Clauses.{either-search}
 
 cond-stored : (b : Bool) (y z : Zeros) → Stored y → Stored z → Stored (cond b y z)
 cond-stored true y z hy hz = hy
@@ -54,14 +56,15 @@ accept-stored : (z : Zeros) (i : Interval) (t : Float) → Stored z → Stored (
 unfolding Zeros·accept
 accept-stored z i t h = cond-stored (nearInterval i t) _ _ (store-stored z t h) h
 
-search-stored : (d : ℕ) (b : Bool) (f : MotionDerivative) (i : Interval) (z : Zeros) → Stored z → Stored (search d b f i z)
+search-stored : (d : ℕ) (b : Bool) (f : MotionDerivative) (i : Interval) (z : Zeros) → Stored z → Stored (search d b f i z .zeros)
 unfolding search
 search-stored zero true f i z h = h
 search-stored (suc d) true f i z h = h
 search-stored zero false f i z h = accept-stored z i (newtonZero f i) h
 search-stored (suc d) false f i z h =
-    let lower : Stored (findZeros d f (lowerHalf i) z) = search-stored d (MotionDerivative·excludesZero f (lowerHalf i)) f (lowerHalf i) z h in
-    cond-stored (eqb (findZeros d f (lowerHalf i) z .refusal) 0) _ _ (search-stored d (MotionDerivative·excludesZero f (upperHalf i)) f (upperHalf i) _ lower) lower
+    let lower : Stored (findZeros d f (lowerHalf i) z .zeros) = search-stored d (MotionDerivative·excludesZero f (lowerHalf i)) f (lowerHalf i) z h in
+    either-search (λ s. Stored (s .zeros)) (eqb (findZeros d f (lowerHalf i) z .zeros .refusal) 0) _ _
+    (search-stored d (MotionDerivative·excludesZero f (upperHalf i)) f (upperHalf i) _ lower) lower
 
 pub intervalFindZeros-stored : (c1 c2 c3 c4 c5 theta : Float) → Stored (intervalFindZeros c1 c2 c3 c4 c5 theta)
 unfolding intervalFindZeros

@@ -1,8 +1,9 @@
 -- What has to unfold for a search on given coefficients to compute, as one group: a case says `unfolding computing`.
 use Rattle.interval.specs.Computing as interval
-use Rattle.motion_derivative.specs.Derivative.{affine, MotionDerivative·rangeAt, MotionDerivative·excludesZeroAt, MotionDerivative·excludesZero, MotionDerivative·value, MotionDerivative·slope, MotionDerivative·newton}
-use Rattle.zero_search.specs.Search.{Zeros·store, Zeros·accept, search, searchExamined, intervalFindZeros, examined}
+use Rattle.motion_derivative.specs.Derivative.{affine, MotionDerivative·rangeAt, MotionDerivative·excludesZeroAt, MotionDerivative·excludesZero}
+use Rattle.motion_derivative.specs.Derivative.{MotionDerivative·valueAt, MotionDerivative·value, MotionDerivative·slopeAt, MotionDerivative·slope, MotionDerivative·newton}
+use Rattle.zero_search.specs.Search.{Zeros·store, Zeros·accept, search, intervalFindZeros, examined}
 
 unfoldable pub computing : Unit {0}
-unfolding interval.computing affine MotionDerivative·rangeAt MotionDerivative·excludesZeroAt MotionDerivative·excludesZero MotionDerivative·value MotionDerivative·slope MotionDerivative·newton Zeros·store Zeros·accept search searchExamined intervalFindZeros examined
+unfolding interval.computing affine MotionDerivative·rangeAt MotionDerivative·excludesZeroAt MotionDerivative·excludesZero MotionDerivative·valueAt MotionDerivative·value MotionDerivative·slopeAt MotionDerivative·slope MotionDerivative·newton Zeros·store Zeros·accept search intervalFindZeros examined
 computing = tt

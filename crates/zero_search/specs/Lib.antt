@@ -1,4 +1,4 @@
 pub mod Search
-pub mod Endpoints
+pub mod EndAngles
 pub mod Stored
 pub mod Computing

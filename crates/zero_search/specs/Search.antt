@@ -1,5 +1,6 @@
--- 000's `interval_find_zeros` by value: the zeros found, in an array of eight with a count, and the refusal 9 where a ninth would be stored, at which the search
--- ends. `intervalFindZeros` is the search from the interval 0 to 1 at depth 8, `examined` how many intervals it looks at. Definitions only.
+-- 000's `interval_find_zeros` by value: the zeros found, in an array of eight with a count, and the refusal 9 where a ninth would be stored, at which
+-- the search ends; with them how many intervals it examined. `intervalFindZeros` and `examined` are the two of the search from 0 to 1 at depth 8.
+-- Definitions only.
 use Prim.Native.Nat.{ℕ, zero, suc, _+_}
 use mathlib.Core.Bool.{Bool, true, false, cond, _&&_}
 use mathlib.Core.List.{List, [], _∷_}
@@ -55,32 +56,26 @@ lowerHalf i = Interval·new (i .low) (midpoint i)
 abbrev pub upperHalf : Interval → Interval
 upperHalf i = Interval·new (midpoint i) (i .high)
 
+-- The zeros found, those handed in first, and how many intervals were examined: each once, also one that the range test leaves out and one that is
+-- halved no further.
+pub record Search : Type 0 where
+  pub zeros : Zeros
+  pub examined : ℕ
+
 -- The body of 000's interval_find_zeros at a depth; whether the range test leaves the interval out is an argument, to match on.
-unfoldable pub search : ℕ → Bool → MotionDerivative → Interval → Zeros → Zeros
-search zero true f i z = z
-search (suc d) true f i z = z
-search zero false f i z = Zeros·accept z i (newtonZero f i)
+unfoldable pub search : ℕ → Bool → MotionDerivative → Interval → Zeros → Search
+search zero true f i z = record { zeros = z; examined = 1 }
+search (suc d) true f i z = record { zeros = z; examined = 1 }
+search zero false f i z = record { zeros = Zeros·accept z i (newtonZero f i); examined = 1 }
 search (suc d) false f i z =
     let lower = search d (MotionDerivative·excludesZero f (lowerHalf i)) f (lowerHalf i) z in
-    cond (eqb (lower .refusal) 0)
-    (search d (MotionDerivative·excludesZero f (upperHalf i)) f (upperHalf i) lower)
-    lower
+    let upper = search d (MotionDerivative·excludesZero f (upperHalf i)) f (upperHalf i) (lower .zeros) in
+    cond (eqb (lower .zeros .refusal) 0)
+    (record { zeros = upper .zeros; examined = 1 + lower .examined + upper .examined })
+    (record { zeros = lower .zeros; examined = 1 + lower .examined })
 
-abbrev pub findZeros : ℕ → MotionDerivative → Interval → Zeros → Zeros
+abbrev pub findZeros : ℕ → MotionDerivative → Interval → Zeros → Search
 findZeros d f i z = search d (MotionDerivative·excludesZero f i) f i z
-
--- How many intervals that search examines, its own included: the range test is made for each.
-unfoldable pub searchExamined : ℕ → Bool → MotionDerivative → Interval → Zeros → ℕ
-searchExamined zero true f i z = 1
-searchExamined (suc d) true f i z = 1
-searchExamined zero false f i z = 1
-searchExamined (suc d) false f i z =
-    let lower = findZeros d f (lowerHalf i) z in
-    1 +
-    searchExamined d (MotionDerivative·excludesZero f (lowerHalf i)) f (lowerHalf i) z +
-    cond (eqb (lower .refusal) 0)
-    (searchExamined d (MotionDerivative·excludesZero f (upperHalf i)) f (upperHalf i) lower)
-    0
 
 -- How often 0 to 1 is halved.
 abbrev pub searchDepth : ℕ
@@ -90,12 +85,13 @@ abbrev pub unitInterval : Interval
 unitInterval = Interval·new positiveZero one
 
 -- interval_find_zeros from 0 to 1 at depth 8, as bound_point_motion calls it
-unfoldable pub intervalFindZeros : Float → Float → Float → Float → Float → Float → Zeros
-intervalFindZeros c1 c2 c3 c4 c5 theta =
-    findZeros searchDepth (record { c1 = c1; c2 = c2; c3 = c3; c4 = c4; c5 = c5; theta = theta }) unitInterval (Zeros·empty 0)
+abbrev pub unitSearch : MotionDerivative → Search
+unitSearch f = findZeros searchDepth f unitInterval (Zeros·empty 0)
 
--- How many intervals intervalFindZeros examines.
+-- its zeros
+unfoldable pub intervalFindZeros : Float → Float → Float → Float → Float → Float → Zeros
+intervalFindZeros c1 c2 c3 c4 c5 theta = unitSearch (record { c1 = c1; c2 = c2; c3 = c3; c4 = c4; c5 = c5; theta = theta }) .zeros
+
+-- how many intervals it examines
 unfoldable pub examined : Float → Float → Float → Float → Float → Float → ℕ
-examined c1 c2 c3 c4 c5 theta =
-    let f : MotionDerivative = record { c1 = c1; c2 = c2; c3 = c3; c4 = c4; c5 = c5; theta = theta } in
-    searchExamined searchDepth (MotionDerivative·excludesZero f unitInterval) f unitInterval (Zeros·empty 0)
+examined c1 c2 c3 c4 c5 theta = unitSearch (record { c1 = c1; c2 = c2; c3 = c3; c4 = c4; c5 = c5; theta = theta }) .examined

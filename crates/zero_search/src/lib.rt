@@ -1,13 +1,13 @@
 // The zero search of pbrt's motion box: where the derivative of a coordinate's motion may vanish, from 0 to 1.
 ghost use mathlib.Core.Path.{_≡_};
 ghost use Rattle.interval.specs.Interval.{Interval·new};
-ghost use Rattle.motion_derivative.specs.Derivative.{MotionDerivative·excludesZero};
-ghost use Rattle.zero_search.specs.Search.{midpoint, Zeros·empty, Zeros·store, Zeros·accept, findZeros, intervalFindZeros};
-ghost use Rattle.zero_search.specs.Endpoints.{Endpoints·interval, AngleAt, AnglesAt};
+ghost use Rattle.motion_derivative.specs.Derivative.{MotionDerivative·excludesZero, MotionDerivative·newton};
+ghost use Rattle.zero_search.specs.Search.{midpoint, Zeros·empty, Zeros·store, Zeros·accept, findZeros, unitSearch, intervalFindZeros};
+ghost use Rattle.zero_search.specs.EndAngles.{SinCosOf, AngleAt, AnglesAt};
 use interval::Interval;
 use interval::IntervalSinCos;
 use motion_derivative::MotionDerivative;
-use motion_derivative::newton;
+use trig::SinCos;
 
 // How far outside its interval a zero is still taken.
 const TOLERANCE: f32 = 0.001;
@@ -25,16 +25,10 @@ pub struct Zeros {
     pub refusal: u8,
 }
 
-// An end of an interval, with the sine and the cosine of the angle there, which both halves at a midpoint share.
-struct Endpoint {
-    t: f32,
-    sin: f32,
-    cos: f32,
-}
-
-struct Endpoints {
-    low: Endpoint,
-    high: Endpoint,
+// The sine and the cosine of the angles at the ends of an interval; both halves share those at its midpoint.
+struct EndAngles {
+    low: SinCos,
+    high: SinCos,
 }
 
 fn midpoint(i: Interval) -> f32
@@ -83,75 +77,107 @@ impl Zeros {
     }
 }
 
-fn end_at(f: MotionDerivative, t: f32) -> Endpoint
-    ensures value { λ r. ⌜ (r .t ≡ t) × AngleAt f r ⌝ }
+fn end_at(f: MotionDerivative, t: f32) -> SinCos
+    ensures value { λ r. ⌜ AngleAt f t r ⌝ }
 {
-    let angle = trig::sin_cos(2.0 * f.theta * t);
-    Endpoint {
-        t,
-        sin: angle.sin,
-        cos: angle.cos,
-    }
+    trig::sin_cos(2.0 * f.theta * t)
 }
 
-// `Interval::new` of two ends: nothing is worked out again where they are in order, as they are unless rounding makes them equal.
-fn ordered(f: MotionDerivative, a: Endpoint, b: Endpoint) -> Endpoints
-    requires { ⌜ AngleAt f a × AngleAt f b ⌝ }
-    ensures interval { λ r. ⌜ Endpoints·interval r ≡ Interval·new (a .t) (b .t) ⌝ }
-    ensures angles { λ r. ⌜ AnglesAt f r ⌝ }
+// The sine and the cosine of y, where those of x are known: equal angles have the same.
+fn sin_cos_beside(x: f32, angle: SinCos, y: f32) -> SinCos
+    requires { ⌜ SinCosOf angle x ⌝ }
+    ensures value { λ r. ⌜ SinCosOf r y ⌝ }
 {
-    if a.t < b.t {
-        return Endpoints { low: a, high: b };
+    if x == y {
+        return angle;
     }
-    let i = Interval::new(a.t, b.t);
+    trig::sin_cos(y)
+}
+
+// Newton's steps from `start`, which stop where the value or the slope is zero.
+fn newton(f: MotionDerivative, start: f32) -> f32
+    ensures value { λ r. ⌜ r ≡ MotionDerivative·newton f 4 start ⌝ }
+{
+    let mut t = start;
+    for _ in 0..NEWTON_STEPS {
+        let angle = end_at(f, t);
+        let value = f.value_at(t, angle);
+        let slope = f.slope_at(
+            t,
+            sin_cos_beside(2.0 * f.theta * t, angle, 2.0 * t * f.theta),
+        );
+        if (value == 0.0) | (slope == 0.0) {
+            return t;
+        }
+        t = t - value / slope;
+    }
+    t
+}
+
+// The angles at the ends of `Interval::new(a, b)`: those at a and b where a is below b, as it is unless rounding makes them equal.
+fn end_angles(f: MotionDerivative, a: f32, at_a: SinCos, b: f32, at_b: SinCos) -> EndAngles
+    requires { ⌜ AngleAt f a «at_a» × AngleAt f b «at_b» ⌝ }
+    ensures value { λ r. ⌜ AnglesAt f (Interval·new a b) r ⌝ }
+{
+    if a < b {
+        return EndAngles {
+            low: at_a,
+            high: at_b,
+        };
+    }
+    let i = Interval::new(a, b);
     let low = end_at(f, i.low);
     let high = end_at(f, i.high);
-    Endpoints { low, high }
+    EndAngles { low, high }
 }
 
 // The range test of an interval, from what is known at its ends; without it where the angles there are not in order.
-fn excludes_zero(f: MotionDerivative, e: Endpoints) -> bool
-    requires { ⌜ AnglesAt f e ⌝ }
-    ensures value { λ r. ⌜ r ≡ MotionDerivative·excludesZero f (Endpoints·interval e) ⌝ }
+fn excludes_zero(f: MotionDerivative, i: Interval, ends: EndAngles) -> bool
+    requires { ⌜ AnglesAt f i ends ⌝ }
+    ensures value { λ r. ⌜ r ≡ MotionDerivative·excludesZero f i ⌝ }
 {
-    let i = Interval {
-        low: e.low.t,
-        high: e.high.t,
-    };
     let c = Interval {
-        low: 2.0 * f.theta * e.low.t,
-        high: 2.0 * f.theta * e.high.t,
+        low: 2.0 * f.theta * i.low,
+        high: 2.0 * f.theta * i.high,
     };
     if c.low < c.high {
-        let sin = c.sin_between(e.low.sin, e.high.sin);
-        let cos = c.cos_between(e.low.cos, e.high.cos);
+        let sin = c.sin_between(ends.low.sin, ends.high.sin);
+        let cos = c.cos_between(ends.low.cos, ends.high.cos);
         return f.excludes_zero_at(i, IntervalSinCos { sin, cos });
     }
     f.excludes_zero(i)
 }
 
-// The zeros of f between two ends, after those found before; the interval is halved as often as depth says.
-fn find_zeros(f: MotionDerivative, e: Endpoints, depth: u32, found: Zeros) -> Zeros
-    requires { ⌜ AnglesAt f e ⌝ }
-    ensures value { λ r. ⌜ r ≡ findZeros depth f (Endpoints·interval e) found ⌝ }
+// The zeros of f in an interval, after those found before; the interval is halved as often as depth says.
+fn find_zeros(f: MotionDerivative, i: Interval, ends: EndAngles, depth: u32, found: Zeros) -> Zeros
+    requires { ⌜ AnglesAt f i ends ⌝ }
+    ensures value { λ r. ⌜ r ≡ findZeros depth f i found .zeros ⌝ }
 {
-    if excludes_zero(f, e) {
+    if excludes_zero(f, i, ends) {
         return found;
     }
-    let i = Interval {
-        low: e.low.t,
-        high: e.high.t,
-    };
     let mid = midpoint(i);
     if depth == 0 {
-        return found.accept(i, newton(f, NEWTON_STEPS, mid));
+        return found.accept(i, newton(f, mid));
     }
     let middle = end_at(f, mid);
-    let lower = find_zeros(f, ordered(f, e.low, middle), depth - 1, found);
+    let below = end_angles(f, i.low, ends.low, mid, middle);
+    let lower = find_zeros(f, Interval::new(i.low, mid), below, depth - 1, found);
     if lower.refusal != 0 {
         return lower;
     }
-    find_zeros(f, ordered(f, middle, e.high), depth - 1, lower)
+    let above = end_angles(f, mid, middle, i.high, ends.high);
+    find_zeros(f, Interval::new(mid, i.high), above, depth - 1, lower)
+}
+
+// The search from 0 to 1.
+fn unit_zeros(f: MotionDerivative) -> Zeros
+    ensures value { λ r. ⌜ r ≡ unitSearch f .zeros ⌝ }
+{
+    let i = Interval::new(0.0, 1.0);
+    let low = end_at(f, i.low);
+    let high = end_at(f, i.high);
+    find_zeros(f, i, EndAngles { low, high }, DEPTH, Zeros::empty(0))
 }
 
 // pbrt's interval_find_zeros from the interval 0 to 1 at depth 8. Accuracy: heuristic.
@@ -166,7 +192,5 @@ pub fn interval_find_zeros(c1: f32, c2: f32, c3: f32, c4: f32, c5: f32, theta: f
         c5,
         theta,
     };
-    let low = end_at(f, 0.0);
-    let high = end_at(f, 1.0);
-    find_zeros(f, ordered(f, low, high), DEPTH, Zeros::empty(0))
+    unit_zeros(f)
 }

@@ -1,7 +1,6 @@
 -- `find_zeros` meets its contract, by the clauses of `search`; the depth falls.
 use mathlib.Core.Path.{sym}
 use native.Mathlib.Omega.{arith}
-use Rattle.zero_search.specs.Endpoints.{Endpoints·interval}
 use Rattle.zero_search.proofs.Clauses.{search-excluded, search-newton, search-ends, search-halves}
 use Prim.Native.Nat.{ℕ, _<_}
 use borrow.Fn.Kinds.{In, Out}
@@ -9,23 +8,25 @@ use borrow.Fn.PlainCycle.{Measures, is, falls, and}
 use Rattle.zero_search.proofs.find_zeros.Reads as find-zeros
 use Rattle.zero_search.proofs.find_zeros.Kinds as find-zeros-kinds
 use Rattle.zero_search.proofs.+find_zeros.Lts-find_zeros as find-zeros-lts
-use Rattle.motion_derivative.proofs.newton.Reads as newton-reads
-use Rattle.motion_derivative.proofs.newton.Kinds as newton-kinds
+use Rattle.interval.proofs.Interval.new.Reads as new-reads
+use Rattle.interval.proofs.Interval.new.Kinds as new-kinds
 use Rattle.zero_search.proofs.Zeros.accept.Reads as accept-reads
 use Rattle.zero_search.proofs.Zeros.accept.Kinds as accept-kinds
+use Rattle.zero_search.proofs.end_angles.Reads as end-angles-reads
+use Rattle.zero_search.proofs.end_angles.Kinds as end-angles-kinds
 use Rattle.zero_search.proofs.end_at.Reads as end-at-reads
 use Rattle.zero_search.proofs.end_at.Kinds as end-at-kinds
 use Rattle.zero_search.proofs.excludes_zero.Reads as excludes-zero-reads
 use Rattle.zero_search.proofs.excludes_zero.Kinds as excludes-zero-kinds
 use Rattle.zero_search.proofs.midpoint.Reads as midpoint-reads
 use Rattle.zero_search.proofs.midpoint.Kinds as midpoint-kinds
-use Rattle.zero_search.proofs.ordered.Reads as ordered-reads
-use Rattle.zero_search.proofs.ordered.Kinds as ordered-kinds
+use Rattle.zero_search.proofs.newton.Reads as newton-reads
+use Rattle.zero_search.proofs.newton.Kinds as newton-kinds
 use Rattle.zero_search.proofs.+find_zeros.{statement}
 use Rattle.zero_search.proofs.+find_zeros.Tie.{close}
 
 abbrev μ-find-zeros : Measures 0 find-zeros-kinds.ps ℕ
-μ-find-zeros κs a = a .1 .1 .0
+μ-find-zeros κs a = a .1 .1 .1 .0
 
 abbrev find-zeros-at : ℕ → In 0 find-zeros-kinds.ps
 find-zeros-at t = and 0 find-zeros-kinds.ps (is 0 find-zeros-kinds.ps μ-find-zeros t) find-zeros.Pre
@@ -41,7 +42,8 @@ Calls =
     In 0 newton-kinds.ps × Out 0 newton-kinds.ps newton-kinds.r ×
     In 0 accept-kinds.ps × Out 0 accept-kinds.ps accept-kinds.r ×
     In 0 end-at-kinds.ps × Out 0 end-at-kinds.ps end-at-kinds.r ×
-    In 0 ordered-kinds.ps × Out 0 ordered-kinds.ps ordered-kinds.r ×
+    In 0 end-angles-kinds.ps × Out 0 end-angles-kinds.ps end-angles-kinds.r ×
+    In 0 new-kinds.ps × Out 0 new-kinds.ps new-kinds.r ×
     In 0 find-zeros-kinds.ps × Out 0 find-zeros-kinds.ps find-zeros-kinds.r
 
 abbrev calls : ℕ → Calls
@@ -56,8 +58,10 @@ calls t = (
   accept-reads.Learnt,
   end-at-reads.Asked,
   end-at-reads.Learnt,
-  ordered-reads.Asked,
-  ordered-reads.Learnt,
+  end-angles-reads.Asked,
+  end-angles-reads.Learnt,
+  new-reads.Asked,
+  new-reads.Learnt,
   find-zeros-below t,
   find-zeros.Post,
 )
@@ -66,9 +70,7 @@ excludes-zero-requires : (t : ℕ) → find-zeros-lts.Need-excludes-zero-require
 excludes-zero-requires t c κs = c .pre .1
 
 returns : (t : ℕ) → find-zeros-lts.Need-returns (calls t) (find-zeros-at t) find-zeros.Post
-returns t c =
-    let a = c .before .before .args in
-    cc (search-excluded (a .depth) (a .f) (Endpoints·interval (a .e)) (a .found))
+returns t c = let a = c .before .before .args in cc (search-excluded (a .depth) (a .f) (a .i) (a .found))
 
 returns-2 : (t : ℕ) → find-zeros-lts.Need-returns-2 (calls t) (find-zeros-at t) find-zeros.Post
 returns-2 t c =
@@ -82,50 +84,54 @@ returns-2 t c =
       sym (range .excludes-zero .ensures),
       mid .before .if1 .left,
       c .before .before .if2 .taken,
-      search-newton (a .f) (Endpoints·interval (a .e)) (a .found),
+      search-newton (a .f) (a .i) (a .found),
     )
 
-ordered-requires : (t : ℕ) → find-zeros-lts.Need-ordered-requires (calls t) (find-zeros-at t) find-zeros.Post
-ordered-requires t c κs = (c .before .before .before .before .before .pre .1 .0, c .end-at .ensures .1)
+end-angles-requires : (t : ℕ) → find-zeros-lts.Need-end-angles-requires (calls t) (find-zeros-at t) find-zeros.Post
+end-angles-requires t c κs = (c .before .before .before .before .before .pre .1 .0, c .end-at .ensures)
 
 sub-find-zeros : (t : ℕ) → find-zeros-lts.Need-sub-find-zeros (calls t) (find-zeros-at t) find-zeros.Post
 sub-find-zeros t c = omega arith
 
 find-zeros-requires : (t : ℕ) → find-zeros-lts.Need-find-zeros-requires (calls t) (find-zeros-at t) find-zeros.Post
-find-zeros-requires t c κs = (omega arith, c .ordered .ensures .1)
+find-zeros-requires t c κs = (omega arith, rw (c .new .ensures) (c .before .end-angles .ensures))
 
 returns-3 : (t : ℕ) → find-zeros-lts.Need-returns-3 (calls t) (find-zeros-at t) find-zeros.Post
 returns-3 t c =
     let lower = c .before .before in
     let half = lower .before in
-    let mid = half .before .before .before in
+    let split = half .before .before .before in
+    let mid = split .before in
     let a = mid .before .before .before .args in
-    cc (search-ends (a .depth) (a .f) (Endpoints·interval (a .e)) (a .found) (lower .find-zeros .result) (half .before .before .if2 .left)
-    (rw (half .ordered .ensures .0, half .before .end-at .ensures .0, mid .midpoint .ensures) at (lower .find-zeros .ensures)) (c .if3 .taken))
+    cc (search-ends (a .depth) (a .f) (a .i) (a .found) (lower .find-zeros .result) (split .if2 .left)
+    (rw (half .new .ensures, mid .midpoint .ensures) at (lower .find-zeros .ensures)) (c .if3 .taken))
 
-ordered-requires-2 : (t : ℕ) → find-zeros-lts.Need-ordered-requires-2 (calls t) (find-zeros-at t) find-zeros.Post
-ordered-requires-2 t c κs = (c .before .before .before .before .end-at .ensures .1, c .before .before .before .before .before .before .before .before .before .pre .1 .1)
+end-angles-requires-2 : (t : ℕ) → find-zeros-lts.Need-end-angles-requires-2 (calls t) (find-zeros-at t) find-zeros.Post
+end-angles-requires-2 t c κs =
+    let middle = c .before .before .before .before .before in
+    (middle .end-at .ensures, middle .before .before .before .before .before .pre .1 .1)
 
 sub-find-zeros-2 : (t : ℕ) → find-zeros-lts.Need-sub-find-zeros-2 (calls t) (find-zeros-at t) find-zeros.Post
 sub-find-zeros-2 t c = omega arith
 
 find-zeros-requires-2 : (t : ℕ) → find-zeros-lts.Need-find-zeros-requires-2 (calls t) (find-zeros-at t) find-zeros.Post
 find-zeros-requires-2 t c κs =
-    let split = c .before .before .before .before .before .before in
-    (omega (arith, split .if2 .left, split .before .before .before .before .pre .0), c .ordered2 .ensures .1)
+    let split = c .before .before .before .before .before .before .before .before in
+    (omega (arith, split .if2 .left, split .before .before .before .before .pre .0), rw (c .new2 .ensures) (c .before .end-angles2 .ensures))
 
 returns-4 : (t : ℕ) → find-zeros-lts.Need-returns-4 (calls t) (find-zeros-at t) find-zeros.Post
 returns-4 t c =
-    let upper = c .before in
-    let lower = upper .before .before .before in
-    let half = lower .before in
-    let middle = half .before in
-    let mid = middle .before .before in
+    let above = c .before in
+    let left = above .before .before in
+    let lower = left .before .before in
+    let below = lower .before in
+    let split = below .before .before .before in
+    let mid = split .before in
     let a = mid .before .before .before .args in
     cc (
-      search-halves (a .depth) (a .f) (Endpoints·interval (a .e)) (a .found) (lower .find-zeros .result) (middle .before .if2 .left)
-          (rw (half .ordered .ensures .0, middle .end-at .ensures .0, mid .midpoint .ensures) at (lower .find-zeros .ensures)) (upper .before .if3 .left),
-      rw (upper .ordered2 .ensures .0, middle .end-at .ensures .0, mid .midpoint .ensures) at (c .find-zeros2 .ensures),
+      search-halves (a .depth) (a .f) (a .i) (a .found) (lower .find-zeros .result) (split .if2 .left)
+          (rw (below .new .ensures, mid .midpoint .ensures) at (lower .find-zeros .ensures)) (left .if3 .left),
+      rw (above .new2 .ensures, mid .midpoint .ensures) at (c .find-zeros2 .ensures),
     )
 
 pub +find-zeros-spec : {M : Type 1} → statement M
@@ -139,11 +145,13 @@ pub +find-zeros-spec : {M : Type 1} → statement M
     (λ c κs. tt)
     (returns-2 t)
     (λ c κs. tt)
-    (ordered-requires t)
+    (end-angles-requires t)
+    (λ c κs. tt)
     (sub-find-zeros t)
     (find-zeros-requires t)
     (returns-3 t)
-    (ordered-requires-2 t)
+    (end-angles-requires-2 t)
+    (λ c κs. tt)
     (sub-find-zeros-2 t)
     (find-zeros-requires-2 t)
     (returns-4 t)

@@ -1,8 +1,8 @@
 -- `sin_cos_beside` meets its contract: equal angles have the same sine and cosine.
 use mathlib.Core.Path.{_∙_}
 use Rattle.motion_derivative.proofs.EqualAngles.{sin-equal, cos-equal}
-use Rattle.motion_derivative.proofs.sin_cos_beside.Statement.{statement}
-use Rattle.motion_derivative.proofs.sin_cos_beside.Tie as tie
+use Rattle.zero_search.proofs.sin_cos_beside.Statement.{statement}
+use Rattle.zero_search.proofs.sin_cos_beside.Tie as tie
 
 returns : tie.Need-returns
 returns c =

@@ -1,0 +1,86 @@
+-- `newton` meets its contract, by the clauses of its definition.
+-- The loop's invariant: the steps that are left, from t, lead to where all four do from the start.
+use mathlib.Core.Path.{_≡_, refl, sym, _∙_}
+use Prim.Native.Nat.{_+_, _-_, _≤_}
+use native.Mathlib.Omega.{arith}
+use lib.Ieee.{Float}
+use Rattle.float32.specs.Operators.{_⊗_, two}
+use Rattle.trig.specs.declared.SinCos.{SinCos}
+use Rattle.motion_derivative.specs.declared.MotionDerivative.{MotionDerivative}
+use Rattle.motion_derivative.specs.Derivative.{MotionDerivative·valueAt, MotionDerivative·value, MotionDerivative·slopeAt, MotionDerivative·slope}
+use Rattle.motion_derivative.specs.Derivative.{MotionDerivative·newton}
+use Rattle.motion_derivative.proofs.Clauses.{newton-none, newton-stops, newton-steps}
+use Rattle.zero_search.specs.EndAngles.{SinCosOf}
+use Rattle.zero_search.proofs.newton.Statement.{statement}
+use Rattle.zero_search.proofs.newton.Tie as tie
+
+value-known : (f : MotionDerivative) (t : Float) (s : SinCos) → SinCosOf s (two ⊗ f .theta ⊗ t)
+    → MotionDerivative·valueAt f t (s .sin) (s .cos) ≡ MotionDerivative·value f t
+unfolding MotionDerivative·value
+value-known f t s h = rw (h .0, h .1)
+
+slope-known : (f : MotionDerivative) (t : Float) (s : SinCos) → SinCosOf s (two ⊗ t ⊗ f .theta)
+    → MotionDerivative·slopeAt f t (s .sin) (s .cos) ≡ MotionDerivative·slope f t
+unfolding MotionDerivative·slope
+slope-known f t s h = rw (h .0, h .1)
+
+abbrev Inv-loop : tie.InvT-loop
+Inv-loop f start t₀ counter₀ t counter = (counter ≤ 4) × (MotionDerivative·newton f (4 - counter) t ≡ MotionDerivative·newton f 4 start)
+
+abbrev μ-loop : tie.MeasureT-loop
+μ-loop f start t₀ counter₀ t counter = 4 - counter
+
+loop-holds : tie.Need-loop-holds Inv-loop μ-loop
+loop-holds c = (omega arith, refl)
+
+sin-cos-beside-requires : tie.Need-sin-cos-beside-requires Inv-loop μ-loop
+sin-cos-beside-requires c κs = c .before .before .before .end-at .ensures
+
+returns : tie.Need-returns Inv-loop μ-loop
+returns c =
+    let slope = c .before in
+    let value = slope .before .before .before .before in
+    let loop = value .before .before .before .loop in
+    let v = value .value-at .ensures ∙ value-known _ _ _ (value .before .end-at .ensures) in
+    let s = slope .slope-at .ensures ∙ slope-known _ _ _ (slope .before .sin-cos-beside .ensures) in
+    sym (newton-stops _ (4 - loop .counter) _ _ _ v s (c .if1 .taken)) ∙ loop .inv .1
+
+add-counter : tie.Need-add-counter Inv-loop μ-loop
+add-counter c = omega arith
+
+loop-less : tie.Need-loop-less Inv-loop μ-loop
+loop-less c = omega arith
+
+loop-again : tie.Need-loop-again Inv-loop μ-loop
+loop-again c =
+    let slope = c .before in
+    let value = slope .before .before .before .before in
+    let loop = value .before .before .before .loop in
+    let k = loop .counter in
+    let v = value .value-at .ensures ∙ value-known _ _ _ (value .before .end-at .ensures) in
+    let s = slope .slope-at .ensures ∙ slope-known _ _ _ (slope .before .sin-cos-beside .ensures) in
+    let one-less : 4 - (k + 1) ≡ 4 - k - 1 = omega arith in
+    (omega arith, rw one-less (sym (newton-steps _ (4 - k) _ _ _ (λ z. omega (arith, z)) v s (c .if1 .left)) ∙ loop .inv .1))
+
+returns-2 : tie.Need-returns-2 Inv-loop μ-loop
+returns-2 c =
+    let loop = c .before .loop in
+    let none : 4 - loop .counter ≡ 0 = omega arith in
+    sym (newton-none _ _) ∙ (rw none at (loop .inv .1))
+
+pub newton-spec : {M : Type 1} → statement M
+newton-spec =
+    tie.close
+    (tie.spec
+    Inv-loop
+    μ-loop
+    loop-holds
+    (λ c κs. tt)
+    (λ c κs. tt)
+    sin-cos-beside-requires
+    (λ c κs. tt)
+    returns
+    add-counter
+    loop-less
+    loop-again
+    returns-2)
