@@ -1,5 +1,5 @@
 -- Whether a place lies from one angle's u to the other's, as code tests it: without least and greatest (`lies-is`), and with a u that is held at a bound beyond the place.
--- So what an end's u, sine and cosine say is the sine and the cosine of the interval: `sin-range`, `cos-range`.
+-- So what an end's u, sine and cosine say is the sine and the cosine of the interval: `sin-range`, `cos-range`. `from-sin-cos` makes an end of what is at hand.
 use mathlib.Core.Path.{_≡_, refl, ap₂, _∙_}
 use mathlib.Core.Bool.{Bool, true, false, not, _&&_, _||_}
 use Prim.Native.Nat.{ℕ, _*_, _^_, _≤_, _<_, min, max}
@@ -7,10 +7,13 @@ use native.Mathlib.Omega.{arith}
 use lib.Dec.{T, leb, leb→le, le→leb, nleb→lt}
 use lib.Ieee.{Float}
 use Rattle.sine_table.specs.Table.{quarterTurn}
+use Rattle.trig.specs.declared.SinCos.{SinCos}
 use Rattle.trig.specs.Units.{angleUnits}
+use Rattle.trig.specs.SinCos.{sin, cos}
 use Rattle.trig_laws.specs.Range.{lies, sinLow, sinHigh, cosLow, cosHigh}
 use Rattle.interval.specs.Enclosure.{Interval·sinEnclosure, Interval·cosEnclosure}
-use Rattle.interval.specs.EndAngle.{EndAngle·new, EndAngle·sinRange, EndAngle·cosRange}
+use Rattle.interval.specs.declared.EndAngle.{EndAngle}
+use Rattle.interval.specs.EndAngle.{EndAngle·fromSinCos, EndAngle·new, EndAngle·sinRange, EndAngle·cosRange}
 
 same-test : (x y : Bool) → (T x → T y) → (T y → T x) → x ≡ y
 same-test true true h k = refl
@@ -44,6 +47,10 @@ lies-capped : (w u v c : ℕ) → w < c → lies w (min u c) (min v c) ≡ lies 
 lies-capped w u v c h =
     ap₂ _&&_ (leb-same (min (min u c) (min v c)) w (min u v) w (λ l. omega arith) (λ l. omega arith))
     (leb-same w (max (min u c) (min v c)) w (max u v) (λ l. omega arith) (λ l. omega arith))
+
+pub from-sin-cos : (a : Float) (at : SinCos) {p : EndAngle} → p ≡ EndAngle·fromSinCos a at → at .sin ≡ sin a → at .cos ≡ cos a → p ≡ EndAngle·new a
+unfolding EndAngle·new
+from-sin-cos a at e s c = e ∙ ap₂ (λ (x y : Float). EndAngle·fromSinCos a (record { sin = x; cos = y })) s c
 
 pub sin-range : (a b : Float) → EndAngle·sinRange (EndAngle·new a) (EndAngle·new b) ≡ Interval·sinEnclosure (record { low = a; high = b })
 unfolding EndAngle·new EndAngle·sinRange Interval·sinEnclosure sinLow sinHigh

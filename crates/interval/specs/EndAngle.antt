@@ -4,15 +4,19 @@ use Prim.Native.Nat.{_*_, _^_, min}
 use mathlib.Core.Bool.{_||_}
 use lib.Ieee.{Float}
 use Rattle.sine_table.specs.Table.{quarterTurn}
+use Rattle.trig.specs.declared.SinCos.{SinCos}
 use Rattle.trig.specs.Units.{angleUnits}
 use Rattle.trig.specs.SinCos.{sin, cos}
 use Rattle.trig_laws.specs.Range.{lies, rangeLow, rangeHigh}
 use Rattle.interval.specs.declared.Interval.{Interval}
 use Rattle.interval.specs.declared.EndAngle.{EndAngle}
 
--- u is held at 2 ^ 52, which is beyond every place that is asked for.
+-- Of an angle whose sine and cosine are given. u is held at 2 ^ 52, which is beyond every place that is asked for.
+abbrev pub EndAngle·fromSinCos : Float → SinCos → EndAngle
+EndAngle·fromSinCos a at = record { angle = a; units = min (angleUnits a) (2 ^ 52); sin = at .sin; cos = at .cos }
+
 unfoldable pub EndAngle·new : Float → EndAngle
-EndAngle·new a = record { angle = a; units = min (angleUnits a) (2 ^ 52); sin = sin a; cos = cos a }
+EndAngle·new a = EndAngle·fromSinCos a (record { sin = sin a; cos = cos a })
 
 unfoldable pub EndAngle·sinRange : EndAngle → EndAngle → Interval
 EndAngle·sinRange p q =

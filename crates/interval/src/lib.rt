@@ -1,12 +1,13 @@
 // Closed intervals of 32-bit floats. `Interval` has pbrt's own operations, with which the zero search bounds a function's range. `Judged` has those of document
 // 01's cover: an interval is judged as it is formed, and each operation takes the refusal number met before it, m, and hands the first number on.
+use trig::SinCos;
 ghost use mathlib.Core.Path.{_≡_};
 ghost use mathlib.Core.Bool.{cond};
 ghost use Rattle.trig.specs.SinCos.{sin, cos};
 ghost use Rattle.trig_laws.specs.Range.{lies};
 ghost use Rattle.interval.specs.Interval.{Interval·new, Interval·point, Interval·hull, Interval·ofFour, Interval·add, Interval·sub, Interval·mul, Interval·straddles, Interval·sinBetween, Interval·sin, Interval·cosBetween, Interval·cos};
 ghost use Rattle.interval.specs.Enclosure.{first, notFinite, notPositive, Judged·judge, Judged·addEnclosure, Judged·subEnclosure, Judged·mulEnclosure, Judged·divEnclosure, Judged·sqrtEnclosure, Judged·sinEnclosure, Judged·cosEnclosure};
-ghost use Rattle.interval.specs.EndAngle.{EndAngle·new, EndAngle·sinRange, EndAngle·cosRange};
+ghost use Rattle.interval.specs.EndAngle.{EndAngle·fromSinCos, EndAngle·new, EndAngle·sinRange, EndAngle·cosRange};
 
 // pbrt's std::f32::consts::PI.
 const PI: f32 = 3.14159274;
@@ -200,17 +201,23 @@ fn lies(w: u64, u: u64, v: u64) -> bool
 }
 
 impl EndAngle {
-    // Accuracy: exact; sine and cosine are document 01's.
-    pub fn new(a: f32) -> Self
-        ensures value { λ r. ⌜ r ≡ EndAngle·new a ⌝ }
+    // Of an angle whose sine and cosine are at hand. Accuracy: exact.
+    pub fn from_sin_cos(a: f32, at: SinCos) -> Self
+        ensures value { λ r. ⌜ r ≡ EndAngle·fromSinCos a at ⌝ }
     {
-        let at = trig::sin_cos(a);
         Self {
             angle: a,
             units: trig::angle_units(a),
             sin: at.sin,
             cos: at.cos,
         }
+    }
+
+    // Accuracy: exact; sine and cosine are document 01's.
+    pub fn new(a: f32) -> Self
+        ensures value { λ r. ⌜ r ≡ EndAngle·new a ⌝ }
+    {
+        EndAngle::from_sin_cos(a, trig::sin_cos(a))
     }
 
     // The sine from an end to another. Accuracy: encloses, for angles from 0 to a full turn.
@@ -337,8 +344,21 @@ impl Judged {
     pub fn sin_cos_enclosure(m: u8, x: Interval) -> JudgedSinCos
         ensures value { λ r. ⌜ (r .cos ≡ Judged·cosEnclosure m x) × (r .sin ≡ Judged·sinEnclosure (r .cos .refusal) x) ⌝ }
     {
-        let from = EndAngle::new(x.low);
-        let to = EndAngle::new(x.high);
+        let ends = trig::sin_cos_pair(x.low, x.high);
+        let from = EndAngle::from_sin_cos(
+            x.low,
+            SinCos {
+                sin: ends.sin_x,
+                cos: ends.cos_x,
+            },
+        );
+        let to = EndAngle::from_sin_cos(
+            x.high,
+            SinCos {
+                sin: ends.sin_y,
+                cos: ends.cos_y,
+            },
+        );
         let cos = Judged::judge(m, from.cos_range(to));
         let sin = Judged::judge(cos.refusal, from.sin_range(to));
         JudgedSinCos { cos, sin }
