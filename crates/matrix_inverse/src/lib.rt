@@ -25,16 +25,18 @@ fn consider(row: [f32; 4], ipiv: [u32; 4], j: usize, k: usize, p: Pivot) -> Pivo
     requires { ⌜ k < 4 ⌝ }
     ensures value { λ r. ⌜ r ≡ consider row ipiv j k p ⌝ }
 {
-    let abs = float32::abs(row[k]);
-    if (ipiv[k] == 0) & (abs >= p.big) {
-        Pivot {
-            big: abs,
-            irow: j,
-            icol: k,
+    // Two tests: the first, which goes by columns alone, is foreseen by the processor, and their conjunction is not.
+    if ipiv[k] == 0 {
+        let abs = float32::abs(row[k]);
+        if abs >= p.big {
+            return Pivot {
+                big: abs,
+                irow: j,
+                icol: k,
+            };
         }
-    } else {
-        p
     }
+    p
 }
 
 fn search_row(m: [[f32; 4]; 4], ipiv: [u32; 4], j: usize, p: Pivot) -> Pivot
@@ -67,16 +69,17 @@ fn search(m: [[f32; 4]; 4], ipiv: [u32; 4]) -> Pivot
     best
 }
 
-// In place, as in pbrt: of copies the compiler stores and loads different parts, and each such load waits for its stores.
-fn swap_rows(m: &mut [[f32; 4]; 4], i: usize, k: usize)
+// The test stands round the stores alone: with a return of its own the compiler would store entries one by one, and each load of a row would wait for them.
+fn swap_rows(m: [[f32; 4]; 4], i: usize, k: usize) -> [[f32; 4]; 4]
     requires { ⌜ (i < 4) × (k < 4) ⌝ }
-    ensures value { λ _. ⌜ now (m .exit) ≡ swapRows (now (m .entry)) i k ⌝ }
+    ensures value { λ r. ⌜ r ≡ swapRows m i k ⌝ }
 {
+    let mut r = m;
     if i != k {
-        let swap = m[i];
-        m[i] = m[k];
-        m[k] = swap;
+        r[i] = m[k];
+        r[k] = m[i];
     }
+    r
 }
 
 fn select(b: bool, x: f32, y: f32) -> f32
@@ -120,23 +123,18 @@ fn clear_row(r: [f32; 4], p: [f32; 4], k: usize) -> [f32; 4]
     ]
 }
 
-fn clear_at(m: &mut [[f32; 4]; 4], k: usize, j: usize)
-    requires { ⌜ (k < 4) × (j < 4) ⌝ }
-    ensures value { λ _. ⌜ now (m .exit) ≡ clearAt k j (now (m .entry)) ⌝ }
-{
-    if j != k {
-        m[j] = clear_row(m[j], m[k], k);
-    }
-}
-
-fn eliminate(m: &mut [[f32; 4]; 4], k: usize)
+fn eliminate(m: [[f32; 4]; 4], k: usize) -> [[f32; 4]; 4]
     requires { ⌜ k < 4 ⌝ }
-    ensures value { λ _. ⌜ now (m .exit) ≡ eliminate (now (m .entry)) k ⌝ }
+    ensures value { λ r. ⌜ r ≡ eliminate m k ⌝ }
 {
-    m[k] = scale_row(m[k], k);
+    let mut r = m;
+    r[k] = scale_row(m[k], k);
     for j in 0..4 {
-        clear_at(m, k, j);
+        if j != k {
+            r[j] = clear_row(r[j], r[k], k);
+        }
     }
+    r
 }
 
 fn swap_entries(r: [f32; 4], a: usize, b: usize) -> [f32; 4]
@@ -230,15 +228,16 @@ pub fn inverse(m: [[f32; 4]; 4]) -> InverseAnswer
         let p = search(minv, ipiv);
         let irow = p.irow;
         let icol = p.icol;
-        swap_rows(&mut minv, irow, icol);
+        let s = swap_rows(minv, irow, icol);
         // Departs from pbrt: a zero pivot is refused, before the division (docs/DECISIONS.md, 1).
-        if minv[icol][icol] == 0.0 {
+        if s[icol][icol] == 0.0 {
             return refused(4);
         }
         ipiv[icol] += 1;
         indxr[i] = irow;
         indxc[i] = icol;
-        eliminate(&mut minv, icol);
+        let e = eliminate(s, icol);
+        minv = e;
     }
     judged(restore_columns(minv, indxr, indxc))
 }

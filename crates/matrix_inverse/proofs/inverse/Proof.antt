@@ -39,9 +39,9 @@ refused-requires c κs = search needs
 
 returns : tie.Need-returns Inv-loop μ-loop
 returns c =
-    let found = c .before .before .before .before .before .search in
+    let found = c .before .before .before .before .search in
     let swapped = c .before .before .before .swap-rows in
-    rw (reached-zeroPivot (c .before .before .before .before .before .before .before .loop .inv .1) (found .result) _ (found .ensures .0) (swapped .ensures) (search needs) (c .before .if1 .taken))
+    rw (reached-zeroPivot (c .before .before .before .before .before .before .loop .inv .1) (found .result) (swapped .result) (found .ensures .0) (swapped .ensures) (search needs) (c .before .if1 .taken))
     (c .refused .ensures)
 
 mul-ipiv : tie.Need-mul-ipiv Inv-loop μ-loop
@@ -51,7 +51,7 @@ array-read-ipiv : tie.Need-array-read-ipiv Inv-loop μ-loop
 array-read-ipiv c = search needs
 
 add-ipiv : tie.Need-add-ipiv Inv-loop μ-loop
-add-ipiv c = omega (arith, c .before .before .before .before .before .before .loop .inv .1 .counts (c .before .before .before .before .search .result .icol))
+add-ipiv c = omega (arith, c .before .before .before .before .before .loop .inv .1 .counts (c .before .before .before .search .result .icol))
 
 array-write-ipiv : tie.Need-array-write-ipiv Inv-loop μ-loop
 array-write-ipiv c = search needs
@@ -79,11 +79,11 @@ loop-less c = search needs
 
 loop-again : tie.Need-loop-again Inv-loop μ-loop
 loop-again c =
-    let found = c .before .before .before .before .before .before .search in
-    let swapped = c .before .before .before .before .swap-rows in (
+    let found = c .before .before .before .before .search in
+    let swapped = c .before .before .before .swap-rows in (
       search needs,
-      reached-next (c .before .before .before .before .before .before .before .before .loop .inv .1) (found .result) _ (found .ensures .0) (swapped .ensures)
-          _ (found .ensures .1) (c .before .before .if1 .left) (c .eliminate .ensures),
+      reached-next (c .before .before .before .before .before .before .loop .inv .1) (found .result) (swapped .result) (found .ensures .0) (swapped .ensures)
+          (c .eliminate .result) (found .ensures .1) (c .before .if1 .left) (c .eliminate .ensures),
     )
 
 restore-columns-requires : tie.Need-restore-columns-requires Inv-loop μ-loop

@@ -5,29 +5,29 @@ use borrow.Author.Needs.{needs}
 use Rattle.matrix_inverse.proofs.swap_rows.Statement.{statement}
 use Rattle.matrix_inverse.proofs.swap_rows.Tie as tie
 
-mul-swap : tie.Need-mul-swap
-mul-swap c = search needs
+mul-r : tie.Need-mul-r
+mul-r c = search needs
 
-element-copy-out-swap : tie.Need-element-copy-out-swap
-element-copy-out-swap c = search needs
+array-copy-out-r : tie.Need-array-copy-out-r
+array-copy-out-r c = search needs
 
-mul-m : tie.Need-mul-m
-mul-m c = search needs
+mul-r-2 : tie.Need-mul-r-2
+mul-r-2 c = search needs
 
-element-copy-out-m : tie.Need-element-copy-out-m
-element-copy-out-m c = search needs
+array-set-from-r : tie.Need-array-set-from-r
+array-set-from-r c = search needs
 
-mul-t12 : tie.Need-mul-t12
-mul-t12 c = search needs
+mul-r-3 : tie.Need-mul-r-3
+mul-r-3 c = search needs
 
-element-set-from-m : tie.Need-element-set-from-m
-element-set-from-m c = search needs
+array-copy-out-r-2 : tie.Need-array-copy-out-r-2
+array-copy-out-r-2 c = search needs
 
-mul-swap-2 : tie.Need-mul-swap-2
-mul-swap-2 c = search needs
+mul-r-4 : tie.Need-mul-r-4
+mul-r-4 c = search needs
 
-element-set-from-swap : tie.Need-element-set-from-swap
-element-set-from-swap c = search needs
+array-set-from-r-2 : tie.Need-array-set-from-r-2
+array-set-from-r-2 c = search needs
 
 returns : tie.Need-returns
 unfolding swapRows
@@ -41,13 +41,13 @@ pub swap-rows-spec : {M : Type 1} → statement M
 swap-rows-spec =
     tie.close
     (tie.spec
-    mul-swap
-    element-copy-out-swap
-    mul-m
-    element-copy-out-m
-    mul-t12
-    element-set-from-m
-    mul-swap-2
-    element-set-from-swap
+    mul-r
+    array-copy-out-r
+    mul-r-2
+    array-set-from-r
+    mul-r-3
+    array-copy-out-r-2
+    mul-r-4
+    array-set-from-r-2
     returns
     returns-2)
