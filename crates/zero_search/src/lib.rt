@@ -1,5 +1,7 @@
-// The zero search of pbrt's motion box: where the derivative of a coordinate's motion may vanish, from 0 to 1.
+// The zero search of pbrt's motion box: where the derivative of a coordinate's motion may vanish, from 0 to 1. It names the table of sines once and lends it
+// to all that asks for a sine.
 ghost use mathlib.Core.Path.{_≡_};
+ghost use Rattle.sine_table.specs.Table.{sineTable};
 ghost use Rattle.interval.specs.Interval.{Interval·new};
 ghost use Rattle.motion_derivative.specs.Derivative.{MotionDerivative·excludesZero, MotionDerivative·newton};
 ghost use Rattle.zero_search.specs.Search.{midpoint, Zeros·empty, Zeros·store, Zeros·accept, findZeros, unitSearch, intervalFindZeros};
@@ -77,35 +79,35 @@ impl Zeros {
     }
 }
 
-fn end_at(f: MotionDerivative, t: f32) -> SinCos
+fn end_at(table: &[u32; 2049], f: MotionDerivative, t: f32) -> SinCos
+    requires { ⌜ now table ≡ sineTable ⌝ }
     ensures value { λ r. ⌜ AngleAt f t r ⌝ }
 {
-    trig::sin_cos(2.0 * f.theta * t)
+    trig::sin_cos_in(table, 2.0 * f.theta * t)
 }
 
 // The sine and the cosine of y, where those of x are known: equal angles have the same.
-fn sin_cos_beside(x: f32, angle: SinCos, y: f32) -> SinCos
-    requires { ⌜ SinCosOf angle x ⌝ }
+fn sin_cos_beside(table: &[u32; 2049], x: f32, angle: SinCos, y: f32) -> SinCos
+    requires { ⌜ now table ≡ sineTable ⌝ ∗ ⌜ SinCosOf angle x ⌝ }
     ensures value { λ r. ⌜ SinCosOf r y ⌝ }
 {
     if x == y {
         return angle;
     }
-    trig::sin_cos(y)
+    trig::sin_cos_in(table, y)
 }
 
 // Newton's steps from `start`, which stop where the value or the slope is zero.
-fn newton(f: MotionDerivative, start: f32) -> f32
+fn newton(table: &[u32; 2049], f: MotionDerivative, start: f32) -> f32
+    requires { ⌜ now table ≡ sineTable ⌝ }
     ensures value { λ r. ⌜ r ≡ MotionDerivative·newton f 4 start ⌝ }
 {
     let mut t = start;
     for _ in 0..NEWTON_STEPS {
-        let angle = end_at(f, t);
+        let angle = end_at(table, f, t);
         let value = f.value_at(t, angle);
-        let slope = f.slope_at(
-            t,
-            sin_cos_beside(2.0 * f.theta * t, angle, 2.0 * t * f.theta),
-        );
+        let beside = sin_cos_beside(table, 2.0 * f.theta * t, angle, 2.0 * t * f.theta);
+        let slope = f.slope_at(t, beside);
         if (value == 0.0) | (slope == 0.0) {
             return t;
         }
@@ -115,8 +117,15 @@ fn newton(f: MotionDerivative, start: f32) -> f32
 }
 
 // The angles at the ends of `Interval::new(a, b)`: those at a and b where a is below b, as it is unless rounding makes them equal.
-fn end_angles(f: MotionDerivative, a: f32, at_a: SinCos, b: f32, at_b: SinCos) -> EndAngles
-    requires { ⌜ AngleAt f a «at_a» × AngleAt f b «at_b» ⌝ }
+fn end_angles(
+    table: &[u32; 2049],
+    f: MotionDerivative,
+    a: f32,
+    at_a: SinCos,
+    b: f32,
+    at_b: SinCos,
+) -> EndAngles
+    requires { ⌜ now table ≡ sineTable ⌝ ∗ ⌜ AngleAt f a «at_a» × AngleAt f b «at_b» ⌝ }
     ensures value { λ r. ⌜ AnglesAt f (Interval·new a b) r ⌝ }
 {
     if a < b {
@@ -126,8 +135,8 @@ fn end_angles(f: MotionDerivative, a: f32, at_a: SinCos, b: f32, at_b: SinCos) -
         };
     }
     let i = Interval::new(a, b);
-    let low = end_at(f, i.low);
-    let high = end_at(f, i.high);
+    let low = end_at(table, f, i.low);
+    let high = end_at(table, f, i.high);
     EndAngles { low, high }
 }
 
@@ -149,8 +158,15 @@ fn excludes_zero(f: MotionDerivative, i: Interval, ends: EndAngles) -> bool
 }
 
 // The zeros of f in an interval, after those found before; the interval is halved as often as depth says.
-fn find_zeros(f: MotionDerivative, i: Interval, ends: EndAngles, depth: u32, found: Zeros) -> Zeros
-    requires { ⌜ AnglesAt f i ends ⌝ }
+fn find_zeros(
+    table: &[u32; 2049],
+    f: MotionDerivative,
+    i: Interval,
+    ends: EndAngles,
+    depth: u32,
+    found: Zeros,
+) -> Zeros
+    requires { ⌜ now table ≡ sineTable ⌝ ∗ ⌜ AnglesAt f i ends ⌝ }
     ensures value { λ r. ⌜ r ≡ findZeros depth f i found .zeros ⌝ }
 {
     if excludes_zero(f, i, ends) {
@@ -158,26 +174,35 @@ fn find_zeros(f: MotionDerivative, i: Interval, ends: EndAngles, depth: u32, fou
     }
     let mid = midpoint(i);
     if depth == 0 {
-        return found.accept(i, newton(f, mid));
+        return found.accept(i, newton(table, f, mid));
     }
-    let middle = end_at(f, mid);
-    let below = end_angles(f, i.low, ends.low, mid, middle);
-    let lower = find_zeros(f, Interval::new(i.low, mid), below, depth - 1, found);
+    let middle = end_at(table, f, mid);
+    let below = end_angles(table, f, i.low, ends.low, mid, middle);
+    let lower = find_zeros(table, f, Interval::new(i.low, mid), below, depth - 1, found);
     if lower.refusal != 0 {
         return lower;
     }
-    let above = end_angles(f, mid, middle, i.high, ends.high);
-    find_zeros(f, Interval::new(mid, i.high), above, depth - 1, lower)
+    let above = end_angles(table, f, mid, middle, i.high, ends.high);
+    find_zeros(
+        table,
+        f,
+        Interval::new(mid, i.high),
+        above,
+        depth - 1,
+        lower,
+    )
 }
 
 // The search from 0 to 1.
 fn unit_zeros(f: MotionDerivative) -> Zeros
     ensures value { λ r. ⌜ r ≡ unitSearch f .zeros ⌝ }
 {
+    let table = sine_table::table();
     let i = Interval::new(0.0, 1.0);
-    let low = end_at(f, i.low);
-    let high = end_at(f, i.high);
-    find_zeros(f, i, EndAngles { low, high }, DEPTH, Zeros::empty(0))
+    let low = end_at(&table, f, i.low);
+    let high = end_at(&table, f, i.high);
+    let ends = EndAngles { low, high };
+    find_zeros(&table, f, i, ends, DEPTH, Zeros::empty(0))
 }
 
 // pbrt's interval_find_zeros from the interval 0 to 1 at depth 8. Accuracy: heuristic.

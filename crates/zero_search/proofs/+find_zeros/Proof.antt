@@ -25,26 +25,26 @@ use Rattle.zero_search.proofs.newton.Kinds as newton-kinds
 use Rattle.zero_search.proofs.+find_zeros.{statement}
 use Rattle.zero_search.proofs.+find_zeros.Tie.{close}
 
-abbrev μ-find-zeros : Measures 0 find-zeros-kinds.ps ℕ
-μ-find-zeros κs a = a .1 .1 .1 .0
+abbrev μ-find-zeros : Measures 1 find-zeros-kinds.ps ℕ
+μ-find-zeros κs a = a .1 .1 .1 .1 .0
 
-abbrev find-zeros-at : ℕ → In 0 find-zeros-kinds.ps
-find-zeros-at t = and 0 find-zeros-kinds.ps (is 0 find-zeros-kinds.ps μ-find-zeros t) find-zeros.Pre
+abbrev find-zeros-at : ℕ → In 1 find-zeros-kinds.ps
+find-zeros-at t = and 1 find-zeros-kinds.ps (is 1 find-zeros-kinds.ps μ-find-zeros t) find-zeros.Pre
 
-abbrev find-zeros-below : ℕ → In 0 find-zeros-kinds.ps
-find-zeros-below t = and 0 find-zeros-kinds.ps (falls 0 find-zeros-kinds.ps _<_ μ-find-zeros t) find-zeros.Pre
+abbrev find-zeros-below : ℕ → In 1 find-zeros-kinds.ps
+find-zeros-below t = and 1 find-zeros-kinds.ps (falls 1 find-zeros-kinds.ps _<_ μ-find-zeros t) find-zeros.Pre
 
 -- what find_zeros calls, each with what it asks and what is learnt of it
 abbrev Calls : Type 1
 Calls =
     In 0 excludes-zero-kinds.ps × Out 0 excludes-zero-kinds.ps excludes-zero-kinds.r ×
     In 0 midpoint-kinds.ps × Out 0 midpoint-kinds.ps midpoint-kinds.r ×
-    In 0 newton-kinds.ps × Out 0 newton-kinds.ps newton-kinds.r ×
+    In 1 newton-kinds.ps × Out 1 newton-kinds.ps newton-kinds.r ×
     In 0 accept-kinds.ps × Out 0 accept-kinds.ps accept-kinds.r ×
-    In 0 end-at-kinds.ps × Out 0 end-at-kinds.ps end-at-kinds.r ×
-    In 0 end-angles-kinds.ps × Out 0 end-angles-kinds.ps end-angles-kinds.r ×
+    In 1 end-at-kinds.ps × Out 1 end-at-kinds.ps end-at-kinds.r ×
+    In 1 end-angles-kinds.ps × Out 1 end-angles-kinds.ps end-angles-kinds.r ×
     In 0 new-kinds.ps × Out 0 new-kinds.ps new-kinds.r ×
-    In 0 find-zeros-kinds.ps × Out 0 find-zeros-kinds.ps find-zeros-kinds.r
+    In 1 find-zeros-kinds.ps × Out 1 find-zeros-kinds.ps find-zeros-kinds.r
 
 abbrev calls : ℕ → Calls
 calls t = (
@@ -67,10 +67,13 @@ calls t = (
 )
 
 excludes-zero-requires : (t : ℕ) → find-zeros-lts.Need-excludes-zero-requires (calls t) (find-zeros-at t) find-zeros.Post
-excludes-zero-requires t c κs = c .pre .1
+excludes-zero-requires t c κs = c .pre .1 .1
 
 returns : (t : ℕ) → find-zeros-lts.Need-returns (calls t) (find-zeros-at t) find-zeros.Post
 returns t c = let a = c .before .before .args in cc (search-excluded (a .depth) (a .f) (a .i) (a .found))
+
+newton-requires : (t : ℕ) → find-zeros-lts.Need-newton-requires (calls t) (find-zeros-at t) find-zeros.Post
+newton-requires t c κs = c .before .before .before .before .pre .1 .0
 
 returns-2 : (t : ℕ) → find-zeros-lts.Need-returns-2 (calls t) (find-zeros-at t) find-zeros.Post
 returns-2 t c =
@@ -87,14 +90,21 @@ returns-2 t c =
       search-newton (a .f) (a .i) (a .found),
     )
 
+end-at-requires : (t : ℕ) → find-zeros-lts.Need-end-at-requires (calls t) (find-zeros-at t) find-zeros.Post
+end-at-requires t c κs = c .before .before .before .before .pre .1 .0
+
 end-angles-requires : (t : ℕ) → find-zeros-lts.Need-end-angles-requires (calls t) (find-zeros-at t) find-zeros.Post
-end-angles-requires t c κs = (c .before .before .before .before .before .pre .1 .0, c .end-at .ensures)
+end-angles-requires t c κs =
+    let pre = c .before .before .before .before .before .pre .1 in
+    (pre .0, (pre .1 .0, c .end-at .ensures))
 
 sub-find-zeros : (t : ℕ) → find-zeros-lts.Need-sub-find-zeros (calls t) (find-zeros-at t) find-zeros.Post
 sub-find-zeros t c = omega arith
 
 find-zeros-requires : (t : ℕ) → find-zeros-lts.Need-find-zeros-requires (calls t) (find-zeros-at t) find-zeros.Post
-find-zeros-requires t c κs = (omega arith, rw (c .new .ensures) (c .before .end-angles .ensures))
+find-zeros-requires t c κs =
+    let start = c .before .before .before .before .before .before .before in
+    (omega arith, (start .pre .1 .0, rw (c .new .ensures) (c .before .end-angles .ensures)))
 
 returns-3 : (t : ℕ) → find-zeros-lts.Need-returns-3 (calls t) (find-zeros-at t) find-zeros.Post
 returns-3 t c =
@@ -109,7 +119,8 @@ returns-3 t c =
 end-angles-requires-2 : (t : ℕ) → find-zeros-lts.Need-end-angles-requires-2 (calls t) (find-zeros-at t) find-zeros.Post
 end-angles-requires-2 t c κs =
     let middle = c .before .before .before .before .before in
-    (middle .end-at .ensures, middle .before .before .before .before .before .pre .1 .1)
+    let pre = middle .before .before .before .before .before .pre .1 in
+    (pre .0, (middle .end-at .ensures, pre .1 .1))
 
 sub-find-zeros-2 : (t : ℕ) → find-zeros-lts.Need-sub-find-zeros-2 (calls t) (find-zeros-at t) find-zeros.Post
 sub-find-zeros-2 t c = omega arith
@@ -117,7 +128,8 @@ sub-find-zeros-2 t c = omega arith
 find-zeros-requires-2 : (t : ℕ) → find-zeros-lts.Need-find-zeros-requires-2 (calls t) (find-zeros-at t) find-zeros.Post
 find-zeros-requires-2 t c κs =
     let split = c .before .before .before .before .before .before .before .before in
-    (omega (arith, split .if2 .left, split .before .before .before .before .pre .0), rw (c .new2 .ensures) (c .before .end-angles2 .ensures))
+    let pre = split .before .before .before .before .pre in
+    (omega (arith, split .if2 .left, pre .0), (pre .1 .0, rw (c .new2 .ensures) (c .before .end-angles2 .ensures)))
 
 returns-4 : (t : ℕ) → find-zeros-lts.Need-returns-4 (calls t) (find-zeros-at t) find-zeros.Post
 returns-4 t c =
@@ -141,10 +153,10 @@ pub +find-zeros-spec : {M : Type 1} → statement M
     (excludes-zero-requires t)
     (returns t)
     (λ c κs. tt)
-    (λ c κs. tt)
+    (newton-requires t)
     (λ c κs. tt)
     (returns-2 t)
-    (λ c κs. tt)
+    (end-at-requires t)
     (end-angles-requires t)
     (λ c κs. tt)
     (sub-find-zeros t)

@@ -3,6 +3,7 @@
 use mathlib.Core.Path.{_≡_, refl, sym, _∙_}
 use Prim.Native.Nat.{_+_, _-_, _≤_}
 use native.Mathlib.Omega.{arith}
+use borrow.Author.Needs.{needs}
 use lib.Ieee.{Float}
 use Rattle.float32.specs.Operators.{_⊗_, two}
 use Rattle.trig.specs.declared.SinCos.{SinCos}
@@ -25,16 +26,19 @@ unfolding MotionDerivative·slope
 slope-known f t s h = rw (h .0, h .1)
 
 abbrev Inv-loop : tie.InvT-loop
-Inv-loop f start t₀ counter₀ t counter = (counter ≤ 4) × (MotionDerivative·newton f (4 - counter) t ≡ MotionDerivative·newton f 4 start)
+Inv-loop table f start t₀ counter₀ t counter = (counter ≤ 4) × (MotionDerivative·newton f (4 - counter) t ≡ MotionDerivative·newton f 4 start)
 
 abbrev μ-loop : tie.MeasureT-loop
-μ-loop f start t₀ counter₀ t counter = 4 - counter
+μ-loop table f start t₀ counter₀ t counter = 4 - counter
 
 loop-holds : tie.Need-loop-holds Inv-loop μ-loop
 loop-holds c = (omega arith, refl)
 
+end-at-requires : tie.Need-end-at-requires Inv-loop μ-loop
+end-at-requires c κs = search needs
+
 sin-cos-beside-requires : tie.Need-sin-cos-beside-requires Inv-loop μ-loop
-sin-cos-beside-requires c κs = c .before .before .before .end-at .ensures
+sin-cos-beside-requires c κs = (search needs, c .before .before .before .end-at .ensures)
 
 returns : tie.Need-returns Inv-loop μ-loop
 returns c =
@@ -75,7 +79,7 @@ newton-spec =
     Inv-loop
     μ-loop
     loop-holds
-    (λ c κs. tt)
+    end-at-requires
     (λ c κs. tt)
     sin-cos-beside-requires
     (λ c κs. tt)
