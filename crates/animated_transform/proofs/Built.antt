@@ -226,3 +226,17 @@ unfolding AnimatedTransform·new
 built-judged {m} b =
     let g = not-refused (posesRefusal (b .start) (b .end)) (work (b .start) (b .end)) m (b .accepted) in
     work-judged (b .start) (b .end) (poses-passed (b .start) (b .end) (b .start-binary32) (b .end-binary32) (g .0)) m (g .1)
+
+-- Both clauses of building's contract, from the first: what isn't refused is a built move, since f32 times are binary32.
+pub new-clauses : {r : AnimatedTransformAnswer} (start end : Pose) → fits binary32 (start .time) ≡ true → fits binary32 (end .time) ≡ true
+    → r ≡ AnimatedTransform·new start end → (r ≡ AnimatedTransform·new start end) × (r .refusal ≡ 0 → Built (r .value))
+new-clauses {r} start end f g e = (e, built)
+  where
+    built : r .refusal ≡ 0 → Built (r .value)
+    built none = record {
+      start = start;
+      end = end;
+      start-binary32 = subst T (sym f) tt;
+      end-binary32 = subst T (sym g) tt;
+      accepted = sym e ∙ ap (λ (n : ℕ). record { value = r .value; refusal = n }) none;
+    }

@@ -1,4 +1,5 @@
--- The numbers that building can give are 0 to 5 (`new-refusal`), and after a refusal every number is +0 and every yes or no is no (`new-refused`).
+-- The numbers that building can give are 0 to 5 (`new-refusal`), but not 2 where both bottom rows are right (`new-affine`), and after a refusal every number is
+-- +0 and every yes or no is no (`new-refused`). Those of its work are 0, 4 and 5.
 use mathlib.Core.Path.{_≡_, refl}
 use mathlib.Core.Bool.{Bool, true, false, not, _&&_, _||_, cond}
 use mathlib.Core.Logic.{_⊎_, inl, inr}
@@ -32,65 +33,92 @@ use Rattle.rotation_arc.specs.ShorterArc.{flip, dotsRefusal}
 use Rattle.rotation_arc.specs.ArcCoefficients.{CoefficientsAnswer·judged, rotationCoefficients, pairCoefficients}
 use Rattle.animated_transform.specs.New.{AnimatedTransformAnswer·refused, firstRefusal, assembled, between, work, AnimatedTransform·new}
 
-chosen : (b : Bool) (m n : ℕ) → m ≤ 5 → n ≤ 5 → cond b m n ≤ 5
-chosen true m n p q = p
-chosen false m n p q = q
+-- ---- the numbers
+-- 4 and 5 of the work, 0 being none
+abbrev Worked : ℕ → Type 0
+Worked n = (n ≡ 0) ⊎ ((n ≡ 4) ⊎ (n ≡ 5))
 
-worked : {n : ℕ} → (n ≡ 0) ⊎ ((n ≡ 4) ⊎ (n ≡ 5)) → n ≤ 5
-worked (inl e) = omega arith
-worked (inr (inl e)) = omega arith
-worked (inr (inr e)) = omega arith
+-- what holds of both holds of either
+chosen : (P : ℕ → Type 0) (b : Bool) (m n : ℕ) → P m → P n → P (cond b m n)
+chosen P true m n p q = p
+chosen P false m n p q = q
 
--- An answer has one of the numbers, and without a refusal of its own stands as it is.
-record Answered (a : AnimatedTransformAnswer) : Type 0 where
-  number : a .refusal ≤ 5
-  zero : (a .refusal ≡ 0 → ⊥) → a ≡ AnimatedTransformAnswer·refused (a .refusal)
+up-to-five : (n : ℕ) → Worked n → n ≤ 5
+up-to-five n (inl e) = omega arith
+up-to-five n (inr (inl e)) = omega arith
+up-to-five n (inr (inr e)) = omega arith
 
-refused-answered : (n : ℕ) → n ≤ 5 → Answered (AnimatedTransformAnswer·refused n)
-refused-answered n h = record { number = h; zero = λ _. refl }
+worked-not-two : (n : ℕ) → Worked n → n ≡ 2 → ⊥
+worked-not-two n (inl e) h = absurd (omega (arith, e, h))
+worked-not-two n (inr (inl e)) h = absurd (omega (arith, e, h))
+worked-not-two n (inr (inr e)) h = absurd (omega (arith, e, h))
 
-accepted-answered : (a : AnimatedTransformAnswer) → a .refusal ≡ 0 → Answered a
-accepted-answered a e = record { number = omega arith; zero = λ z. absurd (z e) }
-
--- what follows a number that was not met
-after : (n : ℕ) (a : AnimatedTransformAnswer) → n ≤ 5 → Answered a → Answered (cond (eqb n 0) a (AnimatedTransformAnswer·refused n))
-after n a h k = go (eqb n 0)
-  where
-    go : (b : Bool) → Answered (cond b a (AnimatedTransformAnswer·refused n))
-    go true = k
-    go false = refused-answered n h
+times-three : (t u : Float) → (timesRefusal t u ≡ 0) ⊎ (timesRefusal t u ≡ 3)
+unfolding timesRefusal
+times-three t u = chosen (λ n. (n ≡ 0) ⊎ (n ≡ 3)) (lt u t || not (finite (u ⊖ t))) 3 0 (inr refl) (inl refl)
 
 times-number : (t u : Float) → timesRefusal t u ≤ 5
-unfolding timesRefusal
-times-number t u = chosen (lt u t || not (finite (u ⊖ t))) 3 0 (omega arith) (omega arith)
+times-number t u = go (times-three t u)
+  where
+    go : (timesRefusal t u ≡ 0) ⊎ (timesRefusal t u ≡ 3) → timesRefusal t u ≤ 5
+    go (inl e) = omega (arith, e)
+    go (inr e) = omega (arith, e)
 
 poses-number : (start end : Pose) → posesRefusal start end ≤ 5
 unfolding posesRefusal
 poses-number start end =
-    chosen (not (Pose·isFinite start && Pose·isFinite end)) 1 _ (omega arith)
-    (chosen (not (Pose·isAffine start && Pose·isAffine end)) 2 _ (omega arith) (times-number (start .time) (end .time)))
+    chosen (λ n. n ≤ 5) (not (Pose·isFinite start && Pose·isFinite end)) 1 _ (omega arith)
+    (chosen (λ n. n ≤ 5) (not (Pose·isAffine start && Pose·isAffine end)) 2 _ (omega arith) (times-number (start .time) (end .time)))
 
-dots-number : (d e : Float) → dotsRefusal d e ≤ 5
+-- 2 is met where a bottom row is wrong, and only there.
+poses-affine : (start end : Pose) → Pose·isAffine start ≡ true → Pose·isAffine end ≡ true → posesRefusal start end ≡ 2 → ⊥
+unfolding posesRefusal
+poses-affine start end a b = rw (a, b) (go (Pose·isFinite start && Pose·isFinite end) (times-three (start .time) (end .time)))
+  where
+    times : ℕ
+    times = timesRefusal (start .time) (end .time)
+
+    go : (f : Bool) → (times ≡ 0) ⊎ (times ≡ 3) → cond (not f) 1 times ≡ 2 → ⊥
+    go true (inl e) h = absurd (omega (arith, e, h))
+    go true (inr e) h = absurd (omega (arith, e, h))
+    go false t h = absurd (omega (arith, h))
+
+dots-number : (d e : Float) → Worked (dotsRefusal d e)
 unfolding dotsRefusal
-dots-number d e = chosen (finite d && finite e) 0 5 (omega arith) (omega arith)
+dots-number d e = chosen Worked (finite d && finite e) 0 5 (inl refl) (inr (inr refl))
 
-judged-number : (q : Quaternion) (c : Coefficients) → CoefficientsAnswer·judged q c .refusal ≤ 5
+judged-number : (q : Quaternion) (c : Coefficients) → Worked (CoefficientsAnswer·judged q c .refusal)
 unfolding CoefficientsAnswer·judged
 judged-number q c = go (Quaternion·isFinite q && Coefficients·isFinite c)
   where
-    go : (b : Bool) → cond {A = CoefficientsAnswer} b (record { value = c; refusal = 0 }) (record { value = Coefficients·zero; refusal = 5 }) .refusal ≤ 5
-    go true = omega arith
-    go false = omega arith
+    go : (b : Bool) → Worked (cond {A = CoefficientsAnswer} b (record { value = c; refusal = 0 }) (record { value = Coefficients·zero; refusal = 5 }) .refusal)
+    go true = inl refl
+    go false = inr (inr refl)
 
-coefficients-number : (b : Bool) (t0 t1 : Vector3f) (r0 r1 : Quaternion) (s0 s1 : Matrix4x4) (c : Float) → pairCoefficients b t0 t1 r0 r1 s0 s1 c .refusal ≤ 5
+coefficients-number : (b : Bool) (t0 t1 : Vector3f) (r0 r1 : Quaternion) (s0 s1 : Matrix4x4) (c : Float)
+    → Worked (pairCoefficients b t0 t1 r0 r1 s0 s1 c .refusal)
 unfolding pairCoefficients rotationCoefficients
 coefficients-number true t0 t1 r0 r1 s0 s1 c = judged-number _ _
-coefficients-number false t0 t1 r0 r1 s0 s1 c = omega arith
+coefficients-number false t0 t1 r0 r1 s0 s1 c = inl refl
 
-first-number : (m n : ℕ) → m ≤ 5 → n ≤ 5 → firstRefusal m n ≤ 5
-first-number m n p q = chosen (eqb m 0) n m q p
+first-number : (m n : ℕ) → Worked m → Worked n → Worked (firstRefusal m n)
+first-number m n p q = chosen Worked (eqb m 0) n m q p
 
-between-answered : (start end : Pose) (a b : Transform) (p q : Decomposition) → Answered (between start end a b p q)
+-- ---- the answers
+-- An answer has a number of P's, and is the refused answer with that number unless it is 0.
+record Answered (P : ℕ → Type 0) (a : AnimatedTransformAnswer) : Type 0 where
+  number : P (a .refusal)
+  zero : (a .refusal ≡ 0 → ⊥) → a ≡ AnimatedTransformAnswer·refused (a .refusal)
+
+-- what follows a number that was not met
+after : (P : ℕ → Type 0) (n : ℕ) (a : AnimatedTransformAnswer) → P n → Answered P a → Answered P (cond (eqb n 0) a (AnimatedTransformAnswer·refused n))
+after P n a h k = go (eqb n 0)
+  where
+    go : (b : Bool) → Answered P (cond b a (AnimatedTransformAnswer·refused n))
+    go true = k
+    go false = record { number = h; zero = λ _. refl }
+
+between-answered : (start end : Pose) (a b : Transform) (p q : Decomposition) → Answered Worked (between start end a b p q)
 unfolding between
 between-answered start end a b p q =
     let r1 = flip (p .r) (q .r) in
@@ -98,11 +126,11 @@ between-answered start end a b p q =
     let hasRotation = lt cosθ slerpThreshold in
     let c = pairCoefficients hasRotation (p .t) (q .t) (p .r) r1 (p .s) (q .s) cosθ in
     let d = dotsRefusal (Quaternion·dot (p .r) (q .r)) cosθ in
-    after (firstRefusal d (c .refusal)) (record { value = assembled start end a b p q r1 (c .value); refusal = 0 })
+    after Worked (firstRefusal d (c .refusal)) (record { value = assembled start end a b p q r1 (c .value); refusal = 0 })
     (first-number d (c .refusal) (dots-number (Quaternion·dot (p .r) (q .r)) cosθ) (coefficients-number hasRotation (p .t) (q .t) (p .r) r1 (p .s) (q .s) cosθ))
-    (accepted-answered (record { value = assembled start end a b p q r1 (c .value); refusal = 0 }) refl)
+    (record { number = inl refl; zero = λ z. absurd (z refl) })
 
-work-answered : (start end : Pose) → Answered (work start end)
+work-answered : (start end : Pose) → Answered Worked (work start end)
 unfolding work
 work-answered start end =
     let m0 = Matrix4x4·toRows (start .m) in
@@ -113,19 +141,24 @@ work-answered start end =
     let q = Matrix4x4·decompose m1 in
     let inverses = firstRefusal (a .refusal) (b .refusal) in
     let parts = firstRefusal (p .refusal) (q .refusal) in
-    after (firstRefusal inverses parts) (between start end (a .transform) (b .transform) p q)
+    after Worked (firstRefusal inverses parts) (between start end (a .transform) (b .transform) p q)
     (first-number inverses parts
-    (first-number (a .refusal) (b .refusal) (worked (from-matrix-numbers m0)) (worked (from-matrix-numbers m1)))
-    (first-number (p .refusal) (q .refusal) (worked (decompose-refusal m0)) (worked (decompose-refusal m1))))
+    (first-number (a .refusal) (b .refusal) (from-matrix-numbers m0) (from-matrix-numbers m1))
+    (first-number (p .refusal) (q .refusal) (decompose-refusal m0) (decompose-refusal m1)))
     (between-answered start end (a .transform) (b .transform) p q)
 
-new-answered : (start end : Pose) → Answered (AnimatedTransform·new start end)
+new-answered : (P : ℕ → Type 0) (start end : Pose) → P (posesRefusal start end) → ((n : ℕ) → Worked n → P n) → Answered P (AnimatedTransform·new start end)
 unfolding AnimatedTransform·new
-new-answered start end = after (posesRefusal start end) (work start end) (poses-number start end) (work-answered start end)
+new-answered P start end h k =
+    let w = work-answered start end in
+    after P (posesRefusal start end) (work start end) h (record { number = k (work start end .refusal) (w .number); zero = w .zero })
 
 pub new-refusal : (start end : Pose) → AnimatedTransform·new start end .refusal ≤ 5
-new-refusal start end = new-answered start end .number
+new-refusal start end = new-answered (λ n. n ≤ 5) start end (poses-number start end) up-to-five .number
+
+pub new-affine : (start end : Pose) → Pose·isAffine start ≡ true → Pose·isAffine end ≡ true → AnimatedTransform·new start end .refusal ≡ 2 → ⊥
+new-affine start end a b = new-answered (λ n. n ≡ 2 → ⊥) start end (poses-affine start end a b) worked-not-two .number
 
 pub new-refused : (start end : Pose) → (AnimatedTransform·new start end .refusal ≡ 0 → ⊥)
     → AnimatedTransform·new start end ≡ AnimatedTransformAnswer·refused (AnimatedTransform·new start end .refusal)
-new-refused start end = new-answered start end .zero
+new-refused start end = new-answered (λ n. n ≤ 5) start end (poses-number start end) up-to-five .zero

@@ -7,6 +7,7 @@ use quaternion::Quaternion;
 use transform::Transform;
 use vector3::Vector3f;
 ghost use mathlib.Core.Path.{_≡_};
+ghost use Rattle.animated_transform.specs.Built.{Built};
 ghost use Rattle.animated_transform.specs.New.{firstRefusal, AnimatedTransformAnswer·refused, between, work, AnimatedTransform·new};
 
 // 0 stands for the start and 1 for the end, so that pbrt's t[0] is t0; the coefficients are pbrt's c1 to c5.
@@ -139,9 +140,11 @@ fn work(start: Pose, end: Pose) -> AnimatedTransformAnswer
 }
 
 impl AnimatedTransform {
-    // Refused with 1 to 5, whichever is met first; pbrt goes on where this refuses. Accuracy: each operation is correctly rounded.
+    // Refused with 1 to 5, whichever is met first; pbrt goes on where this refuses. What isn't refused is a built move.
+    // Accuracy: each operation is correctly rounded.
     pub fn new(start: Pose, end: Pose) -> AnimatedTransformAnswer
         ensures value { λ r. ⌜ r ≡ AnimatedTransform·new start end ⌝ }
+        ensures built { λ r. ⌜ (r .refusal ≡ 0 → Built (r .value)) ⌝ }
     {
         let n = pose_pair::poses_refusal(start, end);
         if n != 0 {

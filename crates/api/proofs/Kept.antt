@@ -1,51 +1,60 @@
 -- A kept move is the move that was built: what building leaves holds it (`build-clauses`), the point query of the rows is the move's (`kept-point`), and the cover of the rows
--- holds what the point query of the rows answers (`kept-cover-contains`).
+-- holds what the point query of the rows answers (`cover-clauses`).
 use Prim.Native.Nat.{ℕ}
-use mathlib.Core.Path.{_≡_, ap, sym, subst}
-use mathlib.Core.Bool.{true}
+use mathlib.Core.Path.{_≡_, ap, sym, _∙_}
 use mathlib.Core.List.{List}
-use lib.Dec.{T}
-use lib.Ieee.{Float, binary32, fits}
+use lib.Ieee.{Float}
 use Rattle.matrix4x4.specs.Rows.{Rows}
 use Rattle.bounds3.specs.declared.Point3f.{Point3f}
+use Rattle.transform.specs.declared.BoundsAnswer.{BoundsAnswer}
+use Rattle.transform.specs.Answer.{BoundsAnswer·refusal, BoundsAnswer·bounds}
 use Rattle.pose_pair.specs.declared.Pose.{Pose}
 use Rattle.animated_transform.specs.declared.AnimatedTransform.{AnimatedTransform}
+use Rattle.animated_transform.specs.declared.AnimatedTransformAnswer.{AnimatedTransformAnswer}
+use Rattle.animated_transform.specs.Built.{Built}
 use Rattle.animated_transform.specs.New.{AnimatedTransform·new}
 use Rattle.motion_point.specs.TransformPoint.{AnimatedTransform·transformPoint}
+use Rattle.motion_cover.proofs.NonZero.{cover-answered}
 use Rattle.motion_cover.proofs.Contains.{cover-contains}
-use Rattle.bounds3.specs.List.{Bounds3f·ofList}
-use Rattle.motion_rows.specs.Rows.{AnimatedTransform·toRows, AnimatedTransformAnswer·left}
+use Rattle.bounds3.specs.List.{Bounds3f·list, Bounds3f·ofList}
+use Rattle.lent_arrays.specs.Arrays.{BoundsAnswer·left}
+use Rattle.motion_rows.specs.Rows.{AnimatedTransform·toRows, AnimatedTransform·fromRows, AnimatedTransformAnswer·left}
+use Rattle.motion_rows.specs.TransformPoint.{Rows·transformPoint}
 use Rattle.motion_rows.proofs.RoundTrip.{from-rows-inverse, constants-inverse}
-use Rattle.api.specs.Answers.{Rows·transformPoint, Rows·cover}
+use Rattle.api.specs.Answers.{Rows·cover}
 use Rattle.api.specs.Kept.{Rows·Holds, KeptCoverContainsMotion}
 
--- Of two poses whose times are binary32: the number that building gives, what it leaves, and that this holds the move where the number is 0.
-pub build-clauses : (s e : Pose) (r : ℕ) (rows old : Rows) → fits binary32 (s .time) ≡ true → fits binary32 (e .time) ≡ true
-    → r ≡ AnimatedTransform·new s e .refusal → rows ≡ AnimatedTransformAnswer·left (AnimatedTransform·new s e) old
-    → (r ≡ AnimatedTransform·new s e .refusal) × ((rows ≡ AnimatedTransformAnswer·left (AnimatedTransform·new s e) old) × (r ≡ 0 → Rows·Holds rows (AnimatedTransform·new s e .value)))
+-- Of what building gives for two poses: its number, what it leaves, and that this holds the move where the number is 0.
+pub build-clauses : (s e : Pose) (a : AnimatedTransformAnswer) (r : ℕ) (rows old : Rows)
+    → a ≡ AnimatedTransform·new s e → (a .refusal ≡ 0 → Built (a .value))
+    → r ≡ a .refusal → rows ≡ AnimatedTransformAnswer·left a old
+    → (r ≡ AnimatedTransform·new s e .refusal) × ((rows ≡ AnimatedTransformAnswer·left (AnimatedTransform·new s e) old)
+    × (r ≡ 0 → Rows·Holds rows (AnimatedTransform·new s e .value)))
 unfolding AnimatedTransformAnswer·left
-build-clauses s e r rows old start end number left = (number, (left, holds))
+build-clauses s e a r rows old same built number left = rw (← same) (number, (left, holds))
   where
-    holds : r ≡ 0 → Rows·Holds rows (AnimatedTransform·new s e .value)
-    holds none =
-        let accepted : AnimatedTransform·new s e .refusal ≡ 0 = cc in
-        record {
-          built = record {
-            start = s;
-            end = e;
-            start-binary32 = subst T (sym start) tt;
-            end-binary32 = subst T (sym end) tt;
-            accepted = ap (λ (n : ℕ). record { value = AnimatedTransform·new s e .value; refusal = n }) accepted;
-          };
-          same = rw left (rw accepted);
-        }
+    holds : r ≡ 0 → Rows·Holds rows (a .value)
+    holds none = let accepted : a .refusal ≡ 0 = sym number ∙ none in record { built = built accepted; same = rw left (rw accepted) }
 
 pub kept-point : (rows : Rows) (m : AnimatedTransform) (time : Float) (p : Point3f) → rows ≡ AnimatedTransform·toRows m
     → Rows·transformPoint rows time p ≡ AnimatedTransform·transformPoint m time p
 unfolding Rows·transformPoint AnimatedTransform·transformPoint
 kept-point rows m time p e = rw (e, from-rows-inverse m, constants-inverse m)
 
-pub kept-cover-contains : (rows : Rows) (b : List Float) (d : ℕ) → KeptCoverContainsMotion rows b (Rows·cover rows b d)
-kept-cover-contains rows b d m box time p holds accepted number inside =
-    rw (kept-point rows m time p (holds .same))
-    (cover-contains m (Bounds3f·ofList b) d box time p (holds .built) (rw (holds .same, from-rows-inverse m) at accepted) number inside)
+-- The three clauses of the cover, from its number and what it leaves: number 0 is a box, and the array holds it.
+pub cover-clauses : (rows : Rows) (b : List Float) (d r : ℕ) (bounds old : List Float)
+    → r ≡ BoundsAnswer·refusal (Rows·cover rows b d) → bounds ≡ BoundsAnswer·left (Rows·cover rows b d) old
+    → (r ≡ BoundsAnswer·refusal (Rows·cover rows b d)) × ((bounds ≡ BoundsAnswer·left (Rows·cover rows b d) old)
+    × (r ≡ 0 → KeptCoverContainsMotion rows b bounds))
+cover-clauses rows b d r bounds old number left = (number, (left, contains))
+  where
+    contains : r ≡ 0 → KeptCoverContainsMotion rows b bounds
+    contains none m time p holds nan inside =
+        let move : AnimatedTransform·fromRows rows ≡ m = rw (holds .same) (from-rows-inverse m) in
+        let accepted : BoundsAnswer·refusal (Rows·cover rows b d) ≡ 0 = sym number ∙ none in
+        let box : bounds ≡ Bounds3f·list (BoundsAnswer·bounds (Rows·cover rows b d)) =
+        left ∙ ap (λ (c : BoundsAnswer). BoundsAnswer·left c old) (cover-answered (AnimatedTransform·fromRows rows) (Bounds3f·ofList b) d accepted) in
+        let built : Built (AnimatedTransform·fromRows rows) = rw move (holds .built) in
+        let point : Rows·transformPoint rows time p ≡ AnimatedTransform·transformPoint (AnimatedTransform·fromRows rows) time p =
+        rw move (kept-point rows m time p (holds .same)) in
+        rw (point, box) (cover-contains (AnimatedTransform·fromRows rows) (Bounds3f·ofList b) d time p built accepted nan inside)

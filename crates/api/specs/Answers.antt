@@ -2,25 +2,21 @@
 -- that the arrays hold. Definitions only.
 -- The rows may be any rows: the move in them is `AnimatedTransform·fromRows`, and what a point query needs of its rotations stands beside it.
 use Prim.Native.Nat.{ℕ}
-use mathlib.Core.Bool.{not, _||_, cond}
 use mathlib.Core.List.{List}
-use lib.Ieee.{Float, isNan}
+use lib.Ieee.{Float}
 use Rattle.matrix4x4.specs.Rows.{Rows, Matrix4x4·fromRows}
-use Rattle.bounds3.specs.declared.Point3f.{Point3f}
-use Rattle.bounds3.specs.Finite.{Point3f·isFinite}
 use Rattle.bounds3.specs.List.{Point3f·ofList, Bounds3f·ofList}
 use Rattle.transform.specs.declared.TransformAnswer.{TransformAnswer}
 use Rattle.transform.specs.declared.PointAnswer.{PointAnswer}
-use Rattle.transform.specs.declared.PointAnswer.the-variants.{Refused}
 use Rattle.transform.specs.declared.BoundsAnswer.{BoundsAnswer}
 use Rattle.pose_pair.specs.declared.Pose.{Pose}
 use Rattle.animated_transform.specs.declared.AnimatedTransformAnswer.{AnimatedTransformAnswer}
 use Rattle.animated_transform.specs.New.{AnimatedTransform·new}
-use Rattle.motion_point.specs.TransformPoint.{AnimatedTransform·movedPoint}
 use Rattle.interpolation.specs.Interpolate.{AnimatedTransform·interpolate}
 use Rattle.motion_bounds.specs.MotionBounds.{AnimatedTransform·boundPointMotion, AnimatedTransform·motionBounds}
 use Rattle.motion_cover.specs.Cover.{AnimatedTransform·cover}
-use Rattle.motion_rows.specs.Rows.{AnimatedTransform·fromRows, RigidMotion·fromRows}
+use Rattle.motion_rows.specs.Rows.{AnimatedTransform·fromRows}
+use Rattle.motion_rows.specs.TransformPoint.{Rows·transformPoint}
 
 -- a time and the four rows of a matrix
 abbrev pub Pose·fromRows : Float → Rows → Pose
@@ -28,11 +24,6 @@ Pose·fromRows time m = record { time = time; m = Matrix4x4·fromRows m }
 
 abbrev pub Rows·new : Float → Rows → Float → Rows → AnimatedTransformAnswer
 Rows·new startTime start endTime end = AnimatedTransform·new (Pose·fromRows startTime start) (Pose·fromRows endTime end)
-
--- of a built move it is `AnimatedTransform·transformPoint`, whose constants are those that the rows hold (`kept-point`)
-unfoldable pub Rows·transformPoint : Rows → Float → Point3f → PointAnswer
-Rows·transformPoint rows time p =
-    cond (isNan time || not (Point3f·isFinite p)) (Refused 6) (AnimatedTransform·movedPoint (AnimatedTransform·fromRows rows) (RigidMotion·fromRows rows) time p)
 
 abbrev pub Rows·point : Rows → Float → List Float → PointAnswer
 Rows·point rows time p = Rows·transformPoint rows time (Point3f·ofList p)

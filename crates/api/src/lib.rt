@@ -12,7 +12,8 @@ ghost use Rattle.transform.specs.Answer.{PointAnswer·refusal, BoundsAnswer·re
 ghost use Rattle.motion_point.specs.TransformPoint.{AnimatedTransform·transformPoint};
 ghost use Rattle.lent_arrays.specs.Arrays.{PointAnswer·left, TransformAnswer·left, BoundsAnswer·left};
 ghost use Rattle.motion_rows.specs.Rows.{AnimatedTransform·toRows, AnimatedTransformAnswer·left};
-ghost use Rattle.api.specs.Answers.{Pose·fromRows, Rows·new, Rows·transformPoint, Rows·point, Rows·interpolate, Rows·boundPointMotion, Rows·motionBounds, Rows·cover};
+ghost use Rattle.motion_rows.specs.TransformPoint.{Rows·transformPoint};
+ghost use Rattle.api.specs.Answers.{Pose·fromRows, Rows·new, Rows·point, Rows·interpolate, Rows·boundPointMotion, Rows·motionBounds, Rows·cover};
 ghost use Rattle.api.specs.Kept.{Rows·Holds, KeptCoverContainsMotion};
 
 fn pose(time: f32, m: &[[f32; 4]; 4]) -> Pose
@@ -117,7 +118,7 @@ pub extern "C" fn jellyplain_motion_bounds(
     )
 }
 
-// A box that holds the box b at every time, from 2^depth slices. Refused with 5, 6, 7, 8 or 10.
+// A box that holds the box b at every time, from 2^depth slices; where 0 is returned it stands in `bounds`. Refused with 5, 6, 7, 8 or 10.
 #[no_mangle]
 pub extern "C" fn jellyplain_cover(
     motion: &[[f32; 4]; 44],
@@ -127,7 +128,7 @@ pub extern "C" fn jellyplain_cover(
 ) -> u8
     ensures refusal { λ r. ⌜ r ≡ BoundsAnswer·refusal (Rows·cover (now (motion .entry)) (now (b .entry)) depth) ⌝ }
     ensures left { λ _. ⌜ now (bounds .exit) ≡ BoundsAnswer·left (Rows·cover (now (motion .entry)) (now (b .entry)) depth) (now (bounds .entry)) ⌝ }
-    ensures contains_motion { λ _. ⌜ KeptCoverContainsMotion (now (motion .entry)) (now (b .entry)) (Rows·cover (now (motion .entry)) (now (b .entry)) depth) ⌝ }
+    ensures contains_motion { λ r. ⌜ (r ≡ 0 → KeptCoverContainsMotion (now (motion .entry)) (now (b .entry)) (now (bounds .exit))) ⌝ }
 {
     lent_arrays::put_bounds(
         motion_cover::cover(

@@ -5,7 +5,7 @@ use mathlib.Core.Bool.{not}
 use lib.Dec.{T}
 use lib.Ieee.{isNan}
 use Rattle.bounds3.specs.Inside.{Inside}
-use Rattle.transform.specs.declared.BoundsAnswer.the-variants.{Bounds}
+use Rattle.transform.specs.Answer.{BoundsAnswer·refusal, BoundsAnswer·bounds}
 use Rattle.animated_transform.specs.declared.AnimatedTransform.{AnimatedTransform}
 use Rattle.animated_transform.specs.New.{AnimatedTransform·new}
 use Rattle.animated_transform.specs.Built.{Built}
@@ -20,7 +20,8 @@ moveA = AnimatedTransform·new (identityAt zero) (shiftedAt one) .value
 
 pub record HypothesesMet : Type 0 where
   pub built : Built moveA
-  pub accepted : AnimatedTransform·cover moveA originBox 1 ≡ Bounds unitSegment
+  pub accepted : BoundsAnswer·refusal (AnimatedTransform·cover moveA originBox 1) ≡ 0
+  pub box : BoundsAnswer·bounds (AnimatedTransform·cover moveA originBox 1) ≡ unitSegment
   pub time : T (not (isNan half))
   pub inside : Inside originBox origin
 

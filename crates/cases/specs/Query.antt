@@ -9,9 +9,8 @@ use Rattle.trig.specs.Acos.{acos}
 use Rattle.bounds3.specs.declared.Point3f.{Point3f}
 use Rattle.bounds3.specs.declared.Bounds3f.{Bounds3f}
 use Rattle.transform.specs.declared.PointAnswer.{PointAnswer}
-use Rattle.transform.specs.declared.PointAnswer.the-variants as point
 use Rattle.transform.specs.declared.BoundsAnswer.{BoundsAnswer}
-use Rattle.transform.specs.declared.BoundsAnswer.the-variants as bounds
+use Rattle.transform.specs.Answer.{PointAnswer·refusal, PointAnswer·point, BoundsAnswer·refusal, BoundsAnswer·bounds}
 use Rattle.pose_pair.specs.declared.Pose.{Pose}
 use Rattle.animated_transform.specs.declared.AnimatedTransform.{AnimatedTransform}
 use Rattle.animated_transform.specs.declared.AnimatedTransformAnswer.{AnimatedTransformAnswer}
@@ -40,12 +39,10 @@ pub data Answer : Type 0 where
   refused : ℕ → Answer
 
 abbrev pub ofPoint : PointAnswer → Answer
-ofPoint (point.Moved p) = moved p
-ofPoint (point.Refused n) = refused n
+ofPoint a = cond (eqb (PointAnswer·refusal a) 0) (moved (PointAnswer·point a)) (refused (PointAnswer·refusal a))
 
 abbrev pub ofBounds : BoundsAnswer → Answer
-ofBounds (bounds.Bounds b) = covered b
-ofBounds (bounds.Refused n) = refused n
+ofBounds a = cond (eqb (BoundsAnswer·refusal a) 0) (covered (BoundsAnswer·bounds a)) (refused (BoundsAnswer·refusal a))
 
 -- f of the move that was built, or the number of building's refusal.
 abbrev pub onMove : AnimatedTransformAnswer → (AnimatedTransform → Answer) → Answer

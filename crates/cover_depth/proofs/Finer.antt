@@ -1,7 +1,7 @@
 -- A finer cover of a built move is never a wider one: `cover-finer`. A slice of a greater depth lies in the slice that it was cut from, so that it is accepted where that one is and
 -- its box lies in that one's (`piece-finer`); what lies in the coarse cover, part by part, has its union in it.
 use Prim.Native.Nat.{ℕ, zero, suc, _+_, _/_, _^_, _≤_, _<_}
-use mathlib.Core.Path.{_≡_, refl, sym, subst}
+use mathlib.Core.Path.{_≡_, refl, sym, ap, subst}
 use mathlib.Core.Bool.{Bool, true, false}
 use native.Mathlib.Omega.{arith}
 use lib.Dec.{eqb}
@@ -12,6 +12,7 @@ use Rattle.bounds3.specs.Inside.{Subset}
 use Rattle.bounds3.proofs.Union.{subset-trans, union-least, union-subset-left, union-subset-right}
 use Rattle.transform.specs.declared.BoundsAnswer.{BoundsAnswer}
 use Rattle.transform.specs.declared.BoundsAnswer.the-variants.{Bounds}
+use Rattle.transform.specs.Answer.{BoundsAnswer·refusal, BoundsAnswer·bounds}
 use Rattle.bounds_query.specs.Query.{Bounds3f·refusal, BoundsAnswer·unionBounds}
 use Rattle.bounds_query.proofs.Union.{union-accepted}
 use Rattle.unit_interval.specs.Unit.{slice}
@@ -27,33 +28,45 @@ use Rattle.motion_point.proofs.Built.{built-valid, built-scales}
 use Rattle.motion_cover.specs.Cover.{BoundsAnswer·fromEnclosure, AnimatedTransform·encloseBounds, AnimatedTransform·encloseEnds, unionSlices, AnimatedTransform·encloseMotion, maxDepth, coverRefusal, AnimatedTransform·cover}
 use Rattle.motion_cover.specs.Answer.{Proper}
 use Rattle.motion_cover.proofs.Contains.{from-enclosure-accepted, motion-stored, motion-slices, cover-accepted, cover-box}
-use Rattle.motion_cover.proofs.Proper.{BoxRefines, box-refines, piece-proper, ends-proper, slices-proper, subset-self, motion-proper}
+use Rattle.motion_cover.proofs.NonZero.{cover-answered}
+use Rattle.motion_cover.proofs.Proper.{box-order, BoxRefines, box-refines, piece-proper, ends-proper, slices-proper, subset-self, motion-proper}
 use Rattle.cover_depth.specs.Finer.{Within, CoverFiner}
 
 -- ---- answers within a box
-pub within-subset : {r : BoundsAnswer} {c c' : Bounds3f} → Within r c → Subset c c' → Within r c'
+-- The answer is a box, and lies in c on every axis.
+pub record BoxWithin (r : BoundsAnswer) (c : Bounds3f) : Type 0 where
+  pub box : Bounds3f
+  pub accepted : r ≡ Bounds box
+  pub subset : Subset box c
+
+pub box-within : {r : BoundsAnswer} {c : Bounds3f} → BoxWithin r c → Within r c
+box-within {r} {c} w =
+    let subset = subst (λ (b : Bounds3f). Subset b c) (sym (ap BoundsAnswer·bounds (w .accepted))) (w .subset) in
+    record { accepted = ap BoundsAnswer·refusal (w .accepted); subset = subset }
+
+pub within-subset : {r : BoundsAnswer} {c c' : Bounds3f} → BoxWithin r c → Subset c c' → BoxWithin r c'
 within-subset w s = record { box = w .box; accepted = w .accepted; subset = subset-trans (w .subset) s }
 
-proper-within : (r : BoundsAnswer) (c : Bounds3f) → Proper r → r ≡ Bounds c → Within r c
-proper-within r c p e = record { box = c; accepted = e; subset = order-refl (p .order c e) }
+proper-within : (r : BoundsAnswer) (c : Bounds3f) → Proper r → r ≡ Bounds c → BoxWithin r c
+proper-within r c p e = record { box = c; accepted = e; subset = order-refl (box-order p e) }
 
-pub union-within : (r s : BoundsAnswer) {c : Bounds3f} → Within r c → Within s c → Within (BoundsAnswer·unionBounds r s) c
+pub union-within : (r s : BoundsAnswer) {c : Bounds3f} → BoxWithin r c → BoxWithin s c → BoxWithin (BoundsAnswer·unionBounds r s) c
 unfolding BoundsAnswer·unionBounds
 union-within r s f g = record { box = Bounds3f·unionBounds (f .box) (g .box); accepted = rw (f .accepted, g .accepted); subset = union-least (f .subset) (g .subset) }
 
 -- Both parts of an accepted union lie in it.
-pub parts-within : (r s : BoundsAnswer) (c : Bounds3f) → Proper r → Proper s → BoundsAnswer·unionBounds r s ≡ Bounds c → Within r c × Within s c
+pub parts-within : (r s : BoundsAnswer) (c : Bounds3f) → Proper r → Proper s → BoundsAnswer·unionBounds r s ≡ Bounds c → BoxWithin r c × BoxWithin s c
 parts-within r s c p q e =
     let j = union-accepted r s c e in (
       record {
         box = j .left;
         accepted = j .left-accepted;
-        subset = subst (Subset (j .left)) (j .union) (union-subset-left (j .right) (order-refl (p .order (j .left) (j .left-accepted))));
+        subset = subst (Subset (j .left)) (j .union) (union-subset-left (j .right) (order-refl (box-order p (j .left-accepted))));
       },
       record {
         box = j .right;
         accepted = j .right-accepted;
-        subset = subst (Subset (j .right)) (j .union) (union-subset-right (j .left) (order-refl (q .order (j .right) (j .right-accepted))));
+        subset = subst (Subset (j .right)) (j .union) (union-subset-right (j .left) (order-refl (box-order q (j .right-accepted))));
       },
     )
 
@@ -63,8 +76,9 @@ from-enclosure-box j e = rw (eq-eqb (j .refusal) 0 e)
 
 module _ {m : AnimatedTransform} (built : Built m) (b : Bounds3f) (r : BoxRefines b) where
   -- ---- a slice of a greater depth
-  pub piece-finer : (d n k : ℕ) (c : Bounds3f) → k < 2 ^ (d + n) → Within (AnimatedTransform·encloseBounds m (AnimatedTransform·rigidMotion m) (slice d (k / 2 ^ n)) b) c
-      → Within (AnimatedTransform·encloseBounds m (AnimatedTransform·rigidMotion m) (slice (d + n) k) b) c
+  pub piece-finer : (d n k : ℕ) (c : Bounds3f) → k < 2 ^ (d + n)
+      → BoxWithin (AnimatedTransform·encloseBounds m (AnimatedTransform·rigidMotion m) (slice d (k / 2 ^ n)) b) c
+      → BoxWithin (AnimatedTransform·encloseBounds m (AnimatedTransform·rigidMotion m) (slice (d + n) k) b) c
   unfolding AnimatedTransform·encloseBounds
   piece-finer d n k c h w =
       let B = Bounds3f·intervals b in
@@ -82,7 +96,8 @@ module _ {m : AnimatedTransform} (built : Built m) (b : Bounds3f) (r : BoxRefine
 
   -- ---- what an accepted union of ends and slices holds
   slices-within : (d k : ℕ) (c : Bounds3f) → k ≤ 2 ^ d → unionSlices m (AnimatedTransform·rigidMotion m) b d (AnimatedTransform·encloseEnds m b) k ≡ Bounds c
-      → Within (AnimatedTransform·encloseEnds m b) c × ((i : ℕ) → i < k → Within (AnimatedTransform·encloseBounds m (AnimatedTransform·rigidMotion m) (slice d i) b) c)
+      → BoxWithin (AnimatedTransform·encloseEnds m b) c
+      × ((i : ℕ) → i < k → BoxWithin (AnimatedTransform·encloseBounds m (AnimatedTransform·rigidMotion m) (slice d i) b) c)
   unfolding unionSlices
   slices-within d zero c l e = (proper-within (AnimatedTransform·encloseEnds m b) c (ends-proper built b r) e, λ i h. absurd (omega (arith, h)))
   slices-within d (suc k) c l e =
@@ -94,15 +109,16 @@ module _ {m : AnimatedTransform} (built : Built m) (b : Bounds3f) (r : BoxRefine
       (within-subset ends (v .subset), λ i h. go i (eqb i k) (eqb-true i k) (eqb-false i k) h w (λ (i' : ℕ) (h' : i' < k). within-subset (earlier i' h') (v .subset)))
     where
       go : (i : ℕ) (t : Bool) → (t ≡ true → i ≡ k) → (t ≡ false → i ≡ k → ⊥) → i < suc k
-          → Within (AnimatedTransform·encloseBounds m (AnimatedTransform·rigidMotion m) (slice d k) b) c
-          → ((j : ℕ) → j < k → Within (AnimatedTransform·encloseBounds m (AnimatedTransform·rigidMotion m) (slice d j) b) c)
-          → Within (AnimatedTransform·encloseBounds m (AnimatedTransform·rigidMotion m) (slice d i) b) c
-      go i true f g h w earlier = subst (λ (j : ℕ). Within (AnimatedTransform·encloseBounds m (AnimatedTransform·rigidMotion m) (slice d j) b) c) (sym (f refl)) w
+          → BoxWithin (AnimatedTransform·encloseBounds m (AnimatedTransform·rigidMotion m) (slice d k) b) c
+          → ((j : ℕ) → j < k → BoxWithin (AnimatedTransform·encloseBounds m (AnimatedTransform·rigidMotion m) (slice d j) b) c)
+          → BoxWithin (AnimatedTransform·encloseBounds m (AnimatedTransform·rigidMotion m) (slice d i) b) c
+      go i true f g h w earlier =
+          subst (λ (j : ℕ). BoxWithin (AnimatedTransform·encloseBounds m (AnimatedTransform·rigidMotion m) (slice d j) b) c) (sym (f refl)) w
       go i false f g h w earlier = earlier i (omega (arith, h, g refl))
 
-  slices-finer : (d n : ℕ) (c : Bounds3f) → Within (AnimatedTransform·encloseEnds m b) c
-      → ((i : ℕ) → i < 2 ^ d → Within (AnimatedTransform·encloseBounds m (AnimatedTransform·rigidMotion m) (slice d i) b) c)
-      → (k : ℕ) → k ≤ 2 ^ (d + n) → Within (unionSlices m (AnimatedTransform·rigidMotion m) b (d + n) (AnimatedTransform·encloseEnds m b) k) c
+  slices-finer : (d n : ℕ) (c : Bounds3f) → BoxWithin (AnimatedTransform·encloseEnds m b) c
+      → ((i : ℕ) → i < 2 ^ d → BoxWithin (AnimatedTransform·encloseBounds m (AnimatedTransform·rigidMotion m) (slice d i) b) c)
+      → (k : ℕ) → k ≤ 2 ^ (d + n) → BoxWithin (unionSlices m (AnimatedTransform·rigidMotion m) b (d + n) (AnimatedTransform·encloseEnds m b) k) c
   unfolding unionSlices
   slices-finer d n c ends pieces zero l = ends
   slices-finer d n c ends pieces (suc k) l =
@@ -111,26 +127,32 @@ module _ {m : AnimatedTransform} (built : Built m) (b : Bounds3f) (r : BoxRefine
       (slices-finer d n c ends pieces k (omega (arith, l)))
       (piece-finer d n k c h (pieces (k / 2 ^ n) (finer-lt d n k h)))
 
-  motion-finer : (d n : ℕ) (c : Bounds3f) → AnimatedTransform·encloseMotion m b d ≡ Bounds c → Within (AnimatedTransform·encloseMotion m b (d + n)) c
+  motion-finer : (d n : ℕ) (c : Bounds3f) → AnimatedTransform·encloseMotion m b d ≡ Bounds c → BoxWithin (AnimatedTransform·encloseMotion m b (d + n)) c
   motion-finer d n c e = go (m .«actually_animated») refl
     where
-      go : (t : Bool) → m .«actually_animated» ≡ t → Within (AnimatedTransform·encloseMotion m b (d + n)) c
-      go false f = record { box = c; accepted = rw (motion-stored m b (d + n) f, ← motion-stored m b d f) e; subset = order-refl (motion-proper built b r d .order c e) }
+      go : (t : Bool) → m .«actually_animated» ≡ t → BoxWithin (AnimatedTransform·encloseMotion m b (d + n)) c
+      go false f =
+          let accepted : AnimatedTransform·encloseMotion m b (d + n) ≡ Bounds c = rw (motion-stored m b (d + n) f, ← motion-stored m b d f) e in
+          record { box = c; accepted = accepted; subset = order-refl (box-order (motion-proper built b r d) e) }
       go true f =
           let (ends, pieces) = slices-within d (2 ^ d) c (omega arith) (rw (← motion-slices m b d f) e) in
-          subst (λ (x : BoundsAnswer). Within x c) (sym (motion-slices m b (d + n) f)) (slices-finer d n c ends pieces (2 ^ (d + n)) (omega arith))
+          subst (λ (x : BoundsAnswer). BoxWithin x c) (sym (motion-slices m b (d + n) f)) (slices-finer d n c ends pieces (2 ^ (d + n)) (omega arith))
 
 -- ---- the query
 arguments-finer : (b : Bounds3f) (d : ℕ) → Bounds3f·refusal b ≡ 0 → d ≤ maxDepth → coverRefusal b d ≡ 0
 unfolding coverRefusal
 arguments-finer b d e l = rw (e, le-ltb maxDepth d l)
 
-pub cover-finer : (m : AnimatedTransform) (b : Bounds3f) → CoverFiner m b
-unfolding AnimatedTransform·cover
-cover-finer m b d n c built l e =
+pub cover-box-finer : {m : AnimatedTransform} → Built m → (b : Bounds3f) (d n : ℕ) (c : Bounds3f) → d + n ≤ maxDepth → AnimatedTransform·cover m b d ≡ Bounds c
+    → BoxWithin (AnimatedTransform·cover m b (d + n)) c
+cover-box-finer {m} built b d n c l e =
     let a = cover-accepted m b d c e in
     let x = cover-box b d (a .arguments) in
-    subst (λ (r : BoundsAnswer). Within r c) (sym (accepted-cover (d + n) (arguments-finer b (d + n) x l))) (motion-finer built b (box-refines b x) d n c (a .motion))
+    subst (λ (r : BoundsAnswer). BoxWithin r c) (sym (accepted-cover (d + n) (arguments-finer b (d + n) x l)))
+    (motion-finer built b (box-refines b x) d n c (a .motion))
   where
     accepted-cover : (k : ℕ) → coverRefusal b k ≡ 0 → AnimatedTransform·cover m b k ≡ AnimatedTransform·encloseMotion m b k
     accepted-cover k z = unfold AnimatedTransform·cover in rw z
+
+pub cover-finer : (m : AnimatedTransform) (b : Bounds3f) → CoverFiner m b
+cover-finer m b d n built l e = box-within (cover-box-finer built b d n (BoundsAnswer·bounds (AnimatedTransform·cover m b d)) l (cover-answered m b d e))

@@ -1,92 +1,91 @@
--- The guarantee for a file, `answer-contains`, from `cover-contains`: the times that a file holds are binary32 (`times-binary32`), and a box is answered only
--- where nothing was refused (`file-accepted`).
-use Prim.Native.Nat.{ℕ}
-use mathlib.Core.Path.{_≡_, refl, ap}
-use mathlib.Core.Bool.{Bool, true, false, cond, _&&_}
+-- The guarantee for a file, from that of the cover and of building: `file-contains` of what `file_cover` gives, and `answer-clauses` of what `answer` returns
+-- and leaves. A box is answered only where nothing was refused (`file-nonzero`), and its text is whole where 72 bytes are lent (`answer-length`).
+use Prim.Native.Nat.{ℕ, _≤_}
+use native.Mathlib.Omega.{arith}
+use mathlib.Core.Path.{_≡_, refl, sym, ap, subst}
+use mathlib.Core.Bool.{Bool, true, false}
 use mathlib.Core.Logic.{inl, inr}
-use mathlib.Core.List.{List, [], _∷_, map}
-use borrow.Author.Tests.{eqb-true}
-use lib.Dec.{T, eqb, leb}
-use lib.ListN.{length, getD}
-use lib.Ieee.{binary32, fits}
-use lib.Ieee.Bits.{ofBits-fits}
-use Rattle.hexadecimal.specs.Word.{number}
-use Rattle.matrix4x4.specs.Rows.{col}
+use mathlib.Core.List.{List, _++_}
+use borrow.Author.Tests.{eqb-true, eqb-false, le-leb}
+use lib.Dec.{eqb}
+use lib.ListN.{length, take, drop}
+use lib.Seq.{take-append-seam}
 use Rattle.bounds3.specs.declared.Bounds3f.{Bounds3f}
 use Rattle.bounds3.specs.List.{Bounds3f·ofList}
 use Rattle.transform.specs.declared.BoundsAnswer.{BoundsAnswer}
 use Rattle.transform.specs.declared.BoundsAnswer.the-variants.{Bounds, Refused}
-use Rattle.bounds_query.proofs.Union.{refused-bounds}
+use Rattle.transform.specs.Answer.{BoundsAnswer·refusal, BoundsAnswer·bounds}
 use Rattle.animated_transform.specs.declared.AnimatedTransformAnswer.{AnimatedTransformAnswer}
 use Rattle.animated_transform.specs.Built.{Built}
-use Rattle.motion_cover.specs.Cover.{AnimatedTransform·cover}
-use Rattle.motion_cover.proofs.Contains.{cover-contains}
-use Rattle.motion_file.specs.Text.{lineFeed, split}
+use Rattle.motion_cover.specs.Theorem.{CoverContainsMotion}
+use Rattle.motion_cover.proofs.NonZero.{BoundsAnswer·NonZero, nonzero-box, tested-nonzero, cover-nonzero}
 use Rattle.motion_file.specs.declared.MoveFile.{MoveFile}
-use Rattle.motion_file.specs.Layout.{layout, conforms, maxBytes, valueOf, words, valuesOf, MoveFile·departs, MoveFile·contents, MoveFile·read}
-use Rattle.motion_answer.specs.Answer.{Pose·fromValues, coverDepth, MoveFile·move, MoveFile·cover, BoundsAnswer·text, answerText}
-use Rattle.motion_answer.specs.Theorem.{moveOf, boxOf, AnswerContainsMotion}
+use Rattle.motion_file.specs.Layout.{MoveFile·read}
+use Rattle.motion_text.specs.Answer.{front, lengthIn}
+use Rattle.motion_text.proofs.Pastes.{Wrote}
+use Rattle.motion_answer.specs.Answer.{coverDepth, MoveFile·move, MoveFile·cover, BoundsAnswer·text, answerText}
+use Rattle.motion_answer.specs.Theorem.{FileContainsMotion, answerOf, AnswerContainsMotion, longestText}
+use Rattle.motion_answer.proofs.Length.{answer-length}
 
--- ---- the times of a file
-first-binary32 : (ws : List (List ℕ)) → T (fits binary32 (col (map valueOf ws) 0))
-unfolding fits
-first-binary32 [] = tt
-first-binary32 (w ∷ ws) = ofBits-fits binary32 (number w)
+-- The cover r of the file's box under the file's move, where that was built and r holds its motion.
+pub file-contains : (r : BoundsAnswer) (file : MoveFile) (move : AnimatedTransformAnswer) (box : Bounds3f)
+    → move ≡ MoveFile·move file → box ≡ Bounds3f·ofList (file .bounds)
+    → Built (move .value) → CoverContainsMotion (move .value) box r → BoundsAnswer·refusal r ≡ 0 → FileContainsMotion file (BoundsAnswer·bounds r)
+file-contains r file move box e f built contains accepted =
+    let b : Built (MoveFile·move file .value) = subst (λ (x : AnimatedTransformAnswer). Built (x .value)) e built in
+    let c : CoverContainsMotion (MoveFile·move file .value) (Bounds3f·ofList (file .bounds)) r =
+    subst (λ (x : Bounds3f). CoverContainsMotion (MoveFile·move file .value) x r) f
+    (subst (λ (x : AnimatedTransformAnswer). CoverContainsMotion (x .value) box r) e contains) in
+    record { built = b; contains = λ time p. c time p b accepted }
 
-times-binary32 : (bytes : List ℕ) → T (fits binary32 (col (MoveFile·read bytes .start) 0)) × T (fits binary32 (col (MoveFile·read bytes .end) 0))
-unfolding MoveFile·read valuesOf
-times-binary32 bytes = go (leb (length bytes) maxBytes && conforms layout lines)
-  where
-    lines : List (List ℕ)
-    lines = split lineFeed bytes
-
-    go : (b : Bool) → let file = cond b (MoveFile·contents lines) MoveFile·departs in T (fits binary32 (col (file .start) 0)) × T (fits binary32 (col (file .end) 0))
-    go true = (first-binary32 (words (getD lines 1 [])), first-binary32 (words (getD lines 2 [])))
-    go false = (ofBits-fits binary32 0, ofBits-fits binary32 0)
-
--- ---- where a box is answered
-record Accepted (file : MoveFile) (box : Bounds3f) : Type 0 where
-  move : MoveFile·move file .refusal ≡ 0
-  cover : AnimatedTransform·cover (MoveFile·move file .value) (Bounds3f·ofList (file .bounds)) coverDepth ≡ Bounds box
-
-file-accepted : (file : MoveFile) (box : Bounds3f) → MoveFile·cover file ≡ Bounds box → Accepted file box
+-- ---- the answer's number
+pub file-nonzero : (file : MoveFile) → BoundsAnswer·NonZero (MoveFile·cover file)
 unfolding MoveFile·cover
-file-accepted file box = go (eqb (file .refusal) 0) (eqb (m .refusal) 0) (eqb-true (m .refusal) 0)
-  where
-    m : AnimatedTransformAnswer
-    m = MoveFile·move file
+file-nonzero file =
+    let move = MoveFile·move file in
+    tested-nonzero (file .refusal) _ (tested-nonzero (move .refusal) _ (cover-nonzero (move .value) (Bounds3f·ofList (file .bounds)) coverDepth))
 
-    c : BoundsAnswer
-    c = AnimatedTransform·cover (m .value) (Bounds3f·ofList (file .bounds)) coverDepth
+number-refused : (r : BoundsAnswer) → (BoundsAnswer·refusal r ≡ 0 → ⊥) → r ≡ Refused (BoundsAnswer·refusal r)
+number-refused (Bounds b) h = absurd (h refl)
+number-refused (Refused n) h = refl
 
-    go : (a b : Bool) → (b ≡ true → m .refusal ≡ 0) → cond a (cond b c (Refused (m .refusal))) (Refused (file .refusal)) ≡ Bounds box → Accepted file box
-    go true true f e = record { move = f refl; cover = e }
-    go true false f e = absurd (refused-bounds (m .refusal) box e)
-    go false b f e = absurd (refused-bounds (file .refusal) box e)
-
-move-built : (bytes : List ℕ) → MoveFile·move (MoveFile·read bytes) .refusal ≡ 0 → Built (moveOf bytes)
-unfolding MoveFile·move
-move-built bytes e =
-    record {
-      start = Pose·fromValues (MoveFile·read bytes .start);
-      end = Pose·fromValues (MoveFile·read bytes .end);
-      start-binary32 = times-binary32 bytes .0;
-      end-binary32 = times-binary32 bytes .1;
-      accepted = ap (λ (n : ℕ). record { value = moveOf bytes; refusal = n }) e;
-    }
-
-pub answer-contains : (bytes : List ℕ) → AnswerContainsMotion bytes
+-- ---- the text
+text-contains : (bytes : List ℕ) → (BoundsAnswer·refusal (answerOf bytes) ≡ 0 → FileContainsMotion (MoveFile·read bytes) (BoundsAnswer·bounds (answerOf bytes)))
+    → AnswerContainsMotion bytes (answerText bytes)
 unfolding answerText BoundsAnswer·text
-answer-contains bytes = go (MoveFile·cover (MoveFile·read bytes)) refl
+text-contains bytes h = go (eqb (BoundsAnswer·refusal r) 0) (eqb-true (BoundsAnswer·refusal r) 0) (eqb-false (BoundsAnswer·refusal r) 0)
   where
-    go : (c : BoundsAnswer) → MoveFile·cover (MoveFile·read bytes) ≡ c → AnswerContainsMotion bytes
-    go (Refused n) e = inl (record { number = n; text = rw e })
-    go (Bounds box) e =
-        let a = file-accepted (MoveFile·read bytes) box e in
-        let built = move-built bytes (a .move) in
-        inr (record {
-          box = box;
-          text = rw e;
-          built = built;
-          contains = λ time p. cover-contains (moveOf bytes) (boxOf bytes) coverDepth box time p built (a .cover);
-        })
+    r : BoundsAnswer
+    r = answerOf bytes
+
+    go : (b : Bool) → (b ≡ true → BoundsAnswer·refusal r ≡ 0) → (b ≡ false → BoundsAnswer·refusal r ≡ 0 → ⊥) → AnswerContainsMotion bytes (BoundsAnswer·text r)
+    go true f g =
+        let e = f refl in
+        inr (record { accepted = e; printed = ap BoundsAnswer·text (nonzero-box r (file-nonzero (MoveFile·read bytes)) e); contains = h e })
+    go false f g = inl (record { refused = g refl; printed = ap BoundsAnswer·text (number-refused r (g refl)) })
+
+-- A text that fits stands whole in the front of the buffer.
+front-text : (text buffer after : List ℕ) (r : ℕ) → length text ≤ length buffer → r ≡ lengthIn text buffer → after ≡ front text buffer → take r after ≡ text
+unfolding front lengthIn
+front-text text buffer after r fits e f = rw (e, f, le-leb (length text) (length buffer) fits) (take-append-seam text (drop (length text) buffer))
+
+same-text : (bytes : List ℕ) (cover : BoundsAnswer) → cover ≡ answerOf bytes → BoundsAnswer·text cover ≡ answerText bytes
+unfolding answerText
+same-text bytes cover e = ap BoundsAnswer·text e
+
+-- The four clauses of `answer`, from what its three calls give.
+pub answer-clauses : (bytes buffer after : List ℕ) (r : ℕ) (file : MoveFile) (cover : BoundsAnswer) → file ≡ MoveFile·read bytes → cover ≡ MoveFile·cover file
+    → (BoundsAnswer·refusal cover ≡ 0 → FileContainsMotion file (BoundsAnswer·bounds cover)) → Wrote (BoundsAnswer·text cover) buffer after r
+    → (r ≡ lengthIn (answerText bytes) buffer) × ((after ≡ front (answerText bytes) buffer) × (((r ≤ length after) × (r ≡ length (take r after)))
+    × (longestText ≤ length buffer → AnswerContainsMotion bytes (take r after))))
+answer-clauses bytes buffer after r file cover e f h w =
+    let same : cover ≡ answerOf bytes = rw (← e) f in
+    let text = same-text bytes cover same in
+    let (number, (left, counts)) : Wrote (answerText bytes) buffer after r = subst (λ (x : List ℕ). Wrote x buffer after r) text w in
+    let file-holds : BoundsAnswer·refusal cover ≡ 0 → FileContainsMotion (MoveFile·read bytes) (BoundsAnswer·bounds cover) =
+    subst (λ (x : MoveFile). BoundsAnswer·refusal cover ≡ 0 → FileContainsMotion x (BoundsAnswer·bounds cover)) e h in
+    let holds = text-contains bytes
+    (subst (λ (x : BoundsAnswer). BoundsAnswer·refusal x ≡ 0 → FileContainsMotion (MoveFile·read bytes) (BoundsAnswer·bounds x)) same file-holds) in
+    let whole : longestText ≤ length buffer → take r after ≡ answerText bytes =
+    λ room. front-text (answerText bytes) buffer after r (omega (arith, answer-length bytes, room)) number left in
+    (number, (left, (counts, λ room. subst (AnswerContainsMotion bytes) (sym (whole room)) holds)))

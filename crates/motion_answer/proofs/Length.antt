@@ -13,6 +13,7 @@ use Rattle.motion_file.specs.Layout.{MoveFile·read}
 use Rattle.motion_text.specs.Answer.{zerosInFront}
 use Rattle.motion_text.proofs.Written.{length-bounds, length-refusal}
 use Rattle.motion_answer.specs.Answer.{MoveFile·cover, BoundsAnswer·text, answerText}
+use Rattle.motion_answer.specs.Theorem.{longestText}
 
 zeros-few : (n : ℕ) → zerosInFront n ≤ 2
 zeros-few n = go (ltb n 10) (ltb n 100)
@@ -22,7 +23,7 @@ zeros-few n = go (ltb n 10) (ltb n 100)
     go false true = omega arith
     go false false = omega arith
 
-pub answer-length : (bytes : List ℕ) → length (answerText bytes) ≤ 72
+pub answer-length : (bytes : List ℕ) → length (answerText bytes) ≤ longestText
 unfolding answerText BoundsAnswer·text
 answer-length bytes = go (MoveFile·cover (MoveFile·read bytes))
   where

@@ -1,3 +1,3 @@
-pub mod Contains
 pub mod Length
+pub mod Contains
 pub mod Cases

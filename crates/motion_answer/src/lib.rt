@@ -8,6 +8,8 @@ ghost use Prim.Native.Nat.{_≤_};
 ghost use mathlib.Core.Path.{_≡_};
 ghost use lib.ListN.{length, take};
 ghost use Rattle.motion_text.specs.Answer.{front, lengthIn};
+ghost use Rattle.transform.specs.Answer.{BoundsAnswer·refusal, BoundsAnswer·bounds};
+ghost use Rattle.motion_answer.specs.Theorem.{FileContainsMotion, AnswerContainsMotion, longestText};
 ghost use Rattle.motion_answer.specs.Answer.{Pose·fromValues, MoveFile·cover, BoundsAnswer·text, answerText};
 
 const DEPTH: u32 = 10;
@@ -28,6 +30,7 @@ fn pose(values: [f32; 13]) -> Pose
 // The cover of the file's box under the file's move, refused with 11, then by building, then by the query. Accuracy: encloses.
 fn file_cover(file: MoveFile) -> BoundsAnswer
     ensures value { λ r. ⌜ r ≡ MoveFile·cover file ⌝ }
+    ensures contains_motion { λ r. ⌜ (BoundsAnswer·refusal r ≡ 0 → FileContainsMotion file (BoundsAnswer·bounds r)) ⌝ }
 {
     if file.refusal != 0 {
         return BoundsAnswer::Refused(file.refusal);
@@ -55,10 +58,12 @@ fn write(cover: BoundsAnswer, out: &mut [u8]) -> usize
 }
 
 // Writes the text that answers a file's bytes into the front of `out`, and gives its length, at most 72. Where it doesn't fit, `out` is kept as it is and the answer is 0.
+// Where 72 bytes are lent, the text is a refusal or a box that holds the file's move.
 pub fn answer(bytes: &[u8], out: &mut [u8]) -> usize
     ensures value { λ r. ⌜ r ≡ lengthIn (answerText (now (bytes .entry))) (now (out .entry)) ⌝ }
     ensures text { λ _. ⌜ now (out .exit) ≡ front (answerText (now (bytes .entry))) (now (out .entry)) ⌝ }
     ensures counts { λ r. ⌜ (r ≤ length (now (out .exit))) × (r ≡ length (take r (now (out .exit)))) ⌝ }
+    ensures contains_motion { λ r. ⌜ (longestText ≤ length (now (out .entry)) → AnswerContainsMotion (now (bytes .entry)) (take r (now (out .exit)))) ⌝ }
 {
     write(file_cover(motion_file::read(bytes)), out)
 }

@@ -5,6 +5,7 @@ use mathlib.Core.Bool.{Bool, true, false, not, _||_, cond}
 use mathlib.Core.Logic.{inl, inr}
 use mathlib.Core.List.{List, [], _∷_, _++_, map}
 use borrow.Author.Tests.{eqb-false}
+use native.Mathlib.Omega.{arith}
 use lib.Dec.{eqb, ltb}
 use lib.ListN.{length}
 use lib.Ieee.{lt}
@@ -21,19 +22,19 @@ use Rattle.animated_transform.specs.declared.AnimatedTransformAnswer.{AnimatedT
 use Rattle.animated_transform.specs.New.{AnimatedTransform·new}
 use Rattle.transform.specs.Answer.{OneOf}
 use Rattle.motion_cover.specs.Cover.{AnimatedTransform·cover}
-use Rattle.refusal_numbers.specs.Numbers.{BoundsAnswer·RefusedBy}
+use Rattle.refusal_numbers.specs.Numbers.{BoundsAnswer·Numbered}
 use Rattle.refusal_numbers.proofs.Numbers.{every-answer}
 use Rattle.motion_chain.specs.Chain.{minPoses, maxPoses, neighbours, every, firstNumber, posesRise, chainRefusal, ChainAnswer, built, refused, ChainAnswer·fromMoves, Chain·new, Chain·moveAt, Chain·transformPoint, unionCovers, Chain·cover}
 use Rattle.motion_chain.specs.Built.{Each}
-use Rattle.motion_chain.specs.Answer.{ChainAnswer·RefusedBy, EveryChainAnswer}
+use Rattle.motion_chain.specs.Answer.{ChainAnswer·Numbered, EveryChainAnswer}
 use Rattle.motion_chain.proofs.Cover.{chain-cover-proper}
 
 -- ---- the numbers of building, 0 being none
-abbrev refusals : List ℕ
-refusals = 1 ∷ 2 ∷ 3 ∷ 4 ∷ 5 ∷ 12 ∷ []
+abbrev numbers : List ℕ
+numbers = 0 ∷ 1 ∷ 2 ∷ 3 ∷ 4 ∷ 5 ∷ 12 ∷ []
 
 abbrev Number : ℕ → Type 0
-Number n = OneOf n (0 ∷ refusals)
+Number n = OneOf n numbers
 
 chosen : (b : Bool) (m n : ℕ) → Number m → Number n → Number (cond b m n)
 chosen true m n h k = h
@@ -66,59 +67,60 @@ more n (k ∷ ns) ks (inl e) = inl e
 more n (k ∷ ns) ks (inr h) = inr (more n ns ks h)
 
 new-number : (p q : Pose) → Number (AnimatedTransform·new p q .refusal)
-new-number p q = more (AnimatedTransform·new p q .refusal) (0 ∷ 1 ∷ 2 ∷ 3 ∷ 4 ∷ 5 ∷ []) (12 ∷ []) (every-answer .building p q)
+new-number p q = more (AnimatedTransform·new p q .refusal) (0 ∷ 1 ∷ 2 ∷ 3 ∷ 4 ∷ 5 ∷ []) (12 ∷ []) (every-answer .building p q .number)
 
 -- A number that was tested.
-tested : (n : ℕ) (a : ChainAnswer) → Number n → ChainAnswer·RefusedBy refusals a → ChainAnswer·RefusedBy refusals (cond (eqb n 0) a (refused n))
+tested : (n : ℕ) (a : ChainAnswer) → Number n → ChainAnswer·Numbered numbers a → ChainAnswer·Numbered numbers (cond (eqb n 0) a (refused n))
 tested n a h k = go (eqb n 0) (eqb-false n 0)
   where
-    nonzero : Number n → (n ≡ 0 → ⊥) → OneOf n refusals
-    nonzero (inl e) f = absurd (f e)
-    nonzero (inr h') f = h'
-
-    go : (b : Bool) → (b ≡ false → n ≡ 0 → ⊥) → ChainAnswer·RefusedBy refusals (cond b a (refused n))
+    go : (b : Bool) → (b ≡ false → n ≡ 0 → ⊥) → ChainAnswer·Numbered numbers (cond b a (refused n))
     go true f = k
-    go false f = nonzero h (f refl)
+    go false f = record { number = h; none = λ e. absurd (f refl e) }
 
-from-moves-refused : (answers : List AnimatedTransformAnswer) → Each (λ a. Number (a .refusal)) answers → ChainAnswer·RefusedBy refusals (ChainAnswer·fromMoves answers)
+from-moves-numbered : (answers : List AnimatedTransformAnswer) → Each (λ a. Number (a .refusal)) answers
+    → ChainAnswer·Numbered numbers (ChainAnswer·fromMoves answers)
 unfolding ChainAnswer·fromMoves
-from-moves-refused [] h = inr (inr (inr (inr (inr (inl refl)))))
-from-moves-refused (a ∷ answers) h = tested (firstNumber (map (λ x. x .refusal) (a ∷ answers))) _ (first-number (map (λ x. x .refusal) (a ∷ answers)) (numbers (a ∷ answers) h)) tt
+from-moves-numbered [] h = record { number = inr (inr (inr (inr (inr (inr (inl refl)))))); none = λ e. absurd (omega (arith, e)) }
+from-moves-numbered (a ∷ answers) h =
+    tested (firstNumber (map (λ x. x .refusal) (a ∷ answers))) _ (first-number (map (λ x. x .refusal) (a ∷ answers)) (each (a ∷ answers) h))
+    (record { number = inl refl; none = λ _. (record { first = a .value; rest = map (λ x. x .value) answers }, refl) })
   where
-    numbers : (xs : List AnimatedTransformAnswer) → Each (λ x. Number (x .refusal)) xs → Each Number (map (λ x. x .refusal) xs)
-    numbers [] h = tt
-    numbers (x ∷ xs) (h, hs) = (h, numbers xs hs)
+    each : (xs : List AnimatedTransformAnswer) → Each (λ x. Number (x .refusal)) xs → Each Number (map (λ x. x .refusal) xs)
+    each [] h = tt
+    each (x ∷ xs) (h, hs) = (h, each xs hs)
 
-building-refused : (poses : List Pose) → ChainAnswer·RefusedBy refusals (Chain·new poses)
+building-numbered : (poses : List Pose) → ChainAnswer·Numbered numbers (Chain·new poses)
 unfolding Chain·new
-building-refused poses = tested (chainRefusal poses) _ (checks-number poses) (from-moves-refused (map (λ (p, q). AnimatedTransform·new p q) (neighbours poses)) (pairs (neighbours poses)))
+building-numbered poses =
+    tested (chainRefusal poses) _ (checks-number poses)
+    (from-moves-numbered (map (λ (p, q). AnimatedTransform·new p q) (neighbours poses)) (pairs (neighbours poses)))
   where
     pairs : (xs : List (Pose × Pose)) → Each (λ a. Number (a .refusal)) (map (λ (p, q). AnimatedTransform·new p q) xs)
     pairs [] = tt
     pairs ((p, q) ∷ xs) = (new-number p q, pairs xs)
 
 -- ---- the numbers of a cover
-union-refused : (numbers : List ℕ) (r s : BoundsAnswer) → BoundsAnswer·RefusedBy numbers r → BoundsAnswer·RefusedBy numbers s → BoundsAnswer·RefusedBy numbers (BoundsAnswer·unionBounds r s)
+abbrev CoverNumbered : BoundsAnswer → Type 0
+CoverNumbered = BoundsAnswer·Numbered (0 ∷ 5 ∷ 6 ∷ 7 ∷ 8 ∷ 10 ∷ [])
+
+union-numbered : (r s : BoundsAnswer) → CoverNumbered r → CoverNumbered s → CoverNumbered (BoundsAnswer·unionBounds r s)
 unfolding BoundsAnswer·unionBounds
-union-refused numbers (bounds.Bounds a) (bounds.Bounds b) h k = tt
-union-refused numbers (bounds.Bounds a) (bounds.Refused n) h k = k
-union-refused numbers (bounds.Refused n) s h k = h
+union-numbered (bounds.Bounds a) (bounds.Bounds b) h k = record { number = inl refl; none = λ _. refl }
+union-numbered (bounds.Bounds a) (bounds.Refused n) h k = k
+union-numbered (bounds.Refused n) s h k = h
 
-abbrev CoverRefused : BoundsAnswer → Type 0
-CoverRefused = BoundsAnswer·RefusedBy (5 ∷ 6 ∷ 7 ∷ 8 ∷ 10 ∷ [])
-
-covers-refused : (b : Bounds3f) (depth : ℕ) (r : BoundsAnswer) (moves : List AnimatedTransform) → CoverRefused r → CoverRefused (unionCovers b depth r moves)
+covers-numbered : (b : Bounds3f) (depth : ℕ) (r : BoundsAnswer) (moves : List AnimatedTransform) → CoverNumbered r → CoverNumbered (unionCovers b depth r moves)
 unfolding unionCovers
-covers-refused b depth r [] h = h
-covers-refused b depth r (m ∷ moves) h =
+covers-numbered b depth r [] h = h
+covers-numbered b depth r (m ∷ moves) h =
     let s = AnimatedTransform·cover m b depth in
-    covers-refused b depth (BoundsAnswer·unionBounds r s) moves (union-refused (5 ∷ 6 ∷ 7 ∷ 8 ∷ 10 ∷ []) r s h (every-answer .cover m b depth))
+    covers-numbered b depth (BoundsAnswer·unionBounds r s) moves (union-numbered r s h (every-answer .cover m b depth))
 
 pub every-chain-answer : EveryChainAnswer
 unfolding Chain·transformPoint Chain·cover
 every-chain-answer = record {
-  building = building-refused;
+  building = building-numbered;
   point = λ c time p. every-answer .point (Chain·moveAt c time) time p;
-  cover = λ c b depth. covers-refused b depth (AnimatedTransform·cover (c .first) b depth) (c .rest) (every-answer .cover (c .first) b depth);
+  cover = λ c b depth. covers-numbered b depth (AnimatedTransform·cover (c .first) b depth) (c .rest) (every-answer .cover (c .first) b depth);
   proper = λ built b depth. chain-cover-proper b depth built;
 }

@@ -1,7 +1,7 @@
 -- Chains built and asked by computing: the identity at 0, the identity with m03 = 1 at 1, the identity at 2. Its inner time belongs to the earlier move, and it meets the guarantee's
 -- hypotheses (`hypotheses-met`). Lists of times asked of it, answered and refused. The counts, the times and the order of the checks: 12 after 1 and before 3, and 3 before anything is worked.
 use Prim.Native.Nat.{ℕ, zero, suc, _*_, _^_}
-use mathlib.Core.Path.{_≡_, refl}
+use mathlib.Core.Path.{_≡_, refl, subst}
 use mathlib.Core.Bool.{true, false}
 use mathlib.Core.List.{List, [], _∷_}
 use lib.Ieee.{Float, nan, inf, binary32, round, fits}
@@ -10,7 +10,7 @@ use Rattle.matrix4x4.specs.declared.Matrix4x4.{Matrix4x4}
 use Rattle.bounds3.specs.declared.Point3f.{Point3f}
 use Rattle.bounds3.specs.declared.Bounds3f.{Bounds3f}
 use Rattle.transform.specs.declared.PointAnswer.the-variants as point
-use Rattle.transform.specs.declared.BoundsAnswer.the-variants as bounds
+use Rattle.transform.specs.Answer.{BoundsAnswer·refusal, BoundsAnswer·bounds}
 use Rattle.pose_pair.specs.declared.Pose.{Pose}
 use Rattle.animated_transform.specs.declared.AnimatedTransform.{AnimatedTransform}
 use Rattle.animated_transform.specs.New.{AnimatedTransform·new}
@@ -108,11 +108,12 @@ nan-time-refused = refl
 -- ---- the guarantee's hypotheses can be met
 pub record HypothesesMet : Type 0 where
   pub built : BuiltChain chain
-  pub accepted : Chain·cover chain (segment o o) 1 ≡ bounds.Bounds (segment o one)
+  pub accepted : BoundsAnswer·refusal (Chain·cover chain (segment o o) 1) ≡ 0
+  pub box : BoundsAnswer·bounds (Chain·cover chain (segment o o) 1) ≡ segment o one
 
 pub hypotheses-met : HypothesesMet
 unfolding fits computing
-hypotheses-met = record { built = record { poses = poses; times-binary32 = tt; accepted = refl }; accepted = refl }
+hypotheses-met = record { built = record { poses = poses; times-binary32 = tt; accepted = refl }; accepted = refl; box = refl }
 
 zero-refl : o ≼ o
 unfolding computing
@@ -121,8 +122,9 @@ zero-refl = record { holds = tt }
 pub way-back-covered : MovedInside (segment o one) (Chain·transformPoint chain (fraction 3 2) (onX o))
 unfolding computing
 way-back-covered =
-    chain-contains chain (segment o o) 1 (segment o one) (fraction 3 2) (onX o) (hypotheses-met .built) (hypotheses-met .accepted) tt
-    (record { x = (zero-refl, zero-refl); y = (zero-refl, zero-refl); z = (zero-refl, zero-refl) })
+    subst (λ (box : Bounds3f). MovedInside box (Chain·transformPoint chain (fraction 3 2) (onX o))) (hypotheses-met .box)
+    (chain-contains chain (segment o o) 1 (fraction 3 2) (onX o) (hypotheses-met .built) (hypotheses-met .accepted) tt
+    (record { x = (zero-refl, zero-refl); y = (zero-refl, zero-refl); z = (zero-refl, zero-refl) }))
 
 -- ---- lists of times
 abbrev onTheWay : List Float

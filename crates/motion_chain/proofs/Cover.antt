@@ -1,24 +1,27 @@
 -- The guarantee for a chain, `chain-contains`, and that its finer cover is never a wider one, `chain-cover-finer`. Each move's cover lies in the accepted cover of the chain
 -- (`covers-within`), a time belongs to one of the moves (`each-move-at`), and of each move both are known.
 use Prim.Native.Nat.{ℕ, _+_}
-use mathlib.Core.Path.{_≡_}
+use mathlib.Core.Path.{_≡_, ap, subst}
 use mathlib.Core.Bool.{Bool, true, false, cond}
 use mathlib.Core.List.{List, [], _∷_}
 use lib.Ieee.{Float, le}
 use Rattle.bounds3.specs.declared.Bounds3f.{Bounds3f}
+use Rattle.bounds3.specs.Inside.{Inside}
 use Rattle.bounds3.proofs.Union.{subset-inside}
 use Rattle.transform.specs.declared.BoundsAnswer.{BoundsAnswer}
 use Rattle.transform.specs.declared.BoundsAnswer.the-variants.{Bounds}
+use Rattle.transform.specs.Answer.{PointAnswer·point, BoundsAnswer·refusal, BoundsAnswer·bounds}
 use Rattle.bounds_query.specs.Query.{BoundsAnswer·unionBounds}
 use Rattle.pose_steps.proofs.Box.{order-refl}
 use Rattle.animated_transform.specs.declared.AnimatedTransform.{AnimatedTransform}
 use Rattle.animated_transform.specs.Built.{Built}
+use Rattle.motion_point.specs.TransformPoint.{AnimatedTransform·transformPoint}
 use Rattle.motion_cover.specs.Cover.{AnimatedTransform·cover}
 use Rattle.motion_cover.specs.Answer.{Proper}
 use Rattle.motion_cover.proofs.Contains.{cover-contains}
-use Rattle.motion_cover.proofs.Proper.{union-proper, cover-proper}
-use Rattle.cover_depth.specs.Finer.{Within}
-use Rattle.cover_depth.proofs.Finer.{within-subset, union-within, parts-within, cover-finer}
+use Rattle.motion_cover.proofs.NonZero.{BoundsAnswer·NonZero, nonzero-box, union-nonzero, cover-nonzero}
+use Rattle.motion_cover.proofs.Proper.{box-order, union-proper, cover-proper}
+use Rattle.cover_depth.proofs.Finer.{BoxWithin, box-within, within-subset, union-within, parts-within, cover-box-finer}
 use Rattle.motion_chain.specs.Chain.{Chain, Chain·moves, moveFrom, Chain·moveAt, Chain·transformPoint, unionCovers, Chain·cover}
 use Rattle.motion_chain.specs.Built.{BuiltChain, Each}
 use Rattle.motion_chain.specs.Theorem.{ChainContainsMotion, ChainCoverFiner}
@@ -48,9 +51,9 @@ module _ (b : Bounds3f) (d : ℕ) where
       covers-proper (BoundsAnswer·unionBounds r (AnimatedTransform·cover m b d)) moves (union-proper r (AnimatedTransform·cover m b d) p (cover-proper h b d)) hs
 
   covers-within : (r : BoundsAnswer) (moves : List AnimatedTransform) (box : Bounds3f) → Proper r → Each Built moves → unionCovers b d r moves ≡ Bounds box
-      → Within r box × Each (λ m. Within (AnimatedTransform·cover m b d) box) moves
+      → BoxWithin r box × Each (λ m. BoxWithin (AnimatedTransform·cover m b d) box) moves
   unfolding unionCovers
-  covers-within r [] box p h e = (record { box = box; accepted = e; subset = order-refl (p .order box e) }, tt)
+  covers-within r [] box p h e = (record { box = box; accepted = e; subset = order-refl (box-order p e) }, tt)
   covers-within r (m ∷ moves) box p (h, hs) e =
       let s = AnimatedTransform·cover m b d in
       let q = cover-proper h b d in
@@ -58,8 +61,8 @@ module _ (b : Bounds3f) (d : ℕ) where
       let (v, w) = parts-within r s (u .box) p q (u .accepted) in
       (within-subset v (u .subset), (within-subset w (u .subset), us))
 
-  union-covers-within : (r : BoundsAnswer) (moves : List AnimatedTransform) (box : Bounds3f) → Within r box
-      → Each (λ m. Within (AnimatedTransform·cover m b d) box) moves → Within (unionCovers b d r moves) box
+  union-covers-within : (r : BoundsAnswer) (moves : List AnimatedTransform) (box : Bounds3f) → BoxWithin r box
+      → Each (λ m. BoxWithin (AnimatedTransform·cover m b d) box) moves → BoxWithin (unionCovers b d r moves) box
   unfolding unionCovers
   union-covers-within r [] box w ws = w
   union-covers-within r (m ∷ moves) box w (v, vs) =
@@ -71,30 +74,54 @@ module _ (b : Bounds3f) (d : ℕ) where
       let (h, hs) = built-moves built .each in
       covers-proper (AnimatedTransform·cover (c .first) b d) (c .rest) (cover-proper h b d) hs
 
-  chain-within : {c : Chain} → BuiltChain c → (box : Bounds3f) → Chain·cover c b d ≡ Bounds box → Each (λ m. Within (AnimatedTransform·cover m b d) box) (Chain·moves c)
+  chain-within : {c : Chain} → BuiltChain c → (box : Bounds3f) → Chain·cover c b d ≡ Bounds box
+      → Each (λ m. BoxWithin (AnimatedTransform·cover m b d) box) (Chain·moves c)
   unfolding Chain·cover
   chain-within {c} built box e =
       let (h, hs) = built-moves built .each in
       let (w, ws) = covers-within (AnimatedTransform·cover (c .first) b d) (c .rest) box (cover-proper h b d) hs e in
       (w, ws)
 
+-- ---- a chain's cover whose number is 0 is a box
+module _ (b : Bounds3f) (d : ℕ) where
+  covers-nonzero : (r : BoundsAnswer) (moves : List AnimatedTransform) → BoundsAnswer·NonZero r → BoundsAnswer·NonZero (unionCovers b d r moves)
+  unfolding unionCovers
+  covers-nonzero r [] h = h
+  covers-nonzero r (m ∷ moves) h =
+      let s = AnimatedTransform·cover m b d in
+      covers-nonzero (BoundsAnswer·unionBounds r s) moves (union-nonzero r s h (cover-nonzero m b d))
+
+  pub chain-cover-answered : (c : Chain) → BoundsAnswer·refusal (Chain·cover c b d) ≡ 0 → Chain·cover c b d ≡ Bounds (BoundsAnswer·bounds (Chain·cover c b d))
+  chain-cover-answered c = nonzero-box (Chain·cover c b d) nonzero
+    where
+      nonzero : BoundsAnswer·NonZero (Chain·cover c b d)
+      nonzero = unfold Chain·cover in covers-nonzero (AnimatedTransform·cover (c .first) b d) (c .rest) (cover-nonzero (c .first) b d)
+
 -- ---- the guarantee
 pub chain-contains : (c : Chain) (b : Bounds3f) (d : ℕ) → ChainContainsMotion c b (Chain·cover c b d)
 unfolding Chain·transformPoint
-chain-contains c b d box time p built e n i =
+chain-contains c b d time p built e n i =
     let m = Chain·moveAt c time in
-    let w = each-move-at (λ (x : AnimatedTransform). Within (AnimatedTransform·cover x b d) box) time c (chain-within b d built box e) in
-    let a = cover-contains m b d (w .box) time p (each-move-at Built time c (built-moves built .each)) (w .accepted) n i in
-    record { point = a .point; moved = a .moved; inside = subset-inside (w .subset) (a .inside) }
+    let box = BoundsAnswer·bounds (Chain·cover c b d) in
+    let w = each-move-at (λ (x : AnimatedTransform). BoxWithin (AnimatedTransform·cover x b d) box) time c
+    (chain-within b d built box (chain-cover-answered b d c e)) in
+    let a = cover-contains m b d time p (each-move-at Built time c (built-moves built .each)) (ap BoundsAnswer·refusal (w .accepted)) n i in
+    let moved = PointAnswer·point (AnimatedTransform·transformPoint m time p) in
+    let inside = subst (λ (x : Bounds3f). Inside x moved) (ap BoundsAnswer·bounds (w .accepted)) (a .inside) in
+    record { accepted = a .accepted; inside = subset-inside (w .subset) inside }
 
 -- ---- greater depths
 pub chain-cover-finer : (c : Chain) (b : Bounds3f) → ChainCoverFiner c b
-unfolding Chain·cover
-chain-cover-finer c b d n box built l e =
-    let (w, ws) = finer (Chain·moves c) (built-moves built .each) (chain-within b d built box e) in
-    union-covers-within b (d + n) (AnimatedTransform·cover (c .first) b (d + n)) (c .rest) box w ws
+chain-cover-finer c b d n built l e =
+    box-within (go (finer (Chain·moves c) (built-moves built .each) (chain-within b d built box (chain-cover-answered b d c e))))
   where
-    finer : (moves : List AnimatedTransform) → Each Built moves → Each (λ m. Within (AnimatedTransform·cover m b d) box) moves
-        → Each (λ m. Within (AnimatedTransform·cover m b (d + n)) box) moves
+    box : Bounds3f
+    box = BoundsAnswer·bounds (Chain·cover c b d)
+
+    finer : (moves : List AnimatedTransform) → Each Built moves → Each (λ m. BoxWithin (AnimatedTransform·cover m b d) box) moves
+        → Each (λ m. BoxWithin (AnimatedTransform·cover m b (d + n)) box) moves
     finer [] h w = tt
-    finer (m ∷ moves) (h, hs) (w, ws) = (within-subset (cover-finer m b d n (w .box) h l (w .accepted)) (w .subset), finer moves hs ws)
+    finer (m ∷ moves) (h, hs) (w, ws) = (within-subset (cover-box-finer h b d n (w .box) l (w .accepted)) (w .subset), finer moves hs ws)
+
+    go : Each (λ m. BoxWithin (AnimatedTransform·cover m b (d + n)) box) (Chain·moves c) → BoxWithin (Chain·cover c b (d + n)) box
+    go (w, ws) = unfold Chain·cover in union-covers-within b (d + n) (AnimatedTransform·cover (c .first) b (d + n)) (c .rest) box w ws

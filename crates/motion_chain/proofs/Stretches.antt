@@ -21,10 +21,10 @@ use Rattle.motion_point.specs.TransformPoint.{AnimatedTransform·transformPoint
 use Rattle.motion_chain.specs.Chain.{Chain, Chain·moves, moveFrom, Chain·moveAt, Chain·transformPoint}
 use Rattle.motion_chain.specs.Built.{Each}
 use Rattle.motion_chain.specs.MoveAt.{indexFrom}
-use Rattle.motion_chain.specs.Times.{neverFalls, placesPerTime, listRefusal, PointsAnswer, moved, refused, PointsAnswer·cons, PointsAnswer·append, pointsAt, AnimatedTransform·transformPoints, Chain·transformPoints, Points·list, PointsAnswer·left, Chain·pointsLeft}
+use Rattle.motion_chain.specs.Times.{neverFalls, placesPerTime, listRefusal, PointsAnswer, moved, refused, PointsAnswer·refusal, PointsAnswer·points, PointsAnswer·cons, PointsAnswer·append, pointsAt, AnimatedTransform·transformPoints, Chain·transformPoints, Points·list, PointsAnswer·left, Chain·pointsLeft}
 use Rattle.motion_chain.specs.Stretches.{countUpTo, stretchesFrom, Chain·stretches, pointsByMove, EachFrom, Stretches, MovePart, MoveParts, FilledByMoves, StretchPoints}
 use Rattle.motion_chain.proofs.MoveAt.{first-move, later-move}
-use Rattle.motion_chain.proofs.Times.{points-of, refused-moved, points-count, floats-count, list-passed, query-accepted, query-moved}
+use Rattle.motion_chain.proofs.Times.{refused-moved, points-count, floats-count, list-passed, query-accepted, query-moved, times-numbers}
 
 -- ---- parts of a list
 module _ {A : Type 0} (P : A → Type 0) where
@@ -222,7 +222,7 @@ record AppendMoved (r s : PointsAnswer) (qs : List Point3f) : Type 0 where
 
 append-moved : (r s : PointsAnswer) (qs : List Point3f) → PointsAnswer·append r s ≡ moved qs → AppendMoved r s qs
 unfolding PointsAnswer·append
-append-moved (moved ps) (moved rs) qs e = record { front = ps; rest = rs; front-moved = refl; rest-moved = refl; same = sym (ap points-of e) }
+append-moved (moved ps) (moved rs) qs e = record { front = ps; rest = rs; front-moved = refl; rest-moved = refl; same = sym (ap PointsAnswer·points e) }
 append-moved (moved ps) (refused n) qs e = absurd (refused-moved e)
 append-moved (refused n) s qs e = absurd (refused-moved e)
 
@@ -239,7 +239,7 @@ record Filled (p : Point3f) (moves : List AnimatedTransform) (lists : List (List
 moves-fill : (p : Point3f) (moves : List AnimatedTransform) (lists : List (List Float)) (qs : List Point3f) → length lists ≡ length moves → pointsByMove p moves lists ≡ moved qs
     → Filled p moves lists qs
 unfolding pointsByMove flatten AnimatedTransform·transformPoints Points·list
-moves-fill p [] [] qs n e = record { parts = []; whole = ap (λ (r : PointsAnswer). Points·list (points-of r)) e; each = tt }
+moves-fill p [] [] qs n e = record { parts = []; whole = ap (λ (r : PointsAnswer). Points·list (PointsAnswer·points r)) e; each = tt }
 moves-fill p [] (s ∷ lists) qs n e = absurd (omega (arith, n))
 moves-fill p (m ∷ moves) [] qs n e = absurd (omega (arith, n))
 moves-fill p (m ∷ moves) (s ∷ lists) qs n e =
@@ -250,7 +250,14 @@ moves-fill p (m ∷ moves) (s ∷ lists) qs n e =
     record {
       parts = Points·list (a .front) ∷ h .parts;
       whole = ap (λ (l : List Float). Points·list (a .front) ++ l) (h .whole) ∙ (sym (floats-append (a .front) (a .rest)) ∙ ap Points·list (sym (a .same)));
-      each = (record { points = a .front; answered = a .front-moved; floats = refl; places = f ∙ ap (λ (x : ℕ). placesPerTime * x) k }, h .each);
+      each = (
+        record {
+          accepted = ap PointsAnswer·refusal (a .front-moved);
+          floats = ap (λ (r : PointsAnswer). Points·list (PointsAnswer·points r)) (sym (a .front-moved));
+          places = f ∙ ap (λ (x : ℕ). placesPerTime * x) k;
+        },
+        h .each,
+      );
     }
 
 module _ (c : Chain) (times : List Float) (p : Point3f) where
@@ -259,7 +266,9 @@ module _ (c : Chain) (times : List Float) (p : Point3f) where
   chain-by-move h = points-by-move p (c .first) (c .rest) times h
 
   pub stretch-points : (old : List Float) → StretchPoints c times p old
-  stretch-points old = record { query = query; filled = filled }
+  stretch-points old =
+      let answer = Chain·transformPoints c times p (length old) in
+      record { query = query; filled = λ e. filled (PointsAnswer·points answer) (times-numbers c times p (length old) .query .none e) }
     where
       query : listRefusal times p (length old) ≡ 0 → Chain·transformPoints c times p (length old) ≡ pointsByMove p (Chain·moves c) (Chain·stretches c times)
       query z = query-accepted c times p (length old) z ∙ chain-by-move (list-passed times p (length old) z .rises)

@@ -20,16 +20,16 @@ use Rattle.bounds3.specs.Inside.{Inside}
 use Rattle.bounds3.specs.List.{Point3f·list}
 use Rattle.transform.specs.declared.PointAnswer.{PointAnswer}
 use Rattle.transform.specs.declared.PointAnswer.the-variants.{Moved, Refused}
-use Rattle.transform.specs.Answer.{OneOf, PointAnswer·refusal, PointAnswer·Judged}
+use Rattle.transform.specs.Answer.{OneOf, PointAnswer·refusal, PointAnswer·point, PointAnswer·Judged, BoundsAnswer·bounds}
 use Rattle.animated_transform.specs.declared.AnimatedTransform.{AnimatedTransform}
 use Rattle.motion_point.specs.TransformPoint.{AnimatedTransform·rigidMotion, AnimatedTransform·movedPoint, AnimatedTransform·transformPoint}
 use Rattle.motion_point.proofs.Query.{moved-point-judged, transform-point-accepted}
 use Rattle.motion_cover.specs.Theorem.{MovedInside}
-use Rattle.refusal_numbers.specs.Numbers.{PointAnswer·RefusedBy}
+use Rattle.refusal_numbers.specs.Numbers.{PointAnswer·Numbered}
 use Rattle.motion_chain.specs.Chain.{every, Chain, Chain·moveAt, Chain·transformPoint, Chain·cover}
 use Rattle.motion_chain.specs.Built.{BuiltChain, Each}
-use Rattle.motion_chain.specs.Times.{timesAreNumbers, neverFalls, placesPerTime, listRefusal, PointsAnswer, moved, refused, PointsAnswer·cons, pointsAt, Chain·transformPoints, Points·list, PointsAnswer·left, Chain·pointsLeft}
-use Rattle.motion_chain.specs.TimesAnswer.{EachMoved, FirstRefused, TimesAnswered, PointsAnswer·RefusedBy, TimesNumbers, TimesLeft, PointsInside, ChainContainsTimes}
+use Rattle.motion_chain.specs.Times.{timesAreNumbers, neverFalls, placesPerTime, listRefusal, PointsAnswer, moved, refused, PointsAnswer·refusal, PointsAnswer·points, PointsAnswer·cons, pointsAt, Chain·transformPoints, Points·list, PointsAnswer·left, Chain·pointsLeft}
+use Rattle.motion_chain.specs.TimesAnswer.{EachMoved, FirstRefused, TimesAnswered, PointsAnswer·Numbered, TimesNumbers, TimesLeft, PointsInside, ChainContainsTimes}
 use Rattle.motion_chain.proofs.Cover.{chain-contains}
 use Rattle.motion_chain.proofs.Answer.{every-chain-answer}
 
@@ -38,16 +38,19 @@ abbrev isMoved : PointsAnswer → Bool
 isMoved (moved qs) = true
 isMoved (refused n) = false
 
-abbrev pub points-of : PointsAnswer → List Point3f
-points-of (moved qs) = qs
-points-of (refused n) = []
-
-abbrev number-of : PointsAnswer → ℕ
-number-of (moved qs) = 0
-number-of (refused n) = n
-
 pub refused-moved : {n : ℕ} {qs : List Point3f} → refused n ≡ moved qs → ⊥
 refused-moved e = subst T (sym (ap isMoved e)) tt
+
+refused-same : (a : PointsAnswer) → (PointsAnswer·refusal a ≡ 0 → ⊥) → a ≡ refused (PointsAnswer·refusal a)
+refused-same (moved qs) h = absurd (h refl)
+refused-same (refused n) h = refl
+
+abbrev isPoint : PointAnswer → Bool
+isPoint (Moved q) = true
+isPoint (Refused n) = false
+
+refused-point : {n : ℕ} {q : Point3f} → Refused n ≡ Moved q → ⊥
+refused-point e = subst T (sym (ap isPoint e)) tt
 
 -- A tested number, then points: the number was 0.
 tested-moved : (n : ℕ) (a : PointsAnswer) (qs : List Point3f) → cond (eqb n 0) a (refused n) ≡ moved qs → (n ≡ 0) × (a ≡ moved qs)
@@ -66,7 +69,7 @@ record ConsMoved (a : PointAnswer) (r : PointsAnswer) (qs : List Point3f) : Type
 
 cons-moved : (a : PointAnswer) (r : PointsAnswer) (qs : List Point3f) → PointsAnswer·cons a r ≡ moved qs → ConsMoved a r qs
 unfolding PointsAnswer·cons
-cons-moved (Moved q) (moved rest) qs e = record { point = q; rest = rest; first-moved = refl; rest-moved = refl; same = sym (ap points-of e) }
+cons-moved (Moved q) (moved rest) qs e = record { point = q; rest = rest; first-moved = refl; rest-moved = refl; same = sym (ap PointsAnswer·points e) }
 cons-moved (Moved q) (refused n) qs e = absurd (refused-moved e)
 cons-moved (Refused n) r qs e = absurd (refused-moved e)
 
@@ -74,7 +77,7 @@ cons-moved (Refused n) r qs e = absurd (refused-moved e)
 module _ (query : Float → PointAnswer) where
   pub points-count : (times : List Float) (qs : List Point3f) → pointsAt query times ≡ moved qs → length qs ≡ length times
   unfolding pointsAt
-  points-count [] qs e = ap (λ (r : PointsAnswer). length (points-of r)) (sym e)
+  points-count [] qs e = ap (λ (r : PointsAnswer). length (PointsAnswer·points r)) (sym e)
   points-count (t ∷ times) qs e =
       let h = cons-moved (query t) (pointsAt query times) qs e in
       ap (λ (l : List Point3f). length l) (h .same) ∙ ap suc (points-count times (h .rest) (h .rest-moved))
@@ -87,10 +90,11 @@ floats-count (q ∷ qs) = let h = floats-count qs in omega (arith, h)
 module _ (c : Chain) (p : Point3f) where
   each-moved : (times : List Float) (qs : List Point3f) → pointsAt (λ t. Chain·transformPoint c t p) times ≡ moved qs → EachMoved c p times qs
   unfolding pointsAt
-  each-moved [] qs e = subst (EachMoved c p []) (ap points-of e) tt
+  each-moved [] qs e = subst (EachMoved c p []) (ap PointsAnswer·points e) tt
   each-moved (t ∷ times) qs e =
       let h = cons-moved (Chain·transformPoint c t p) (pointsAt (λ t. Chain·transformPoint c t p) times) qs e in
-      subst (EachMoved c p (t ∷ times)) (sym (h .same)) (h .first-moved, each-moved times (h .rest) (h .rest-moved))
+      let first = h .first-moved in
+      subst (EachMoved c p (t ∷ times)) (sym (h .same)) (ap PointAnswer·refusal first, ap PointAnswer·point first, each-moved times (h .rest) (h .rest-moved))
 
   first-refused : (times : List Float) (n : ℕ) → pointsAt (λ t. Chain·transformPoint c t p) times ≡ refused n → FirstRefused c p times n
   unfolding pointsAt PointsAnswer·cons
@@ -108,11 +112,12 @@ module _ (c : Chain) (p : Point3f) where
             after = h .after;
             split = ap (λ (l : List Float). t ∷ l) (h .split);
             points = q ∷ h .points;
-            answered = (f, h .answered);
+            answered = (ap PointAnswer·refusal f, ap PointAnswer·point f, h .answered);
             number = h .number;
           }
       go (Refused k) r f g e later =
-          record { before = []; time = t; after = times; split = refl; points = []; answered = tt; number = f ∙ ap (λ (x : PointsAnswer). Refused (number-of x)) e }
+          let number = ap PointAnswer·refusal f ∙ ap PointsAnswer·refusal e in
+          record { before = []; time = t; after = times; split = refl; points = []; answered = tt; number = number }
 
 -- ---- the judging
 pub record ListPassed (times : List Float) (p : Point3f) (places : ℕ) : Type 0 where
@@ -152,34 +157,17 @@ module _ (c : Chain) (times : List Float) (p : Point3f) (places : ℕ) where
   unfolding Chain·transformPoints
   query-moved qs e = tested-moved (listRefusal times p places) (pointsAt (λ t. Chain·transformPoint c t p) times) qs e
 
-  pub times-answered : TimesAnswered c times p places
-  times-answered = record {
-    moved-each = λ qs e. each-moved c p times qs (query-moved qs e .1);
-    refused-first = λ n z e. first-refused c p times n (sym (query-accepted z) ∙ e);
-  }
-
 -- ---- the numbers
-cons-refused : (numbers : List ℕ) (a : PointAnswer) (r : PointsAnswer) → PointAnswer·RefusedBy numbers a → PointsAnswer·RefusedBy numbers r
-    → PointsAnswer·RefusedBy numbers (PointsAnswer·cons a r)
+cons-numbered : (numbers : List ℕ) (a : PointAnswer) (r : PointsAnswer) → PointAnswer·Numbered numbers a → PointsAnswer·Numbered numbers r
+    → PointsAnswer·Numbered numbers (PointsAnswer·cons a r)
 unfolding PointsAnswer·cons
-cons-refused numbers (Moved q) (moved qs) h k = tt
-cons-refused numbers (Moved q) (refused n) h k = k
-cons-refused numbers (Refused n) r h k = h
-
--- A number that is 0 or 5, and 5 or 6.
-only-five : (a : PointAnswer) → PointAnswer·Judged a → PointAnswer·RefusedBy (5 ∷ 6 ∷ []) a → PointAnswer·RefusedBy (5 ∷ []) a
-only-five (Moved q) j h = tt
-only-five (Refused n) j h = go (j .number) h
-  where
-    go : (n ≡ 0) ⊎ (n ≡ 5) → OneOf n (5 ∷ 6 ∷ []) → OneOf n (5 ∷ [])
-    go (inr e) h = inl e
-    go (inl e) (inl f) = inl f
-    go (inl e) (inr (inl f)) = absurd (omega (arith, e, f))
-    go (inl e) (inr (inr h)) = absurd h
+cons-numbered numbers (Moved q) (moved qs) h k = record { number = k .number; none = λ _. refl }
+cons-numbered numbers (Moved q) (refused n) h k = k
+cons-numbered numbers (Refused n) r h k = record { number = h .number; none = λ e. absurd (refused-point (h .none e)) }
 
 module _ (c : Chain) (p : Point3f) (finite : T (Point3f·isFinite p)) where
-  time-refused : (t : Float) → T (not (isNan t)) → PointAnswer·RefusedBy (5 ∷ []) (Chain·transformPoint c t p)
-  time-refused t n = only-five (Chain·transformPoint c t p) judged (every-chain-answer .point c t p)
+  time-numbered : (t : Float) → T (not (isNan t)) → PointAnswer·Numbered (0 ∷ 5 ∷ []) (Chain·transformPoint c t p)
+  time-numbered t n = record { number = go (judged .number); none = every-chain-answer .point c t p .none }
     where
       judged : PointAnswer·Judged (Chain·transformPoint c t p)
       judged =
@@ -187,12 +175,17 @@ module _ (c : Chain) (p : Point3f) (finite : T (Point3f·isFinite p)) where
           unfold Chain·transformPoint in
           rw (transform-point-accepted m t p (is-false (isNan t) n) (is-true (Point3f·isFinite p) finite)) (moved-point-judged m (AnimatedTransform·rigidMotion m) t p)
 
-  work-refused : (times : List Float) → T (timesAreNumbers times) → PointsAnswer·RefusedBy (5 ∷ []) (pointsAt (λ t. Chain·transformPoint c t p) times)
+      go : {k : ℕ} → (k ≡ 0) ⊎ (k ≡ 5) → OneOf k (0 ∷ 5 ∷ [])
+      go (inl e) = inl e
+      go (inr e) = inr (inl e)
+
+  work-numbered : (times : List Float) → T (timesAreNumbers times) → PointsAnswer·Numbered (0 ∷ 5 ∷ []) (pointsAt (λ t. Chain·transformPoint c t p) times)
   unfolding pointsAt timesAreNumbers every
-  work-refused [] n = tt
-  work-refused (t ∷ times) n =
-      cons-refused (5 ∷ []) (Chain·transformPoint c t p) (pointsAt (λ t. Chain·transformPoint c t p) times) (time-refused t (and-l (not (isNan t)) (timesAreNumbers times) n))
-      (work-refused times (and-r (not (isNan t)) (timesAreNumbers times) n))
+  work-numbered [] n = record { number = inl refl; none = λ _. refl }
+  work-numbered (t ∷ times) n =
+      cons-numbered (0 ∷ 5 ∷ []) (Chain·transformPoint c t p) (pointsAt (λ t. Chain·transformPoint c t p) times)
+      (time-numbered t (and-l (not (isNan t)) (timesAreNumbers times) n))
+      (work-numbered times (and-r (not (isNan t)) (timesAreNumbers times) n))
 
 list-number : (times : List Float) (p : Point3f) (places : ℕ) → OneOf (listRefusal times p places) (0 ∷ 6 ∷ 13 ∷ [])
 unfolding listRefusal
@@ -206,28 +199,44 @@ list-number times p places = go (not (timesAreNumbers times) || not (Point3f·is
 pub times-numbers : (c : Chain) (times : List Float) (p : Point3f) (places : ℕ) → TimesNumbers c times p places
 times-numbers c times p places = record { judging = list-number times p places; work = work; query = query (list-number times p places) }
   where
-    wider : (a : PointsAnswer) → PointsAnswer·RefusedBy (5 ∷ []) a → PointsAnswer·RefusedBy (5 ∷ 6 ∷ 13 ∷ []) a
-    wider (moved qs) h = tt
-    wider (refused n) (inl e) = inl e
-    wider (refused n) (inr h) = absurd h
+    wider : (a : PointsAnswer) → PointsAnswer·Numbered (0 ∷ 5 ∷ []) a → PointsAnswer·Numbered (0 ∷ 5 ∷ 6 ∷ 13 ∷ []) a
+    wider a h = record { number = go (h .number); none = h .none }
+      where
+        go : OneOf (PointsAnswer·refusal a) (0 ∷ 5 ∷ []) → OneOf (PointsAnswer·refusal a) (0 ∷ 5 ∷ 6 ∷ 13 ∷ [])
+        go (inl e) = inl e
+        go (inr (inl e)) = inr (inl e)
+        go (inr (inr h)) = absurd h
 
-    work : listRefusal times p places ≡ 0 → PointsAnswer·RefusedBy (5 ∷ []) (Chain·transformPoints c times p places)
+    work : listRefusal times p places ≡ 0 → PointsAnswer·Numbered (0 ∷ 5 ∷ []) (Chain·transformPoints c times p places)
     work z =
         let h = list-passed times p places z in
-        rw (query-accepted c times p places z) (work-refused c p (h .finite) times (h .numbers))
+        rw (query-accepted c times p places z) (work-numbered c p (h .finite) times (h .numbers))
 
-    refused-by : (k : ℕ) → OneOf k (5 ∷ 6 ∷ 13 ∷ []) → (k ≡ 0 → ⊥) → listRefusal times p places ≡ k → PointsAnswer·RefusedBy (5 ∷ 6 ∷ 13 ∷ []) (Chain·transformPoints c times p places)
-    refused-by k o f e = unfold Chain·transformPoints in rw e (go (eqb k 0) (eqb-true k 0))
+    judged-by : (k : ℕ) → OneOf k (0 ∷ 5 ∷ 6 ∷ 13 ∷ []) → (k ≡ 0 → ⊥) → listRefusal times p places ≡ k
+        → PointsAnswer·Numbered (0 ∷ 5 ∷ 6 ∷ 13 ∷ []) (Chain·transformPoints c times p places)
+    judged-by k o f e = unfold Chain·transformPoints in rw e (go (eqb k 0) (eqb-true k 0))
       where
-        go : (b : Bool) → (b ≡ true → k ≡ 0) → PointsAnswer·RefusedBy (5 ∷ 6 ∷ 13 ∷ []) (cond b (pointsAt (λ t. Chain·transformPoint c t p) times) (refused k))
+        go : (b : Bool) → (b ≡ true → k ≡ 0)
+            → PointsAnswer·Numbered (0 ∷ 5 ∷ 6 ∷ 13 ∷ []) (cond b (pointsAt (λ t. Chain·transformPoint c t p) times) (refused k))
         go true g = absurd (f (g refl))
-        go false g = o
+        go false g = record { number = o; none = λ z. absurd (f z) }
 
-    query : OneOf (listRefusal times p places) (0 ∷ 6 ∷ 13 ∷ []) → PointsAnswer·RefusedBy (5 ∷ 6 ∷ 13 ∷ []) (Chain·transformPoints c times p places)
+    query : OneOf (listRefusal times p places) (0 ∷ 6 ∷ 13 ∷ []) → PointsAnswer·Numbered (0 ∷ 5 ∷ 6 ∷ 13 ∷ []) (Chain·transformPoints c times p places)
     query (inl z) = wider (Chain·transformPoints c times p places) (work z)
-    query (inr (inl e)) = refused-by 6 (inr (inl refl)) (λ z. omega (arith, z)) e
-    query (inr (inr (inl e))) = refused-by 13 (inr (inr (inl refl))) (λ z. omega (arith, z)) e
+    query (inr (inl e)) = judged-by 6 (inr (inr (inl refl))) (λ z. omega (arith, z)) e
+    query (inr (inr (inl e))) = judged-by 13 (inr (inr (inr (inl refl)))) (λ z. omega (arith, z)) e
     query (inr (inr (inr h))) = absurd h
+
+-- ---- each time
+pub times-answered : (c : Chain) (times : List Float) (p : Point3f) (places : ℕ) → TimesAnswered c times p places
+times-answered c times p places =
+    let a = Chain·transformPoints c times p places in
+    record {
+      moved-each = λ e.
+          let points = times-numbers c times p places .query .none e in
+          each-moved c p times (PointsAnswer·points a) (query-moved c times p places (PointsAnswer·points a) points .1);
+      refused-first = λ z f. first-refused c p times (PointsAnswer·refusal a) (sym (query-accepted c times p places z) ∙ refused-same a f);
+    }
 
 -- ---- the lent answers
 pub times-left : (c : Chain) (times : List Float) (p : Point3f) (old : List Float) → TimesLeft c times p old
@@ -245,40 +254,46 @@ times-left c times p old = go (Chain·transformPoints c times p (length old)) re
 
 -- ---- the guarantee
 -- A point that is answered is finite.
-answered-finite : (c : Chain) (time : Float) (p q : Point3f) → Chain·transformPoint c time p ≡ Moved q → T (Point3f·isFinite p)
+answered-finite : (c : Chain) (time : Float) (p : Point3f) → PointAnswer·refusal (Chain·transformPoint c time p) ≡ 0 → T (Point3f·isFinite p)
 unfolding Chain·transformPoint AnimatedTransform·transformPoint
-answered-finite c time p q =
+answered-finite c time p =
     let m = Chain·moveAt c time in
     go (isNan time) (Point3f·isFinite p) (AnimatedTransform·movedPoint m (AnimatedTransform·rigidMotion m) time p) (λ h. h)
   where
-    isPoint : PointAnswer → Bool
-    isPoint (Moved x) = true
-    isPoint (Refused n) = false
-
-    go : (n f : Bool) (a : PointAnswer) → (T f → T (Point3f·isFinite p)) → cond (n || not f) (Refused 6) a ≡ Moved q → T (Point3f·isFinite p)
+    go : (n f : Bool) (a : PointAnswer) → (T f → T (Point3f·isFinite p)) → PointAnswer·refusal (cond (n || not f) (Refused 6) a) ≡ 0 → T (Point3f·isFinite p)
     go n true a g e = g tt
-    go true false a g e = absurd (subst T (sym (ap isPoint e)) tt)
-    go false false a g e = absurd (subst T (sym (ap isPoint e)) tt)
+    go true false a g e = absurd (omega (arith, e))
+    go false false a g e = absurd (omega (arith, e))
 
-cons-inside : (box : Bounds3f) (a : PointAnswer) (r : PointsAnswer) (t : Float) (times : List Float) → MovedInside box a → PointsInside box times r
-    → PointsInside box (t ∷ times) (PointsAnswer·cons a r)
+record MovedPoints (box : Bounds3f) (times : List Float) (answer : PointsAnswer) : Type 0 where
+  points : List Point3f
+  answered : answer ≡ moved points
+  count : length points ≡ length times
+  inside : Each (Inside box) points
+
+cons-inside : (box : Bounds3f) (a : PointAnswer) (q : Point3f) (r : PointsAnswer) (t : Float) (times : List Float)
+    → a ≡ Moved q → Inside box q → MovedPoints box times r → MovedPoints box (t ∷ times) (PointsAnswer·cons a r)
 unfolding PointsAnswer·cons
-cons-inside box a r t times m h =
-    record { points = m .point ∷ h .points; answered = rw (m .moved, h .answered); count = ap suc (h .count); inside = (m .inside, h .inside) }
+cons-inside box a q r t times e i h =
+    record { points = q ∷ h .points; answered = rw (e, h .answered); count = ap suc (h .count); inside = (i, h .inside) }
 
 each-inside : (c : Chain) (box : Bounds3f) (p : Point3f) → ((t : Float) → T (not (isNan t)) → MovedInside box (Chain·transformPoint c t p)) → (times : List Float) → T (timesAreNumbers times)
-    → PointsInside box times (pointsAt (λ t. Chain·transformPoint c t p) times)
+    → MovedPoints box times (pointsAt (λ t. Chain·transformPoint c t p) times)
 unfolding pointsAt timesAreNumbers every
 each-inside c box p f [] n = record { points = []; answered = refl; count = refl; inside = tt }
 each-inside c box p f (t ∷ times) n =
-    cons-inside box (Chain·transformPoint c t p) (pointsAt (λ t. Chain·transformPoint c t p) times) t times (f t (and-l (not (isNan t)) (timesAreNumbers times) n))
+    let a = Chain·transformPoint c t p in
+    let m = f t (and-l (not (isNan t)) (timesAreNumbers times) n) in
+    cons-inside box a (PointAnswer·point a) (pointsAt (λ t. Chain·transformPoint c t p) times) t times
+    (every-chain-answer .point c t p .none (m .accepted)) (m .inside)
     (each-inside c box p f times (and-r (not (isNan t)) (timesAreNumbers times) n))
 
 pub chain-contains-times : (c : Chain) (b : Bounds3f) (d : ℕ) → ChainContainsTimes c b (Chain·cover c b d)
 unfolding isNan
-chain-contains-times c b d box times p built e numbers rises i =
-    let each : (t : Float) → T (not (isNan t)) → MovedInside box (Chain·transformPoint c t p) = λ t n. chain-contains c b d box t p built e n i in
-    let anywhen = each (inf false) tt in
-    let z = list-accepted times p numbers (answered-finite c (inf false) p (anywhen .point) (anywhen .moved)) rises in
+chain-contains-times c b d times p built e numbers rises i =
+    let box = BoundsAnswer·bounds (Chain·cover c b d) in
+    let each : (t : Float) → T (not (isNan t)) → MovedInside box (Chain·transformPoint c t p) = λ t n. chain-contains c b d t p built e n i in
+    let z = list-accepted times p numbers (answered-finite c (inf false) p (each (inf false) tt .accepted)) rises in
     let h = each-inside c box p each times numbers in
-    record { points = h .points; answered = query-accepted c times p (placesPerTime * length times) z ∙ h .answered; count = h .count; inside = h .inside }
+    let answered = query-accepted c times p (placesPerTime * length times) z ∙ h .answered in
+    subst (PointsInside box times) (sym answered) (record { accepted = refl; count = h .count; inside = h .inside })

@@ -71,6 +71,11 @@ pub data ChainAnswer : Type 0 where
   built : Chain → ChainAnswer
   refused : ℕ → ChainAnswer
 
+-- document 01's number of each case: 0 where nothing is refused
+abbrev pub ChainAnswer·refusal : ChainAnswer → ℕ
+ChainAnswer·refusal (built c) = 0
+ChainAnswer·refusal (refused n) = n
+
 -- What came of each pair, as one answer: the first number that was met stands. A chain without a pair has fewer than 2 poses.
 unfoldable pub ChainAnswer·fromMoves : List AnimatedTransformAnswer → ChainAnswer
 ChainAnswer·fromMoves [] = refused 12

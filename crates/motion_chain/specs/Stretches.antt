@@ -12,7 +12,7 @@ use Rattle.animated_transform.specs.declared.AnimatedTransform.{AnimatedTransfo
 use Rattle.motion_chain.specs.Chain.{Chain, Chain·moves}
 use Rattle.motion_chain.specs.Built.{Each}
 use Rattle.motion_chain.specs.MoveAt.{Chain·indexAt}
-use Rattle.motion_chain.specs.Times.{neverFalls, placesPerTime, listRefusal, PointsAnswer, moved, PointsAnswer·append, AnimatedTransform·transformPoints, Chain·transformPoints, Points·list, Chain·pointsLeft}
+use Rattle.motion_chain.specs.Times.{neverFalls, placesPerTime, listRefusal, PointsAnswer, moved, PointsAnswer·refusal, PointsAnswer·points, PointsAnswer·append, AnimatedTransform·transformPoints, Chain·transformPoints, Points·list, Chain·pointsLeft}
 
 -- ---- the parts
 
@@ -54,9 +54,8 @@ pub record Stretches (c : Chain) (times : List Float) : Type 0 where
 
 -- A part of the lent answers that one move has filled: three places for each time of its stretch, with the points that it answers.
 pub record MovePart (p : Point3f) (m : AnimatedTransform) (stretch : List Float) (part : List Float) : Type 0 where
-  pub points : List Point3f
-  pub answered : AnimatedTransform·transformPoints m stretch p ≡ moved points
-  pub floats : part ≡ Points·list points
+  pub accepted : PointsAnswer·refusal (AnimatedTransform·transformPoints m stretch p) ≡ 0
+  pub floats : part ≡ Points·list (PointsAnswer·points (AnimatedTransform·transformPoints m stretch p))
   pub places : length part ≡ placesPerTime * length stretch
 
 -- The parts are filled by the moves in order, one for each.
@@ -77,4 +76,4 @@ pub record FilledByMoves (c : Chain) (times : List Float) (p : Point3f) (answers
 -- Of any chain, list, point and lent answers that pass the judging: the query is each move's query over its own stretch, joined; and where it answers, each move fills its own part.
 pub record StretchPoints (c : Chain) (times : List Float) (p : Point3f) (old : List Float) : Type 0 where
   pub query : listRefusal times p (length old) ≡ 0 → Chain·transformPoints c times p (length old) ≡ pointsByMove p (Chain·moves c) (Chain·stretches c times)
-  pub filled : (qs : List Point3f) → Chain·transformPoints c times p (length old) ≡ moved qs → FilledByMoves c times p (Chain·pointsLeft c times p old)
+  pub filled : PointsAnswer·refusal (Chain·transformPoints c times p (length old)) ≡ 0 → FilledByMoves c times p (Chain·pointsLeft c times p old)

@@ -4,7 +4,7 @@
 -- and for every point of the box, the chain's point query answers a moved point, and that point is inside the cover on all three axes.
 --
 --   BuiltChain c             c is what building gives, unrefused, for poses whose times are binary32      crates/motion_chain/specs/Built.antt
---   r ≡ Bounds box           the cover is accepted, and box is what it answers                            crates/transform/src/lib.rt, `BoundsAnswer`
+--   BoundsAnswer·refusal r   the cover's number, 0 where it is accepted; `BoundsAnswer·bounds r` its box  crates/transform/specs/Answer.antt
 --   Chain·transformPoint     the point query of the move that the time belongs to                         crates/motion_chain/specs/Chain.antt
 --   MovedInside, Inside      a moved point; low ≤ value ≤ high on all three axes                          crates/motion_cover/specs/Theorem.antt, crates/bounds3/specs/Inside.antt
 --
@@ -18,7 +18,7 @@ use Rattle.bounds3.specs.declared.Point3f.{Point3f}
 use Rattle.bounds3.specs.declared.Bounds3f.{Bounds3f}
 use Rattle.bounds3.specs.Inside.{Inside}
 use Rattle.transform.specs.declared.BoundsAnswer.{BoundsAnswer}
-use Rattle.transform.specs.declared.BoundsAnswer.the-variants.{Bounds}
+use Rattle.transform.specs.Answer.{BoundsAnswer·refusal, BoundsAnswer·bounds}
 use Rattle.motion_cover.specs.Cover.{maxDepth}
 use Rattle.motion_cover.specs.Theorem.{MovedInside}
 use Rattle.cover_depth.specs.Finer.{Within}
@@ -28,14 +28,14 @@ use Rattle.motion_chain.specs.Built.{BuiltChain}
 -- c is the chain, b the box of points, r what the cover query answered.
 abbrev pub ChainContainsMotion : Chain → Bounds3f → BoundsAnswer → Type 0
 ChainContainsMotion c b r =
-    (box : Bounds3f) (time : Float) (p : Point3f)
-    → BuiltChain c → r ≡ Bounds box → T (not (isNan time)) → Inside b p
-    → MovedInside box (Chain·transformPoint c time p)
+    (time : Float) (p : Point3f)
+    → BuiltChain c → BoundsAnswer·refusal r ≡ 0 → T (not (isNan time)) → Inside b p
+    → MovedInside (BoundsAnswer·bounds r) (Chain·transformPoint c time p)
 
 -- document 02, "A finer cover is never a wider one": "For the same chain and box, where the cover at a depth is accepted, the cover at each greater depth up to 12 is accepted and
 -- lies inside it on every axis"
 abbrev pub ChainCoverFiner : Chain → Bounds3f → Type 0
 ChainCoverFiner c b =
-    (d n : ℕ) (box : Bounds3f)
-    → BuiltChain c → d + n ≤ maxDepth → Chain·cover c b d ≡ Bounds box
-    → Within (Chain·cover c b (d + n)) box
+    (d n : ℕ)
+    → BuiltChain c → d + n ≤ maxDepth → BoundsAnswer·refusal (Chain·cover c b d) ≡ 0
+    → Within (Chain·cover c b (d + n)) (BoundsAnswer·bounds (Chain·cover c b d))

@@ -46,6 +46,15 @@ pub data PointsAnswer : Type 0 where
   moved : List Point3f → PointsAnswer
   refused : ℕ → PointsAnswer
 
+-- document 01's number and values of each case: 0 where nothing is refused, and no points where something is
+abbrev pub PointsAnswer·refusal : PointsAnswer → ℕ
+PointsAnswer·refusal (moved qs) = 0
+PointsAnswer·refusal (refused n) = n
+
+abbrev pub PointsAnswer·points : PointsAnswer → List Point3f
+PointsAnswer·points (moved qs) = qs
+PointsAnswer·points (refused n) = []
+
 -- What came of a time and of the times after it: the first refusal stands.
 unfoldable pub PointsAnswer·cons : PointAnswer → PointsAnswer → PointsAnswer
 PointsAnswer·cons (point.Moved q) (moved qs) = moved (q ∷ qs)

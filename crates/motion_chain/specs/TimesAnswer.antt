@@ -9,13 +9,11 @@ use lib.Ieee.{Float}
 use Rattle.bounds3.specs.declared.Point3f.{Point3f}
 use Rattle.bounds3.specs.declared.Bounds3f.{Bounds3f}
 use Rattle.bounds3.specs.Inside.{Inside}
-use Rattle.transform.specs.declared.PointAnswer.the-variants.{Moved, Refused}
 use Rattle.transform.specs.declared.BoundsAnswer.{BoundsAnswer}
-use Rattle.transform.specs.declared.BoundsAnswer.the-variants.{Bounds}
-use Rattle.transform.specs.Answer.{OneOf}
+use Rattle.transform.specs.Answer.{OneOf, PointAnswer·refusal, PointAnswer·point, BoundsAnswer·refusal, BoundsAnswer·bounds}
 use Rattle.motion_chain.specs.Chain.{Chain, Chain·transformPoint}
 use Rattle.motion_chain.specs.Built.{BuiltChain, Each}
-use Rattle.motion_chain.specs.Times.{timesAreNumbers, neverFalls, placesPerTime, listRefusal, PointsAnswer, moved, refused, Chain·transformPoints, Chain·pointsLeft}
+use Rattle.motion_chain.specs.Times.{timesAreNumbers, neverFalls, placesPerTime, listRefusal, PointsAnswer, moved, PointsAnswer·refusal, PointsAnswer·points, Chain·transformPoints, Chain·pointsLeft}
 
 -- ---- each time
 -- The points are what the chain answers at the times, one for each.
@@ -23,7 +21,8 @@ abbrev pub EachMoved : Chain → Point3f → List Float → List Point3f → Typ
 EachMoved c p [] [] = Unit {0}
 EachMoved c p [] (q ∷ qs) = ⊥
 EachMoved c p (t ∷ times) [] = ⊥
-EachMoved c p (t ∷ times) (q ∷ qs) = (Chain·transformPoint c t p ≡ Moved q) × EachMoved c p times qs
+EachMoved c p (t ∷ times) (q ∷ qs) =
+    (PointAnswer·refusal (Chain·transformPoint c t p) ≡ 0) × (PointAnswer·point (Chain·transformPoint c t p) ≡ q) × EachMoved c p times qs
 
 -- The first time at which the chain refuses: those before it are answered.
 pub record FirstRefused (c : Chain) (p : Point3f) (times : List Float) (n : ℕ) : Type 0 where
@@ -33,23 +32,25 @@ pub record FirstRefused (c : Chain) (p : Point3f) (times : List Float) (n : ℕ)
   pub split : times ≡ before ++ time ∷ after
   pub points : List Point3f
   pub answered : EachMoved c p before points
-  pub number : Chain·transformPoint c time p ≡ Refused n
+  pub number : PointAnswer·refusal (Chain·transformPoint c time p) ≡ n
 
 -- Once the list and the places have passed, a list's points are those of queries at its times, and its number is that of the first time that is refused.
 pub record TimesAnswered (c : Chain) (times : List Float) (p : Point3f) (places : ℕ) : Type 0 where
-  pub moved-each : (qs : List Point3f) → Chain·transformPoints c times p places ≡ moved qs → EachMoved c p times qs
-  pub refused-first : (n : ℕ) → listRefusal times p places ≡ 0 → Chain·transformPoints c times p places ≡ refused n → FirstRefused c p times n
+  pub moved-each : let a = Chain·transformPoints c times p places in PointsAnswer·refusal a ≡ 0 → EachMoved c p times (PointsAnswer·points a)
+  pub refused-first : let a = Chain·transformPoints c times p places in
+      listRefusal times p places ≡ 0 → (PointsAnswer·refusal a ≡ 0 → ⊥) → FirstRefused c p times (PointsAnswer·refusal a)
 
 -- ---- the numbers
-abbrev pub PointsAnswer·RefusedBy : List ℕ → PointsAnswer → Type 0
-PointsAnswer·RefusedBy numbers (moved qs) = Unit {0}
-PointsAnswer·RefusedBy numbers (refused n) = OneOf n numbers
+-- The number is one of those listed, and an answer whose number is 0 is the points.
+pub record PointsAnswer·Numbered (numbers : List ℕ) (a : PointsAnswer) : Type 0 where
+  pub number : OneOf (PointsAnswer·refusal a) numbers
+  pub none : PointsAnswer·refusal a ≡ 0 → a ≡ moved (PointsAnswer·points a)
 
--- 6 and 13 in the judging, 0 being none, and only 5 in the work
+-- 6 and 13 in the judging, and only 5 in the work
 pub record TimesNumbers (c : Chain) (times : List Float) (p : Point3f) (places : ℕ) : Type 0 where
   pub judging : OneOf (listRefusal times p places) (0 ∷ 6 ∷ 13 ∷ [])
-  pub work : listRefusal times p places ≡ 0 → PointsAnswer·RefusedBy (5 ∷ []) (Chain·transformPoints c times p places)
-  pub query : PointsAnswer·RefusedBy (5 ∷ 6 ∷ 13 ∷ []) (Chain·transformPoints c times p places)
+  pub work : listRefusal times p places ≡ 0 → PointsAnswer·Numbered (0 ∷ 5 ∷ []) (Chain·transformPoints c times p places)
+  pub query : PointsAnswer·Numbered (0 ∷ 5 ∷ 6 ∷ 13 ∷ []) (Chain·transformPoints c times p places)
 
 -- ---- the lent answers
 -- They are as long as they came, whatever is answered.
@@ -57,16 +58,15 @@ abbrev pub TimesLeft : Chain → List Float → Point3f → List Float → Type 
 TimesLeft c times p old = length (Chain·pointsLeft c times p old) ≡ length old
 
 -- ---- the guarantee
--- The answer is a point for each time, all inside the box, and nothing is refused.
+-- The answer is not refused: a point for each time, all inside the box.
 pub record PointsInside (box : Bounds3f) (times : List Float) (answer : PointsAnswer) : Type 0 where
-  pub points : List Point3f
-  pub answered : answer ≡ moved points
-  pub count : length points ≡ length times
-  pub inside : Each (Inside box) points
+  pub accepted : PointsAnswer·refusal answer ≡ 0
+  pub count : length (PointsAnswer·points answer) ≡ length times
+  pub inside : Each (Inside box) (PointsAnswer·points answer)
 
 -- c is the chain, b the box of points, r what the cover query answered.
 abbrev pub ChainContainsTimes : Chain → Bounds3f → BoundsAnswer → Type 0
 ChainContainsTimes c b r =
-    (box : Bounds3f) (times : List Float) (p : Point3f)
-    → BuiltChain c → r ≡ Bounds box → T (timesAreNumbers times) → T (neverFalls times) → Inside b p
-    → PointsInside box times (Chain·transformPoints c times p (placesPerTime * length times))
+    (times : List Float) (p : Point3f)
+    → BuiltChain c → BoundsAnswer·refusal r ≡ 0 → T (timesAreNumbers times) → T (neverFalls times) → Inside b p
+    → PointsInside (BoundsAnswer·bounds r) times (Chain·transformPoints c times p (placesPerTime * length times))

@@ -22,8 +22,10 @@ use Rattle.bounds3.specs.List.{Point3f·list}
 use Rattle.bounds3.proofs.Union.{union-inside-left, union-inside-right}
 use Rattle.transform.specs.declared.Transform.{Transform}
 use Rattle.transform.specs.declared.PointAnswer.{PointAnswer}
+use Rattle.transform.specs.declared.PointAnswer.the-variants.{Moved}
 use Rattle.transform.specs.declared.BoundsAnswer.{BoundsAnswer}
 use Rattle.transform.specs.declared.BoundsAnswer.the-variants.{Bounds, Refused}
+use Rattle.transform.specs.Answer.{PointAnswer·refusal, PointAnswer·point, BoundsAnswer·bounds}
 use Rattle.transform.specs.TransformPoint.{Transform·transformPoint}
 use Rattle.transform.proofs.Judged.{judged-moved}
 use Rattle.bounds_query.specs.Query.{Bounds3f·refusal, BoundsAnswer·unionBounds}
@@ -51,10 +53,14 @@ use Rattle.motion_point.proofs.Built.{built-valid, built-scales}
 use Rattle.motion_point.proofs.Query.{moved-point-start, moved-point-end, moved-point-between, transform-point-accepted}
 use Rattle.motion_cover.specs.Cover.{BoundsAnswer·fromEnclosure, Transform·encloseBounds, AnimatedTransform·encloseBounds, AnimatedTransform·encloseEnds, unionSlices, AnimatedTransform·encloseMotion, maxDepth, coverRefusal, AnimatedTransform·cover}
 use Rattle.motion_cover.specs.Theorem.{MovedInside, CoverContainsMotion}
+use Rattle.motion_cover.proofs.NonZero.{cover-answered}
 
 -- Where the answer r is a box, that box holds the point.
 pub record Holds (r : BoundsAnswer) (point : PointAnswer) : Type 0 where
   pub holds : (box : Bounds3f) → r ≡ Bounds box → MovedInside box point
+
+moved-inside : {box : Bounds3f} {answer : PointAnswer} (point : Point3f) → answer ≡ Moved point → Inside box point → MovedInside box answer
+moved-inside {box} point e i = record { accepted = ap PointAnswer·refusal e; inside = subst (Inside box) (sym (ap PointAnswer·point e)) i }
 
 -- ---- an enclosure as an answer
 pub record FromEnclosure (j : JudgedVector) (box : Bounds3f) : Type 0 where
@@ -74,24 +80,30 @@ enclosure-holds j f = record {
   holds = λ box e.
       let g = from-enclosure-accepted j box e in
       let a = f (g .accepted) in
-      record { point = a .point; moved = a .moved; inside = subst (λ (b : Bounds3f). Inside b (a .point)) (g .bounds) (encloses-inside (j .vector) (a .point) (a .encloses)) };
+      moved-inside (a .point) (a .moved) (subst (λ (b : Bounds3f). Inside b (a .point)) (g .bounds) (encloses-inside (j .vector) (a .point) (a .encloses)));
 }
 
 -- ---- unions
 union-holds-left : {point : PointAnswer} (r s : BoundsAnswer) → Holds r point → Holds (BoundsAnswer·unionBounds r s) point
-union-holds-left r s h = record {
+union-holds-left {point} r s h = record {
   holds = λ box e.
       let j = union-accepted r s box e in
       let a = h .holds (j .left) (j .left-accepted) in
-      record { point = a .point; moved = a .moved; inside = subst (λ (b : Bounds3f). Inside b (a .point)) (j .union) (union-inside-left (j .right) (a .inside)) };
+      record {
+        accepted = a .accepted;
+        inside = subst (λ (b : Bounds3f). Inside b (PointAnswer·point point)) (j .union) (union-inside-left (j .right) (a .inside));
+      };
 }
 
 union-holds-right : {point : PointAnswer} (r s : BoundsAnswer) → Holds s point → Holds (BoundsAnswer·unionBounds r s) point
-union-holds-right r s h = record {
+union-holds-right {point} r s h = record {
   holds = λ box e.
       let j = union-accepted r s box e in
       let a = h .holds (j .right) (j .right-accepted) in
-      record { point = a .point; moved = a .moved; inside = subst (λ (b : Bounds3f). Inside b (a .point)) (j .union) (union-inside-right (j .left) (a .inside)) };
+      record {
+        accepted = a .accepted;
+        inside = subst (λ (b : Bounds3f). Inside b (PointAnswer·point point)) (j .union) (union-inside-right (j .left) (a .inside));
+      };
 }
 
 -- ---- pieces
@@ -242,10 +254,12 @@ query-accepted m b d box time p e n i =
     transform-point-accepted m time p (is-false (isNan time) n) (is-true (Point3f·isFinite p) q)
 
 pub cover-contains : (m : AnimatedTransform) (b : Bounds3f) (d : ℕ) → CoverContainsMotion m b (AnimatedTransform·cover m b d)
-cover-contains m b d box time p built e n i =
-    let c = cover-accepted m b d box e in
+cover-contains m b d time p built e n i =
+    let box = BoundsAnswer·bounds (AnimatedTransform·cover m b d) in
+    let a = cover-answered m b d e in
+    let c = cover-accepted m b d box a in
     let f = refusal-accepted b (cover-box b d (c .arguments)) .0 in
-    rw (query-accepted m b d box time p e n i) (motion-contains built b p f i d time n .holds box (c .motion))
+    rw (query-accepted m b d box time p a n i) (motion-contains built b p f i d time n .holds box (c .motion))
 
 -- Both clauses of the query's contract, from the first.
 pub cover-clauses : {r : BoundsAnswer} (m : AnimatedTransform) (b : Bounds3f) (d : ℕ) → r ≡ AnimatedTransform·cover m b d → (r ≡ AnimatedTransform·cover m b d) × CoverContainsMotion m b r

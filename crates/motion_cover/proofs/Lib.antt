@@ -1,3 +1,4 @@
+pub mod NonZero
 pub mod Contains
 pub mod Times
 pub mod Number

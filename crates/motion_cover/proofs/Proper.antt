@@ -1,10 +1,11 @@
 -- The corners of an accepted cover of a built move are finite and in order on each axis: `cover-proper`. An interval step narrows from its own intervals to themselves, so that
 -- what it gives is not empty; a union of boxes in order is in order.
 use Prim.Native.Nat.{ℕ, zero, suc, _≤_, _^_}
-use mathlib.Core.Path.{_≡_, refl, sym, subst}
-use mathlib.Core.Bool.{Bool, true, false}
+use mathlib.Core.Path.{_≡_, refl, sym, ap, subst}
+use mathlib.Core.Bool.{Bool, true, false, cond}
 use native.Mathlib.Omega.{arith}
-use lib.Dec.{T}
+use lib.Dec.{T, eqb}
+use borrow.Author.Tests.{eqb-true, eqb-false}
 use lib.Ieee.Scale.{finite}
 use Rattle.rounding.specs.Order.{_≼_}
 use Rattle.rounding.proofs.Order.{≼-trans, ≼-refl, number-left, number-right, finite-number}
@@ -19,9 +20,9 @@ use Rattle.bounds3.proofs.Union.{union-inside-left}
 use Rattle.matrix4x4.specs.declared.Matrix4x4.{Matrix4x4}
 use Rattle.transform.specs.declared.Transform.{Transform}
 use Rattle.transform.specs.declared.BoundsAnswer.{BoundsAnswer}
-use Rattle.transform.specs.declared.BoundsAnswer.the-variants.{Bounds}
+use Rattle.transform.specs.declared.BoundsAnswer.the-variants.{Bounds, Refused}
+use Rattle.transform.specs.Answer.{BoundsAnswer·refusal, BoundsAnswer·bounds}
 use Rattle.bounds_query.specs.Query.{Bounds3f·refusal, BoundsAnswer·unionBounds}
-use Rattle.bounds_query.proofs.Union.{union-accepted}
 use Rattle.bounds_query.proofs.Accepted.{refusal-accepted}
 use Rattle.unit_interval.specs.Unit.{unitInterval, slice}
 use Rattle.unit_interval.proofs.Slices.{slice-unit}
@@ -40,9 +41,24 @@ use Rattle.animated_transform.specs.Built.{StoredPose, Built}
 use Rattle.animated_transform.proofs.Built.{built-judged}
 use Rattle.motion_point.specs.TransformPoint.{AnimatedTransform·rigidMotion}
 use Rattle.motion_point.proofs.Built.{built-valid, built-scales}
-use Rattle.motion_cover.specs.Cover.{BoundsAnswer·fromEnclosure, Transform·encloseBounds, AnimatedTransform·encloseBounds, AnimatedTransform·encloseEnds, unionSlices, AnimatedTransform·encloseMotion, AnimatedTransform·cover}
+use Rattle.motion_cover.specs.Cover.{BoundsAnswer·fromEnclosure, Transform·encloseBounds, AnimatedTransform·encloseBounds, AnimatedTransform·encloseEnds, unionSlices, AnimatedTransform·encloseMotion, coverRefusal, AnimatedTransform·cover}
 use Rattle.motion_cover.specs.Answer.{Proper}
-use Rattle.motion_cover.proofs.Contains.{from-enclosure-accepted, motion-stored, motion-slices, cover-accepted, cover-box}
+use Rattle.motion_cover.proofs.Contains.{motion-stored, motion-slices, cover-box}
+
+-- ---- a box, and a number that was tested
+box-proper : (b : Bounds3f) → T (Bounds3f·isFinite b) → InOrder b → Proper (Bounds b)
+box-proper b f o = record { finite = λ _. f; order = λ _. o }
+
+tested : (n : ℕ) (r : BoundsAnswer) → (n ≡ 0 → Proper r) → Proper (cond (eqb n 0) r (Refused n))
+tested n r p = go (eqb n 0) (eqb-true n 0) (eqb-false n 0)
+  where
+    go : (b : Bool) → (b ≡ true → n ≡ 0) → (b ≡ false → n ≡ 0 → ⊥) → Proper (cond b r (Refused n))
+    go true f g = p (f refl)
+    go false f g = record { finite = λ e. absurd (g refl e); order = λ e. absurd (g refl e) }
+
+-- The order of a box that was answered.
+pub box-order : {r : BoundsAnswer} {box : Bounds3f} → Proper r → r ≡ Bounds box → InOrder box
+box-order p e = subst InOrder (ap BoundsAnswer·bounds e) (p .order (ap BoundsAnswer·refusal e))
 
 -- ---- an enclosure
 refines-finite : (W : IntervalVector) → Pairwise Refines (IntervalVector·list W) (IntervalVector·list W) → T (Bounds3f·isFinite (IntervalVector·bounds W))
@@ -51,11 +67,12 @@ refines-finite W (x, (y, (z, e))) =
     (record { x = x .finite .low; y = y .finite .low; z = z .finite .low })
     (record { x = x .finite .high; y = y .finite .high; z = z .finite .high })
 
-enclosure-proper : (j : JudgedVector) → (j .refusal ≡ 0 → Pairwise Refines (IntervalVector·list (j .vector)) (IntervalVector·list (j .vector))) → Proper (BoundsAnswer·fromEnclosure j)
-enclosure-proper j f = record {
-  finite = λ box e. let g = from-enclosure-accepted j box e in subst (λ (b : Bounds3f). T (Bounds3f·isFinite b)) (g .bounds) (refines-finite (j .vector) (f (g .accepted)));
-  order = λ box e. let g = from-enclosure-accepted j box e in subst InOrder (g .bounds) (refines-order (j .vector) (j .vector) (f (g .accepted)));
-}
+enclosure-proper : (j : JudgedVector) → (j .refusal ≡ 0 → Pairwise Refines (IntervalVector·list (j .vector)) (IntervalVector·list (j .vector)))
+    → Proper (BoundsAnswer·fromEnclosure j)
+unfolding BoundsAnswer·fromEnclosure
+enclosure-proper j f =
+    let box = IntervalVector·bounds (j .vector) in
+    tested (j .refusal) (Bounds box) (λ e. box-proper box (refines-finite (j .vector) (f e)) (refines-order (j .vector) (j .vector) (f e)))
 
 -- ---- unions
 union-order : (a b : Bounds3f) → T (Bounds3f·isFinite a) → InOrder a → InOrder (Bounds3f·unionBounds a b)
@@ -71,15 +88,11 @@ union-order a b f o =
     record { x = ≼-trans (u .x .0) (u .x .1); y = ≼-trans (u .y .0) (u .y .1); z = ≼-trans (u .z .0) (u .z .1) }
 
 pub union-proper : (r s : BoundsAnswer) → Proper r → Proper s → Proper (BoundsAnswer·unionBounds r s)
-union-proper r s f g = record {
-  finite = λ box e.
-      let j = union-accepted r s box e in
-      subst (λ (b : Bounds3f). T (Bounds3f·isFinite b)) (j .union)
-      (union-finite (j .left) (j .right) (f .finite (j .left) (j .left-accepted)) (g .finite (j .right) (j .right-accepted)));
-  order = λ box e.
-      let j = union-accepted r s box e in
-      subst InOrder (j .union) (union-order (j .left) (j .right) (f .finite (j .left) (j .left-accepted)) (f .order (j .left) (j .left-accepted)));
-}
+unfolding BoundsAnswer·unionBounds
+union-proper (Bounds a) (Bounds b) f g =
+    box-proper (Bounds3f·unionBounds a b) (union-finite a b (f .finite refl) (g .finite refl)) (union-order a b (f .finite refl) (f .order refl))
+union-proper (Bounds a) (Refused n) f g = g
+union-proper (Refused n) s f g = f
 
 -- ---- an interval in another lies in itself
 pub subset-self : {D E : Interval} → Subset D E → Subset D D
@@ -138,10 +151,5 @@ module _ {m : AnimatedTransform} (built : Built m) (b : Bounds3f) (r : BoxRefine
       go true e = subst Proper (sym (motion-slices m b d e)) (slices-proper d (2 ^ d) (omega arith))
 
 pub cover-proper : {m : AnimatedTransform} → Built m → (b : Bounds3f) (d : ℕ) → Proper (AnimatedTransform·cover m b d)
-cover-proper {m} built b d =
-    let refines : (box : Bounds3f) → AnimatedTransform·cover m b d ≡ Bounds box → BoxRefines b =
-    λ box e. box-refines b (cover-box b d (cover-accepted m b d box e .arguments)) in
-    record {
-      finite = λ box e. motion-proper built b (refines box e) d .finite box (cover-accepted m b d box e .motion);
-      order = λ box e. motion-proper built b (refines box e) d .order box (cover-accepted m b d box e .motion);
-    }
+unfolding AnimatedTransform·cover
+cover-proper {m} built b d = tested (coverRefusal b d) (AnimatedTransform·encloseMotion m b d) (λ e. motion-proper built b (box-refines b (cover-box b d e)) d)

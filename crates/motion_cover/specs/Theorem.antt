@@ -3,10 +3,10 @@
 -- Take any two poses and times from which a move is built, any box, and any depth at which the cover of the box is accepted. Then at every time but NaN, both infinities
 -- included, and for every point of the box, the point query answers a moved point, and that point is inside the cover on all three axes.
 --
---   Built m                            m is what building gives, unrefused, for two poses whose times are binary32     crates/animated_transform/specs/Built.antt
---   c ≡ Bounds box                     the cover is accepted, and box is what it answers                               crates/transform/src/lib.rt, `BoundsAnswer`
---   AnimatedTransform·transformPoint   the point query                                                                crates/motion_point/specs/TransformPoint.antt
---   Inside                             low ≤ value ≤ high on all three axes                                           crates/bounds3/specs/Inside.antt
+--   Built m                          m is what building gives, unrefused, for two poses whose times are binary32 crates/animated_transform/specs/Built.antt
+--   BoundsAnswer·refusal c ≡ 0       the cover is accepted, and `BoundsAnswer·bounds c` is its box               crates/transform/specs/Answer.antt
+--   AnimatedTransform·transformPoint the point query, whose answer has a number and a point likewise             crates/motion_point/specs/TransformPoint.antt
+--   Inside                           low ≤ value ≤ high on all three axes                                        crates/bounds3/specs/Inside.antt
 --
 -- The contract of `cover` says `CoverContainsMotion m b r` of what it returns, beside `r ≡ AnimatedTransform·cover m b depth`.
 use mathlib.Core.Path.{_≡_}
@@ -17,22 +17,20 @@ use Rattle.bounds3.specs.declared.Point3f.{Point3f}
 use Rattle.bounds3.specs.declared.Bounds3f.{Bounds3f}
 use Rattle.bounds3.specs.Inside.{Inside}
 use Rattle.transform.specs.declared.PointAnswer.{PointAnswer}
-use Rattle.transform.specs.declared.PointAnswer.the-variants.{Moved}
 use Rattle.transform.specs.declared.BoundsAnswer.{BoundsAnswer}
-use Rattle.transform.specs.declared.BoundsAnswer.the-variants.{Bounds}
+use Rattle.transform.specs.Answer.{PointAnswer·refusal, PointAnswer·point, BoundsAnswer·refusal, BoundsAnswer·bounds}
 use Rattle.animated_transform.specs.declared.AnimatedTransform.{AnimatedTransform}
 use Rattle.animated_transform.specs.Built.{Built}
 use Rattle.motion_point.specs.TransformPoint.{AnimatedTransform·transformPoint}
 
--- The answer is a moved point, and it is inside the box.
+-- The answer is not refused, and its point is inside the box.
 pub record MovedInside (box : Bounds3f) (answer : PointAnswer) : Type 0 where
-  pub point : Point3f
-  pub moved : answer ≡ Moved point
-  pub inside : Inside box point
+  pub accepted : PointAnswer·refusal answer ≡ 0
+  pub inside : Inside box (PointAnswer·point answer)
 
 -- m is the move, b the box of points, c what the cover query answered.
 abbrev pub CoverContainsMotion : AnimatedTransform → Bounds3f → BoundsAnswer → Type 0
 CoverContainsMotion m b c =
-    (box : Bounds3f) (time : Float) (p : Point3f)
-    → Built m → c ≡ Bounds box → T (not (isNan time)) → Inside b p
-    → MovedInside box (AnimatedTransform·transformPoint m time p)
+    (time : Float) (p : Point3f)
+    → Built m → BoundsAnswer·refusal c ≡ 0 → T (not (isNan time)) → Inside b p
+    → MovedInside (BoundsAnswer·bounds c) (AnimatedTransform·transformPoint m time p)

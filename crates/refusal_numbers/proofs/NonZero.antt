@@ -1,19 +1,18 @@
--- No query answers a refusal by 0: `point-nonzero`, `point-motion-nonzero`, `motion-nonzero`, `cover-nonzero`. A number is refused only after the test that it isn't 0, and a union
--- keeps one of its parts' numbers.
-use Prim.Native.Nat.{ℕ, zero, suc, _^_}
-use mathlib.Core.Path.{_≡_, refl}
-use mathlib.Core.Bool.{Bool, true, false, not, _&&_, _||_, cond}
+-- No point query and no motion box is refused with 0: `point-nonzero`, `rows-point-nonzero`, `point-motion-nonzero`, `motion-nonzero`; of a cover it is
+-- `cover-nonzero` of `motion_cover`. A number is refused only after the test that it isn't 0, and a union keeps one of its parts' numbers.
+use Prim.Native.Nat.{ℕ}
+use mathlib.Core.Path.{_≡_}
+use mathlib.Core.Bool.{not, _&&_, _||_}
 use mathlib.Core.List.{List}
 use native.Mathlib.Omega.{arith}
 use lib.Dec.{eqb}
 use lib.ListN.{getD}
 use lib.Ieee.{Float, nan, isNan}
-use borrow.Author.Tests.{eqb-false}
 use Rattle.bounds3.specs.declared.Point3f.{Point3f}
 use Rattle.bounds3.specs.declared.Bounds3f.{Bounds3f}
 use Rattle.bounds3.specs.Bounds3f.{Bounds3f·default, Bounds3f·corner}
 use Rattle.bounds3.specs.Finite.{Point3f·isFinite}
-use Rattle.matrix4x4.specs.Rows.{Matrix4x4·toRows}
+use Rattle.matrix4x4.specs.Rows.{Rows, Matrix4x4·toRows}
 use Rattle.control_flow.proofs.Loop.{loop-keeps}
 use Rattle.control_flow.proofs.Choice.{cond-keeps}
 use Rattle.transform.specs.declared.Transform.{Transform}
@@ -23,27 +22,22 @@ use Rattle.transform.specs.declared.BoundsAnswer.{BoundsAnswer}
 use Rattle.transform.specs.declared.BoundsAnswer.the-variants as bounds
 use Rattle.transform.specs.TransformPoint.{movedPoint, judged, Transform·transformPoint}
 use Rattle.transform.specs.TransformBounds as transform
-use Rattle.bounds_query.specs.Query.{Bounds3f·refusal, BoundsAnswer·unionBounds}
+use Rattle.bounds_query.specs.Query.{Bounds3f·refusal}
 use Rattle.axis_derivative.specs.declared.Derivative.{Derivative}
-use Rattle.unit_interval.specs.Unit.{slice, dt}
+use Rattle.unit_interval.specs.Unit.{dt}
 use Rattle.pose_steps.specs.declared.RigidMotion.{RigidMotion}
-use Rattle.pose_steps.specs.declared.JudgedVector.{JudgedVector}
 use Rattle.pose_steps.specs.Pose.{Pose·matrix, Pose·transformPoint, Pose·movedPoint}
-use Rattle.pose_steps.specs.Enclose.{Pose·enclosePoint, Bounds3f·intervals, IntervalVector·bounds}
-use Rattle.stored_box.specs.EnclosePoints.{Transform·enclosePoints}
 use Rattle.animated_transform.specs.declared.AnimatedTransform.{AnimatedTransform}
 use Rattle.animated_transform.specs.AtTime.{atStart, atEnd}
 use Rattle.motion_point.specs.TransformPoint.{AnimatedTransform·rigidMotion, AnimatedTransform·movedPoint, AnimatedTransform·transformPoint}
 use Rattle.motion_bounds.specs.MotionBounds.{BoundsAnswer·fromEnds, allPlaces, axisZeros, pointAt, unionZero, unionZeros, unionAxis, pointBounds, unionCorner, unionCorners, boxBounds, boundPointMotion, motionBounds, AnimatedTransform·boundPointMotion, AnimatedTransform·motionBounds}
-use Rattle.motion_cover.specs.Cover.{BoundsAnswer·fromEnclosure, Transform·encloseBounds, AnimatedTransform·encloseBounds, AnimatedTransform·encloseEnds, unionSlices, AnimatedTransform·encloseMotion, coverRefusal, AnimatedTransform·cover}
+use Rattle.motion_cover.proofs.NonZero.{BoundsAnswer·NonZero, tested-nonzero, union-nonzero}
+use Rattle.motion_rows.specs.Rows.{AnimatedTransform·fromRows, RigidMotion·fromRows}
+use Rattle.motion_rows.specs.TransformPoint.{Rows·transformPoint}
 
 abbrev pub PointAnswer·NonZero : PointAnswer → Type 0
 PointAnswer·NonZero (point.Moved p) = Unit {0}
 PointAnswer·NonZero (point.Refused n) = n ≡ 0 → ⊥
-
-abbrev pub BoundsAnswer·NonZero : BoundsAnswer → Type 0
-BoundsAnswer·NonZero (bounds.Bounds b) = Unit {0}
-BoundsAnswer·NonZero (bounds.Refused n) = n ≡ 0 → ⊥
 
 -- ---- points
 five : PointAnswer·NonZero (point.Refused 5)
@@ -74,15 +68,13 @@ unfolding AnimatedTransform·transformPoint
 point-nonzero m time p =
     cond-keeps PointAnswer·NonZero (isNan time || not (Point3f·isFinite p)) (point.Refused 6) _ six (moved-point-nonzero m (AnimatedTransform·rigidMotion m) time p)
 
--- ---- boxes
--- A number that was tested.
-tested : (n : ℕ) (r : BoundsAnswer) → BoundsAnswer·NonZero r → BoundsAnswer·NonZero (cond (eqb n 0) r (bounds.Refused n))
-tested n r p = go (eqb n 0) (eqb-false n 0)
-  where
-    go : (b : Bool) → (b ≡ false → n ≡ 0 → ⊥) → BoundsAnswer·NonZero (cond b r (bounds.Refused n))
-    go true f = p
-    go false f = f refl
+pub rows-point-nonzero : (rows : Rows) (time : Float) (p : Point3f) → PointAnswer·NonZero (Rows·transformPoint rows time p)
+unfolding Rows·transformPoint
+rows-point-nonzero rows time p =
+    cond-keeps PointAnswer·NonZero (isNan time || not (Point3f·isFinite p)) (point.Refused 6) _ six
+    (moved-point-nonzero (AnimatedTransform·fromRows rows) (RigidMotion·fromRows rows) time p)
 
+-- ---- boxes
 from-moved-nonzero : (a : PointAnswer) → PointAnswer·NonZero a → BoundsAnswer·NonZero (transform.BoundsAnswer·fromMoved a)
 unfolding transform.BoundsAnswer·fromMoved
 from-moved-nonzero (point.Moved p) h = tt
@@ -93,12 +85,6 @@ unfolding transform.BoundsAnswer·unionMoved
 union-moved-nonzero (bounds.Bounds b) (point.Moved p) h k = tt
 union-moved-nonzero (bounds.Bounds b) (point.Refused n) h k = k
 union-moved-nonzero (bounds.Refused n) a h k = h
-
-union-nonzero : (r s : BoundsAnswer) → BoundsAnswer·NonZero r → BoundsAnswer·NonZero s → BoundsAnswer·NonZero (BoundsAnswer·unionBounds r s)
-unfolding BoundsAnswer·unionBounds
-union-nonzero (bounds.Bounds a) (bounds.Bounds b) h k = tt
-union-nonzero (bounds.Bounds a) (bounds.Refused n) h k = k
-union-nonzero (bounds.Refused n) s h k = h
 
 from-ends-nonzero : (a b : PointAnswer) → PointAnswer·NonZero a → PointAnswer·NonZero b → BoundsAnswer·NonZero (BoundsAnswer·fromEnds a b)
 unfolding BoundsAnswer·fromEnds
@@ -128,7 +114,7 @@ zeros-nonzero m a p zeros n = loop-keeps (λ _. BoundsAnswer·NonZero) (λ k. un
 axis-nonzero : (m : AnimatedTransform) (a : RigidMotion) (p : Point3f) (d : Derivative) (r : BoundsAnswer) → BoundsAnswer·NonZero r → BoundsAnswer·NonZero (unionAxis allPlaces m a p d r)
 unfolding unionAxis
 axis-nonzero m a p d (bounds.Refused n) h = h
-axis-nonzero m a p d (bounds.Bounds b) h = let z = axisZeros a p d in tested (z .refusal) _ (zeros-nonzero m a p (z .zeros) 8 (bounds.Bounds b) tt)
+axis-nonzero m a p d (bounds.Bounds b) h = let z = axisZeros a p d in tested-nonzero (z .refusal) _ (zeros-nonzero m a p (z .zeros) 8 (bounds.Bounds b) tt)
 
 point-bounds-nonzero : (m : AnimatedTransform) (a : RigidMotion) (p : Point3f) → BoundsAnswer·NonZero (pointBounds allPlaces m a p)
 unfolding pointBounds
@@ -158,30 +144,4 @@ point-motion-nonzero m p = cond-keeps BoundsAnswer·NonZero (not (Point3f·isFin
 
 pub motion-nonzero : (m : AnimatedTransform) (b : Bounds3f) → BoundsAnswer·NonZero (AnimatedTransform·motionBounds m b)
 unfolding motionBounds
-motion-nonzero m b = tested (Bounds3f·refusal b) _ (box-bounds-nonzero m b)
-
--- ---- the cover
-enclosure-nonzero : (j : JudgedVector) → BoundsAnswer·NonZero (BoundsAnswer·fromEnclosure j)
-unfolding BoundsAnswer·fromEnclosure
-enclosure-nonzero j = tested (j .refusal) (bounds.Bounds (IntervalVector·bounds (j .vector))) tt
-
-stored-nonzero : (t : Transform) (b : Bounds3f) → BoundsAnswer·NonZero (Transform·encloseBounds t b)
-unfolding Transform·encloseBounds
-stored-nonzero t b = enclosure-nonzero (Transform·enclosePoints t b)
-
-slices-nonzero : (m : AnimatedTransform) (a : RigidMotion) (b : Bounds3f) (d : ℕ) (r : BoundsAnswer) → BoundsAnswer·NonZero r → (k : ℕ) → BoundsAnswer·NonZero (unionSlices m a b d r k)
-unfolding unionSlices AnimatedTransform·encloseBounds
-slices-nonzero m a b d r h zero = h
-slices-nonzero m a b d r h (suc k) =
-    union-nonzero (unionSlices m a b d r k) _ (slices-nonzero m a b d r h k) (enclosure-nonzero (Pose·enclosePoint a (m .s0) (m .s1) (slice d k) (Bounds3f·intervals b)))
-
-enclose-motion-nonzero : (m : AnimatedTransform) (b : Bounds3f) (d : ℕ) → BoundsAnswer·NonZero (AnimatedTransform·encloseMotion m b d)
-unfolding AnimatedTransform·encloseMotion AnimatedTransform·encloseEnds
-enclose-motion-nonzero m b d =
-    let start = stored-nonzero (m .«start_transform») b in
-    cond-keeps BoundsAnswer·NonZero (m .«actually_animated») _ _
-    (slices-nonzero m (AnimatedTransform·rigidMotion m) b d _ (union-nonzero _ _ start (stored-nonzero (m .«end_transform») b)) (2 ^ d)) start
-
-pub cover-nonzero : (m : AnimatedTransform) (b : Bounds3f) (d : ℕ) → BoundsAnswer·NonZero (AnimatedTransform·cover m b d)
-unfolding AnimatedTransform·cover
-cover-nonzero m b d = tested (coverRefusal b d) _ (enclose-motion-nonzero m b d)
+motion-nonzero m b = tested-nonzero (Bounds3f·refusal b) _ (box-bounds-nonzero m b)

@@ -1,24 +1,36 @@
--- Building, every query and the answer to any file give document 01's numbers alone: `every-answer`. The numbers are each crate's own laws; that no refusal carries 0 is `NonZero.antt`.
+-- Building, every query and the answer to any file give document 01's numbers alone: `every-answer`. The numbers and the refused structs are each crate's own
+-- laws; that no refusal carries 0 is `NonZero.antt`.
 use Prim.Native.Nat.{ℕ}
-use mathlib.Core.Path.{_≡_}
+use mathlib.Core.Path.{_≡_, refl}
+use mathlib.Core.Bool.{not, _||_}
 use mathlib.Core.Logic.{_⊎_, inl, inr}
 use mathlib.Core.List.{[], _∷_}
-use Rattle.transform.specs.Answer.{OneOf}
+use lib.Ieee.{Float, isNan}
+use Rattle.control_flow.proofs.Choice.{cond-keeps}
+use Rattle.matrix4x4.specs.Rows.{Rows}
+use Rattle.bounds3.specs.declared.Point3f.{Point3f}
+use Rattle.bounds3.specs.Finite.{Point3f·isFinite}
+use Rattle.transform.specs.declared.PointAnswer.{PointAnswer}
+use Rattle.transform.specs.declared.PointAnswer.the-variants.{Refused}
+use Rattle.transform.specs.Answer.{OneOf, PointAnswer·refusal}
 use Rattle.animated_transform.specs.New.{AnimatedTransform·new}
-use Rattle.animated_transform.proofs.Numbers.{new-refusal}
+use Rattle.animated_transform.proofs.Numbers.{new-refusal, new-refused}
 use Rattle.motion_point.specs.TransformPoint.{AnimatedTransform·transformPoint}
-use Rattle.motion_point.proofs.Query.{transform-point-answered}
+use Rattle.motion_point.proofs.Query.{moved-point-judged, transform-point-answered}
+use Rattle.motion_rows.specs.Rows.{AnimatedTransform·fromRows, RigidMotion·fromRows}
+use Rattle.motion_rows.specs.TransformPoint.{Rows·transformPoint}
 use Rattle.interpolation.specs.Promise.{InterpolationNumber}
-use Rattle.interpolation.proofs.Numbers.{interpolate-refusal}
+use Rattle.interpolation.proofs.Numbers.{interpolate-refusal, interpolate-refused}
 use Rattle.motion_bounds.specs.MotionBounds.{AnimatedTransform·boundPointMotion, AnimatedTransform·motionBounds}
 use Rattle.motion_bounds.proofs.Numbers.{bound-point-motion-numbers, motion-bounds-numbers}
 use Rattle.motion_cover.specs.Cover.{AnimatedTransform·cover}
 use Rattle.motion_cover.specs.Answer.{CoverNumber}
 use Rattle.motion_cover.proofs.Number.{cover-number}
 use Rattle.refusal_numbers.specs.Numbers.{EveryAnswer}
-use Rattle.refusal_numbers.proofs.NonZero.{point-nonzero, point-motion-nonzero, motion-nonzero, cover-nonzero}
-use Rattle.refusal_numbers.proofs.Refused.{point-refused, bounds-refused, up-to-five}
-use Rattle.refusal_numbers.proofs.File.{file-refused}
+use Rattle.motion_cover.proofs.NonZero.{cover-nonzero}
+use Rattle.refusal_numbers.proofs.NonZero.{point-nonzero, rows-point-nonzero, point-motion-nonzero, motion-nonzero}
+use Rattle.refusal_numbers.proofs.Refused.{point-numbered, bounds-numbered, up-to-five}
+use Rattle.refusal_numbers.proofs.File.{file-numbered}
 
 interpolate-number : {n : ℕ} → InterpolationNumber n → OneOf n (0 ∷ 4 ∷ 5 ∷ 6 ∷ [])
 interpolate-number (inl e) = inl e
@@ -39,13 +51,26 @@ cover-one-of (inr (inr (inr (inl e)))) = inl e
 cover-one-of (inr (inr (inr (inr (inl e))))) = inr (inl e)
 cover-one-of (inr (inr (inr (inr (inr e))))) = inr (inr (inr (inr (inr (inl e)))))
 
+rows-point-number : (rows : Rows) (time : Float) (p : Point3f) → OneOf (PointAnswer·refusal (Rows·transformPoint rows time p)) (0 ∷ 5 ∷ 6 ∷ [])
+unfolding Rows·transformPoint
+rows-point-number rows time p =
+    cond-keeps (λ (a : PointAnswer). OneOf (PointAnswer·refusal a) (0 ∷ 5 ∷ 6 ∷ [])) (isNan time || not (Point3f·isFinite p)) (Refused 6) _
+    (inr (inr (inl refl)))
+    (worked (moved-point-judged (AnimatedTransform·fromRows rows) (RigidMotion·fromRows rows) time p .number))
+  where
+    worked : {n : ℕ} → (n ≡ 0) ⊎ (n ≡ 5) → OneOf n (0 ∷ 5 ∷ 6 ∷ [])
+    worked (inl e) = inl e
+    worked (inr e) = inr (inl e)
+
 pub every-answer : EveryAnswer
 every-answer = record {
-  building = λ start end. up-to-five (AnimatedTransform·new start end .refusal) (new-refusal start end);
-  point = λ m time p. point-refused (5 ∷ 6 ∷ []) (AnimatedTransform·transformPoint m time p) (point-nonzero m time p) (point-number (transform-point-answered m time p .number));
-  interpolate = λ m time. interpolate-number (interpolate-refusal m time);
-  point-motion = λ m p. bounds-refused (5 ∷ 6 ∷ 9 ∷ []) (AnimatedTransform·boundPointMotion m p) (point-motion-nonzero m p) (bound-point-motion-numbers m p .number);
-  motion = λ m b. bounds-refused (5 ∷ 6 ∷ 7 ∷ 9 ∷ []) (AnimatedTransform·motionBounds m b) (motion-nonzero m b) (motion-bounds-numbers m b .number);
-  cover = λ m b d. bounds-refused (5 ∷ 6 ∷ 7 ∷ 8 ∷ 10 ∷ []) (AnimatedTransform·cover m b d) (cover-nonzero m b d) (cover-one-of (cover-number m b d));
-  file = file-refused;
+  building = λ start end. record { number = up-to-five (AnimatedTransform·new start end .refusal) (new-refusal start end); refused = new-refused start end };
+  point = λ m time p.
+      point-numbered (AnimatedTransform·transformPoint m time p) (point-nonzero m time p) (point-number (transform-point-answered m time p .number));
+  rows-point = λ rows time p. point-numbered (Rows·transformPoint rows time p) (rows-point-nonzero rows time p) (rows-point-number rows time p);
+  interpolate = λ m time. record { number = interpolate-number (interpolate-refusal m time); refused = interpolate-refused m time };
+  point-motion = λ m p. bounds-numbered (AnimatedTransform·boundPointMotion m p) (point-motion-nonzero m p) (bound-point-motion-numbers m p .number);
+  motion = λ m b. bounds-numbered (AnimatedTransform·motionBounds m b) (motion-nonzero m b) (motion-bounds-numbers m b .number);
+  cover = λ m b d. bounds-numbered (AnimatedTransform·cover m b d) (cover-nonzero m b d) (cover-one-of (cover-number m b d));
+  file = file-numbered;
 }

@@ -1,4 +1,4 @@
--- From an answer's number to the list of its refusals: `point-refused`, `bounds-refused`, `up-to-five`.
+-- An answer that isn't refused with 0, and its number: `point-numbered`, `bounds-numbered`; building's numbers, `up-to-five`.
 use Prim.Native.Nat.{ℕ, zero, suc, _≤_}
 use mathlib.Core.Path.{_≡_, refl}
 use mathlib.Core.Logic.{inl, inr}
@@ -7,21 +7,17 @@ use native.Mathlib.Omega.{arith}
 use Rattle.transform.specs.declared.PointAnswer.{PointAnswer}
 use Rattle.transform.specs.declared.PointAnswer.the-variants as point
 use Rattle.transform.specs.declared.BoundsAnswer.{BoundsAnswer}
-use Rattle.transform.specs.declared.BoundsAnswer.the-variants as bounds
 use Rattle.transform.specs.Answer.{OneOf, PointAnswer·refusal, BoundsAnswer·refusal}
-use Rattle.refusal_numbers.specs.Numbers.{PointAnswer·RefusedBy, BoundsAnswer·RefusedBy}
-use Rattle.refusal_numbers.proofs.NonZero.{PointAnswer·NonZero, BoundsAnswer·NonZero}
+use Rattle.motion_cover.proofs.NonZero.{BoundsAnswer·NonZero, nonzero-box}
+use Rattle.refusal_numbers.specs.Numbers.{PointAnswer·Numbered, BoundsAnswer·Numbered}
+use Rattle.refusal_numbers.proofs.NonZero.{PointAnswer·NonZero}
 
--- A refusal that isn't 0 is one of the other numbers.
-pub point-refused : (numbers : List ℕ) (a : PointAnswer) → PointAnswer·NonZero a → OneOf (PointAnswer·refusal a) (0 ∷ numbers) → PointAnswer·RefusedBy numbers a
-point-refused numbers (point.Moved p) h k = tt
-point-refused numbers (point.Refused n) h (inl e) = absurd (h e)
-point-refused numbers (point.Refused n) h (inr k) = k
+pub point-numbered : {numbers : List ℕ} (a : PointAnswer) → PointAnswer·NonZero a → OneOf (PointAnswer·refusal a) numbers → PointAnswer·Numbered numbers a
+point-numbered (point.Moved p) h k = record { number = k; none = λ _. refl }
+point-numbered (point.Refused n) h k = record { number = k; none = λ e. absurd (h e) }
 
-pub bounds-refused : (numbers : List ℕ) (a : BoundsAnswer) → BoundsAnswer·NonZero a → OneOf (BoundsAnswer·refusal a) (0 ∷ numbers) → BoundsAnswer·RefusedBy numbers a
-bounds-refused numbers (bounds.Bounds b) h k = tt
-bounds-refused numbers (bounds.Refused n) h (inl e) = absurd (h e)
-bounds-refused numbers (bounds.Refused n) h (inr k) = k
+pub bounds-numbered : {numbers : List ℕ} (a : BoundsAnswer) → BoundsAnswer·NonZero a → OneOf (BoundsAnswer·refusal a) numbers → BoundsAnswer·Numbered numbers a
+bounds-numbered a h k = record { number = k; none = nonzero-box a h }
 
 -- building's numbers
 pub up-to-five : (n : ℕ) → n ≤ 5 → OneOf n (0 ∷ 1 ∷ 2 ∷ 3 ∷ 4 ∷ 5 ∷ [])

@@ -1,43 +1,61 @@
 -- Any move handed in, whatever numbers are in it, is built or refused by one of document 01's numbers, and so are every query and every file: `EveryAnswer`, on one page.
--- A refusal never carries 0, which stands for none. The structs and arguments are all structs and arguments; the search of a motion box, the polar rounds and the slices end
--- because their functions are proved to. The statement of `every-answer`.
+-- 0 is none: no refusal carries it, and after a refusal every other number is +0 and every yes or no is no. The structs, rows and arguments are all structs,
+-- rows and arguments; the search of a motion box, the polar rounds and the slices end because their functions are proved to. The statement of `every-answer`.
 use Prim.Native.Nat.{ℕ}
+use mathlib.Core.Path.{_≡_}
 use mathlib.Core.List.{List, [], _∷_}
 use lib.Ieee.{Float}
+use Rattle.matrix4x4.specs.Rows.{Rows}
 use Rattle.bounds3.specs.declared.Point3f.{Point3f}
 use Rattle.bounds3.specs.declared.Bounds3f.{Bounds3f}
+use Rattle.transform.specs.declared.TransformAnswer.{TransformAnswer}
 use Rattle.transform.specs.declared.PointAnswer.{PointAnswer}
-use Rattle.transform.specs.declared.PointAnswer.the-variants as point
+use Rattle.transform.specs.declared.PointAnswer.the-variants.{Moved}
 use Rattle.transform.specs.declared.BoundsAnswer.{BoundsAnswer}
-use Rattle.transform.specs.declared.BoundsAnswer.the-variants as bounds
-use Rattle.transform.specs.Answer.{OneOf}
+use Rattle.transform.specs.declared.BoundsAnswer.the-variants.{Bounds}
+use Rattle.transform.specs.Answer.{OneOf, PointAnswer·refusal, PointAnswer·point, BoundsAnswer·refusal, BoundsAnswer·bounds}
+use Rattle.transform.specs.Transform.{TransformAnswer·refused}
 use Rattle.pose_pair.specs.declared.Pose.{Pose}
 use Rattle.animated_transform.specs.declared.AnimatedTransform.{AnimatedTransform}
-use Rattle.animated_transform.specs.New.{AnimatedTransform·new}
+use Rattle.animated_transform.specs.declared.AnimatedTransformAnswer.{AnimatedTransformAnswer}
+use Rattle.animated_transform.specs.New.{AnimatedTransformAnswer·refused, AnimatedTransform·new}
 use Rattle.motion_point.specs.TransformPoint.{AnimatedTransform·transformPoint}
+use Rattle.motion_rows.specs.TransformPoint.{Rows·transformPoint}
 use Rattle.interpolation.specs.Interpolate.{AnimatedTransform·interpolate}
 use Rattle.motion_bounds.specs.MotionBounds.{AnimatedTransform·boundPointMotion, AnimatedTransform·motionBounds}
 use Rattle.motion_cover.specs.Cover.{AnimatedTransform·cover}
 use Rattle.motion_file.specs.Layout.{MoveFile·read}
 use Rattle.motion_answer.specs.Answer.{MoveFile·cover}
 
--- A moved point, or a refusal by one of the numbers.
-abbrev pub PointAnswer·RefusedBy : List ℕ → PointAnswer → Type 0
-PointAnswer·RefusedBy numbers (point.Moved p) = Unit {0}
-PointAnswer·RefusedBy numbers (point.Refused n) = OneOf n numbers
+-- ---- an answer and its number
+-- The number is one of those listed, and an answer whose number is 0 is a moved point. (After a refusal the point is +0 by `PointAnswer·point`.)
+pub record PointAnswer·Numbered (numbers : List ℕ) (a : PointAnswer) : Type 0 where
+  pub number : OneOf (PointAnswer·refusal a) numbers
+  pub none : PointAnswer·refusal a ≡ 0 → a ≡ Moved (PointAnswer·point a)
 
--- A box, or a refusal by one of the numbers.
-abbrev pub BoundsAnswer·RefusedBy : List ℕ → BoundsAnswer → Type 0
-BoundsAnswer·RefusedBy numbers (bounds.Bounds b) = Unit {0}
-BoundsAnswer·RefusedBy numbers (bounds.Refused n) = OneOf n numbers
+-- The same of a box.
+pub record BoundsAnswer·Numbered (numbers : List ℕ) (a : BoundsAnswer) : Type 0 where
+  pub number : OneOf (BoundsAnswer·refusal a) numbers
+  pub none : BoundsAnswer·refusal a ≡ 0 → a ≡ Bounds (BoundsAnswer·bounds a)
 
--- document 01, Refusals. Where a struct has its number beside it, 0 is none.
+-- Of a struct with its number beside it: an answer whose number is not 0 is the refused one with that number, +0 and no throughout.
+pub record TransformAnswer·Numbered (numbers : List ℕ) (a : TransformAnswer) : Type 0 where
+  pub number : OneOf (a .refusal) numbers
+  pub refused : (a .refusal ≡ 0 → ⊥) → a ≡ TransformAnswer·refused (a .refusal)
+
+pub record AnimatedTransformAnswer·Numbered (numbers : List ℕ) (a : AnimatedTransformAnswer) : Type 0 where
+  pub number : OneOf (a .refusal) numbers
+  pub refused : (a .refusal ≡ 0 → ⊥) → a ≡ AnimatedTransformAnswer·refused (a .refusal)
+
+-- ---- document 01, Refusals
 pub record EveryAnswer : Type 0 where
-  pub building : (start end : Pose) → OneOf (AnimatedTransform·new start end .refusal) (0 ∷ 1 ∷ 2 ∷ 3 ∷ 4 ∷ 5 ∷ [])
-  pub point : (m : AnimatedTransform) (time : Float) (p : Point3f) → PointAnswer·RefusedBy (5 ∷ 6 ∷ []) (AnimatedTransform·transformPoint m time p)
-  pub interpolate : (m : AnimatedTransform) (time : Float) → OneOf (AnimatedTransform·interpolate m time .refusal) (0 ∷ 4 ∷ 5 ∷ 6 ∷ [])
-  pub point-motion : (m : AnimatedTransform) (p : Point3f) → BoundsAnswer·RefusedBy (5 ∷ 6 ∷ 9 ∷ []) (AnimatedTransform·boundPointMotion m p)
-  pub motion : (m : AnimatedTransform) (b : Bounds3f) → BoundsAnswer·RefusedBy (5 ∷ 6 ∷ 7 ∷ 9 ∷ []) (AnimatedTransform·motionBounds m b)
-  pub cover : (m : AnimatedTransform) (b : Bounds3f) (depth : ℕ) → BoundsAnswer·RefusedBy (5 ∷ 6 ∷ 7 ∷ 8 ∷ 10 ∷ []) (AnimatedTransform·cover m b depth)
-  -- the text for a file, whatever its bytes: it is asked at depth 10 and searches for no zeros, so that neither 8 nor 9 is among its numbers; 2 is listed with building's, though a file's bottom row is always right
-  pub file : (bytes : List ℕ) → BoundsAnswer·RefusedBy (1 ∷ 2 ∷ 3 ∷ 4 ∷ 5 ∷ 6 ∷ 7 ∷ 10 ∷ 11 ∷ []) (MoveFile·cover (MoveFile·read bytes))
+  pub building : (start end : Pose) → AnimatedTransformAnswer·Numbered (0 ∷ 1 ∷ 2 ∷ 3 ∷ 4 ∷ 5 ∷ []) (AnimatedTransform·new start end)
+  pub point : (m : AnimatedTransform) (time : Float) (p : Point3f) → PointAnswer·Numbered (0 ∷ 5 ∷ 6 ∷ []) (AnimatedTransform·transformPoint m time p)
+  -- the same query of a kept move, whatever its rows
+  pub rows-point : (rows : Rows) (time : Float) (p : Point3f) → PointAnswer·Numbered (0 ∷ 5 ∷ 6 ∷ []) (Rows·transformPoint rows time p)
+  pub interpolate : (m : AnimatedTransform) (time : Float) → TransformAnswer·Numbered (0 ∷ 4 ∷ 5 ∷ 6 ∷ []) (AnimatedTransform·interpolate m time)
+  pub point-motion : (m : AnimatedTransform) (p : Point3f) → BoundsAnswer·Numbered (0 ∷ 5 ∷ 6 ∷ 9 ∷ []) (AnimatedTransform·boundPointMotion m p)
+  pub motion : (m : AnimatedTransform) (b : Bounds3f) → BoundsAnswer·Numbered (0 ∷ 5 ∷ 6 ∷ 7 ∷ 9 ∷ []) (AnimatedTransform·motionBounds m b)
+  pub cover : (m : AnimatedTransform) (b : Bounds3f) (depth : ℕ) → BoundsAnswer·Numbered (0 ∷ 5 ∷ 6 ∷ 7 ∷ 8 ∷ 10 ∷ []) (AnimatedTransform·cover m b depth)
+  -- a file, whatever its bytes: its bottom rows are 0 0 0 1, it is asked at depth 10 and searches for no zeros, so that 2, 8 and 9 are not among its numbers
+  pub file : (bytes : List ℕ) → BoundsAnswer·Numbered (0 ∷ 1 ∷ 3 ∷ 4 ∷ 5 ∷ 6 ∷ 7 ∷ 10 ∷ 11 ∷ []) (MoveFile·cover (MoveFile·read bytes))

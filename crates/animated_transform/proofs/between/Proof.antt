@@ -3,7 +3,7 @@ use mathlib.Core.Path.{_≡_}
 use lib.Ieee.{lt}
 use Rattle.quaternion.specs.Slerp.{slerpThreshold}
 use Rattle.rotation_arc.specs.ArcCoefficients.{pairCoefficients}
-use Rattle.animated_transform.specs.New.{between}
+use Rattle.animated_transform.specs.New.{firstRefusal, between}
 use borrow.Author.Tests.{eq-eqb, ne-eqb}
 use borrow.Author.Needs.{needs}
 use Rattle.animated_transform.proofs.between.Statement.{statement}
@@ -33,9 +33,16 @@ refused-requires c κs = search needs
 returns : tie.Need-returns
 unfolding between
 returns c =
-    let dot = c .before .before .before .before .before .before .dot in
-    let coefficients : c .before .before .before .before .before .pair-coefficients .result ≡ pairCoefficients (lt (dot .result) slerpThreshold) _ _ _ _ _ _ (dot .result) = c .before .before .before .before .before .pair-coefficients .ensures in
-    rw (← c .before .before .before .before .before .before .before .before .before .flip .ensures, ← c .before .before .before .before .before .before .dot .ensures, ← coefficients, ← c .before .before .before .before .dot2 .ensures, ← c .before .before .before .dots-refusal .ensures, ← c .before .before .first-refusal .ensures, ne-eqb _ 0 (c .before .if1 .taken)) (c .refused .ensures)
+    let dots = c .before .before .before in
+    let pair = dots .before .before in
+    let dot = pair .before .dot in
+    let coefficients : pair .pair-coefficients .result ≡ pairCoefficients (lt (dot .result) slerpThreshold) _ _ _ _ _ _ (dot .result) =
+    pair .pair-coefficients .ensures in
+    let number : c .before .before .first-refusal .result ≡ firstRefusal (dots .dots-refusal .result) (pair .pair-coefficients .result .refusal) =
+    c .before .before .first-refusal .ensures in
+    let flip = pair .before .before .before .before .flip .ensures in
+    let met = ne-eqb _ 0 (c .before .if1 .taken) in
+    rw (← flip, ← dot .ensures, ← coefficients, ← dots .before .dot2 .ensures, ← dots .dots-refusal .ensures, ← number, met) (c .refused .ensures)
 
 eq-requires : tie.Need-eq-requires
 eq-requires c κs = search needs

@@ -19,13 +19,11 @@ put-motion-requires c κs = search needs
 
 returns : tie.Need-returns
 returns c =
-    let s = c .before .before .before .before .before in
-    let a = s .args in
-    let start = Pose·fromRows (a .start-time) (a .start .now) in
-    let end = Pose·fromRows (a .end-time) (a .end .now) in
-    build-clauses start end _ _ (a .motion .now) (s .good .0 .1) (s .good .1 .1 .0 .1)
-    (rw (c .put-motion .ensures .0, c .before .before .new .ensures, c .before .before .before .pose2 .ensures, c .before .before .before .before .pose .ensures))
-    (rw (c .put-motion .ensures .1, c .before .before .new .ensures, c .before .before .before .pose2 .ensures, c .before .before .before .before .pose .ensures))
+    let a = c .before .before .before .before .before .args in
+    let new = c .before .before .new in
+    build-clauses (Pose·fromRows (a .start-time) (a .start .now)) (Pose·fromRows (a .end-time) (a .end .now)) (new .result) _ _ (a .motion .now)
+    (rw (new .ensures .0, c .before .before .before .pose2 .ensures, c .before .before .before .before .pose .ensures)) (new .ensures .1)
+    (c .put-motion .ensures .0) (c .put-motion .ensures .1)
 
 pub jellyplain-build-spec : {M : Type 1} → statement M
 jellyplain-build-spec =

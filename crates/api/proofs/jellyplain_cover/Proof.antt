@@ -1,5 +1,5 @@
--- `jellyplain_cover` meets its contract: the cover of the move in the rows, and the guarantee of it (`kept-cover-contains`).
-use Rattle.api.proofs.Kept.{kept-cover-contains}
+-- `jellyplain_cover` meets its contract: the cover of the move in the rows, and the guarantee of it (`cover-clauses`).
+use Rattle.api.proofs.Kept.{cover-clauses}
 use borrow.Author.Needs.{needs}
 use Rattle.api.proofs.jellyplain_cover.Statement.{statement}
 use Rattle.api.proofs.jellyplain_cover.Tie as tie
@@ -18,8 +18,12 @@ put-bounds-requires c κs = search needs
 
 returns : tie.Need-returns
 returns c =
-    let a = c .before .before .before .before .before .args in
-    (rw (c .put-bounds .ensures .0, c .before .before .cover .ensures .0, c .before .before .before .bounds .ensures, c .before .before .before .before .from-rows .ensures), (rw (c .put-bounds .ensures .1, c .before .before .cover .ensures .0, c .before .before .before .bounds .ensures, c .before .before .before .before .from-rows .ensures), kept-cover-contains (a .motion .now) (a .b .now) (a .depth)))
+    let rows = c .before .before .before .before in
+    let bounds = c .before .before .before in
+    let a = rows .before .args in
+    cover-clauses (a .motion .now) (a .b .now) (a .depth) _ _ (a .bounds .now)
+    (rw (c .put-bounds .ensures .0, c .before .before .cover .ensures .0, bounds .bounds .ensures, rows .from-rows .ensures))
+    (rw (c .put-bounds .ensures .1, c .before .before .cover .ensures .0, bounds .bounds .ensures, rows .from-rows .ensures))
 
 pub jellyplain-cover-spec : {M : Type 1} → statement M
 jellyplain-cover-spec =

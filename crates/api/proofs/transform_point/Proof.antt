@@ -1,6 +1,6 @@
 -- `transform_point` meets its contract: one test of the time and of the point; `time != time` is the test for NaN (`differs-nan`).
 use Rattle.rounding.proofs.Order.{differs-nan}
-use Rattle.api.specs.Answers.{Rows·transformPoint}
+use Rattle.motion_rows.specs.TransformPoint.{Rows·transformPoint}
 use borrow.Author.Needs.{needs}
 use Rattle.api.proofs.transform_point.Statement.{statement}
 use Rattle.api.proofs.transform_point.Tie as tie

@@ -1,6 +1,6 @@
--- `answer` meets its contract: three calls in sequence.
+-- `answer` meets its contract: three calls in sequence (`answer-clauses`).
 use borrow.Author.Needs.{needs}
-use Rattle.motion_answer.specs.Answer.{answerText}
+use Rattle.motion_answer.proofs.Contains.{answer-clauses}
 use Rattle.motion_answer.proofs.answer.Statement.{statement}
 use Rattle.motion_answer.proofs.answer.Tie as tie
 
@@ -17,9 +17,12 @@ same-length : tie.Need-same-length
 same-length c = search needs
 
 returns : tie.Need-returns
-unfolding answerText
 returns c =
-    rw (← c .before .before .before .before .before .read .ensures, ← c .before .before .before .before .file-cover .ensures) (c .before .before .write .ensures)
+    let cover = c .before .before .before .before in
+    let read = cover .before in
+    let a = read .before .before .before .args in
+    answer-clauses (a .bytes .now) (a .out .now) _ _ (read .read .result) (cover .file-cover .result)
+    (read .read .ensures) (cover .file-cover .ensures .0) (cover .file-cover .ensures .1) (c .before .before .write .ensures)
 
 pub answer-spec : {M : Type 1} → statement M
 answer-spec = tie.close (tie.spec read-requires file-cover-requires write-requires same-length returns)

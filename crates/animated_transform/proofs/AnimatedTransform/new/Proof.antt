@@ -1,6 +1,7 @@
--- `new` meets its contract: the number of the poses chooses the case.
+-- `new` meets its contract: the number of the poses chooses the case; its second clause follows from the first (`new-clauses`).
 use borrow.Author.Tests.{eq-eqb, ne-eqb}
 use Rattle.animated_transform.specs.New.{AnimatedTransform·new}
+use Rattle.animated_transform.proofs.Built.{new-clauses}
 use borrow.Author.Needs.{needs}
 use Rattle.animated_transform.proofs.AnimatedTransform.new.Statement.{statement}
 use Rattle.animated_transform.proofs.AnimatedTransform.new.Tie as tie
@@ -13,14 +14,20 @@ refused-requires c κs = search needs
 
 returns : tie.Need-returns
 unfolding AnimatedTransform·new
-returns c = rw (← c .before .before .poses-refusal .ensures, ne-eqb _ 0 (c .before .if1 .taken)) (c .refused .ensures)
+returns c =
+    let s = c .before .before .before in
+    new-clauses (s .args .start) (s .args .end) (s .good .0 .1 .1 .0 .1) (s .good .1 .0 .1 .1 .0 .1)
+    (rw (← c .before .before .poses-refusal .ensures, ne-eqb _ 0 (c .before .if1 .taken)) (c .refused .ensures))
 
 work-requires : tie.Need-work-requires
 work-requires c κs = search needs
 
 returns-2 : tie.Need-returns-2
 unfolding AnimatedTransform·new
-returns-2 c = rw (← c .before .before .poses-refusal .ensures, eq-eqb _ 0 (c .before .if1 .left)) (c .work .ensures)
+returns-2 c =
+    let s = c .before .before .before in
+    new-clauses (s .args .start) (s .args .end) (s .good .0 .1 .1 .0 .1) (s .good .1 .0 .1 .1 .0 .1)
+    (rw (← c .before .before .poses-refusal .ensures, eq-eqb _ 0 (c .before .if1 .left)) (c .work .ensures))
 
 pub new-spec : {M : Type 1} → statement M
 new-spec =
