@@ -4,12 +4,12 @@
 #          is found, or a need that has no proof file is not proved
 #   FACT?  a step of the proof finds nothing to rewrite or no proof: most likely that fact, but only a control
 #          (the edit with a matching change of the definition, proved) would tell
-#   UNFIT  a proof file or a name no longer fits the edited text: the refusal shows nothing
+#   UNFIT  a proof file, a name or a loop's invariant no longer fits the edited text: the refusal shows nothing
 # Exit status 1 where an edit is UNFIT, or refused for no reason that this script knows.
 cd "$(dirname "$0")/.." || exit 2
 unfit='expected type `tie\.|has no field|can be named|no .mod. line|exports no|does not cover|not in scope|[Pp]arse error|error\[|has-holes|unsolved'
 unfit="$unfit"'|was not determined|too (many|few) arguments|is not a function|is applied to|could not tell'
-unfit="$unfit"'|: error: .*(this pattern|is not a record|there is no |takes (no|only) )'
+unfit="$unfit"'|: error: .*(this pattern|is not a record|there is no |takes (no|only) )|: error: `Inv-[^`]*`:'
 shown='the two (types|sides) |give a proof of that as the last argument|does not follow from what it read|^note: [^ ]*: it is not proved'
 fact='^[^ ]*: error: `[^`]*`: |^note: [^ ]*: it is not proved'
 # The start of a line, with no character cut in two.
