@@ -15,6 +15,7 @@ use transform::BoundsAnswer;
 use transform::Transform;
 ghost use Prim.Native.Nat.{_^_, _≤_};
 ghost use mathlib.Core.Path.{_≡_};
+ghost use Rattle.sine_table.specs.Table.{sineTable};
 ghost use Rattle.transform.specs.declared.BoundsAnswer.the-variants.{Bounds};
 ghost use Rattle.pose_steps.specs.Enclose.{Pose·encloseSlerp, Bounds3f·intervals, IntervalVector·bounds};
 ghost use Rattle.pose_slerp.specs.Unjudged.{Perpendicular·of};
@@ -100,7 +101,8 @@ fn ends_enclosure(m: AnimatedTransform, b: Bounds3f) -> BoundsAnswer
 }
 
 // Where slerp is linear no angle is asked for, and a border has none.
-fn border_at(a: RigidMotion, t: f32) -> Border
+fn border_at(table: &[u32; 2049], a: RigidMotion, t: f32) -> Border
+    requires { ⌜ now table ≡ sineTable ⌝ }
     ensures value { λ r. ⌜ r ≡ Border·at a t ⌝ }
 {
     if a.cos_theta > 0.9995 {
@@ -112,7 +114,8 @@ fn border_at(a: RigidMotion, t: f32) -> Border
         };
         Border { t, angle }
     } else {
-        let angle = EndAngle::new(a.theta * t);
+        let x = a.theta * t;
+        let angle = EndAngle::from_sin_cos(x, trig::sin_cos_in(table, x));
         Border { t, angle }
     }
 }
@@ -184,15 +187,16 @@ fn slices_enclosure(m: AnimatedTransform, b: Bounds3f, d: u32, first: Bounds3f) 
     requires { ⌜ d ≤ maxDepth ⌝ }
     ensures value { λ r. ⌜ r ≡ unionSlices m (AnimatedTransform·rigidMotion m) b d (Bounds first) (2 ^ d) ⌝ }
 {
+    let table = sine_table::table();
     let a = motion_point::rigid_motion(m);
     let perp = pose_slerp::perpendicular_to(a.r0, a.r1, a.cos_theta);
     let slices = 1u64 << d;
     let mut union = first;
-    let mut from = border_at(a, 0.0);
+    let mut from = border_at(&table, a, 0.0);
     let mut k = 0u64;
     while k < slices {
         let high = float_bits::from_fixed(k + 1, d);
-        let to = border_at(a, high);
+        let to = border_at(&table, a, high);
         let slice = slice_enclosure(m, a, perp, from, to, b);
         let BoundsAnswer::Bounds(moved) = slice else {
             return slice;

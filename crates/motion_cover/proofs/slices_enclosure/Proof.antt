@@ -12,10 +12,13 @@ use Rattle.motion_cover.proofs.slices_enclosure.Statement.{statement}
 use Rattle.motion_cover.proofs.slices_enclosure.Tie as tie
 
 abbrev Inv-loop : tie.InvT-loop
-Inv-loop m b d a perp slices union₀ from₀ k₀ union from k = (k ≤ slices) × Reached m a b d union₀ k union (from .t) × (from ≡ Border·at a (from .t))
+Inv-loop m b d table a perp slices union₀ from₀ k₀ union from k = (k ≤ slices) × Reached m a b d union₀ k union (from .t) × (from ≡ Border·at a (from .t))
 
 abbrev μ-loop : tie.MeasureT-loop
-μ-loop m b d a perp slices union₀ from₀ k₀ union from k = slices - k
+μ-loop m b d table a perp slices union₀ from₀ k₀ union from k = slices - k
+
+table-requires : tie.Need-table-requires Inv-loop μ-loop
+table-requires c κs = search needs
 
 rigid-motion-requires : tie.Need-rigid-motion-requires Inv-loop μ-loop
 rigid-motion-requires c κs = search needs
@@ -42,7 +45,9 @@ border-at-requires-2 : tie.Need-border-at-requires-2 Inv-loop μ-loop
 border-at-requires-2 c κs = search needs
 
 slice-enclosure-requires : tie.Need-slice-enclosure-requires Inv-loop μ-loop
-slice-enclosure-requires c κs = (c .before .before .before .before .before .perpendicular-to .ensures, (c .before .before .before .loop .inv .2, border-own _ _ _ (c .border-at2 .ensures)))
+slice-enclosure-requires c κs =
+    let l = c .before .before .before .before in
+    (l .before .before .before .perpendicular-to .ensures, (l .loop .inv .2, border-own _ _ _ (c .border-at2 .ensures)))
 
 enum-known-slice : tie.Need-enum-known-slice Inv-loop μ-loop
 enum-known-slice c = search needs
@@ -54,11 +59,11 @@ returns : tie.Need-returns Inv-loop μ-loop
 returns c =
     let slice = c .before .before .slice-enclosure in
     let to = c .before .before .before .border-at2 in
-    let high = c .before .before .before .before .from-fixed in
-    let l = c .before .before .before .before .before .before .loop in
-    let d = c .before .before .before .before .before .before .before .before .before .before .args .d in
-    let h : d ≤ maxDepth = c .before .before .before .before .before .before .before .before .before .before .pre in
-    rw (← c .before .before .before .before .before .before .before .before .before .rigid-motion .ensures)
+    let high = c .before .before .before .before .before .from-fixed in
+    let l = c .before .before .before .before .before .before .before .loop in
+    let d = c .before .before .before .before .before .before .before .before .before .before .before .before .before .args .d in
+    let h : d ≤ maxDepth = c .before .before .before .before .before .before .before .before .before .before .before .before .before .pre in
+    rw (← c .before .before .before .before .before .before .before .before .before .before .before .rigid-motion .ensures)
     (sym
     (slice-refused (l .inv .1) (to .result .t) (border-time _ _ _ (to .ensures) ∙ rw (high .ensures) (slice-end d _ h)) (slice .result) (slice .ensures) (c .enum-told .given .0 .0) (c .enum-told .given .1)
     (omega (arith, slice-count d h))))
@@ -69,8 +74,8 @@ union-bounds-requires c κs = search needs
 -- k stays below 2^13
 add-k : tie.Need-add-k Inv-loop μ-loop
 add-k c =
-    let d = c .before .before .before .before .before .before .before .before .before .before .before .before .args .d in
-    let h : d ≤ maxDepth = c .before .before .before .before .before .before .before .before .before .before .before .before .pre in
+    let d = c .before .before .before .before .before .before .before .before .before .before .before .before .before .before .before .args .d in
+    let h : d ≤ maxDepth = c .before .before .before .before .before .before .before .before .before .before .before .before .before .before .before .pre in
     omega (arith, slice-count d h, pow-lt {i = d} {j = 13} (omega arith))
 
 loop-less : tie.Need-loop-less Inv-loop μ-loop
@@ -80,11 +85,11 @@ loop-again : tie.Need-loop-again Inv-loop μ-loop
 loop-again c =
     let slice = c .before .before .before .before .slice-enclosure in
     let to = c .before .before .before .before .before .border-at2 in
-    let high = c .before .before .before .before .before .before .from-fixed in
-    let l = c .before .before .before .before .before .before .before .before .loop in
-    let d = c .before .before .before .before .before .before .before .before .before .before .before .before .args .d in
-    let h : d ≤ maxDepth = c .before .before .before .before .before .before .before .before .before .before .before .before .pre in (
-      omega arith,
+    let high = c .before .before .before .before .before .before .before .from-fixed in
+    let l = c .before .before .before .before .before .before .before .before .before .loop in
+    let d = c .before .before .before .before .before .before .before .before .before .before .before .before .before .before .before .args .d in
+    let h : d ≤ maxDepth = c .before .before .before .before .before .before .before .before .before .before .before .before .before .before .before .pre in (
+      omega (arith, c .before .before .before .before .before .before .before .before .loop-test .taken),
       reached-next (l .inv .1) (to .result .t) (border-time _ _ _ (to .ensures) ∙ rw (high .ensures) (slice-end d _ h)) (slice .result) (slice .ensures) (c .before .before .slice .given .0 .0) (c .before .before .slice .given .1) (c .union-bounds .result) (c .union-bounds .ensures),
       border-own _ _ _ (to .ensures),
     )
@@ -92,9 +97,9 @@ loop-again c =
 returns-2 : tie.Need-returns-2 Inv-loop μ-loop
 returns-2 c =
     let l = c .before .loop in
-    let d = c .before .before .before .before .before .args .d in
-    let h : d ≤ maxDepth = c .before .before .before .before .before .pre in
-    rw (← c .before .before .before .before .rigid-motion .ensures) (sym (reached-last (l .inv .1) (omega (arith, slice-count d h))))
+    let d = c .before .before .before .before .before .before .before .args .d in
+    let h : d ≤ maxDepth = c .before .before .before .before .before .before .before .pre in
+    rw (← c .before .before .before .before .before .rigid-motion .ensures) (sym (reached-last (l .inv .1) (omega (arith, slice-count d h))))
 
 pub slices-enclosure-spec : {M : Type 1} → statement M
 slices-enclosure-spec =
@@ -102,6 +107,7 @@ slices-enclosure-spec =
     (tie.spec
     Inv-loop
     μ-loop
+    table-requires
     rigid-motion-requires
     perpendicular-to-requires
     shl-slices
