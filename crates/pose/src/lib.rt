@@ -3,7 +3,7 @@
 // hand, where each is judged as it is formed.
 ghost use mathlib.Core.Path.{_≡_};
 ghost use Rattle.transform.specs.Transform.{translation};
-ghost use Rattle.pose_steps.specs.Pose.{allFinite, PoseAnswer·judged, Pose·matrix, Pose·movedPoint};
+ghost use Rattle.pose_steps.specs.Pose.{Pose·mul, allFinite, PoseAnswer·judged, Pose·matrix, Pose·movedPoint};
 ghost use Rattle.pose_steps.specs.Enclose.{Pose·encloseComposition};
 use bounds3::Point3f;
 use interval::Interval;
@@ -26,6 +26,12 @@ fn translation_matrix(v: Vector3f) -> Matrix4x4
         r2: [0.0, 0.0, 1.0, v.z],
         r3: [0.0, 0.0, 0.0, 1.0],
     }
+}
+
+fn product(a: Matrix4x4, b: Matrix4x4) -> Matrix4x4
+    ensures value { λ r. ⌜ r ≡ Pose·mul a b ⌝ }
+{
+    Matrix4x4::from_rows(pose_product::mul(a.to_rows(), b.to_rows()))
 }
 
 fn all_finite(m: Matrix4x4) -> bool
@@ -60,8 +66,8 @@ pub fn matrix(a: RigidMotion, s0: Matrix4x4, s1: Matrix4x4, dt: f32) -> PoseAnsw
     let scaling = pose_parts::scale(s0, s1, dt);
     let translate = translation_matrix(trans);
     let rotating = pose_rotation::rotation(rotate);
-    let first = pose_product::mul(translate, rotating);
-    let last = pose_product::mul(first, scaling);
+    let first = product(translate, rotating);
+    let last = product(first, scaling);
     let finite = rotate.is_finite()
         & all_finite(scaling)
         & all_finite(translate)

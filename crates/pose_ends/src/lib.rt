@@ -1,48 +1,12 @@
 // The sum of all ends of an interval vector, quaternion, row or matrix. It is finite only where every end is, so that one test of it may stand for a test of each.
-// Ends are added pair by pair, which keeps the sums independent of each other. And a row's ends with the low ones first.
+// Ends are added pair by pair, which keeps the sums independent of each other.
 ghost use mathlib.Core.Path.{_≡_};
-ghost use Rattle.pose_ends.specs.Ends.{IntervalVector·endsSum, IntervalQuaternion·endsSum, IntervalRow·endsSum, IntervalMatrix·endsSum, RowEnds·row};
-use interval::Interval;
+ghost use Rattle.pose_ends.specs.Ends.{IntervalVector·endsSum, IntervalQuaternion·endsSum, IntervalRow·endsSum, IntervalMatrix·endsSum};
 use interval_unjudged::ends_sum;
 use pose_steps::IntervalMatrix;
 use pose_steps::IntervalQuaternion;
 use pose_steps::IntervalRow;
 use pose_steps::IntervalVector;
-
-// A row's ends, the low ones first: a processor then works four columns with one instruction, which it does not where low and high ends alternate.
-pub struct RowEnds {
-    pub low0: f32,
-    pub low1: f32,
-    pub low2: f32,
-    pub low3: f32,
-    pub high0: f32,
-    pub high1: f32,
-    pub high2: f32,
-    pub high3: f32,
-}
-
-// The row with these ends. Accuracy: exact.
-pub fn row_of_ends(e: RowEnds) -> IntervalRow
-    ensures value { λ r. ⌜ r ≡ RowEnds·row e ⌝ }
-{
-    let c0 = Interval {
-        low: e.low0,
-        high: e.high0,
-    };
-    let c1 = Interval {
-        low: e.low1,
-        high: e.high1,
-    };
-    let c2 = Interval {
-        low: e.low2,
-        high: e.high2,
-    };
-    let c3 = Interval {
-        low: e.low3,
-        high: e.high3,
-    };
-    IntervalRow { c0, c1, c2, c3 }
-}
 
 pub fn vector_ends_sum(v: IntervalVector) -> f32
     ensures value { λ r. ⌜ r ≡ IntervalVector·endsSum v ⌝ }

@@ -3,11 +3,9 @@
 ghost use mathlib.Core.Path.{_≡_};
 ghost use Rattle.pose_steps.specs.Pose.{Pose·translation, Pose·scaleRow, Pose·scale};
 ghost use Rattle.pose_steps.specs.Enclose.{IntervalVector·point, IntervalRow·point, IntervalMatrix·point, Pose·encloseTranslation, Pose·encloseScale};
-ghost use Rattle.pose_ends.specs.Ends.{RowEnds·of};
 ghost use Rattle.pose_parts.specs.Unjudged.{Pose·unjudgedTranslation, Pose·unjudgedScaleRow, Pose·unjudgedScale};
 use interval::Interval;
 use matrix4x4::Matrix4x4;
-use pose_ends::RowEnds;
 use pose_steps::IntervalMatrix;
 use pose_steps::IntervalRow;
 use pose_steps::IntervalVector;
@@ -98,8 +96,8 @@ pub fn scale(s0: Matrix4x4, s1: Matrix4x4, dt: f32) -> Matrix4x4
     Matrix4x4 { r0, r1, r2, r3 }
 }
 
-fn scale_row_ends(s0: [f32; 4], s1: [f32; 4], dt: Interval) -> RowEnds
-    ensures value { λ r. ⌜ r ≡ RowEnds·of (Pose·unjudgedScaleRow (IntervalRow·point s0) (IntervalRow·point s1) dt) ⌝ }
+fn scale_row_unjudged(s0: [f32; 4], s1: [f32; 4], dt: Interval) -> IntervalRow
+    ensures value { λ r. ⌜ r ≡ Pose·unjudgedScaleRow (IntervalRow·point s0) (IntervalRow·point s1) dt ⌝ }
 {
     let one = Interval {
         low: 1.0,
@@ -119,16 +117,11 @@ fn scale_row_ends(s0: [f32; 4], s1: [f32; 4], dt: Interval) -> RowEnds
     let p2 = interval_unjudged::mul_ordered(d2, a.c2);
     let q2 = interval_unjudged::mul_ordered(dt, b.c2);
     let c2 = interval_unjudged::add_enclosure(p2, q2);
-    RowEnds {
-        low0: c0.low,
-        low1: c1.low,
-        low2: c2.low,
-        low3: 0.0,
-        high0: c0.high,
-        high1: c1.high,
-        high2: c2.high,
-        high3: 0.0,
-    }
+    let c3 = Interval {
+        low: 0.0,
+        high: 0.0,
+    };
+    IntervalRow { c0, c1, c2, c3 }
 }
 
 fn scale_unjudged(s0: Matrix4x4, s1: Matrix4x4, dt: Interval) -> IntervalMatrix
@@ -140,9 +133,9 @@ fn scale_unjudged(s0: Matrix4x4, s1: Matrix4x4, dt: Interval) -> IntervalMatrix
     let b1 = s1.r1;
     let a2 = s0.r2;
     let b2 = s1.r2;
-    let r0 = pose_ends::row_of_ends(scale_row_ends(a0, b0, dt));
-    let r1 = pose_ends::row_of_ends(scale_row_ends(a1, b1, dt));
-    let r2 = pose_ends::row_of_ends(scale_row_ends(a2, b2, dt));
+    let r0 = scale_row_unjudged(a0, b0, dt);
+    let r1 = scale_row_unjudged(a1, b1, dt);
+    let r2 = scale_row_unjudged(a2, b2, dt);
     IntervalMatrix { r0, r1, r2 }
 }
 

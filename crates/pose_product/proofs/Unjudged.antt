@@ -22,7 +22,7 @@ use Rattle.pose_steps.specs.Stages.{mulRowStage}
 use Rattle.pose_steps.specs.Enclose.{IntervalRow·list, IntervalMatrix·list, JudgedRow·of, Pose·encloseMulRow, Pose·encloseMul, IntervalMatrix·translation}
 use Rattle.pose_ends.specs.Ends.{IntervalMatrix·endsSum}
 use Rattle.pose_ends.proofs.Finite.{three-finite, FiniteRows, rows-finite, matrix-finite}
-use Rattle.pose_product.specs.Unjudged.{Pose·unjudgedMulRow, Pose·unjudgedMul, Pose·translatedColumn}
+use Rattle.pose_product.specs.Unjudged.{Pose·unjudgedMulRow, Pose·unjudgedMul, IntervalVector·times, Pose·translatedColumn}
 
 row-unjudged : (m : ℕ) (a : IntervalRow) (b : IntervalMatrix) → All Finite (IntervalRow·list a) → All Finite (IntervalMatrix·list b)
     → All Finite (IntervalRow·list (Pose·unjudgedMulRow a b)) → Pose·encloseMulRow m a b ≡ record { row = Pose·unjudgedMulRow a b; refusal = m }
@@ -50,19 +50,20 @@ pub mul-tested : (m : ℕ) (a b : IntervalMatrix) {r0 r1 r2 : IntervalRow} {A B 
 mul-tested m a b e0 e1 e2 ea eb ec et h = rw (e0, e1, e2) (mul-unjudged m a b (rw (← e0, ← e1, ← e2, ← ea, ← eb, ← ec, sym et ∙ h) tt))
 
 -- ---- the product of a translation, column by column
-pub translated-rows : (v : IntervalVector) (b : IntervalMatrix) {e0 e1 e2 e3 : IntervalVector}
-    → e0 ≡ Pose·translatedColumn v (b .r0 .c0) (b .r1 .c0) (b .r2 .c0) (Interval·point positiveZero)
-    → e1 ≡ Pose·translatedColumn v (b .r0 .c1) (b .r1 .c1) (b .r2 .c1) (Interval·point positiveZero)
-    → e2 ≡ Pose·translatedColumn v (b .r0 .c2) (b .r1 .c2) (b .r2 .c2) (Interval·point positiveZero)
-    → e3 ≡ Pose·translatedColumn v (b .r0 .c3) (b .r1 .c3) (b .r2 .c3) (Interval·point float.one)
+pub translated-rows : (v : IntervalVector) (b : IntervalMatrix) {l0 l1 e0 e1 e2 e3 : IntervalVector}
+    → l0 ≡ IntervalVector·times v (Interval·point positiveZero) → l1 ≡ IntervalVector·times v (Interval·point float.one)
+    → e0 ≡ Pose·translatedColumn l0 (b .r0 .c0) (b .r1 .c0) (b .r2 .c0)
+    → e1 ≡ Pose·translatedColumn l0 (b .r0 .c1) (b .r1 .c1) (b .r2 .c1)
+    → e2 ≡ Pose·translatedColumn l0 (b .r0 .c2) (b .r1 .c2) (b .r2 .c2)
+    → e3 ≡ Pose·translatedColumn l1 (b .r0 .c3) (b .r1 .c3) (b .r2 .c3)
     → record {
       r0 = record { c0 = e0 .x; c1 = e1 .x; c2 = e2 .x; c3 = e3 .x };
       r1 = record { c0 = e0 .y; c1 = e1 .y; c2 = e2 .y; c3 = e3 .y };
       r2 = record { c0 = e0 .z; c1 = e1 .z; c2 = e2 .z; c3 = e3 .z };
     }
     ≡ Pose·unjudgedMul (IntervalMatrix·translation v) b
-unfolding Pose·translatedColumn Pose·unjudgedMulRow Program·unjudged Expr·unjudgedAll Expr·unjudged
-translated-rows v b h0 h1 h2 h3 = rw (h0, h1, h2, h3)
+unfolding IntervalVector·times Pose·translatedColumn Pose·unjudgedMulRow Program·unjudged Expr·unjudgedAll Expr·unjudged
+translated-rows v b f0 f1 h0 h1 h2 h3 = rw (h0, h1, h2, h3, f0, f1)
 
 pub translate-tested : (m : ℕ) (v : IntervalVector) (b : IntervalMatrix) {a matrix : IntervalMatrix} {A B C : Float} {t : Bool}
     → matrix ≡ Pose·unjudgedMul (IntervalMatrix·translation v) b → a ≡ IntervalMatrix·translation v

@@ -28,13 +28,17 @@ infixl 80 _⊗_
 abbrev _⊗_ : Interval → Interval → Interval
 _⊗_ X Y = Interval·mulOrdered X Y
 
--- A column of the product of the matrix that adds v to a point, where x, y, z are the second matrix's column, and `last` stands below it.
-unfoldable pub Pose·translatedColumn : IntervalVector → Interval → Interval → Interval → Interval → IntervalVector
-Pose·translatedColumn v x y z last =
+unfoldable pub IntervalVector·times : IntervalVector → Interval → IntervalVector
+IntervalVector·times v c = record { x = v .x ⊗ c; y = v .y ⊗ c; z = v .z ⊗ c }
+
+-- A column of the product of the matrix that adds a vector to a point, where x, y, z are the second matrix's column,
+-- and l is the vector times what stands below it.
+unfoldable pub Pose·translatedColumn : IntervalVector → Interval → Interval → Interval → IntervalVector
+Pose·translatedColumn l x y z =
     let 𝟎 : Interval = Interval·point positiveZero in
     let 𝟏 : Interval = Interval·point one in
     record {
-      x = (𝟏 ⊗ x ⊕ 𝟎 ⊗ y ⊕ 𝟎 ⊗ z) ⊕ v .x ⊗ last;
-      y = (𝟎 ⊗ x ⊕ 𝟏 ⊗ y ⊕ 𝟎 ⊗ z) ⊕ v .y ⊗ last;
-      z = (𝟎 ⊗ x ⊕ 𝟎 ⊗ y ⊕ 𝟏 ⊗ z) ⊕ v .z ⊗ last;
+      x = (𝟏 ⊗ x ⊕ 𝟎 ⊗ y ⊕ 𝟎 ⊗ z) ⊕ l .x;
+      y = (𝟎 ⊗ x ⊕ 𝟏 ⊗ y ⊕ 𝟎 ⊗ z) ⊕ l .y;
+      z = (𝟎 ⊗ x ⊕ 𝟎 ⊗ y ⊕ 𝟏 ⊗ z) ⊕ l .z;
     }

@@ -1,25 +1,23 @@
-// The product of two matrices whose bottom rows are 0, 0, 0, 1, pbrt's `Matrix4x4::mul` on the three rows above it, all four terms of each sum: in floats, and in intervals
-// of which each is judged as it is formed. Where a sum over all ends is finite, judging is left out, which gives the same.
+// The product of two matrices whose bottom rows are 0, 0, 0, 1, pbrt's `Matrix4x4::mul` on the three rows above it, all four terms of each sum:
+// in floats, and in intervals of which each is judged as it is formed. Where a sum over all ends is finite, judging is left out, which gives the same.
 ghost use mathlib.Core.Path.{_≡_};
+ghost use Rattle.matrix4x4.specs.Rows.{Matrix4x4·toRows, Matrix4x4·fromRows};
 ghost use Rattle.pose_steps.specs.Pose.{Pose·mulRow, Pose·mul};
 ghost use Rattle.pose_steps.specs.Enclose.{Pose·encloseMul, IntervalMatrix·translation};
-ghost use Rattle.pose_ends.specs.Ends.{RowEnds·of};
-ghost use Rattle.pose_product.specs.Unjudged.{Pose·unjudgedMulRow, Pose·unjudgedMul, Pose·translatedColumn};
+ghost use Rattle.pose_product.specs.Unjudged.{Pose·unjudgedMulRow, Pose·unjudgedMul, IntervalVector·times, Pose·translatedColumn};
 use interval::Interval;
-use matrix4x4::Matrix4x4;
-use pose_ends::RowEnds;
 use pose_steps::IntervalMatrix;
 use pose_steps::IntervalRow;
 use pose_steps::IntervalVector;
 use pose_steps::JudgedMatrix;
 
-// A row of the first matrix by the rows of the second, whose bottom row is 0, 0, 0, 1.
-pub fn mul_row(a: [f32; 4], b: Matrix4x4) -> [f32; 4]
-    ensures value { λ r. ⌜ r ≡ Pose·mulRow a b ⌝ }
+// A row of the first matrix by the rows of the second, whose bottom row is taken as 0, 0, 0, 1.
+fn mul_row(a: [f32; 4], b: [[f32; 4]; 4]) -> [f32; 4]
+    ensures value { λ r. ⌜ r ≡ Pose·mulRow a (Matrix4x4·fromRows b) ⌝ }
 {
-    let r0 = b.r0;
-    let r1 = b.r1;
-    let r2 = b.r2;
+    let r0 = b[0];
+    let r1 = b[1];
+    let r2 = b[2];
     let x = a[0];
     let y = a[1];
     let z = a[2];
@@ -32,22 +30,21 @@ pub fn mul_row(a: [f32; 4], b: Matrix4x4) -> [f32; 4]
     ]
 }
 
-pub fn mul(a: Matrix4x4, b: Matrix4x4) -> Matrix4x4
-    ensures value { λ r. ⌜ r ≡ Pose·mul a b ⌝ }
+// Accuracy: each operation is correctly rounded.
+pub fn mul(a: [[f32; 4]; 4], b: [[f32; 4]; 4]) -> [[f32; 4]; 4]
+    ensures value { λ r. ⌜ r ≡ Matrix4x4·toRows (Pose·mul (Matrix4x4·fromRows a) (Matrix4x4·fromRows b)) ⌝ }
 {
-    let a0 = a.r0;
-    let a1 = a.r1;
-    let a2 = a.r2;
+    let a0 = a[0];
+    let a1 = a[1];
+    let a2 = a[2];
     let r0 = mul_row(a0, b);
     let r1 = mul_row(a1, b);
     let r2 = mul_row(a2, b);
-    let r3 = [0.0, 0.0, 0.0, 1.0];
-    Matrix4x4 { r0, r1, r2, r3 }
+    [r0, r1, r2, [0.0, 0.0, 0.0, 1.0]]
 }
 
-// A function of its own for three calls, so that its low ends are returned side by side.
-fn mul_row_ends(a: IntervalRow, b: IntervalMatrix) -> RowEnds
-    ensures value { λ r. ⌜ r ≡ RowEnds·of (Pose·unjudgedMulRow a b) ⌝ }
+fn mul_row_unjudged(a: IntervalRow, b: IntervalMatrix) -> IntervalRow
+    ensures value { λ r. ⌜ r ≡ Pose·unjudgedMulRow a b ⌝ }
 {
     let zero = Interval {
         low: 0.0,
@@ -88,25 +85,16 @@ fn mul_row_ends(a: IntervalRow, b: IntervalMatrix) -> RowEnds
     let u3 = interval_unjudged::add_enclosure(s3, t3);
     let v3 = interval_unjudged::mul_ordered(a.c3, one);
     let c3 = interval_unjudged::add_enclosure(u3, v3);
-    RowEnds {
-        low0: c0.low,
-        low1: c1.low,
-        low2: c2.low,
-        low3: c3.low,
-        high0: c0.high,
-        high1: c1.high,
-        high2: c2.high,
-        high3: c3.high,
-    }
+    IntervalRow { c0, c1, c2, c3 }
 }
 
 // Accuracy: encloses.
 pub fn mul_enclosure(m: u8, a: IntervalMatrix, b: IntervalMatrix) -> JudgedMatrix
     ensures value { λ r. ⌜ r ≡ Pose·encloseMul m a b ⌝ }
 {
-    let r0 = pose_ends::row_of_ends(mul_row_ends(a.r0, b));
-    let r1 = pose_ends::row_of_ends(mul_row_ends(a.r1, b));
-    let r2 = pose_ends::row_of_ends(mul_row_ends(a.r2, b));
+    let r0 = mul_row_unjudged(a.r0, b);
+    let r1 = mul_row_unjudged(a.r1, b);
+    let r2 = mul_row_unjudged(a.r2, b);
     let matrix = IntervalMatrix { r0, r1, r2 };
     let ends = pose_ends::matrix_ends_sum(a)
         + pose_ends::matrix_ends_sum(b)
@@ -154,15 +142,20 @@ fn translation_matrix(v: IntervalVector) -> IntervalMatrix
     IntervalMatrix { r0, r1, r2 }
 }
 
-// A column of the translation's product, where x, y, z are the second matrix's column and `last` stands below it. Each product by zero serves two rows.
-fn translated_column(
-    v: IntervalVector,
-    x: Interval,
-    y: Interval,
-    z: Interval,
-    last: Interval,
-) -> IntervalVector
-    ensures value { λ r. ⌜ r ≡ Pose·translatedColumn v x y z last ⌝ }
+// A vector times a number, with no interval judged.
+fn times(v: IntervalVector, c: Interval) -> IntervalVector
+    ensures value { λ r. ⌜ r ≡ IntervalVector·times v c ⌝ }
+{
+    let x = interval_unjudged::mul_ordered(v.x, c);
+    let y = interval_unjudged::mul_ordered(v.y, c);
+    let z = interval_unjudged::mul_ordered(v.z, c);
+    IntervalVector { x, y, z }
+}
+
+// A column of the translation's product, where x, y, z are the second matrix's column and l is the vector times what stands below it.
+// Each product by zero serves two rows.
+fn translated_column(l: IntervalVector, x: Interval, y: Interval, z: Interval) -> IntervalVector
+    ensures value { λ r. ⌜ r ≡ Pose·translatedColumn l x y z ⌝ }
 {
     let zero = Interval {
         low: 0.0,
@@ -178,18 +171,15 @@ fn translated_column(
     let zx = interval_unjudged::mul_ordered(zero, x);
     let zy = interval_unjudged::mul_ordered(zero, y);
     let zz = interval_unjudged::mul_ordered(zero, z);
-    let lx = interval_unjudged::mul_ordered(v.x, last);
-    let ly = interval_unjudged::mul_ordered(v.y, last);
-    let lz = interval_unjudged::mul_ordered(v.z, last);
     let sx = interval_unjudged::add_enclosure(ox, zy);
     let tx = interval_unjudged::add_enclosure(sx, zz);
-    let ux = interval_unjudged::add_enclosure(tx, lx);
+    let ux = interval_unjudged::add_enclosure(tx, l.x);
     let sy = interval_unjudged::add_enclosure(zx, oy);
     let ty = interval_unjudged::add_enclosure(sy, zz);
-    let uy = interval_unjudged::add_enclosure(ty, ly);
+    let uy = interval_unjudged::add_enclosure(ty, l.y);
     let sz = interval_unjudged::add_enclosure(zx, zy);
     let tz = interval_unjudged::add_enclosure(sz, oz);
-    let uz = interval_unjudged::add_enclosure(tz, lz);
+    let uz = interval_unjudged::add_enclosure(tz, l.z);
     IntervalVector {
         x: ux,
         y: uy,
@@ -212,10 +202,12 @@ fn translated(v: IntervalVector, b: IntervalMatrix) -> IntervalMatrix
     let b0 = b.r0;
     let b1 = b.r1;
     let b2 = b.r2;
-    let e0 = translated_column(v, b0.c0, b1.c0, b2.c0, zero);
-    let e1 = translated_column(v, b0.c1, b1.c1, b2.c1, zero);
-    let e2 = translated_column(v, b0.c2, b1.c2, b2.c2, zero);
-    let e3 = translated_column(v, b0.c3, b1.c3, b2.c3, one);
+    let by_zero = times(v, zero);
+    let by_one = times(v, one);
+    let e0 = translated_column(by_zero, b0.c0, b1.c0, b2.c0);
+    let e1 = translated_column(by_zero, b0.c1, b1.c1, b2.c1);
+    let e2 = translated_column(by_zero, b0.c2, b1.c2, b2.c2);
+    let e3 = translated_column(by_one, b0.c3, b1.c3, b2.c3);
     let m00 = e0.x;
     let m01 = e1.x;
     let m02 = e2.x;

@@ -19,11 +19,11 @@ translation-matrix-requires c κs = search needs
 rotation-requires : tie.Need-rotation-requires
 rotation-requires c κs = search needs
 
-mul-requires : tie.Need-mul-requires
-mul-requires c κs = search needs
+product-requires : tie.Need-product-requires
+product-requires c κs = search needs
 
-mul-requires-2 : tie.Need-mul-requires-2
-mul-requires-2 c κs = search needs
+product-requires-2 : tie.Need-product-requires-2
+product-requires-2 c κs = search needs
 
 is-finite-requires : tie.Need-is-finite-requires
 is-finite-requires c κs = search needs
@@ -48,7 +48,7 @@ judged-requires c κs = search needs
 
 returns : tie.Need-returns
 unfolding Pose·matrix
-returns c = rw (c .judged .ensures, c .before .all-finite5 .ensures, c .before .before .all-finite4 .ensures, c .before .before .before .all-finite3 .ensures, c .before .before .before .before .all-finite2 .ensures, c .before .before .before .before .before .all-finite .ensures, c .before .before .before .before .before .before .is-finite .ensures, c .before .before .before .before .before .before .before .mul2 .ensures, c .before .before .before .before .before .before .before .before .mul .ensures, c .before .before .before .before .before .before .before .before .before .rotation .ensures, c .before .before .before .before .before .before .before .before .before .before .translation-matrix .ensures, c .before .before .before .before .before .before .before .before .before .before .before .scale .ensures, c .before .before .before .before .before .before .before .before .before .before .before .before .slerp .ensures, c .before .before .before .before .before .before .before .before .before .before .before .before .before .translation .ensures)
+returns c = rw (c .judged .ensures, c .before .all-finite5 .ensures, c .before .before .all-finite4 .ensures, c .before .before .before .all-finite3 .ensures, c .before .before .before .before .all-finite2 .ensures, c .before .before .before .before .before .all-finite .ensures, c .before .before .before .before .before .before .is-finite .ensures, c .before .before .before .before .before .before .before .product2 .ensures, c .before .before .before .before .before .before .before .before .product .ensures, c .before .before .before .before .before .before .before .before .before .rotation .ensures, c .before .before .before .before .before .before .before .before .before .before .translation-matrix .ensures, c .before .before .before .before .before .before .before .before .before .before .before .scale .ensures, c .before .before .before .before .before .before .before .before .before .before .before .before .slerp .ensures, c .before .before .before .before .before .before .before .before .before .before .before .before .before .translation .ensures)
 
 pub matrix-spec : {M : Type 1} → statement M
 matrix-spec =
@@ -59,8 +59,8 @@ matrix-spec =
     scale-requires
     translation-matrix-requires
     rotation-requires
-    mul-requires
-    mul-requires-2
+    product-requires
+    product-requires-2
     is-finite-requires
     all-finite-requires
     all-finite-requires-2

@@ -5,14 +5,7 @@ use Rattle.pose_parts.proofs.scale_unjudged.Tie as tie
 
 returns : tie.Need-returns
 unfolding Pose·unjudgedScale
-returns c = rw (
-  c .row-of-ends3 .ensures,
-  c .before .scale-row-ends3 .ensures,
-  c .before .before .row-of-ends2 .ensures,
-  c .before .before .before .scale-row-ends2 .ensures,
-  c .before .before .before .before .row-of-ends .ensures,
-  c .before .before .before .before .before .scale-row-ends .ensures,
-)
+returns c = rw (c .scale-row-unjudged3 .ensures, c .before .scale-row-unjudged2 .ensures, c .before .before .scale-row-unjudged .ensures)
 
 pub scale-unjudged-spec : {M : Type 1} → statement M
-scale-unjudged-spec = tie.close (tie.spec (λ c κs. tt) (λ c κs. tt) (λ c κs. tt) (λ c κs. tt) (λ c κs. tt) (λ c κs. tt) returns)
+scale-unjudged-spec = tie.close (tie.spec (λ c κs. tt) (λ c κs. tt) (λ c κs. tt) returns)

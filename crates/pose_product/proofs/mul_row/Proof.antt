@@ -4,6 +4,15 @@ use borrow.Author.Needs.{needs}
 use Rattle.pose_product.proofs.mul_row.Statement.{statement}
 use Rattle.pose_product.proofs.mul_row.Tie as tie
 
+array-copy-out-r0 : tie.Need-array-copy-out-r0
+array-copy-out-r0 c = search needs
+
+array-copy-out-r1 : tie.Need-array-copy-out-r1
+array-copy-out-r1 c = search needs
+
+array-copy-out-r2 : tie.Need-array-copy-out-r2
+array-copy-out-r2 c = search needs
+
 array-read-x : tie.Need-array-read-x
 array-read-x c = search needs
 
@@ -16,41 +25,41 @@ array-read-z c = search needs
 array-read-w : tie.Need-array-read-w
 array-read-w c = search needs
 
-array-read-t13 : tie.Need-array-read-t13
-array-read-t13 c = search needs
+array-read-t21 : tie.Need-array-read-t21
+array-read-t21 c = search needs
 
-array-read-t25 : tie.Need-array-read-t25
-array-read-t25 c = search needs
+array-read-t33 : tie.Need-array-read-t33
+array-read-t33 c = search needs
 
-array-read-t30 : tie.Need-array-read-t30
-array-read-t30 c = search needs
+array-read-t38 : tie.Need-array-read-t38
+array-read-t38 c = search needs
 
-array-read-t37 : tie.Need-array-read-t37
-array-read-t37 c = search needs
+array-read-t45 : tie.Need-array-read-t45
+array-read-t45 c = search needs
 
-array-read-t41 : tie.Need-array-read-t41
-array-read-t41 c = search needs
+array-read-t49 : tie.Need-array-read-t49
+array-read-t49 c = search needs
 
-array-read-t46 : tie.Need-array-read-t46
-array-read-t46 c = search needs
+array-read-t54 : tie.Need-array-read-t54
+array-read-t54 c = search needs
 
-array-read-t53 : tie.Need-array-read-t53
-array-read-t53 c = search needs
+array-read-t61 : tie.Need-array-read-t61
+array-read-t61 c = search needs
 
-array-read-t57 : tie.Need-array-read-t57
-array-read-t57 c = search needs
+array-read-t65 : tie.Need-array-read-t65
+array-read-t65 c = search needs
 
-array-read-t62 : tie.Need-array-read-t62
-array-read-t62 c = search needs
+array-read-t70 : tie.Need-array-read-t70
+array-read-t70 c = search needs
 
-array-read-t69 : tie.Need-array-read-t69
-array-read-t69 c = search needs
+array-read-t77 : tie.Need-array-read-t77
+array-read-t77 c = search needs
 
-array-read-t73 : tie.Need-array-read-t73
-array-read-t73 c = search needs
+array-read-t81 : tie.Need-array-read-t81
+array-read-t81 c = search needs
 
-array-read-t78 : tie.Need-array-read-t78
-array-read-t78 c = search needs
+array-read-t86 : tie.Need-array-read-t86
+array-read-t86 c = search needs
 
 returns : tie.Need-returns
 unfolding Pose·mulRow
@@ -60,20 +69,23 @@ pub mul-row-spec : {M : Type 1} → statement M
 mul-row-spec =
     tie.close
     (tie.spec
+    array-copy-out-r0
+    array-copy-out-r1
+    array-copy-out-r2
     array-read-x
     array-read-y
     array-read-z
     array-read-w
-    array-read-t13
-    array-read-t25
-    array-read-t30
-    array-read-t37
-    array-read-t41
-    array-read-t46
-    array-read-t53
-    array-read-t57
-    array-read-t62
-    array-read-t69
-    array-read-t73
-    array-read-t78
+    array-read-t21
+    array-read-t33
+    array-read-t38
+    array-read-t45
+    array-read-t49
+    array-read-t54
+    array-read-t61
+    array-read-t65
+    array-read-t70
+    array-read-t77
+    array-read-t81
+    array-read-t86
     returns)

@@ -4,7 +4,16 @@ use Rattle.pose_product.proofs.translated.Statement.{statement}
 use Rattle.pose_product.proofs.translated.Tie as tie
 
 returns : tie.Need-returns
-returns c = translated-rows (c .before .before .before .before .before .before .before .before .before .before .before .before .before .before .before .before .before .before .before .args .v) (c .before .before .before .before .before .before .before .before .before .before .before .before .before .before .before .before .before .before .before .args .b) (c .before .before .before .before .before .before .before .before .before .before .before .before .before .before .before .translated-column .ensures) (c .before .before .before .before .before .before .before .before .before .before .before .before .before .before .translated-column2 .ensures) (c .before .before .before .before .before .before .before .before .before .before .before .before .before .translated-column3 .ensures) (c .before .before .before .before .before .before .before .before .before .before .before .before .translated-column4 .ensures)
+returns c =
+    let columns = c .before .before .before .before .before .before .before .before .before .before .before .before in
+    let start = columns .before .before .before .before .before .before .before .before .before in
+    translated-rows (start .args .v) (start .args .b)
+    (columns .before .before .before .before .before .times .ensures)
+    (columns .before .before .before .before .times2 .ensures)
+    (columns .before .before .before .translated-column .ensures)
+    (columns .before .before .translated-column2 .ensures)
+    (columns .before .translated-column3 .ensures)
+    (columns .translated-column4 .ensures)
 
 pub translated-spec : {M : Type 1} → statement M
-translated-spec = tie.close (tie.spec (λ c κs. tt) (λ c κs. tt) (λ c κs. tt) (λ c κs. tt) returns)
+translated-spec = tie.close (tie.spec (λ c κs. tt) (λ c κs. tt) (λ c κs. tt) (λ c κs. tt) (λ c κs. tt) (λ c κs. tt) returns)
