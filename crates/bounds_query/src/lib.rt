@@ -1,8 +1,10 @@
-// Queries about a box: what is asked of the box, and unions of two answers, of which the first refusal stands.
+// Queries about a box: what is asked of the box and of the depth of a cover, and unions of two answers, of which the first refusal stands.
 use bounds3::Bounds3f;
 use transform::BoundsAnswer;
 ghost use mathlib.Core.Path.{_≡_};
-ghost use Rattle.bounds_query.specs.Query.{Bounds3f·isOrdered, Bounds3f·refusal, BoundsAnswer·unionBounds};
+ghost use Rattle.bounds_query.specs.Query.{Bounds3f·isOrdered, Bounds3f·refusal, coverRefusal, BoundsAnswer·unionBounds};
+
+const MAX_DEPTH: u32 = 12;
 
 // Whether no least coordinate is above its greatest. Accuracy: exact.
 pub fn is_ordered(b: Bounds3f) -> bool
@@ -22,6 +24,20 @@ pub fn refusal(b: Bounds3f) -> u8
     }
     if !is_ordered(b) {
         return 7;
+    }
+    0
+}
+
+// 6 and 7 of the box, then 8 for a depth above 12, 0 for none. Accuracy: exact.
+pub fn cover_refusal(b: Bounds3f, d: u32) -> u8
+    ensures value { λ r. ⌜ r ≡ coverRefusal b d ⌝ }
+{
+    let n = refusal(b);
+    if n != 0 {
+        return n;
+    }
+    if d > MAX_DEPTH {
+        return 8;
     }
     0
 }

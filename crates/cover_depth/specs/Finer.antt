@@ -7,7 +7,8 @@ use Rattle.transform.specs.declared.BoundsAnswer.{BoundsAnswer}
 use Rattle.transform.specs.Answer.{BoundsAnswer·refusal, BoundsAnswer·bounds}
 use Rattle.animated_transform.specs.declared.AnimatedTransform.{AnimatedTransform}
 use Rattle.animated_transform.specs.Built.{Built}
-use Rattle.motion_cover.specs.Cover.{maxDepth, AnimatedTransform·cover}
+use Rattle.bounds_query.specs.Query.{maxDepth}
+use Rattle.motion_cover.specs.Cover.{AnimatedTransform·cover}
 
 -- The answer is not refused, and its box lies in c on every axis.
 pub record Within (r : BoundsAnswer) (c : Bounds3f) : Type 0 where

@@ -19,7 +19,7 @@ use Rattle.bounds3.specs.declared.Bounds3f.{Bounds3f}
 use Rattle.bounds3.specs.Inside.{Inside}
 use Rattle.transform.specs.declared.BoundsAnswer.{BoundsAnswer}
 use Rattle.transform.specs.Answer.{BoundsAnswer·refusal, BoundsAnswer·bounds}
-use Rattle.motion_cover.specs.Cover.{maxDepth}
+use Rattle.bounds_query.specs.Query.{maxDepth}
 use Rattle.motion_cover.specs.Theorem.{MovedInside}
 use Rattle.cover_depth.specs.Finer.{Within}
 use Rattle.motion_chain.specs.Chain.{Chain, Chain·transformPoint, Chain·cover}

@@ -28,7 +28,7 @@ use Rattle.transform.specs.declared.BoundsAnswer.the-variants.{Bounds, Refused}
 use Rattle.transform.specs.Answer.{PointAnswer·refusal, PointAnswer·point, BoundsAnswer·bounds}
 use Rattle.transform.specs.TransformPoint.{Transform·transformPoint}
 use Rattle.transform.proofs.Judged.{judged-moved}
-use Rattle.bounds_query.specs.Query.{Bounds3f·refusal, BoundsAnswer·unionBounds}
+use Rattle.bounds_query.specs.Query.{Bounds3f·refusal, BoundsAnswer·unionBounds, maxDepth, coverRefusal}
 use Rattle.bounds_query.proofs.Accepted.{refusal-accepted}
 use Rattle.bounds_query.proofs.Union.{refused-bounds, bounds-same, union-accepted}
 use Rattle.unit_interval.specs.Unit.{unitInterval, slice, dt}
@@ -51,7 +51,7 @@ use Rattle.animated_transform.proofs.Built.{built-judged}
 use Rattle.motion_point.specs.TransformPoint.{AnimatedTransform·rigidMotion, AnimatedTransform·movedPoint, AnimatedTransform·transformPoint}
 use Rattle.motion_point.proofs.Built.{built-valid, built-scales}
 use Rattle.motion_point.proofs.Query.{moved-point-start, moved-point-end, moved-point-between, transform-point-accepted}
-use Rattle.motion_cover.specs.Cover.{BoundsAnswer·fromEnclosure, Transform·encloseBounds, AnimatedTransform·encloseBounds, AnimatedTransform·encloseEnds, unionSlices, AnimatedTransform·encloseMotion, maxDepth, coverRefusal, AnimatedTransform·cover}
+use Rattle.motion_cover.specs.Cover.{BoundsAnswer·fromEnclosure, Transform·encloseBounds, AnimatedTransform·encloseBounds, AnimatedTransform·encloseEnds, unionSlices, AnimatedTransform·encloseMotion, AnimatedTransform·cover}
 use Rattle.motion_cover.specs.Theorem.{MovedInside, CoverContainsMotion}
 use Rattle.motion_cover.proofs.NonZero.{cover-answered}
 

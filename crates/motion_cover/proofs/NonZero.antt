@@ -10,7 +10,7 @@ use Rattle.transform.specs.declared.Transform.{Transform}
 use Rattle.transform.specs.declared.BoundsAnswer.{BoundsAnswer}
 use Rattle.transform.specs.declared.BoundsAnswer.the-variants.{Bounds, Refused}
 use Rattle.transform.specs.Answer.{BoundsAnswer·refusal, BoundsAnswer·bounds}
-use Rattle.bounds_query.specs.Query.{BoundsAnswer·unionBounds}
+use Rattle.bounds_query.specs.Query.{BoundsAnswer·unionBounds, coverRefusal}
 use Rattle.unit_interval.specs.Unit.{slice}
 use Rattle.pose_steps.specs.declared.RigidMotion.{RigidMotion}
 use Rattle.pose_steps.specs.declared.JudgedVector.{JudgedVector}
@@ -18,7 +18,7 @@ use Rattle.pose_steps.specs.Enclose.{Pose·enclosePoint, Bounds3f·intervals, I
 use Rattle.stored_box.specs.EnclosePoints.{Transform·enclosePoints}
 use Rattle.animated_transform.specs.declared.AnimatedTransform.{AnimatedTransform}
 use Rattle.motion_point.specs.TransformPoint.{AnimatedTransform·rigidMotion}
-use Rattle.motion_cover.specs.Cover.{BoundsAnswer·fromEnclosure, Transform·encloseBounds, AnimatedTransform·encloseBounds, AnimatedTransform·encloseEnds, unionSlices, AnimatedTransform·encloseMotion, coverRefusal, AnimatedTransform·cover}
+use Rattle.motion_cover.specs.Cover.{BoundsAnswer·fromEnclosure, Transform·encloseBounds, AnimatedTransform·encloseBounds, AnimatedTransform·encloseEnds, unionSlices, AnimatedTransform·encloseMotion, AnimatedTransform·cover}
 
 abbrev pub BoundsAnswer·NonZero : BoundsAnswer → Type 0
 BoundsAnswer·NonZero (Bounds b) = Unit {0}

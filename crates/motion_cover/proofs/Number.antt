@@ -11,7 +11,7 @@ use Rattle.transform.specs.declared.Transform.{Transform}
 use Rattle.transform.specs.declared.BoundsAnswer.{BoundsAnswer}
 use Rattle.transform.specs.declared.BoundsAnswer.the-variants.{Bounds, Refused}
 use Rattle.transform.specs.Answer.{BoundsAnswer·refusal}
-use Rattle.bounds_query.specs.Query.{Bounds3f·isOrdered, Bounds3f·refusal, BoundsAnswer·unionBounds}
+use Rattle.bounds_query.specs.Query.{Bounds3f·isOrdered, Bounds3f·refusal, BoundsAnswer·unionBounds, maxDepth, coverRefusal}
 use Rattle.unit_interval.specs.Unit.{slice}
 use Rattle.pose_steps.specs.declared.RigidMotion.{RigidMotion}
 use Rattle.pose_steps.specs.declared.JudgedVector.{JudgedVector}
@@ -21,7 +21,7 @@ use Rattle.pose_steps.proofs.Number.{transformPoint-number, point-number}
 use Rattle.stored_box.specs.EnclosePoints.{Transform·enclosePoints}
 use Rattle.animated_transform.specs.declared.AnimatedTransform.{AnimatedTransform}
 use Rattle.motion_point.specs.TransformPoint.{AnimatedTransform·rigidMotion}
-use Rattle.motion_cover.specs.Cover.{BoundsAnswer·fromEnclosure, Transform·encloseBounds, AnimatedTransform·encloseBounds, AnimatedTransform·encloseEnds, unionSlices, AnimatedTransform·encloseMotion, maxDepth, coverRefusal, AnimatedTransform·cover}
+use Rattle.motion_cover.specs.Cover.{BoundsAnswer·fromEnclosure, Transform·encloseBounds, AnimatedTransform·encloseBounds, AnimatedTransform·encloseEnds, unionSlices, AnimatedTransform·encloseMotion, AnimatedTransform·cover}
 use Rattle.motion_cover.specs.Answer.{CoverNumber}
 
 enclosure-number : (j : JudgedVector) → SliceNumber (j .refusal) → SliceNumber (BoundsAnswer·refusal (BoundsAnswer·fromEnclosure j))

@@ -13,12 +13,12 @@ use Rattle.bounds3.specs.declared.Bounds3f.{Bounds3f}
 use Rattle.bounds3.specs.Bounds3f.{Bounds3f·unionBounds}
 use Rattle.transform.specs.declared.BoundsAnswer.{BoundsAnswer}
 use Rattle.transform.specs.declared.BoundsAnswer.the-variants.{Bounds, Refused}
-use Rattle.bounds_query.specs.Query.{BoundsAnswer·unionBounds}
+use Rattle.bounds_query.specs.Query.{BoundsAnswer·unionBounds, maxDepth}
 use Rattle.unit_interval.specs.Unit.{sliceEnd, slice}
 use Rattle.unit_interval.proofs.Slices.{sliceEnd-first}
 use Rattle.pose_steps.specs.declared.RigidMotion.{RigidMotion}
 use Rattle.animated_transform.specs.declared.AnimatedTransform.{AnimatedTransform}
-use Rattle.motion_cover.specs.Cover.{AnimatedTransform·encloseBounds, unionSlices, maxDepth}
+use Rattle.motion_cover.specs.Cover.{AnimatedTransform·encloseBounds, unionSlices}
 
 pub unionSlices-refused : (m : AnimatedTransform) (a : RigidMotion) (b : Bounds3f) (d : ℕ) (r : BoundsAnswer) (n i k : ℕ)
     → i ≤ k → unionSlices m a b d r i ≡ Refused n → unionSlices m a b d r k ≡ Refused n

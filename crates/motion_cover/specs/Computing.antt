@@ -2,9 +2,9 @@
 use Rattle.pose_steps.specs.Computing as pose
 use Rattle.unit_interval.specs.Computing as slice
 use Rattle.bounds_query.specs.Computing as query
-use Rattle.motion_cover.specs.Cover.{BoundsAnswer·fromEnclosure, Transform·encloseBounds, AnimatedTransform·encloseBounds, AnimatedTransform·encloseEnds, unionSlices, AnimatedTransform·encloseMotion, coverRefusal, AnimatedTransform·cover}
+use Rattle.motion_cover.specs.Cover.{BoundsAnswer·fromEnclosure, Transform·encloseBounds, AnimatedTransform·encloseBounds, AnimatedTransform·encloseEnds, unionSlices, AnimatedTransform·encloseMotion, AnimatedTransform·cover}
 use Rattle.pose_steps.specs.Pose.{RigidMotion·new}
 
 unfoldable pub computing : Unit {0}
-unfolding pose.computing slice.computing query.computing RigidMotion·new BoundsAnswer·fromEnclosure Transform·encloseBounds AnimatedTransform·encloseBounds AnimatedTransform·encloseEnds unionSlices AnimatedTransform·encloseMotion coverRefusal AnimatedTransform·cover
+unfolding pose.computing slice.computing query.computing RigidMotion·new BoundsAnswer·fromEnclosure Transform·encloseBounds AnimatedTransform·encloseBounds AnimatedTransform·encloseEnds unionSlices AnimatedTransform·encloseMotion AnimatedTransform·cover
 computing = tt

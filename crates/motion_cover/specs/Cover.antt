@@ -2,12 +2,12 @@
 -- A query is judged first: 6, 7, 8. Then start box, end box and slices are worked in rising order, and the first number met, 5 or 10, stands.
 use Prim.Native.Nat.{ℕ, zero, suc, _^_}
 use mathlib.Core.Bool.{cond}
-use lib.Dec.{eqb, ltb}
+use lib.Dec.{eqb}
 use Rattle.bounds3.specs.declared.Bounds3f.{Bounds3f}
 use Rattle.transform.specs.declared.Transform.{Transform}
 use Rattle.transform.specs.declared.BoundsAnswer.{BoundsAnswer}
 use Rattle.transform.specs.declared.BoundsAnswer.the-variants.{Bounds, Refused}
-use Rattle.bounds_query.specs.Query.{Bounds3f·refusal, BoundsAnswer·unionBounds}
+use Rattle.bounds_query.specs.Query.{BoundsAnswer·unionBounds, coverRefusal}
 use Rattle.interval.specs.declared.Interval.{Interval}
 use Rattle.unit_interval.specs.Unit.{slice}
 use Rattle.pose_steps.specs.declared.RigidMotion.{RigidMotion}
@@ -44,14 +44,6 @@ AnimatedTransform·encloseMotion m b d =
     cond (m .«actually_animated»)
     (unionSlices m (AnimatedTransform·rigidMotion m) b d (AnimatedTransform·encloseEnds m b) (2 ^ d))
     (Transform·encloseBounds (m .«start_transform») b)
-
--- "a depth d from 0 to 12"
-abbrev pub maxDepth : ℕ
-maxDepth = 12
-
--- document 01, Refusals, "in this order": 6 and 7 of the box, 8 where "the depth is above 12"; 0 is none
-unfoldable pub coverRefusal : Bounds3f → ℕ → ℕ
-coverRefusal b d = let n = Bounds3f·refusal b in cond (eqb n 0) (cond (ltb maxDepth d) 8 0) n
 
 -- The cover query.
 unfoldable pub AnimatedTransform·cover : AnimatedTransform → Bounds3f → ℕ → BoundsAnswer

@@ -20,11 +20,10 @@ ghost use Rattle.transform.specs.declared.BoundsAnswer.the-variants.{Bounds};
 ghost use Rattle.pose_steps.specs.Enclose.{Pose·encloseSlerp, Bounds3f·intervals, IntervalVector·bounds};
 ghost use Rattle.pose_slerp.specs.Unjudged.{Perpendicular·of};
 ghost use Rattle.motion_point.specs.TransformPoint.{AnimatedTransform·rigidMotion};
-ghost use Rattle.motion_cover.specs.Cover.{BoundsAnswer·fromEnclosure, Transform·encloseBounds, AnimatedTransform·encloseBounds, AnimatedTransform·encloseEnds, unionSlices, AnimatedTransform·encloseMotion, maxDepth, coverRefusal, AnimatedTransform·cover};
+ghost use Rattle.bounds_query.specs.Query.{maxDepth};
+ghost use Rattle.motion_cover.specs.Cover.{BoundsAnswer·fromEnclosure, Transform·encloseBounds, AnimatedTransform·encloseBounds, AnimatedTransform·encloseEnds, unionSlices, AnimatedTransform·encloseMotion, AnimatedTransform·cover};
 ghost use Rattle.motion_cover.specs.Border.{Border·at};
 ghost use Rattle.motion_cover.specs.Theorem.{CoverContainsMotion};
-
-const MAX_DEPTH: u32 = 12;
 
 // Where two slices meet: dt, and the angle that slerp has turned by there, which both of them ask for.
 struct Border {
@@ -224,26 +223,12 @@ fn motion_enclosure(m: AnimatedTransform, b: Bounds3f, d: u32) -> BoundsAnswer
     }
 }
 
-// 6 and 7 of the box, then 8 for a depth above 12, 0 for none.
-fn cover_refusal(b: Bounds3f, d: u32) -> u8
-    ensures value { λ r. ⌜ r ≡ coverRefusal b d ⌝ }
-{
-    let n = bounds_query::refusal(b);
-    if n != 0 {
-        return n;
-    }
-    if d > MAX_DEPTH {
-        return 8;
-    }
-    0
-}
-
 // Refused with 6, 7 or 8 before it is worked, and then with 5 or 10, whichever is met first. Accuracy: encloses.
 pub fn cover(m: AnimatedTransform, b: Bounds3f, depth: u32) -> BoundsAnswer
     ensures value { λ r. ⌜ r ≡ AnimatedTransform·cover m b depth ⌝ }
     ensures contains_motion { λ r. ⌜ CoverContainsMotion m b r ⌝ }
 {
-    let n = cover_refusal(b, depth);
+    let n = bounds_query::cover_refusal(b, depth);
     if n != 0 {
         return BoundsAnswer::Refused(n);
     }

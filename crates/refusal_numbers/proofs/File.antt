@@ -14,13 +14,13 @@ use Rattle.bounds3.specs.Finite.{Bounds3f·isFinite}
 use Rattle.bounds3.specs.List.{Bounds3f·ofList}
 use Rattle.transform.specs.declared.BoundsAnswer.{BoundsAnswer}
 use Rattle.transform.specs.Answer.{OneOf, BoundsAnswer·refusal}
-use Rattle.bounds_query.specs.Query.{Bounds3f·isOrdered, Bounds3f·refusal}
+use Rattle.bounds_query.specs.Query.{Bounds3f·isOrdered, Bounds3f·refusal, maxDepth, coverRefusal}
 use Rattle.pose_steps.specs.Promise.{SliceNumber}
 use Rattle.pose_pair.specs.Pose.{Pose·isAffine}
 use Rattle.animated_transform.specs.declared.AnimatedTransform.{AnimatedTransform}
 use Rattle.animated_transform.specs.New.{AnimatedTransform·new}
 use Rattle.animated_transform.proofs.Numbers.{new-refusal, new-affine}
-use Rattle.motion_cover.specs.Cover.{maxDepth, coverRefusal, AnimatedTransform·encloseMotion, AnimatedTransform·cover}
+use Rattle.motion_cover.specs.Cover.{AnimatedTransform·encloseMotion, AnimatedTransform·cover}
 use Rattle.motion_cover.proofs.Number.{motion-number}
 use Rattle.motion_file.specs.declared.MoveFile.{MoveFile}
 use Rattle.motion_file.specs.Layout.{MoveFile·departs, MoveFile·read}

@@ -6,8 +6,8 @@ use lib.Dec.{eqb, ltb}
 use borrow.Author.Needs.{needs}
 use borrow.Author.Tests.{ltb-false, eqb-false, eq-eqb, ne-eqb}
 use Rattle.bounds3.specs.declared.Bounds3f.{Bounds3f}
-use Rattle.bounds_query.specs.Query.{Bounds3f·refusal}
-use Rattle.motion_cover.specs.Cover.{maxDepth, coverRefusal, AnimatedTransform·cover}
+use Rattle.bounds_query.specs.Query.{Bounds3f·refusal, maxDepth, coverRefusal}
+use Rattle.motion_cover.specs.Cover.{AnimatedTransform·cover}
 use Rattle.motion_cover.proofs.Contains.{cover-clauses}
 use Rattle.motion_cover.proofs.cover.Statement.{statement}
 use Rattle.motion_cover.proofs.cover.Tie as tie

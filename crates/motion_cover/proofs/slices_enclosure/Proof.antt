@@ -4,7 +4,7 @@ use mathlib.Core.Path.{_≡_, sym, _∙_}
 use native.Mathlib.Omega.{arith}
 use lib.Pow.{pow-lt}
 use borrow.Author.Needs.{needs}
-use Rattle.motion_cover.specs.Cover.{maxDepth}
+use Rattle.bounds_query.specs.Query.{maxDepth}
 use Rattle.motion_cover.specs.Border.{Border·at}
 use Rattle.motion_cover.proofs.Borders.{border-time, border-own}
 use Rattle.motion_cover.proofs.Slices.{slice-count, slice-end, Reached, reached-first, reached-next, slice-refused, reached-last}

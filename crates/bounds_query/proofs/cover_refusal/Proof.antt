@@ -1,9 +1,9 @@
 -- `cover_refusal` meets its contract: the box's number stands before the depth's.
-use Rattle.motion_cover.specs.Cover.{coverRefusal}
+use Rattle.bounds_query.specs.Query.{coverRefusal}
 use borrow.Author.Needs.{needs}
 use borrow.Author.Tests.{eq-eqb, ne-eqb, lt-ltb, le-ltb}
-use Rattle.motion_cover.proofs.cover_refusal.Statement.{statement}
-use Rattle.motion_cover.proofs.cover_refusal.Tie as tie
+use Rattle.bounds_query.proofs.cover_refusal.Statement.{statement}
+use Rattle.bounds_query.proofs.cover_refusal.Tie as tie
 
 refusal-requires : tie.Need-refusal-requires
 refusal-requires c κs = search needs
