@@ -19,10 +19,12 @@ pub fn is_ordered(b: Bounds3f) -> bool
 pub fn refusal(b: Bounds3f) -> u8
     ensures value { λ r. ⌜ r ≡ Bounds3f·refusal b ⌝ }
 {
-    if !b.is_finite() {
+    let finite = b.is_finite();
+    let ordered = is_ordered(b);
+    if !finite {
         return 6;
     }
-    if !is_ordered(b) {
+    if !ordered {
         return 7;
     }
     0
