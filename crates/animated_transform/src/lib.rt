@@ -75,7 +75,7 @@ fn first_refusal(a: u8, b: u8) -> u8
     if a == 0 { b } else { a }
 }
 
-// The work per pair: transforms a and b, parts p and q of the start and of the end.
+// The move between two poses, from their transforms a and b and their parts p and q.
 fn between(
     start: Pose,
     end: Pose,
@@ -120,7 +120,7 @@ fn between(
     AnimatedTransformAnswer { value, refusal: 0 }
 }
 
-// The work per pose, then that per pair: both inverses are met before the parts.
+// The move of two poses that are finite, affine and in order: both inverses are met before the parts.
 fn work(start: Pose, end: Pose) -> AnimatedTransformAnswer
     ensures value { λ r. ⌜ r ≡ work start end ⌝ }
 {
@@ -140,8 +140,9 @@ fn work(start: Pose, end: Pose) -> AnimatedTransformAnswer
 }
 
 impl AnimatedTransform {
-    // Refused with 1 to 5, whichever is met first; pbrt goes on where this refuses. What isn't refused is a built move.
-    // Accuracy: each operation is correctly rounded.
+    // pbrt's `AnimatedTransform::new`: a move from two poses; refused with 1 to 5, whichever is met first, where pbrt goes on.
+    // What isn't refused is a built move.
+    // Accuracy: each operation but the arc cosine is correctly rounded.
     pub fn new(start: Pose, end: Pose) -> AnimatedTransformAnswer
         ensures value { λ r. ⌜ r ≡ AnimatedTransform·new start end ⌝ }
         ensures built { λ r. ⌜ (r .refusal ≡ 0 → Built (r .value)) ⌝ }

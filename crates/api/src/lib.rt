@@ -1,6 +1,6 @@
-// The library that Rust and C link: a move is built once, kept by its caller as 44 rows of four floats, and asked many times. Each function returns the number of a refusal, 0 for
-// none. Where nothing is refused it writes the array that it is lent last; after a refusal that array is as it was. Any floats may be handed in, and any rows may be asked, but
-// the guarantee is for rows that building has written.
+// The library that Rust and C link: a move is built once, kept by its caller as 44 rows of four floats, and asked many times. Each function returns the number
+// of a refusal, 0 for none. Where nothing is refused it writes the array that it is lent last; after a refusal that array is as it was. Any floats may be
+// handed in, and any rows may be asked, but the guarantee is for rows that building has written.
 use animated_transform::AnimatedTransform;
 use bounds3::Point3f;
 use matrix4x4::Matrix4x4;
@@ -37,6 +37,7 @@ fn transform_point(motion: &[[f32; 4]; 44], time: f32, p: Point3f) -> PointAnswe
 }
 
 // Builds a move from two poses, each a time and the four rows of a matrix. Refused with 1 to 5.
+// Accuracy: each operation but the arc cosine is correctly rounded.
 #[no_mangle]
 pub extern "C" fn jellyplain_build(
     start_time: f32,
@@ -55,7 +56,7 @@ pub extern "C" fn jellyplain_build(
     )
 }
 
-// Where a point stands at a time. Refused with 5 or 6.
+// Where a point stands at a time. Refused with 5 or 6. Accuracy: each operation but sine and cosine is correctly rounded.
 #[no_mangle]
 pub extern "C" fn jellyplain_point(
     motion: &[[f32; 4]; 44],
@@ -71,6 +72,7 @@ pub extern "C" fn jellyplain_point(
 }
 
 // The transform at a time: the rows of its matrix, and then those of its inverse. Refused with 4, 5 or 6.
+// Accuracy: each operation but sine, cosine and arc cosine is correctly rounded.
 #[no_mangle]
 pub extern "C" fn jellyplain_interpolate(
     motion: &[[f32; 4]; 44],
@@ -86,7 +88,7 @@ pub extern "C" fn jellyplain_interpolate(
     )
 }
 
-// pbrt's motion box of a point: no cover. Refused with 5, 6 or 9.
+// pbrt's motion box of a point: no cover. Refused with 5, 6 or 9. Accuracy: heuristic.
 #[no_mangle]
 pub extern "C" fn jellyplain_bound_point_motion(
     motion: &[[f32; 4]; 44],
@@ -102,7 +104,7 @@ pub extern "C" fn jellyplain_bound_point_motion(
     )
 }
 
-// pbrt's motion box of the box b: no cover. Refused with 5, 6, 7 or 9.
+// pbrt's motion box of the box b: no cover. Refused with 5, 6, 7 or 9. Accuracy: heuristic.
 #[no_mangle]
 pub extern "C" fn jellyplain_motion_bounds(
     motion: &[[f32; 4]; 44],
@@ -119,6 +121,7 @@ pub extern "C" fn jellyplain_motion_bounds(
 }
 
 // A box that holds the box b at every time, from 2^depth slices; where 0 is returned it stands in `bounds`. Refused with 5, 6, 7, 8 or 10.
+// Accuracy: encloses.
 #[no_mangle]
 pub extern "C" fn jellyplain_cover(
     motion: &[[f32; 4]; 44],

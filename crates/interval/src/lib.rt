@@ -213,7 +213,7 @@ impl EndAngle {
         }
     }
 
-    // Accuracy: exact; sine and cosine are document 01's.
+    // An angle as an end of an interval, with its units, its sine and its cosine. Accuracy: exact; sine and cosine are document 01's.
     pub fn new(a: f32) -> Self
         ensures value { λ r. ⌜ r ≡ EndAngle·new a ⌝ }
     {
@@ -238,7 +238,7 @@ impl EndAngle {
         }
     }
 
-    // The cosine, likewise.
+    // The cosine from an end to another. Accuracy: encloses, for angles from 0 to a full turn.
     pub fn cos_range(self, to: EndAngle) -> Interval
         ensures value { λ r. ⌜ r ≡ EndAngle·cosRange self to ⌝ }
     {
@@ -265,7 +265,7 @@ fn first(m: u8, n: u8) -> u8
 }
 
 impl Judged {
-    // An interval as it is formed: 5 where an end is not finite.
+    // An interval as it is formed: 5 where an end is not finite, unless a number was met before. Accuracy: exact.
     pub fn judge(m: u8, x: Interval) -> Self
         ensures value { λ r. ⌜ r ≡ Judged·judge m x ⌝ }
     {

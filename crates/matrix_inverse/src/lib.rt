@@ -215,8 +215,8 @@ fn judged(m: [[f32; 4]; 4]) -> InverseAnswer
     }
 }
 
-// pbrt's `Matrix4x4::inverse`, which logs where this refuses: 4 at a zero pivot, 5 where an entry of the result is not finite.
-// Accuracy: each operation is correctly rounded.
+// pbrt's `Matrix4x4::inverse`: the inverse by Gauss-Jordan elimination; pbrt logs where this refuses: 4 at a zero pivot, 5 where an entry of the result is not
+// finite. Accuracy: each operation is correctly rounded.
 pub fn inverse(m: [[f32; 4]; 4]) -> InverseAnswer
     ensures value { λ r. ⌜ r ≡ Matrix4x4·inverse m ⌝ }
 {

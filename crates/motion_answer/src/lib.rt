@@ -57,8 +57,8 @@ fn write(cover: BoundsAnswer, out: &mut [u8]) -> usize
     }
 }
 
-// Writes the text that answers a file's bytes into the front of `out`, and gives its length, at most 72. Where it doesn't fit, `out` is kept as it is and the answer is 0.
-// Where 72 bytes are lent, the text is a refusal or a box that holds the file's move.
+// Writes the text that answers a file's bytes, its cover or its refusal, into the front of `out`, and gives its length, at most 72; where it doesn't fit, `out`
+// is kept as it is and the answer is 0. Where 72 bytes are lent, the text is a refusal or a box that holds the file's move. Accuracy: encloses, where it is a box.
 pub fn answer(bytes: &[u8], out: &mut [u8]) -> usize
     ensures value { λ r. ⌜ r ≡ lengthIn (answerText (now (bytes .entry))) (now (out .entry)) ⌝ }
     ensures text { λ _. ⌜ now (out .exit) ≡ front (answerText (now (bytes .entry))) (now (out .entry)) ⌝ }

@@ -1,5 +1,5 @@
 // The cover query of a move, document 01's 'Cover (added)': an interval enclosure of a box's motion, from the steps of a pose read in intervals.
-// Start box, end box and slices of dt are worked in rising order, and the first refusal that is met ends the work.
+// Start box, end box and slices of dt are computed in rising order, up to the first refusal that is met.
 use animated_transform::AnimatedTransform;
 use bounds3::Bounds3f;
 use bounds3::Point3f;
@@ -119,7 +119,8 @@ fn border_at(table: &[u32; 2049], a: RigidMotion, t: f32) -> Border
     }
 }
 
-// The rotation from a border to another, by the angles that are kept there. Judging is left out where a sum over all ends is finite, which gives the same. Accuracy: encloses.
+// The rotation from a border to another, by the angles that are kept there. Judging is left out where a sum over all ends is finite, which gives the same.
+// Accuracy: encloses.
 fn slerp_enclosure(
     m: u8,
     a: RigidMotion,
@@ -208,7 +209,7 @@ fn slices_enclosure(m: AnimatedTransform, b: Bounds3f, d: u32, first: Bounds3f) 
     BoundsAnswer::Bounds(union)
 }
 
-// The work of the cover query. Accuracy: encloses.
+// The cover of a box and a depth that aren't refused. Accuracy: encloses.
 fn motion_enclosure(m: AnimatedTransform, b: Bounds3f, d: u32) -> BoundsAnswer
     requires { ⌜ d ≤ maxDepth ⌝ }
     ensures value { λ r. ⌜ r ≡ AnimatedTransform·encloseMotion m b d ⌝ }
@@ -223,7 +224,8 @@ fn motion_enclosure(m: AnimatedTransform, b: Bounds3f, d: u32) -> BoundsAnswer
     }
 }
 
-// Refused with 6, 7 or 8 before it is worked, and then with 5 or 10, whichever is met first. Accuracy: encloses.
+// The cover: a box that holds the box b wherever the move takes it. Refused with 6, 7 or 8 before it is computed, and then with 5 or 10, whichever is met
+// first. Accuracy: encloses.
 pub fn cover(m: AnimatedTransform, b: Bounds3f, depth: u32) -> BoundsAnswer
     ensures value { λ r. ⌜ r ≡ AnimatedTransform·cover m b depth ⌝ }
     ensures contains_motion { λ r. ⌜ CoverContainsMotion m b r ⌝ }

@@ -63,7 +63,7 @@ impl MotionDerivative {
         self.c1 + (self.c2 + self.c3 * t) * angle.cos + (self.c4 + self.c5 * t) * angle.sin
     }
 
-    // The slope at t, likewise.
+    // The slope at t, likewise. Accuracy: each operation is correctly rounded.
     pub fn slope_at(self, t: f32, angle: SinCos) -> f32
         ensures value { λ r. ⌜ r ≡ MotionDerivative·slopeAt self t (angle .sin) (angle .cos) ⌝ }
     {

@@ -1,4 +1,5 @@
-// A move as 44 rows of four floats, and back: the form in which a caller of the library keeps a built move, with the constants that a point query needs worked out once.
+// A move as 44 rows of four floats, and back: the form in which a caller of the library keeps a built move, with the constants that a point query needs,
+// computed once.
 use animated_transform::AnimatedTransform;
 use animated_transform::AnimatedTransformAnswer;
 use axis_derivative::Derivative;
@@ -144,14 +145,15 @@ fn fields_rows(m: AnimatedTransform, last: [f32; 4]) -> [[f32; 4]; 44]
     ]
 }
 
-// Accuracy: exact.
+// The rows of a move and of its constants.
 fn to_rows(m: AnimatedTransform) -> [[f32; 4]; 44]
     ensures value { λ r. ⌜ r ≡ AnimatedTransform·toRows m ⌝ }
 {
     fields_rows(m, constants_row(m))
 }
 
-// A built move is put into a lent array; after a refusal the array is as it was. Gives the number of the refusal, 0 for none.
+// Puts a built move into `out`, or after a refusal nothing, and gives the refusal's number, 0 for none.
+// Accuracy: exact but for the constants of the pose between, which are those of `motion_point`.
 pub fn put_motion(answer: AnimatedTransformAnswer, out: &mut [[f32; 4]; 44]) -> u8
     ensures refusal { λ r. ⌜ r ≡ answer .refusal ⌝ }
     ensures left { λ _. ⌜ now (out .exit) ≡ AnimatedTransformAnswer·left answer (now (out .entry)) ⌝ }
@@ -242,7 +244,7 @@ fn coefficients_at(rows: &[[f32; 4]; 44], i: usize) -> Coefficients
     Coefficients { x, y, z }
 }
 
-// Accuracy: exact.
+// The move that its rows hold. Accuracy: exact.
 pub fn from_rows(rows: &[[f32; 4]; 44]) -> AnimatedTransform
     ensures value { λ r. ⌜ r ≡ AnimatedTransform·fromRows (now (rows .entry)) ⌝ }
 {
@@ -294,7 +296,8 @@ fn rigid_motion_from_rows(rows: &[[f32; 4]; 44]) -> RigidMotion
     }
 }
 
-// The work of the point query of a kept move, `motion_point::moved_point`, which reads the rows that it needs and no others. Accuracy: each operation is correctly rounded.
+// `motion_point::moved_point` of a kept move, which reads the rows that it needs and no others; refused with 5 where a finished value isn't finite.
+// Accuracy: each operation but sine and cosine is correctly rounded.
 pub fn moved_point(rows: &[[f32; 4]; 44], time: f32, p: Point3f) -> PointAnswer
     ensures value { λ r. ⌜ r ≡ AnimatedTransform·movedPoint (AnimatedTransform·fromRows (now (rows .entry))) (RigidMotion·fromRows (now (rows .entry))) time p ⌝ }
 {

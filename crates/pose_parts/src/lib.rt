@@ -13,6 +13,7 @@ use pose_steps::JudgedMatrix;
 use pose_steps::JudgedVector;
 use vector3::Vector3f;
 
+// The translation at dt: t0 (1 - dt) + t1 dt, as `interpolate` has it. Accuracy: each operation is correctly rounded.
 pub fn translation(t0: Vector3f, t1: Vector3f, dt: f32) -> Vector3f
     ensures value { λ r. ⌜ r ≡ Pose·translation t0 t1 dt ⌝ }
 {
@@ -46,7 +47,7 @@ fn translation_unjudged(t0: Vector3f, t1: Vector3f, dt: Interval) -> IntervalVec
     IntervalVector { x, y, z }
 }
 
-// Accuracy: encloses.
+// The same over an interval of dt, with m the refusal number met before; refused with 5 where an end isn't finite. Accuracy: encloses.
 pub fn translation_enclosure(m: u8, t0: Vector3f, t1: Vector3f, dt: Interval) -> JudgedVector
     ensures value { λ r. ⌜ r ≡ Pose·encloseTranslation m (IntervalVector·point t0) (IntervalVector·point t1) dt ⌝ }
 {
@@ -68,7 +69,7 @@ pub fn translation_enclosure(m: u8, t0: Vector3f, t1: Vector3f, dt: Interval) ->
     }
 }
 
-// The fourth entries are not read.
+// A row of the scale at dt: pbrt's `lerp` of three entries; the fourth are not read. Accuracy: each operation is correctly rounded.
 pub fn scale_row(s0: [f32; 4], s1: [f32; 4], dt: f32) -> [f32; 4]
     ensures value { λ r. ⌜ r ≡ Pose·scaleRow s0 s1 dt ⌝ }
 {
@@ -80,6 +81,7 @@ pub fn scale_row(s0: [f32; 4], s1: [f32; 4], dt: f32) -> [f32; 4]
     ]
 }
 
+// The scale at dt: pbrt's `lerp` of the three by three entries, in a matrix that is otherwise the identity. Accuracy: each operation is correctly rounded.
 pub fn scale(s0: Matrix4x4, s1: Matrix4x4, dt: f32) -> Matrix4x4
     ensures value { λ r. ⌜ r ≡ Pose·scale s0 s1 dt ⌝ }
 {
@@ -139,7 +141,7 @@ fn scale_unjudged(s0: Matrix4x4, s1: Matrix4x4, dt: Interval) -> IntervalMatrix
     IntervalMatrix { r0, r1, r2 }
 }
 
-// Accuracy: encloses.
+// The same over an interval of dt, with m the refusal number met before; refused with 5 where an end isn't finite. Accuracy: encloses.
 pub fn scale_enclosure(m: u8, s0: Matrix4x4, s1: Matrix4x4, dt: Interval) -> JudgedMatrix
     ensures value { λ r. ⌜ r ≡ Pose·encloseScale m (IntervalMatrix·point s0) (IntervalMatrix·point s1) dt ⌝ }
 {

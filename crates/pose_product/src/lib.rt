@@ -30,7 +30,7 @@ fn mul_row(a: [f32; 4], b: [[f32; 4]; 4]) -> [f32; 4]
     ]
 }
 
-// Accuracy: each operation is correctly rounded.
+// pbrt's `Matrix4x4::mul` of two matrices whose bottom rows are 0, 0, 0, 1. Accuracy: each operation is correctly rounded.
 pub fn mul(a: [[f32; 4]; 4], b: [[f32; 4]; 4]) -> [[f32; 4]; 4]
     ensures value { λ r. ⌜ r ≡ Matrix4x4·toRows (Pose·mul (Matrix4x4·fromRows a) (Matrix4x4·fromRows b)) ⌝ }
 {
@@ -88,7 +88,7 @@ fn mul_row_unjudged(a: IntervalRow, b: IntervalMatrix) -> IntervalRow
     IntervalRow { c0, c1, c2, c3 }
 }
 
-// Accuracy: encloses.
+// The same in intervals, with m the refusal number met before; refused with 5 where an end isn't finite. Accuracy: encloses.
 pub fn mul_enclosure(m: u8, a: IntervalMatrix, b: IntervalMatrix) -> JudgedMatrix
     ensures value { λ r. ⌜ r ≡ Pose·encloseMul m a b ⌝ }
 {
@@ -241,7 +241,7 @@ fn translated(v: IntervalVector, b: IntervalMatrix) -> IntervalMatrix
     IntervalMatrix { r0, r1, r2 }
 }
 
-// The same, judged. Accuracy: encloses.
+// The product of the matrix that adds v to a point, and b, with m the refusal number met before; refused with 5 where an end isn't finite. Accuracy: encloses.
 pub fn translate_enclosure(m: u8, v: IntervalVector, b: IntervalMatrix) -> JudgedMatrix
     ensures value { λ r. ⌜ r ≡ Pose·encloseMul m (IntervalMatrix·translation v) b ⌝ }
 {

@@ -2060,7 +2060,7 @@ const SINE_TABLE: [u32; 2049] = [
     1073741824,
 ];
 
-// T, to be lent to where sines are asked: naming a constant copies it, so a query does it once.
+// T, to be lent to where sines are asked: naming a constant copies it, so a query does it once. Accuracy: exact.
 pub fn table() -> [u32; 2049]
     ensures value { λ r. ⌜ r ≡ sineTable ⌝ }
     ensures rule { λ r. ⌜ SineTable r ⌝ }
