@@ -23,7 +23,7 @@ use Rattle.pose_steps.proofs.Isotone.{point-isotone}
 use Rattle.pose_steps.proofs.Box.{refines-subset, order-refl}
 use Rattle.animated_transform.specs.declared.AnimatedTransform.{AnimatedTransform}
 use Rattle.animated_transform.specs.Built.{Built}
-use Rattle.motion_point.specs.TransformPoint.{AnimatedTransform·rigidMotion}
+use Rattle.motion_point.specs.TransformPoint.{AnimatedTransform·constants}
 use Rattle.motion_point.proofs.Built.{built-valid, built-scales}
 use Rattle.motion_cover.specs.Cover.{BoundsAnswer·fromEnclosure, AnimatedTransform·encloseBounds, AnimatedTransform·encloseEnds, unionSlices, AnimatedTransform·encloseMotion, AnimatedTransform·cover}
 use Rattle.motion_cover.specs.Answer.{Proper}
@@ -77,12 +77,12 @@ from-enclosure-box j e = rw (eq-eqb (j .refusal) 0 e)
 module _ {m : AnimatedTransform} (built : Built m) (b : Bounds3f) (r : BoxRefines b) where
   -- ---- a slice of a greater depth
   pub piece-finer : (d n k : ℕ) (c : Bounds3f) → k < 2 ^ (d + n)
-      → BoxWithin (AnimatedTransform·encloseBounds m (AnimatedTransform·rigidMotion m) (slice d (k / 2 ^ n)) b) c
-      → BoxWithin (AnimatedTransform·encloseBounds m (AnimatedTransform·rigidMotion m) (slice (d + n) k) b) c
+      → BoxWithin (AnimatedTransform·encloseBounds m (AnimatedTransform·constants m) (slice d (k / 2 ^ n)) b) c
+      → BoxWithin (AnimatedTransform·encloseBounds m (AnimatedTransform·constants m) (slice (d + n) k) b) c
   unfolding AnimatedTransform·encloseBounds
   piece-finer d n k c h w =
       let B = Bounds3f·intervals b in
-      let a = AnimatedTransform·rigidMotion m in
+      let a = AnimatedTransform·constants m in
       let coarse = Pose·enclosePoint a (m .s0) (m .s1) (slice d (k / 2 ^ n)) B in
       let fine = Pose·enclosePoint a (m .s0) (m .s1) (slice (d + n) k) B in
       let g = from-enclosure-accepted coarse (w .box) (w .accepted) in
@@ -95,13 +95,13 @@ module _ {m : AnimatedTransform} (built : Built m) (b : Bounds3f) (r : BoxRefine
       }
 
   -- ---- what an accepted union of ends and slices holds
-  slices-within : (d k : ℕ) (c : Bounds3f) → k ≤ 2 ^ d → unionSlices m (AnimatedTransform·rigidMotion m) b d (AnimatedTransform·encloseEnds m b) k ≡ Bounds c
+  slices-within : (d k : ℕ) (c : Bounds3f) → k ≤ 2 ^ d → unionSlices m (AnimatedTransform·constants m) b d (AnimatedTransform·encloseEnds m b) k ≡ Bounds c
       → BoxWithin (AnimatedTransform·encloseEnds m b) c
-      × ((i : ℕ) → i < k → BoxWithin (AnimatedTransform·encloseBounds m (AnimatedTransform·rigidMotion m) (slice d i) b) c)
+      × ((i : ℕ) → i < k → BoxWithin (AnimatedTransform·encloseBounds m (AnimatedTransform·constants m) (slice d i) b) c)
   unfolding unionSlices
   slices-within d zero c l e = (proper-within (AnimatedTransform·encloseEnds m b) c (ends-proper built b r) e, λ i h. absurd (omega (arith, h)))
   slices-within d (suc k) c l e =
-      let a = AnimatedTransform·rigidMotion m in
+      let a = AnimatedTransform·constants m in
       let before = unionSlices m a b d (AnimatedTransform·encloseEnds m b) k in
       let u = slice-unit d k (omega (arith, l)) in
       let (v, w) = parts-within before (AnimatedTransform·encloseBounds m a (slice d k) b) c (slices-proper built b r d k (omega (arith, l))) (piece-proper built b r (slice d k) u (subset-self u)) e in
@@ -109,21 +109,21 @@ module _ {m : AnimatedTransform} (built : Built m) (b : Bounds3f) (r : BoxRefine
       (within-subset ends (v .subset), λ i h. go i (eqb i k) (eqb-true i k) (eqb-false i k) h w (λ (i' : ℕ) (h' : i' < k). within-subset (earlier i' h') (v .subset)))
     where
       go : (i : ℕ) (t : Bool) → (t ≡ true → i ≡ k) → (t ≡ false → i ≡ k → ⊥) → i < suc k
-          → BoxWithin (AnimatedTransform·encloseBounds m (AnimatedTransform·rigidMotion m) (slice d k) b) c
-          → ((j : ℕ) → j < k → BoxWithin (AnimatedTransform·encloseBounds m (AnimatedTransform·rigidMotion m) (slice d j) b) c)
-          → BoxWithin (AnimatedTransform·encloseBounds m (AnimatedTransform·rigidMotion m) (slice d i) b) c
+          → BoxWithin (AnimatedTransform·encloseBounds m (AnimatedTransform·constants m) (slice d k) b) c
+          → ((j : ℕ) → j < k → BoxWithin (AnimatedTransform·encloseBounds m (AnimatedTransform·constants m) (slice d j) b) c)
+          → BoxWithin (AnimatedTransform·encloseBounds m (AnimatedTransform·constants m) (slice d i) b) c
       go i true f g h w earlier =
-          subst (λ (j : ℕ). BoxWithin (AnimatedTransform·encloseBounds m (AnimatedTransform·rigidMotion m) (slice d j) b) c) (sym (f refl)) w
+          subst (λ (j : ℕ). BoxWithin (AnimatedTransform·encloseBounds m (AnimatedTransform·constants m) (slice d j) b) c) (sym (f refl)) w
       go i false f g h w earlier = earlier i (omega (arith, h, g refl))
 
   slices-finer : (d n : ℕ) (c : Bounds3f) → BoxWithin (AnimatedTransform·encloseEnds m b) c
-      → ((i : ℕ) → i < 2 ^ d → BoxWithin (AnimatedTransform·encloseBounds m (AnimatedTransform·rigidMotion m) (slice d i) b) c)
-      → (k : ℕ) → k ≤ 2 ^ (d + n) → BoxWithin (unionSlices m (AnimatedTransform·rigidMotion m) b (d + n) (AnimatedTransform·encloseEnds m b) k) c
+      → ((i : ℕ) → i < 2 ^ d → BoxWithin (AnimatedTransform·encloseBounds m (AnimatedTransform·constants m) (slice d i) b) c)
+      → (k : ℕ) → k ≤ 2 ^ (d + n) → BoxWithin (unionSlices m (AnimatedTransform·constants m) b (d + n) (AnimatedTransform·encloseEnds m b) k) c
   unfolding unionSlices
   slices-finer d n c ends pieces zero l = ends
   slices-finer d n c ends pieces (suc k) l =
       let h : k < 2 ^ (d + n) = omega (arith, l) in
-      union-within (unionSlices m (AnimatedTransform·rigidMotion m) b (d + n) (AnimatedTransform·encloseEnds m b) k) (AnimatedTransform·encloseBounds m (AnimatedTransform·rigidMotion m) (slice (d + n) k) b)
+      union-within (unionSlices m (AnimatedTransform·constants m) b (d + n) (AnimatedTransform·encloseEnds m b) k) (AnimatedTransform·encloseBounds m (AnimatedTransform·constants m) (slice (d + n) k) b)
       (slices-finer d n c ends pieces k (omega (arith, l)))
       (piece-finer d n k c h (pieces (k / 2 ^ n) (finer-lt d n k h)))
 

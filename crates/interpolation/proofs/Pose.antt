@@ -22,8 +22,8 @@ use Rattle.transform.specs.TransformPoint.{Transform·transformPoint}
 use Rattle.transform.proofs.FromMatrix.{from-matrix-refusal, from-matrix-accepted}
 use Rattle.rotation.specs.FromQuaternion.{Transform·fromQuaternion}
 use Rattle.unit_interval.specs.Unit.{dt}
-use Rattle.pose_steps.specs.declared.RigidMotion.{RigidMotion}
-use Rattle.pose_steps.specs.Pose.{RigidMotion·new, Pose·translation, Pose·slerp, Pose·scale, Pose·rotation, Pose·mul, allFinite, PoseAnswer·judged, Pose·matrix, Pose·movedPoint}
+use Rattle.pose_steps.specs.declared.PoseConstants.{PoseConstants}
+use Rattle.pose_steps.specs.Pose.{PoseConstants·new, Pose·translation, Pose·slerp, Pose·scale, Pose·rotation, Pose·mul, allFinite, PoseAnswer·judged, Pose·matrix, Pose·movedPoint}
 use Rattle.pose_steps.specs.Composition.{lerpTranslation, lerpScale, composition}
 use Rattle.pose_steps.proofs.Rows.{scale-bottom, rotation-bottom, mul-bottom}
 use Rattle.pose_steps.proofs.Composition.{translation-same, slerp-same, scale-same, rotation-same, product, product-same, matrix-composition, point-composition}
@@ -46,8 +46,8 @@ unfolding PoseAnswer·judged
 judged-passed true m h = refl
 
 -- The move's constants, which `slerp` works out anew.
-abbrev pub motion : AnimatedTransform → RigidMotion
-motion m = RigidMotion·new (m .t0) (m .t1) (m .r0) (m .r1)
+abbrev pub motion : AnimatedTransform → PoseConstants
+motion m = PoseConstants·new (m .t0) (m .t1) (m .r0) (m .r1)
 
 module _ (m : AnimatedTransform) (x : Float) where
   -- ---- what pbrt's lines work out
@@ -81,7 +81,7 @@ module _ (m : AnimatedTransform) (x : Float) where
 
   pose-passed : T (Quaternion·isFinite (Pose·slerp (motion m) x)) → T (allFinite scaleStage) → T (allFinite translationStage) → T (allFinite rotationStage)
       → T (allFinite firstStage) → T (allFinite lastStage) → Pose·matrix (motion m) (m .s0) (m .s1) x .refusal ≡ 0
-  unfolding RigidMotion·new Pose·matrix
+  unfolding PoseConstants·new Pose·matrix
   pose-passed q k u r f l =
       let Q = Quaternion·isFinite (Pose·slerp (motion m) x) in
       let K = Q && allFinite scaleStage in

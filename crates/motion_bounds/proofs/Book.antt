@@ -33,10 +33,10 @@ use Rattle.bounds_query.specs.Query.{Bounds3f·refusal, BoundsAnswer·unionBoun
 use Rattle.axis_derivative.specs.declared.Derivative.{Derivative}
 use Rattle.zero_search.specs.declared.Zeros.{Zeros}
 use Rattle.zero_search.specs.Stored.{Stored}
-use Rattle.pose_steps.specs.declared.RigidMotion.{RigidMotion}
+use Rattle.pose_steps.specs.declared.PoseConstants.{PoseConstants}
 use Rattle.animated_transform.specs.declared.AnimatedTransform.{AnimatedTransform}
 use Rattle.animated_transform.specs.Built.{Built}
-use Rattle.motion_point.specs.TransformPoint.{AnimatedTransform·rigidMotion}
+use Rattle.motion_point.specs.TransformPoint.{AnimatedTransform·constants}
 use Rattle.motion_point.proofs.Query.{moved-point-judged}
 use Rattle.motion_bounds.specs.MotionBounds.{BoundsAnswer·fromEnds, axisZeros, pointAt, unionZero, unionZeros, allPlaces, storedPlaces, unionAxis, pointBounds, unionCorner, unionCorners, boxBounds, boundPointMotion, motionBounds, AnimatedTransform·boundPointMotion, AnimatedTransform·motionBounds}
 use Rattle.motion_bounds.specs.Book.{BoundsAnswer·Same, same-box, same-refusal, Book·boundPointMotion, Book·motionBounds}
@@ -88,7 +88,7 @@ module _ {o : Point3f} where
   start-joined e (refusals n) = refusals n
 
 -- ---- one axis: the places below the count are joined to both, those after it to ours alone
-module _ {m : AnimatedTransform} (built : Built m) (a : RigidMotion) (p o : Point3f) (start : Transform·transformPoint (m .«start_transform») p ≡ point.Moved o) where
+module _ {m : AnimatedTransform} (built : Built m) (a : PoseConstants) (p o : Point3f) (start : Transform·transformPoint (m .«start_transform») p ≡ point.Moved o) where
   place : List Float → ℕ → BoundsAnswer → BoundsAnswer
   place zeros k = unionZero m a p (getD zeros k nan)
 
@@ -129,7 +129,7 @@ cond-same : (b : Bool) {x x' y y' : BoundsAnswer} → BoundsAnswer·Same x x' �
 cond-same true h k = h
 cond-same false h k = k
 
-module _ {m : AnimatedTransform} (built : Built m) (a : RigidMotion) (p : Point3f) where
+module _ {m : AnimatedTransform} (built : Built m) (a : PoseConstants) (p : Point3f) where
   end : PointAnswer
   end = Transform·transformPoint (m .«end_transform») p
 
@@ -164,7 +164,7 @@ union-same (same-box a b) (same-refusal n) = same-refusal n
 union-same (same-refusal n) h = same-refusal n
 
 module _ {m : AnimatedTransform} (built : Built m) (b : Bounds3f) where
-  corners-same : (a : RigidMotion) (n : ℕ) → BoundsAnswer·Same (unionCorners allPlaces m a b n) (unionCorners storedPlaces m a b n)
+  corners-same : (a : PoseConstants) (n : ℕ) → BoundsAnswer·Same (unionCorners allPlaces m a b n) (unionCorners storedPlaces m a b n)
   unfolding unionCorners unionCorner loop
   corners-same a zero = same-refl (Bounds Bounds3f·default) default-finite
   corners-same a (suc n) = union-same (corners-same a n) (point-bounds-book built a (Bounds3f·corner b n))
@@ -174,12 +174,12 @@ module _ {m : AnimatedTransform} (built : Built m) (b : Bounds3f) where
   box-bounds-book =
       let start = same-refl _ (transform-bounds-judged (m .«start_transform») b .values) in
       let end = same-refl _ (transform-bounds-judged (m .«end_transform») b .values) in
-      cond-same (not (m .«actually_animated»)) start (cond-same (not (m .«has_rotation»)) (union-same start end) (corners-same (AnimatedTransform·rigidMotion m) 8))
+      cond-same (not (m .«actually_animated»)) start (cond-same (not (m .«has_rotation»)) (union-same start end) (corners-same (AnimatedTransform·constants m) 8))
 
 -- ---- the queries
 pub bound-point-motion-book : {m : AnimatedTransform} → Built m → (p : Point3f) → BoundsAnswer·Same (AnimatedTransform·boundPointMotion m p) (Book·boundPointMotion m p)
 unfolding boundPointMotion
-bound-point-motion-book {m} built p = cond-same (not (Point3f·isFinite p)) (same-refusal 6) (point-bounds-book built (AnimatedTransform·rigidMotion m) p)
+bound-point-motion-book {m} built p = cond-same (not (Point3f·isFinite p)) (same-refusal 6) (point-bounds-book built (AnimatedTransform·constants m) p)
 
 pub motion-bounds-book : {m : AnimatedTransform} → Built m → (b : Bounds3f) → BoundsAnswer·Same (AnimatedTransform·motionBounds m b) (Book·motionBounds m b)
 unfolding motionBounds

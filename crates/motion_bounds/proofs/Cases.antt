@@ -11,7 +11,7 @@ use Rattle.matrix4x4.specs.declared.Matrix4x4.{Matrix4x4}
 use Rattle.transform.specs.declared.BoundsAnswer.the-variants.{Bounds, Refused}
 use Rattle.vector3.specs.declared.Vector3f.{Vector3f}
 use Rattle.quaternion.specs.declared.Quaternion.{Quaternion}
-use Rattle.pose_steps.specs.declared.RigidMotion.{RigidMotion}
+use Rattle.pose_steps.specs.declared.PoseConstants.{PoseConstants}
 use Rattle.animated_transform.specs.declared.AnimatedTransform.{AnimatedTransform}
 use Rattle.animated_transform.specs.New.{AnimatedTransform·new}
 use Rattle.animated_transform.specs.Computing as animated
@@ -45,7 +45,7 @@ unfolding computing animated.computing
 translation-joins-ends = refl
 
 -- its constants: no angle lies between the two rotations
-abbrev straight : RigidMotion
+abbrev straight : PoseConstants
 straight =
     let t : Vector3f = record { x = f 0; y = f 0; z = f 0 } in
     let r : Quaternion = record { v = t; w = f 0x3f800000 } in

@@ -26,9 +26,9 @@ use Rattle.bounds_query.specs.Query.{Bounds3f·isOrdered, Bounds3f·refusal, Bo
 use Rattle.axis_derivative.specs.declared.Derivative.{Derivative}
 use Rattle.zero_search.specs.Stored.{Stored}
 use Rattle.zero_search.proofs.Stored.{intervalFindZeros-stored}
-use Rattle.pose_steps.specs.declared.RigidMotion.{RigidMotion}
+use Rattle.pose_steps.specs.declared.PoseConstants.{PoseConstants}
 use Rattle.animated_transform.specs.declared.AnimatedTransform.{AnimatedTransform}
-use Rattle.motion_point.specs.TransformPoint.{AnimatedTransform·rigidMotion}
+use Rattle.motion_point.specs.TransformPoint.{AnimatedTransform·constants}
 use Rattle.motion_point.proofs.Query.{moved-point-judged}
 use Rattle.motion_bounds.specs.MotionBounds.{axisZeros, pointAt, unionZero, unionZeros, allPlaces, unionAxis, pointBounds, unionCorner, unionCorners, boxBounds, boundPointMotion, motionBounds, AnimatedTransform·boundPointMotion, AnimatedTransform·motionBounds}
 use Rattle.motion_bounds.proofs.Ends.{from-ends-union}
@@ -73,11 +73,11 @@ union-worked (Bounds a) (Refused n) w v = v
 union-worked (Refused n) s w v = w
 
 -- ---- a point's motion
-pub axis-zeros-stored : (a : RigidMotion) (p : Point3f) (d : Derivative) → Stored (axisZeros a p d)
+pub axis-zeros-stored : (a : PoseConstants) (p : Point3f) (d : Derivative) → Stored (axisZeros a p d)
 unfolding axisZeros
 axis-zeros-stored a p d = intervalFindZeros-stored _ _ _ _ _ _
 
-module _ (m : AnimatedTransform) (a : RigidMotion) (p : Point3f) where
+module _ (m : AnimatedTransform) (a : PoseConstants) (p : Point3f) where
   zeros-worked : (zeros : List Float) (n : ℕ) (r : BoundsAnswer) → Worked r → Worked (unionZeros m a p zeros n r)
   unfolding unionZeros unionZero pointAt
   zeros-worked zeros n r w =
@@ -108,7 +108,7 @@ pub default-finite : T (Bounds3f·isFinite Bounds3f·default)
 unfolding Bounds3f·isFinite Point3f·isFinite ofBits neg
 default-finite = tt
 
-corners-worked : (m : AnimatedTransform) (a : RigidMotion) (b : Bounds3f) (n : ℕ) → Worked (unionCorners allPlaces m a b n)
+corners-worked : (m : AnimatedTransform) (a : PoseConstants) (b : Bounds3f) (n : ℕ) → Worked (unionCorners allPlaces m a b n)
 unfolding unionCorners unionCorner
 corners-worked m a b n =
     loop-keeps (λ _. Worked) (unionCorner allPlaces m a b) n (λ c r _ w. union-worked r _ w (point-worked m a (Bounds3f·corner b c))) (Bounds Bounds3f·default)
@@ -120,13 +120,13 @@ box-worked m b =
     let start = judged-worked (transform-bounds-judged (m .«start_transform») b) in
     let end = judged-worked (transform-bounds-judged (m .«end_transform») b) in
     cond-keeps Worked (not (m .«actually_animated»)) _ _ start
-    (cond-keeps Worked (not (m .«has_rotation»)) _ _ (union-worked _ _ start end) (corners-worked m (AnimatedTransform·rigidMotion m) b 8))
+    (cond-keeps Worked (not (m .«has_rotation»)) _ _ (union-worked _ _ start end) (corners-worked m (AnimatedTransform·constants m) b 8))
 
 -- ---- the queries
 pub bound-point-motion-numbers : (m : AnimatedTransform) (p : Point3f) → BoundsAnswer·Answered (0 ∷ 5 ∷ 6 ∷ 9 ∷ []) (AnimatedTransform·boundPointMotion m p)
 unfolding boundPointMotion
 bound-point-motion-numbers m p =
-    let w = point-worked m (AnimatedTransform·rigidMotion m) p in
+    let w = point-worked m (AnimatedTransform·constants m) p in
     cond-keeps (BoundsAnswer·Answered (0 ∷ 5 ∷ 6 ∷ 9 ∷ [])) (not (Point3f·isFinite p)) _ _ (refused-answered 6 (inr (inr (inl refl)))) (record { number = widen (w .number); values = w .values })
   where
     widen : {n : ℕ} → OneOf n (0 ∷ 5 ∷ 9 ∷ []) → OneOf n (0 ∷ 5 ∷ 6 ∷ 9 ∷ [])

@@ -24,7 +24,7 @@ use Rattle.matrix4x4.specs.Rows.{positiveZero}
 use Rattle.matrix4x4.proofs.Zero.{Zero, signed, zero-zero, zero-mul}
 use Rattle.bounds3.specs.declared.Point3f.{Point3f}
 use Rattle.transform.specs.TransformPoint.{Transform·transformPoint}
-use Rattle.pose_steps.specs.declared.RigidMotion.{RigidMotion}
+use Rattle.pose_steps.specs.declared.PoseConstants.{PoseConstants}
 use Rattle.animated_transform.specs.declared.AnimatedTransform.{AnimatedTransform}
 use Rattle.animated_transform.specs.Built.{Built}
 use Rattle.animated_transform.proofs.Built.{built-judged}
@@ -115,7 +115,7 @@ lerp-start s e f h g =
     let above = one-mul-above s f h in
     rw whole-start (≼-trans (add-zero-below product (between-finite f f above below) (mul-fits binary32 one s) (zero-mul e zero-zero g)) below)
 
-module _ {m : AnimatedTransform} (built : Built m) (a : RigidMotion) (p : Point3f) where
+module _ {m : AnimatedTransform} (built : Built m) (a : PoseConstants) (p : Point3f) where
   pub point-at-start : pointAt m a p positiveZero ≡ Transform·transformPoint (m .«start_transform») p
   unfolding pointAt
   point-at-start =

@@ -20,7 +20,7 @@ use Rattle.transform.specs.declared.BoundsAnswer.{BoundsAnswer}
 use Rattle.transform.specs.declared.BoundsAnswer.the-variants.{Bounds, Refused}
 use Rattle.transform.specs.TransformBounds.{BoundsAnswer·unionMoved}
 use Rattle.float32.specs.Operators.{positiveZero}
-use Rattle.pose_steps.specs.declared.RigidMotion.{RigidMotion}
+use Rattle.pose_steps.specs.declared.PoseConstants.{PoseConstants}
 use Rattle.animated_transform.specs.declared.AnimatedTransform.{AnimatedTransform}
 use Rattle.motion_bounds.specs.MotionBounds.{pointAt, unionZero}
 
@@ -69,7 +69,7 @@ moved-again (Bounds b) (point.Refused n) = refl
 moved-again (Refused n) a = refl
 
 -- ---- the places from `count` on
-module _ (m : AnimatedTransform) (a : RigidMotion) (p : Point3f) (zeros : List Float) (count : ℕ)
+module _ (m : AnimatedTransform) (a : PoseConstants) (p : Point3f) (zeros : List Float) (count : ℕ)
     (unused : (k : ℕ) → count ≤ k → k < 8 → getD zeros k nan ≡ positiveZero) (r : BoundsAnswer) where
   abbrev joined : ℕ → BoundsAnswer
   joined n = loop (λ k. unionZero m a p (getD zeros k nan)) n r

@@ -25,9 +25,9 @@ use Rattle.axis_derivative.specs.declared.DerivativeTerm.{DerivativeTerm}
 use Rattle.axis_derivative.specs.declared.Derivative.{Derivative}
 use Rattle.zero_search.specs.declared.Zeros.{Zeros}
 use Rattle.zero_search.specs.Search.{intervalFindZeros}
-use Rattle.pose_steps.specs.declared.RigidMotion.{RigidMotion}
+use Rattle.pose_steps.specs.declared.PoseConstants.{PoseConstants}
 use Rattle.animated_transform.specs.declared.AnimatedTransform.{AnimatedTransform}
-use Rattle.motion_point.specs.TransformPoint.{AnimatedTransform·rigidMotion, AnimatedTransform·movedPoint}
+use Rattle.motion_point.specs.TransformPoint.{AnimatedTransform·constants, AnimatedTransform·movedPoint}
 
 -- `DerivativeTerm::eval`
 unfoldable pub DerivativeTerm·eval : DerivativeTerm → Point3f → Float
@@ -48,12 +48,12 @@ abbrev pub storedPlaces : Zeros → ℕ
 storedPlaces z = z .count
 
 -- the zeros of an axis's derivative at a point, theta being acos(clamp(r[0].dot(r[1]), -1.0, 1.0))
-unfoldable pub axisZeros : RigidMotion → Point3f → Derivative → Zeros
+unfoldable pub axisZeros : PoseConstants → Point3f → Derivative → Zeros
 axisZeros a p d =
     intervalFindZeros (DerivativeTerm·eval (d .c1) p) (DerivativeTerm·eval (d .c2) p) (DerivativeTerm·eval (d .c3) p) (DerivativeTerm·eval (d .c4) p)
     (DerivativeTerm·eval (d .c5) p) (a .theta)
 
-module _ (m : AnimatedTransform) (a : RigidMotion) (p : Point3f) where
+module _ (m : AnimatedTransform) (a : PoseConstants) (p : Point3f) where
   -- let pz = self.transform_point(lerp(*item, self.start_time, self.end_time), p)
   unfoldable pub pointAt : Float → PointAnswer
   pointAt item = AnimatedTransform·movedPoint m a (lerp item (m .«start_time») (m .«end_time»)) p
@@ -66,7 +66,7 @@ module _ (m : AnimatedTransform) (a : RigidMotion) (p : Point3f) where
   unfoldable pub unionZeros : List Float → ℕ → BoundsAnswer → BoundsAnswer
   unionZeros zeros = loop (λ k. unionZero (getD zeros k nan))
 
-module _ (places : Zeros → ℕ) (m : AnimatedTransform) (a : RigidMotion) where
+module _ (places : Zeros → ℕ) (m : AnimatedTransform) (a : PoseConstants) where
   -- the body of `for c in 0..3`
   unfoldable pub unionAxis : Point3f → Derivative → BoundsAnswer → BoundsAnswer
   unionAxis p d (Refused n) = Refused n
@@ -98,11 +98,11 @@ module _ (places : Zeros → ℕ) (m : AnimatedTransform) where
       let start = Transform·transformBounds (m .«start_transform») b in
       let end = Transform·transformBounds (m .«end_transform») b in
       cond (not (m .«actually_animated»)) start
-      (cond (not (m .«has_rotation»)) (BoundsAnswer·unionBounds start end) (unionCorners places m (AnimatedTransform·rigidMotion m) b 8))
+      (cond (not (m .«has_rotation»)) (BoundsAnswer·unionBounds start end) (unionCorners places m (AnimatedTransform·constants m) b 8))
 
   -- document 01, Refusals: 6 where "a coordinate is not finite"
   unfoldable pub boundPointMotion : Point3f → BoundsAnswer
-  boundPointMotion p = cond (not (Point3f·isFinite p)) (Refused 6) (pointBounds places m (AnimatedTransform·rigidMotion m) p)
+  boundPointMotion p = cond (not (Point3f·isFinite p)) (Refused 6) (pointBounds places m (AnimatedTransform·constants m) p)
 
   -- document 01, Refusals: 6 and 7 of the box, in this order
   unfoldable pub motionBounds : Bounds3f → BoundsAnswer

@@ -5,7 +5,7 @@ use axis_derivative::Derivative;
 use axis_derivative::DerivativeTerm;
 use bounds3::Bounds3f;
 use bounds3::Point3f;
-use pose_steps::RigidMotion;
+use pose_steps::PoseConstants;
 use transform::BoundsAnswer;
 use transform::PointAnswer;
 use zero_search::Zeros;
@@ -34,7 +34,7 @@ fn from_ends(start: PointAnswer, end: PointAnswer) -> BoundsAnswer
 }
 
 // The point at one zero's time, which may be an infinity: that means a stored pose.
-fn point_at(m: AnimatedTransform, a: RigidMotion, p: Point3f, zero: f32) -> PointAnswer
+fn point_at(m: AnimatedTransform, a: PoseConstants, p: Point3f, zero: f32) -> PointAnswer
     ensures value { λ r. ⌜ r ≡ pointAt m a p zero ⌝ }
 {
     motion_point::moved_point(m, a, float32::lerp(zero, m.start_time, m.end_time), p)
@@ -43,7 +43,7 @@ fn point_at(m: AnimatedTransform, a: RigidMotion, p: Point3f, zero: f32) -> Poin
 // The box with the point at one zero's time; after a refusal nothing is computed.
 fn union_zero(
     m: AnimatedTransform,
-    a: RigidMotion,
+    a: PoseConstants,
     p: Point3f,
     zero: f32,
     r: BoundsAnswer,
@@ -65,7 +65,7 @@ fn union_zero(
 // All eight places are joined, as in pbrt-rust: an unused one is 0.0, the start, which is joined once for all of them.
 fn union_zeros(
     m: AnimatedTransform,
-    a: RigidMotion,
+    a: PoseConstants,
     p: Point3f,
     found: Zeros,
     r: BoundsAnswer,
@@ -86,7 +86,7 @@ fn union_zeros(
 }
 
 // Where the derivative of a point's motion along one axis may vanish. The five terms at the point may overflow: the search goes on.
-fn axis_zeros(a: RigidMotion, p: Point3f, d: Derivative) -> Zeros
+fn axis_zeros(a: PoseConstants, p: Point3f, d: Derivative) -> Zeros
     ensures value { λ r. ⌜ r ≡ axisZeros a p d ⌝ }
 {
     zero_search::interval_find_zeros(
@@ -102,7 +102,7 @@ fn axis_zeros(a: RigidMotion, p: Point3f, d: Derivative) -> Zeros
 // The box with the points at one axis's zeros; a ninth zero is met before any of them.
 fn union_axis(
     m: AnimatedTransform,
-    a: RigidMotion,
+    a: PoseConstants,
     p: Point3f,
     d: Derivative,
     r: BoundsAnswer,
@@ -122,7 +122,7 @@ fn union_axis(
 }
 
 // `bound_point_motion` of a finite point, with the move's constants at hand. Accuracy: heuristic.
-fn point_bounds(m: AnimatedTransform, a: RigidMotion, p: Point3f) -> BoundsAnswer
+fn point_bounds(m: AnimatedTransform, a: PoseConstants, p: Point3f) -> BoundsAnswer
     ensures value { λ r. ⌜ r ≡ pointBounds allPlaces m a p ⌝ }
 {
     let start = m.start_transform.transform_point(p);
@@ -139,7 +139,7 @@ fn point_bounds(m: AnimatedTransform, a: RigidMotion, p: Point3f) -> BoundsAnswe
 // The box with one corner's motion; after a refusal nothing is computed.
 fn union_corner(
     m: AnimatedTransform,
-    a: RigidMotion,
+    a: PoseConstants,
     b: Bounds3f,
     c: usize,
     r: BoundsAnswer,
@@ -153,7 +153,7 @@ fn union_corner(
 }
 
 // The motion of the eight corners.
-fn union_corners(m: AnimatedTransform, a: RigidMotion, b: Bounds3f) -> BoundsAnswer
+fn union_corners(m: AnimatedTransform, a: PoseConstants, b: Bounds3f) -> BoundsAnswer
     ensures value { λ r. ⌜ r ≡ unionCorners allPlaces m a b 8 ⌝ }
 {
     let mut r = BoundsAnswer::Bounds(Bounds3f::default());
@@ -174,7 +174,7 @@ fn box_bounds(m: AnimatedTransform, b: Bounds3f) -> BoundsAnswer
     if !m.has_rotation {
         return bounds_query::union_bounds(start, m.end_transform.transform_bounds(b));
     }
-    union_corners(m, motion_point::rigid_motion(m), b)
+    union_corners(m, motion_point::constants(m), b)
 }
 
 // pbrt's `bound_point_motion`: the motion box of a point. Refused with 6 for a coordinate that isn't finite; then with 5 for a moved point that isn't and with
@@ -185,7 +185,7 @@ pub fn bound_point_motion(m: AnimatedTransform, p: Point3f) -> BoundsAnswer
     if !p.is_finite() {
         return BoundsAnswer::Refused(6);
     }
-    point_bounds(m, motion_point::rigid_motion(m), p)
+    point_bounds(m, motion_point::constants(m), p)
 }
 
 // pbrt's `motion_bounds`: the union of the two poses' boxes without rotation, and with it that of the corners' motion boxes. Refused with 6 and 7 for a box

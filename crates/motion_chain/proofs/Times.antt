@@ -22,7 +22,7 @@ use Rattle.transform.specs.declared.PointAnswer.{PointAnswer}
 use Rattle.transform.specs.declared.PointAnswer.the-variants.{Moved, Refused}
 use Rattle.transform.specs.Answer.{OneOf, PointAnswer·refusal, PointAnswer·point, PointAnswer·Judged, BoundsAnswer·bounds}
 use Rattle.animated_transform.specs.declared.AnimatedTransform.{AnimatedTransform}
-use Rattle.motion_point.specs.TransformPoint.{AnimatedTransform·rigidMotion, AnimatedTransform·movedPoint, AnimatedTransform·transformPoint}
+use Rattle.motion_point.specs.TransformPoint.{AnimatedTransform·constants, AnimatedTransform·movedPoint, AnimatedTransform·transformPoint}
 use Rattle.motion_point.proofs.Query.{moved-point-judged, transform-point-accepted}
 use Rattle.motion_cover.specs.Theorem.{MovedInside}
 use Rattle.refusal_numbers.specs.Numbers.{PointAnswer·Numbered}
@@ -173,7 +173,7 @@ module _ (c : Chain) (p : Point3f) (finite : T (Point3f·isFinite p)) where
       judged =
           let m = Chain·moveAt c t in
           unfold Chain·transformPoint in
-          rw (transform-point-accepted m t p (is-false (isNan t) n) (is-true (Point3f·isFinite p) finite)) (moved-point-judged m (AnimatedTransform·rigidMotion m) t p)
+          rw (transform-point-accepted m t p (is-false (isNan t) n) (is-true (Point3f·isFinite p) finite)) (moved-point-judged m (AnimatedTransform·constants m) t p)
 
       go : {k : ℕ} → (k ≡ 0) ⊎ (k ≡ 5) → OneOf k (0 ∷ 5 ∷ [])
       go (inl e) = inl e
@@ -258,7 +258,7 @@ answered-finite : (c : Chain) (time : Float) (p : Point3f) → PointAnswer·refu
 unfolding Chain·transformPoint AnimatedTransform·transformPoint
 answered-finite c time p =
     let m = Chain·moveAt c time in
-    go (isNan time) (Point3f·isFinite p) (AnimatedTransform·movedPoint m (AnimatedTransform·rigidMotion m) time p) (λ h. h)
+    go (isNan time) (Point3f·isFinite p) (AnimatedTransform·movedPoint m (AnimatedTransform·constants m) time p) (λ h. h)
   where
     go : (n f : Bool) (a : PointAnswer) → (T f → T (Point3f·isFinite p)) → PointAnswer·refusal (cond (n || not f) (Refused 6) a) ≡ 0 → T (Point3f·isFinite p)
     go n true a g e = g tt

@@ -34,11 +34,11 @@ use Rattle.bounds_query.proofs.Union.{refused-bounds, bounds-same, union-accept
 use Rattle.unit_interval.specs.Unit.{unitInterval, slice, dt}
 use Rattle.unit_interval.proofs.Slices.{slice-unit, slice-covers}
 use Rattle.unit_interval.proofs.DtUnit.{dt-unit}
-use Rattle.pose_steps.specs.declared.RigidMotion.{RigidMotion}
+use Rattle.pose_steps.specs.declared.PoseConstants.{PoseConstants}
 use Rattle.pose_steps.specs.declared.JudgedVector.{JudgedVector}
 use Rattle.pose_steps.specs.Pose.{Pose·transformPoint, Pose·movedPoint}
 use Rattle.pose_steps.specs.Enclose.{IntervalVector·list, Pose·enclosePoint, Bounds3f·intervals, IntervalVector·bounds}
-use Rattle.pose_steps.specs.Promise.{AllFinite, RigidMotion·Valid, FiniteScale, EnclosesAnswer}
+use Rattle.pose_steps.specs.Promise.{AllFinite, PoseConstants·Valid, FiniteScale, EnclosesAnswer}
 use Rattle.pose_steps.proofs.Rows.{enclosed-finite}
 use Rattle.pose_steps.proofs.Finite.{stored-encloses}
 use Rattle.pose_steps.proofs.Extends.{transformPoint-extends, movedPoint-extends}
@@ -48,7 +48,7 @@ use Rattle.stored_box.specs.EnclosePoints.{Transform·enclosePoints}
 use Rattle.animated_transform.specs.declared.AnimatedTransform.{AnimatedTransform}
 use Rattle.animated_transform.specs.Built.{StoredPose, Built}
 use Rattle.animated_transform.proofs.Built.{built-judged}
-use Rattle.motion_point.specs.TransformPoint.{AnimatedTransform·rigidMotion, AnimatedTransform·movedPoint, AnimatedTransform·transformPoint}
+use Rattle.motion_point.specs.TransformPoint.{AnimatedTransform·constants, AnimatedTransform·movedPoint, AnimatedTransform·transformPoint}
 use Rattle.motion_point.proofs.Built.{built-valid, built-scales}
 use Rattle.motion_point.proofs.Query.{moved-point-start, moved-point-end, moved-point-between, transform-point-accepted}
 use Rattle.motion_cover.specs.Cover.{BoundsAnswer·fromEnclosure, Transform·encloseBounds, AnimatedTransform·encloseBounds, AnimatedTransform·encloseEnds, unionSlices, AnimatedTransform·encloseMotion, AnimatedTransform·cover}
@@ -107,7 +107,7 @@ union-holds-right {point} r s h = record {
 }
 
 -- ---- pieces
-module _ (m : AnimatedTransform) (a : RigidMotion) (v : RigidMotion·Valid a) (f : FiniteScale (m .s0)) (g : FiniteScale (m .s1))
+module _ (m : AnimatedTransform) (a : PoseConstants) (v : PoseConstants·Valid a) (f : FiniteScale (m .s0)) (g : FiniteScale (m .s1))
     (b : Bounds3f) (p : Point3f) (fb : T (Bounds3f·isFinite b)) (i : Inside b p) where
   pub piece-contains : (D : Interval) (t : Float) → Subset D unitInterval → Contains D t → Holds (AnimatedTransform·encloseBounds m a D b) (Pose·movedPoint a (m .s0) (m .s1) t p)
   unfolding AnimatedTransform·encloseBounds
@@ -137,7 +137,7 @@ module _ (t : Transform) (s : StoredPose t) (b : Bounds3f) (p : Point3f) (fb : T
       enclosure-holds j h
 
 -- ---- slices
-module _ (m : AnimatedTransform) (a : RigidMotion) (b : Bounds3f) (d : ℕ) (r : BoundsAnswer) {point : PointAnswer} where
+module _ (m : AnimatedTransform) (a : PoseConstants) (b : Bounds3f) (d : ℕ) (r : BoundsAnswer) {point : PointAnswer} where
   slices-hold-before : Holds r point → (n : ℕ) → Holds (unionSlices m a b d r n) point
   unfolding unionSlices
   slices-hold-before h zero = h
@@ -170,12 +170,12 @@ holds-same {r} {r'} {q} {q'} e f h = subst (λ (x : BoundsAnswer). Holds x q) (s
 module _ (m : AnimatedTransform) (b : Bounds3f) (d : ℕ) where
   pub motion-stored : m .«actually_animated» ≡ false → AnimatedTransform·encloseMotion m b d ≡ Transform·encloseBounds (m .«start_transform») b
   unfolding AnimatedTransform·encloseMotion
-  motion-stored e = ap (λ (c : Bool). cond c (unionSlices m (AnimatedTransform·rigidMotion m) b d (AnimatedTransform·encloseEnds m b) (2 ^ d)) (Transform·encloseBounds (m .«start_transform») b)) e
+  motion-stored e = ap (λ (c : Bool). cond c (unionSlices m (AnimatedTransform·constants m) b d (AnimatedTransform·encloseEnds m b) (2 ^ d)) (Transform·encloseBounds (m .«start_transform») b)) e
 
   pub motion-slices : m .«actually_animated» ≡ true
-      → AnimatedTransform·encloseMotion m b d ≡ unionSlices m (AnimatedTransform·rigidMotion m) b d (AnimatedTransform·encloseEnds m b) (2 ^ d)
+      → AnimatedTransform·encloseMotion m b d ≡ unionSlices m (AnimatedTransform·constants m) b d (AnimatedTransform·encloseEnds m b) (2 ^ d)
   unfolding AnimatedTransform·encloseMotion
-  motion-slices e = ap (λ (c : Bool). cond c (unionSlices m (AnimatedTransform·rigidMotion m) b d (AnimatedTransform·encloseEnds m b) (2 ^ d)) (Transform·encloseBounds (m .«start_transform») b)) e
+  motion-slices e = ap (λ (c : Bool). cond c (unionSlices m (AnimatedTransform·constants m) b d (AnimatedTransform·encloseEnds m b) (2 ^ d)) (Transform·encloseBounds (m .«start_transform») b)) e
 
 module _ {m : AnimatedTransform} (built : Built m) (b : Bounds3f) (p : Point3f) (fb : T (Bounds3f·isFinite b)) (i : Inside b p) (d : ℕ) where
   before-contains : Holds (AnimatedTransform·encloseEnds m b) (Transform·transformPoint (m .«start_transform») p)
@@ -191,8 +191,8 @@ module _ {m : AnimatedTransform} (built : Built m) (b : Bounds3f) (p : Point3f) 
       (stored-contains (m .«end_transform») (built-judged built .end) b p fb i)
 
   during-contains : (time : Float) → T (not (isNan time)) → le time (m .«start_time») ≡ false → le (m .«end_time») time ≡ false
-      → Holds (unionSlices m (AnimatedTransform·rigidMotion m) b d (AnimatedTransform·encloseEnds m b) (2 ^ d))
-      (Pose·movedPoint (AnimatedTransform·rigidMotion m) (m .s0) (m .s1) (dt (m .«start_time») (m .«end_time») time) p)
+      → Holds (unionSlices m (AnimatedTransform·constants m) b d (AnimatedTransform·encloseEnds m b) (2 ^ d))
+      (Pose·movedPoint (AnimatedTransform·constants m) (m .s0) (m .s1) (dt (m .«start_time») (m .«end_time») time) p)
   during-contains time n e f =
       let j = built-judged built in
       let S = finite-number (m .«start_time») (j .start-time) in
@@ -201,26 +201,26 @@ module _ {m : AnimatedTransform} (built : Built m) (b : Bounds3f) (p : Point3f) 
       (le-false time (m .«start_time») n S e) (le-false (m .«end_time») time E n f) in
       let s = slice-covers d u in
       let (s0, s1) = built-scales built in
-      slices-hold m (AnimatedTransform·rigidMotion m) b d (AnimatedTransform·encloseEnds m b) (s .index) (2 ^ d) (s .below)
-      (piece-contains m (AnimatedTransform·rigidMotion m) (built-valid built) s0 s1 b p fb i (slice d (s .index)) (dt (m .«start_time») (m .«end_time») time) (slice-unit d (s .index) (s .below)) (s .contains))
+      slices-hold m (AnimatedTransform·constants m) b d (AnimatedTransform·encloseEnds m b) (s .index) (2 ^ d) (s .below)
+      (piece-contains m (AnimatedTransform·constants m) (built-valid built) s0 s1 b p fb i (slice d (s .index)) (dt (m .«start_time») (m .«end_time») time) (slice-unit d (s .index) (s .below)) (s .contains))
 
   -- The work holds the point that the work of the point query moves.
-  motion-contains : (time : Float) → T (not (isNan time)) → Holds (AnimatedTransform·encloseMotion m b d) (AnimatedTransform·movedPoint m (AnimatedTransform·rigidMotion m) time p)
+  motion-contains : (time : Float) → T (not (isNan time)) → Holds (AnimatedTransform·encloseMotion m b d) (AnimatedTransform·movedPoint m (AnimatedTransform·constants m) time p)
   motion-contains time n = go (m .«actually_animated») (le time (m .«start_time»)) (le (m .«end_time») time) refl refl refl
     where
       go : (x y z : Bool) → m .«actually_animated» ≡ x → le time (m .«start_time») ≡ y → le (m .«end_time») time ≡ z
-          → Holds (AnimatedTransform·encloseMotion m b d) (AnimatedTransform·movedPoint m (AnimatedTransform·rigidMotion m) time p)
+          → Holds (AnimatedTransform·encloseMotion m b d) (AnimatedTransform·movedPoint m (AnimatedTransform·constants m) time p)
       go false y z e f g =
-          holds-same (motion-stored m b d e) (moved-point-start m (AnimatedTransform·rigidMotion m) time p (rw e))
+          holds-same (motion-stored m b d e) (moved-point-start m (AnimatedTransform·constants m) time p (rw e))
           (stored-contains (m .«start_transform») (built-judged built .start) b p fb i)
       go true true z e f g =
-          holds-same (motion-slices m b d e) (moved-point-start m (AnimatedTransform·rigidMotion m) time p (rw (e, f)))
-          (slices-hold-before m (AnimatedTransform·rigidMotion m) b d (AnimatedTransform·encloseEnds m b) before-contains (2 ^ d))
+          holds-same (motion-slices m b d e) (moved-point-start m (AnimatedTransform·constants m) time p (rw (e, f)))
+          (slices-hold-before m (AnimatedTransform·constants m) b d (AnimatedTransform·encloseEnds m b) before-contains (2 ^ d))
       go true false true e f g =
-          holds-same (motion-slices m b d e) (moved-point-end m (AnimatedTransform·rigidMotion m) time p (rw (e, f)) g)
-          (slices-hold-before m (AnimatedTransform·rigidMotion m) b d (AnimatedTransform·encloseEnds m b) after-contains (2 ^ d))
+          holds-same (motion-slices m b d e) (moved-point-end m (AnimatedTransform·constants m) time p (rw (e, f)) g)
+          (slices-hold-before m (AnimatedTransform·constants m) b d (AnimatedTransform·encloseEnds m b) after-contains (2 ^ d))
       go true false false e f g =
-          holds-same (motion-slices m b d e) (moved-point-between m (AnimatedTransform·rigidMotion m) time p (rw (e, f)) g) (during-contains time n f g)
+          holds-same (motion-slices m b d e) (moved-point-between m (AnimatedTransform·constants m) time p (rw (e, f)) g) (during-contains time n f g)
 
 -- ---- the query
 pub record Accepted (m : AnimatedTransform) (b : Bounds3f) (d : ℕ) (box : Bounds3f) : Type 0 where
@@ -247,7 +247,7 @@ cover-box b d = go (eqb (Bounds3f·refusal b) 0) (eqb-true (Bounds3f·refusal b)
 -- Of a point of the box the query answers what its work gives.
 pub query-accepted : (m : AnimatedTransform) (b : Bounds3f) (d : ℕ) (box : Bounds3f) (time : Float) (p : Point3f)
     → AnimatedTransform·cover m b d ≡ Bounds box → T (not (isNan time)) → Inside b p
-    → AnimatedTransform·transformPoint m time p ≡ AnimatedTransform·movedPoint m (AnimatedTransform·rigidMotion m) time p
+    → AnimatedTransform·transformPoint m time p ≡ AnimatedTransform·movedPoint m (AnimatedTransform·constants m) time p
 query-accepted m b d box time p e n i =
     let f = refusal-accepted b (cover-box b d (cover-accepted m b d box e .arguments)) .0 in
     let q = finite-test (point-finite p (enclosed-finite (IntervalVector·list (Bounds3f·intervals b)) (Point3f·list p) (inside-encloses b f i))) in

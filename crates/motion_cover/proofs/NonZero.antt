@@ -12,12 +12,12 @@ use Rattle.transform.specs.declared.BoundsAnswer.the-variants.{Bounds, Refused}
 use Rattle.transform.specs.Answer.{BoundsAnswer·refusal, BoundsAnswer·bounds}
 use Rattle.bounds_query.specs.Query.{BoundsAnswer·unionBounds, coverRefusal}
 use Rattle.unit_interval.specs.Unit.{slice}
-use Rattle.pose_steps.specs.declared.RigidMotion.{RigidMotion}
+use Rattle.pose_steps.specs.declared.PoseConstants.{PoseConstants}
 use Rattle.pose_steps.specs.declared.JudgedVector.{JudgedVector}
 use Rattle.pose_steps.specs.Enclose.{Pose·enclosePoint, Bounds3f·intervals, IntervalVector·bounds}
 use Rattle.stored_box.specs.EnclosePoints.{Transform·enclosePoints}
 use Rattle.animated_transform.specs.declared.AnimatedTransform.{AnimatedTransform}
-use Rattle.motion_point.specs.TransformPoint.{AnimatedTransform·rigidMotion}
+use Rattle.motion_point.specs.TransformPoint.{AnimatedTransform·constants}
 use Rattle.motion_cover.specs.Cover.{BoundsAnswer·fromEnclosure, Transform·encloseBounds, AnimatedTransform·encloseBounds, AnimatedTransform·encloseEnds, unionSlices, AnimatedTransform·encloseMotion, AnimatedTransform·cover}
 
 abbrev pub BoundsAnswer·NonZero : BoundsAnswer → Type 0
@@ -50,7 +50,7 @@ stored-nonzero : (t : Transform) (b : Bounds3f) → BoundsAnswer·NonZero (Trans
 unfolding Transform·encloseBounds
 stored-nonzero t b = enclosure-nonzero (Transform·enclosePoints t b)
 
-slices-nonzero : (m : AnimatedTransform) (a : RigidMotion) (b : Bounds3f) (d : ℕ) (r : BoundsAnswer) → BoundsAnswer·NonZero r
+slices-nonzero : (m : AnimatedTransform) (a : PoseConstants) (b : Bounds3f) (d : ℕ) (r : BoundsAnswer) → BoundsAnswer·NonZero r
     → (k : ℕ) → BoundsAnswer·NonZero (unionSlices m a b d r k)
 unfolding unionSlices AnimatedTransform·encloseBounds
 slices-nonzero m a b d r h zero = h
@@ -66,10 +66,10 @@ motion-nonzero m b d = go (m .«actually_animated»)
     start = stored-nonzero (m .«start_transform») b
 
     slices : BoundsAnswer
-    slices = unionSlices m (AnimatedTransform·rigidMotion m) b d (AnimatedTransform·encloseEnds m b) (2 ^ d)
+    slices = unionSlices m (AnimatedTransform·constants m) b d (AnimatedTransform·encloseEnds m b) (2 ^ d)
 
     go : (c : Bool) → BoundsAnswer·NonZero (cond c slices (Transform·encloseBounds (m .«start_transform») b))
-    go true = slices-nonzero m (AnimatedTransform·rigidMotion m) b d _ (union-nonzero _ _ start (stored-nonzero (m .«end_transform») b)) (2 ^ d)
+    go true = slices-nonzero m (AnimatedTransform·constants m) b d _ (union-nonzero _ _ start (stored-nonzero (m .«end_transform») b)) (2 ^ d)
     go false = start
 
 pub cover-nonzero : (m : AnimatedTransform) (b : Bounds3f) (d : ℕ) → BoundsAnswer·NonZero (AnimatedTransform·cover m b d)

@@ -13,14 +13,14 @@ use Rattle.transform.specs.declared.BoundsAnswer.the-variants.{Bounds, Refused}
 use Rattle.transform.specs.Answer.{BoundsAnswer·refusal}
 use Rattle.bounds_query.specs.Query.{Bounds3f·isOrdered, Bounds3f·refusal, BoundsAnswer·unionBounds, maxDepth, coverRefusal}
 use Rattle.unit_interval.specs.Unit.{slice}
-use Rattle.pose_steps.specs.declared.RigidMotion.{RigidMotion}
+use Rattle.pose_steps.specs.declared.PoseConstants.{PoseConstants}
 use Rattle.pose_steps.specs.declared.JudgedVector.{JudgedVector}
 use Rattle.pose_steps.specs.Enclose.{IntervalMatrix·point, Pose·enclosePoint, Bounds3f·intervals, IntervalVector·bounds}
 use Rattle.pose_steps.specs.Promise.{SliceNumber}
 use Rattle.pose_steps.proofs.Number.{transformPoint-number, point-number}
 use Rattle.stored_box.specs.EnclosePoints.{Transform·enclosePoints}
 use Rattle.animated_transform.specs.declared.AnimatedTransform.{AnimatedTransform}
-use Rattle.motion_point.specs.TransformPoint.{AnimatedTransform·rigidMotion}
+use Rattle.motion_point.specs.TransformPoint.{AnimatedTransform·constants}
 use Rattle.motion_cover.specs.Cover.{BoundsAnswer·fromEnclosure, Transform·encloseBounds, AnimatedTransform·encloseBounds, AnimatedTransform·encloseEnds, unionSlices, AnimatedTransform·encloseMotion, AnimatedTransform·cover}
 use Rattle.motion_cover.specs.Answer.{CoverNumber}
 
@@ -38,7 +38,7 @@ stored-number t b =
     enclosure-number (Transform·enclosePoints t b)
     (transformPoint-number 0 (IntervalMatrix·point (t .m)) (Bounds3f·intervals b) (inl refl))
 
-piece-number : (m : AnimatedTransform) (a : RigidMotion) (D : Interval) (b : Bounds3f) → SliceNumber (BoundsAnswer·refusal (AnimatedTransform·encloseBounds m a D b))
+piece-number : (m : AnimatedTransform) (a : PoseConstants) (D : Interval) (b : Bounds3f) → SliceNumber (BoundsAnswer·refusal (AnimatedTransform·encloseBounds m a D b))
 unfolding AnimatedTransform·encloseBounds
 piece-number m a D b = enclosure-number (Pose·enclosePoint a (m .s0) (m .s1) D (Bounds3f·intervals b)) (point-number a (m .s0) (m .s1) D (Bounds3f·intervals b))
 
@@ -48,7 +48,7 @@ union-number (Bounds a) (Bounds b) n k = inl refl
 union-number (Bounds a) (Refused s) n k = k
 union-number (Refused r) s n k = n
 
-slices-number : (m : AnimatedTransform) (a : RigidMotion) (b : Bounds3f) (d : ℕ) (r : BoundsAnswer) → SliceNumber (BoundsAnswer·refusal r)
+slices-number : (m : AnimatedTransform) (a : PoseConstants) (b : Bounds3f) (d : ℕ) (r : BoundsAnswer) → SliceNumber (BoundsAnswer·refusal r)
     → (k : ℕ) → SliceNumber (BoundsAnswer·refusal (unionSlices m a b d r k))
 unfolding unionSlices
 slices-number m a b d r n zero = n
@@ -59,9 +59,9 @@ pub motion-number : (m : AnimatedTransform) (b : Bounds3f) (d : ℕ) → SliceNu
 unfolding AnimatedTransform·encloseMotion AnimatedTransform·encloseEnds
 motion-number m b d = go (m .«actually_animated»)
   where
-    go : (c : Bool) → SliceNumber (BoundsAnswer·refusal (cond c (unionSlices m (AnimatedTransform·rigidMotion m) b d (AnimatedTransform·encloseEnds m b) (2 ^ d)) (Transform·encloseBounds (m .«start_transform») b)))
+    go : (c : Bool) → SliceNumber (BoundsAnswer·refusal (cond c (unionSlices m (AnimatedTransform·constants m) b d (AnimatedTransform·encloseEnds m b) (2 ^ d)) (Transform·encloseBounds (m .«start_transform») b)))
     go true =
-        slices-number m (AnimatedTransform·rigidMotion m) b d (AnimatedTransform·encloseEnds m b)
+        slices-number m (AnimatedTransform·constants m) b d (AnimatedTransform·encloseEnds m b)
         (union-number (Transform·encloseBounds (m .«start_transform») b) (Transform·encloseBounds (m .«end_transform») b) (stored-number (m .«start_transform») b) (stored-number (m .«end_transform») b))
         (2 ^ d)
     go false = stored-number (m .«start_transform») b

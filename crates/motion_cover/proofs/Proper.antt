@@ -39,7 +39,7 @@ use Rattle.pose_steps.proofs.Box.{subset-refines, refines-order, order-refl}
 use Rattle.animated_transform.specs.declared.AnimatedTransform.{AnimatedTransform}
 use Rattle.animated_transform.specs.Built.{StoredPose, Built}
 use Rattle.animated_transform.proofs.Built.{built-judged}
-use Rattle.motion_point.specs.TransformPoint.{AnimatedTransform·rigidMotion}
+use Rattle.motion_point.specs.TransformPoint.{AnimatedTransform·constants}
 use Rattle.motion_point.proofs.Built.{built-valid, built-scales}
 use Rattle.motion_cover.specs.Cover.{BoundsAnswer·fromEnclosure, Transform·encloseBounds, AnimatedTransform·encloseBounds, AnimatedTransform·encloseEnds, unionSlices, AnimatedTransform·encloseMotion, AnimatedTransform·cover}
 use Rattle.motion_cover.specs.Answer.{Proper}
@@ -121,12 +121,12 @@ stored-proper t s b r =
     enclosure-proper (Pose·encloseTransformPoint 0 M B) (λ z. transformPoint-isotone 0 refl B B (stored-refines (t .m) (s .matrix)) r z .1)
 
 module _ {m : AnimatedTransform} (built : Built m) (b : Bounds3f) (r : BoxRefines b) where
-  pub piece-proper : (D : Interval) → Subset D unitInterval → Subset D D → Proper (AnimatedTransform·encloseBounds m (AnimatedTransform·rigidMotion m) D b)
+  pub piece-proper : (D : Interval) → Subset D unitInterval → Subset D D → Proper (AnimatedTransform·encloseBounds m (AnimatedTransform·constants m) D b)
   unfolding AnimatedTransform·encloseBounds
   piece-proper D u w =
       let B = Bounds3f·intervals b in
       let (s0, s1) = built-scales built in
-      enclosure-proper (Pose·enclosePoint (AnimatedTransform·rigidMotion m) (m .s0) (m .s1) D B) (λ z. point-isotone (built-valid built) s0 s1 u w B B r z .1)
+      enclosure-proper (Pose·enclosePoint (AnimatedTransform·constants m) (m .s0) (m .s1) D B) (λ z. point-isotone (built-valid built) s0 s1 u w B B r z .1)
 
   pub ends-proper : Proper (AnimatedTransform·encloseEnds m b)
   unfolding AnimatedTransform·encloseEnds
@@ -135,12 +135,12 @@ module _ {m : AnimatedTransform} (built : Built m) (b : Bounds3f) (r : BoxRefine
       union-proper (Transform·encloseBounds (m .«start_transform») b) (Transform·encloseBounds (m .«end_transform») b)
       (stored-proper (m .«start_transform») (j .start) b r) (stored-proper (m .«end_transform») (j .end) b r)
 
-  pub slices-proper : (d n : ℕ) → n ≤ 2 ^ d → Proper (unionSlices m (AnimatedTransform·rigidMotion m) b d (AnimatedTransform·encloseEnds m b) n)
+  pub slices-proper : (d n : ℕ) → n ≤ 2 ^ d → Proper (unionSlices m (AnimatedTransform·constants m) b d (AnimatedTransform·encloseEnds m b) n)
   unfolding unionSlices
   slices-proper d zero l = ends-proper
   slices-proper d (suc n) l =
       let u = slice-unit d n (omega (arith, l)) in
-      union-proper (unionSlices m (AnimatedTransform·rigidMotion m) b d (AnimatedTransform·encloseEnds m b) n) (AnimatedTransform·encloseBounds m (AnimatedTransform·rigidMotion m) (slice d n) b)
+      union-proper (unionSlices m (AnimatedTransform·constants m) b d (AnimatedTransform·encloseEnds m b) n) (AnimatedTransform·encloseBounds m (AnimatedTransform·constants m) (slice d n) b)
       (slices-proper d n (omega (arith, l))) (piece-proper (slice d n) u (subset-self u))
 
   pub motion-proper : (d : ℕ) → Proper (AnimatedTransform·encloseMotion m b d)

@@ -16,18 +16,18 @@ use Rattle.transform.specs.declared.BoundsAnswer.the-variants.{Bounds, Refused}
 use Rattle.bounds_query.specs.Query.{BoundsAnswer·unionBounds, maxDepth}
 use Rattle.unit_interval.specs.Unit.{sliceEnd, slice}
 use Rattle.unit_interval.proofs.Slices.{sliceEnd-first}
-use Rattle.pose_steps.specs.declared.RigidMotion.{RigidMotion}
+use Rattle.pose_steps.specs.declared.PoseConstants.{PoseConstants}
 use Rattle.animated_transform.specs.declared.AnimatedTransform.{AnimatedTransform}
 use Rattle.motion_cover.specs.Cover.{AnimatedTransform·encloseBounds, unionSlices}
 
-pub unionSlices-refused : (m : AnimatedTransform) (a : RigidMotion) (b : Bounds3f) (d : ℕ) (r : BoundsAnswer) (n i k : ℕ)
+pub unionSlices-refused : (m : AnimatedTransform) (a : PoseConstants) (b : Bounds3f) (d : ℕ) (r : BoundsAnswer) (n i k : ℕ)
     → i ≤ k → unionSlices m a b d r i ≡ Refused n → unionSlices m a b d r k ≡ Refused n
 unfolding unionSlices BoundsAnswer·unionBounds
 unionSlices-refused m a b d r n i zero h e = let z : i ≡ 0 = omega arith in rw z at e
 unionSlices-refused m a b d r n i (suc k) h e =
     ⊎-elim (λ z. rw z at e) (λ l. rw (unionSlices-refused m a b d r n i k (le-of-suc-le-suc l) e)) (eq-or-lt-of-le h)
 
-pub refused-first : (m : AnimatedTransform) (a : RigidMotion) (b : Bounds3f) (d n k : ℕ) → unionSlices m a b d (Refused n) k ≡ Refused n
+pub refused-first : (m : AnimatedTransform) (a : PoseConstants) (b : Bounds3f) (d n k : ℕ) → unionSlices m a b d (Refused n) k ≡ Refused n
 unfolding unionSlices
 refused-first m a b d n k = unionSlices-refused m a b d (Refused n) n 0 k zero-le refl
 
@@ -42,15 +42,15 @@ unfolding sliceEnd
 slice-end d k h = let e : d % 64 ≡ d = mod-eq-of-lt (omega arith) in rw e
 
 -- ---- the state of the loop
-pub record Reached (m : AnimatedTransform) (a : RigidMotion) (b : Bounds3f) (d : ℕ) (first : Bounds3f) (k : ℕ) (union : Bounds3f) (low : Float) : Type 0 where
+pub record Reached (m : AnimatedTransform) (a : PoseConstants) (b : Bounds3f) (d : ℕ) (first : Bounds3f) (k : ℕ) (union : Bounds3f) (low : Float) : Type 0 where
   pub low-end : low ≡ sliceEnd d k
   pub joined : unionSlices m a b d (Bounds first) k ≡ Bounds union
 
-pub reached-first : (m : AnimatedTransform) (a : RigidMotion) (b : Bounds3f) (d : ℕ) (first : Bounds3f) → Reached m a b d first 0 first (ofBits binary32 0)
+pub reached-first : (m : AnimatedTransform) (a : PoseConstants) (b : Bounds3f) (d : ℕ) (first : Bounds3f) → Reached m a b d first 0 first (ofBits binary32 0)
 unfolding unionSlices
 reached-first m a b d first = record { low-end = sym (sliceEnd-first d); joined = refl }
 
-module _ {m : AnimatedTransform} {a : RigidMotion} {b : Bounds3f} {d : ℕ} {first : Bounds3f} {k : ℕ} {union : Bounds3f} {low : Float}
+module _ {m : AnimatedTransform} {a : PoseConstants} {b : Bounds3f} {d : ℕ} {first : Bounds3f} {k : ℕ} {union : Bounds3f} {low : Float}
     (reached : Reached m a b d first k union low) where
   module _ (high : Float) (high-end : high ≡ sliceEnd d (k + 1)) where
     one-slice : (s : BoundsAnswer) → s ≡ AnimatedTransform·encloseBounds m a (record { low = low; high = high }) b

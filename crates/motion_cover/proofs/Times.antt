@@ -13,7 +13,7 @@ use Rattle.transform.specs.Answer.{BoundsAnswer·refusal, BoundsAnswer·bounds}
 use Rattle.animated_transform.specs.declared.AnimatedTransform.{AnimatedTransform}
 use Rattle.animated_transform.specs.Built.{Built}
 use Rattle.animated_transform.specs.AtTime.{atStart, atEnd}
-use Rattle.motion_point.specs.TransformPoint.{AnimatedTransform·rigidMotion, AnimatedTransform·movedPoint, AnimatedTransform·transformPoint}
+use Rattle.motion_point.specs.TransformPoint.{AnimatedTransform·constants, AnimatedTransform·movedPoint, AnimatedTransform·transformPoint}
 use Rattle.motion_point.proofs.Query.{moved-point-start, moved-point-end, moved-point-between}
 use Rattle.motion_cover.specs.Cover.{AnimatedTransform·cover}
 use Rattle.motion_cover.specs.Theorem.{MovedInside}
@@ -25,7 +25,7 @@ module _ (m : AnimatedTransform) (b : Bounds3f) (d : ℕ) where
   -- The query's answer under another name.
   named : (time : Float) (p : Point3f) (answer : PointAnswer)
       → Built m → BoundsAnswer·refusal (AnimatedTransform·cover m b d) ≡ 0 → T (not (isNan time)) → Inside b p
-      → AnimatedTransform·movedPoint m (AnimatedTransform·rigidMotion m) time p ≡ answer
+      → AnimatedTransform·movedPoint m (AnimatedTransform·constants m) time p ≡ answer
       → AnswersInside (BoundsAnswer·bounds (AnimatedTransform·cover m b d)) (AnimatedTransform·transformPoint m time p) answer
   named time p answer built e n i h =
       let box = BoundsAnswer·bounds (AnimatedTransform·cover m b d) in
@@ -33,12 +33,12 @@ module _ (m : AnimatedTransform) (b : Bounds3f) (d : ℕ) where
       record { same = q; inside = subst (MovedInside box) q (cover-contains m b d time p built e n i) }
 
   pub before-inside : BeforeInside m b (AnimatedTransform·cover m b d)
-  before-inside time p built e n i s = named time p _ built e n i (moved-point-start m (AnimatedTransform·rigidMotion m) time p (is-true (atStart m time) s))
+  before-inside time p built e n i s = named time p _ built e n i (moved-point-start m (AnimatedTransform·constants m) time p (is-true (atStart m time) s))
 
   pub during-inside : DuringInside m b (AnimatedTransform·cover m b d)
   during-inside time p built e n i s f =
-      named time p _ built e n i (moved-point-between m (AnimatedTransform·rigidMotion m) time p (is-false (atStart m time) s) (is-false (atEnd m time) f))
+      named time p _ built e n i (moved-point-between m (AnimatedTransform·constants m) time p (is-false (atStart m time) s) (is-false (atEnd m time) f))
 
   pub after-inside : AfterInside m b (AnimatedTransform·cover m b d)
   after-inside time p built e n i s f =
-      named time p _ built e n i (moved-point-end m (AnimatedTransform·rigidMotion m) time p (is-false (atStart m time) s) (is-true (atEnd m time) f))
+      named time p _ built e n i (moved-point-end m (AnimatedTransform·constants m) time p (is-false (atStart m time) s) (is-true (atEnd m time) f))

@@ -10,12 +10,12 @@ use Rattle.transform.specs.declared.BoundsAnswer.the-variants.{Bounds, Refused}
 use Rattle.bounds_query.specs.Query.{BoundsAnswer·unionBounds, coverRefusal}
 use Rattle.interval.specs.declared.Interval.{Interval}
 use Rattle.unit_interval.specs.Unit.{slice}
-use Rattle.pose_steps.specs.declared.RigidMotion.{RigidMotion}
+use Rattle.pose_steps.specs.declared.PoseConstants.{PoseConstants}
 use Rattle.pose_steps.specs.declared.JudgedVector.{JudgedVector}
 use Rattle.stored_box.specs.EnclosePoints.{Transform·enclosePoints}
 use Rattle.pose_steps.specs.Enclose.{Pose·enclosePoint, Bounds3f·intervals, IntervalVector·bounds}
 use Rattle.animated_transform.specs.declared.AnimatedTransform.{AnimatedTransform}
-use Rattle.motion_point.specs.TransformPoint.{AnimatedTransform·rigidMotion}
+use Rattle.motion_point.specs.TransformPoint.{AnimatedTransform·constants}
 
 -- Three intervals as a box, or the number that was met on the way.
 unfoldable pub BoundsAnswer·fromEnclosure : JudgedVector → BoundsAnswer
@@ -26,7 +26,7 @@ unfoldable pub Transform·encloseBounds : Transform → Bounds3f → BoundsAnswe
 Transform·encloseBounds t b = BoundsAnswer·fromEnclosure (Transform·enclosePoints t b)
 
 -- The poses over any interval of dt over a box, where a are the move's constants.
-unfoldable pub AnimatedTransform·encloseBounds : AnimatedTransform → RigidMotion → Interval → Bounds3f → BoundsAnswer
+unfoldable pub AnimatedTransform·encloseBounds : AnimatedTransform → PoseConstants → Interval → Bounds3f → BoundsAnswer
 AnimatedTransform·encloseBounds m a dt b = BoundsAnswer·fromEnclosure (Pose·enclosePoint a (m .s0) (m .s1) dt (Bounds3f·intervals b))
 
 -- "the start transform over the box, the end transform over the box"
@@ -34,7 +34,7 @@ unfoldable pub AnimatedTransform·encloseEnds : AnimatedTransform → Bounds3f �
 AnimatedTransform·encloseEnds m b = BoundsAnswer·unionBounds (Transform·encloseBounds (m .«start_transform») b) (Transform·encloseBounds (m .«end_transform») b)
 
 -- "and 2^d slices of dt": r and the first k of them, in rising order.
-unfoldable pub unionSlices : AnimatedTransform → RigidMotion → Bounds3f → ℕ → BoundsAnswer → ℕ → BoundsAnswer
+unfoldable pub unionSlices : AnimatedTransform → PoseConstants → Bounds3f → ℕ → BoundsAnswer → ℕ → BoundsAnswer
 unionSlices m a b d r zero = r
 unionSlices m a b d r (suc k) = BoundsAnswer·unionBounds (unionSlices m a b d r k) (AnimatedTransform·encloseBounds m a (slice d k) b)
 
@@ -42,7 +42,7 @@ unionSlices m a b d r (suc k) = BoundsAnswer·unionBounds (unionSlices m a b d r
 unfoldable pub AnimatedTransform·encloseMotion : AnimatedTransform → Bounds3f → ℕ → BoundsAnswer
 AnimatedTransform·encloseMotion m b d =
     cond (m .«actually_animated»)
-    (unionSlices m (AnimatedTransform·rigidMotion m) b d (AnimatedTransform·encloseEnds m b) (2 ^ d))
+    (unionSlices m (AnimatedTransform·constants m) b d (AnimatedTransform·encloseEnds m b) (2 ^ d))
     (Transform·encloseBounds (m .«start_transform») b)
 
 -- The cover query.

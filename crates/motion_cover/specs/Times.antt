@@ -16,7 +16,7 @@ use Rattle.pose_steps.specs.Pose.{Pose·movedPoint}
 use Rattle.animated_transform.specs.declared.AnimatedTransform.{AnimatedTransform}
 use Rattle.animated_transform.specs.Built.{Built}
 use Rattle.animated_transform.specs.AtTime.{atStart, atEnd}
-use Rattle.motion_point.specs.TransformPoint.{AnimatedTransform·rigidMotion, AnimatedTransform·transformPoint}
+use Rattle.motion_point.specs.TransformPoint.{AnimatedTransform·constants, AnimatedTransform·transformPoint}
 use Rattle.motion_cover.specs.Theorem.{MovedInside}
 
 -- The query's answer is the one named, which is not refused, and its point is inside the box.
@@ -37,7 +37,7 @@ DuringInside m b c =
     (time : Float) (p : Point3f)
     → Built m → BoundsAnswer·refusal c ≡ 0 → T (not (isNan time)) → Inside b p → T (not (atStart m time)) → T (not (atEnd m time))
     → AnswersInside (BoundsAnswer·bounds c) (AnimatedTransform·transformPoint m time p)
-    (Pose·movedPoint (AnimatedTransform·rigidMotion m) (m .s0) (m .s1) (dt (m .«start_time») (m .«end_time») time) p)
+    (Pose·movedPoint (AnimatedTransform·constants m) (m .s0) (m .s1) (dt (m .«start_time») (m .«end_time») time) p)
 
 -- From the end time on: the stored end pose.
 abbrev pub AfterInside : AnimatedTransform → Bounds3f → BoundsAnswer → Type 0

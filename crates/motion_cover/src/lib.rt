@@ -10,7 +10,7 @@ use pose_slerp::Perpendicular;
 use pose_steps::IntervalVector;
 use pose_steps::JudgedQuaternion;
 use pose_steps::JudgedVector;
-use pose_steps::RigidMotion;
+use pose_steps::PoseConstants;
 use transform::BoundsAnswer;
 use transform::Transform;
 ghost use Prim.Native.Nat.{_^_, _≤_};
@@ -19,7 +19,7 @@ ghost use Rattle.sine_table.specs.Table.{sineTable};
 ghost use Rattle.transform.specs.declared.BoundsAnswer.the-variants.{Bounds};
 ghost use Rattle.pose_steps.specs.Enclose.{Pose·encloseSlerp, Bounds3f·intervals, IntervalVector·bounds};
 ghost use Rattle.pose_slerp.specs.Unjudged.{Perpendicular·of};
-ghost use Rattle.motion_point.specs.TransformPoint.{AnimatedTransform·rigidMotion};
+ghost use Rattle.motion_point.specs.TransformPoint.{AnimatedTransform·constants};
 ghost use Rattle.bounds_query.specs.Query.{maxDepth};
 ghost use Rattle.motion_cover.specs.Cover.{BoundsAnswer·fromEnclosure, Transform·encloseBounds, AnimatedTransform·encloseBounds, AnimatedTransform·encloseEnds, unionSlices, AnimatedTransform·encloseMotion, AnimatedTransform·cover};
 ghost use Rattle.motion_cover.specs.Border.{Border·at};
@@ -100,7 +100,7 @@ fn ends_enclosure(m: AnimatedTransform, b: Bounds3f) -> BoundsAnswer
 }
 
 // Where slerp is linear no angle is asked for, and a border has none.
-fn border_at(table: &[u32; 2049], a: RigidMotion, t: f32) -> Border
+fn border_at(table: &[u32; 2049], a: PoseConstants, t: f32) -> Border
     requires { ⌜ now table ≡ sineTable ⌝ }
     ensures value { λ r. ⌜ r ≡ Border·at a t ⌝ }
 {
@@ -123,7 +123,7 @@ fn border_at(table: &[u32; 2049], a: RigidMotion, t: f32) -> Border
 // Accuracy: encloses.
 fn slerp_enclosure(
     m: u8,
-    a: RigidMotion,
+    a: PoseConstants,
     perp: Perpendicular,
     from: Border,
     to: Border,
@@ -163,7 +163,7 @@ fn slerp_enclosure(
 // The poses from a border to another over a box, with the move's constants at hand. Accuracy: encloses.
 fn slice_enclosure(
     m: AnimatedTransform,
-    a: RigidMotion,
+    a: PoseConstants,
     perp: Perpendicular,
     from: Border,
     to: Border,
@@ -185,10 +185,10 @@ fn slice_enclosure(
 // The box `first` and those of the 2^d slices of dt. A slice ends at the border where the next one begins. Accuracy: encloses.
 fn slices_enclosure(m: AnimatedTransform, b: Bounds3f, d: u32, first: Bounds3f) -> BoundsAnswer
     requires { ⌜ d ≤ maxDepth ⌝ }
-    ensures value { λ r. ⌜ r ≡ unionSlices m (AnimatedTransform·rigidMotion m) b d (Bounds first) (2 ^ d) ⌝ }
+    ensures value { λ r. ⌜ r ≡ unionSlices m (AnimatedTransform·constants m) b d (Bounds first) (2 ^ d) ⌝ }
 {
     let table = sine_table::table();
-    let a = motion_point::rigid_motion(m);
+    let a = motion_point::constants(m);
     let perp = pose_slerp::perpendicular_to(a.r0, a.r1, a.cos_theta);
     let slices = 1u64 << d;
     let mut union = first;

@@ -1,4 +1,4 @@
--- The constants of a built move are fit for its poses: its rigid motion is valid, theta being from 0 to a quarter turn (`built-valid`), and the entries of S that are
+-- The constants of a built move are fit for its poses: they are valid, theta being from 0 to a quarter turn (`built-valid`), and the entries of S that are
 -- read are finite (`built-scales`). What building has judged says so (`built-judged`).
 use mathlib.Core.Path.{_≡_, sym, subst}
 use lib.Dec.{T}
@@ -7,20 +7,20 @@ use Rattle.matrix4x4.specs.declared.Matrix4x4.{Matrix4x4}
 use Rattle.matrix4x4.specs.Rows.{Matrix4x4·toRows}
 use Rattle.decomposition.specs.Decompose.{translationOf}
 use Rattle.pose_steps.specs.Pose.{Vector3f·list, allFinite}
-use Rattle.pose_steps.specs.Promise.{AllFinite, RigidMotion·Valid, FiniteScale}
+use Rattle.pose_steps.specs.Promise.{AllFinite, PoseConstants·Valid, FiniteScale}
 use Rattle.pose_steps.proofs.Angle.{new-valid}
 use Rattle.pose_steps.proofs.Finite.{quaternion-each, matrix-each, scale-each}
 use Rattle.animated_transform.specs.declared.AnimatedTransform.{AnimatedTransform}
 use Rattle.animated_transform.specs.Built.{Built}
 use Rattle.animated_transform.proofs.Built.{built-judged}
-use Rattle.motion_point.specs.TransformPoint.{AnimatedTransform·rigidMotion}
+use Rattle.motion_point.specs.TransformPoint.{AnimatedTransform·constants}
 
 translation-each : (t : Vector3f) (m : Matrix4x4) → t ≡ translationOf (Matrix4x4·toRows m) → T (allFinite m) → AllFinite (Vector3f·list t)
 translation-each t m e h =
     let ((a, (b, (c, (x, d)))), (f, (g, (i, (y, j)))), (k, (l, (n, (z, o))))) = matrix-each m h in
     subst (λ (v : Vector3f). AllFinite (Vector3f·list v)) (sym e) (x, (y, (z, tt)))
 
-pub built-valid : {m : AnimatedTransform} → Built m → RigidMotion·Valid (AnimatedTransform·rigidMotion m)
+pub built-valid : {m : AnimatedTransform} → Built m → PoseConstants·Valid (AnimatedTransform·constants m)
 built-valid {m} b =
     let j = built-judged b in
     new-valid (m .t0) (m .t1) (m .r0) (m .r1)

@@ -14,22 +14,22 @@ use Rattle.transform.specs.TransformPoint.{Transform·transformPoint}
 use Rattle.transform.specs.Answer.{PointAnswer·refusal, PointAnswer·Judged}
 use Rattle.transform.proofs.Judged.{transform-point-judged}
 use Rattle.unit_interval.specs.Unit.{dt}
-use Rattle.pose_steps.specs.declared.RigidMotion.{RigidMotion}
+use Rattle.pose_steps.specs.declared.PoseConstants.{PoseConstants}
 use Rattle.pose_steps.specs.Pose.{Pose·movedPoint}
 use Rattle.pose_steps.proofs.Number.{movedPoint-judged}
 use Rattle.animated_transform.specs.declared.AnimatedTransform.{AnimatedTransform}
 use Rattle.animated_transform.specs.AtTime.{atStart, atEnd}
 use Rattle.motion_point.specs.Answer.{PointAnswer·Answered}
-use Rattle.motion_point.specs.TransformPoint.{AnimatedTransform·rigidMotion, AnimatedTransform·movedPoint, AnimatedTransform·transformPoint}
+use Rattle.motion_point.specs.TransformPoint.{AnimatedTransform·constants, AnimatedTransform·movedPoint, AnimatedTransform·transformPoint}
 
 -- ---- the work
-pub moved-point-judged : (m : AnimatedTransform) (a : RigidMotion) (time : Float) (p : Point3f) → PointAnswer·Judged (AnimatedTransform·movedPoint m a time p)
+pub moved-point-judged : (m : AnimatedTransform) (a : PoseConstants) (time : Float) (p : Point3f) → PointAnswer·Judged (AnimatedTransform·movedPoint m a time p)
 unfolding AnimatedTransform·movedPoint
 moved-point-judged m a time p =
     cond-keeps PointAnswer·Judged (atStart m time) _ _ (transform-point-judged (m .«start_transform») p)
     (cond-keeps PointAnswer·Judged (atEnd m time) _ _ (transform-point-judged (m .«end_transform») p) (movedPoint-judged a (m .s0) (m .s1) (dt (m .«start_time») (m .«end_time») time) p))
 
-module _ (m : AnimatedTransform) (a : RigidMotion) (time : Float) (p : Point3f) where
+module _ (m : AnimatedTransform) (a : PoseConstants) (time : Float) (p : Point3f) where
   pub moved-point-start : atStart m time ≡ true → AnimatedTransform·movedPoint m a time p ≡ Transform·transformPoint (m .«start_transform») p
   unfolding AnimatedTransform·movedPoint
   moved-point-start e = rw e
@@ -45,7 +45,7 @@ module _ (m : AnimatedTransform) (a : RigidMotion) (time : Float) (p : Point3f) 
 
 -- ---- the query
 pub transform-point-accepted : (m : AnimatedTransform) (time : Float) (p : Point3f) → isNan time ≡ false → Point3f·isFinite p ≡ true
-    → AnimatedTransform·transformPoint m time p ≡ AnimatedTransform·movedPoint m (AnimatedTransform·rigidMotion m) time p
+    → AnimatedTransform·transformPoint m time p ≡ AnimatedTransform·movedPoint m (AnimatedTransform·constants m) time p
 unfolding AnimatedTransform·transformPoint
 transform-point-accepted m time p e f = rw (e, f)
 
@@ -63,4 +63,4 @@ refused-answered = record { number = inr (inr refl); values = tt }
 pub transform-point-answered : (m : AnimatedTransform) (time : Float) (p : Point3f) → PointAnswer·Answered (AnimatedTransform·transformPoint m time p)
 unfolding AnimatedTransform·transformPoint
 transform-point-answered m time p =
-    cond-keeps PointAnswer·Answered (isNan time || not (Point3f·isFinite p)) (Refused 6) _ refused-answered (judged-answered (moved-point-judged m (AnimatedTransform·rigidMotion m) time p))
+    cond-keeps PointAnswer·Answered (isNan time || not (Point3f·isFinite p)) (Refused 6) _ refused-answered (judged-answered (moved-point-judged m (AnimatedTransform·constants m) time p))

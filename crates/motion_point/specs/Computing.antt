@@ -3,9 +3,9 @@ use lib.Ieee.{isNan, le}
 use Rattle.unit_interval.specs.Computing as dt
 use Rattle.transform.specs.Computing as transform
 use Rattle.pose_steps.specs.Computing as pose
-use Rattle.pose_steps.specs.Pose.{RigidMotion·new}
+use Rattle.pose_steps.specs.Pose.{PoseConstants·new}
 use Rattle.motion_point.specs.TransformPoint.{AnimatedTransform·movedPoint, AnimatedTransform·transformPoint}
 
 unfoldable pub computing : Unit {0}
-unfolding isNan le dt.computing transform.computing pose.computing RigidMotion·new AnimatedTransform·movedPoint AnimatedTransform·transformPoint
+unfolding isNan le dt.computing transform.computing pose.computing PoseConstants·new AnimatedTransform·movedPoint AnimatedTransform·transformPoint
 computing = tt

@@ -8,17 +8,17 @@ use Rattle.transform.specs.declared.PointAnswer.{PointAnswer}
 use Rattle.transform.specs.declared.PointAnswer.the-variants.{Refused}
 use Rattle.transform.specs.TransformPoint.{Transform·transformPoint}
 use Rattle.unit_interval.specs.Unit.{dt}
-use Rattle.pose_steps.specs.declared.RigidMotion.{RigidMotion}
-use Rattle.pose_steps.specs.Pose.{RigidMotion·new, Pose·movedPoint}
+use Rattle.pose_steps.specs.declared.PoseConstants.{PoseConstants}
+use Rattle.pose_steps.specs.Pose.{PoseConstants·new, Pose·movedPoint}
 use Rattle.animated_transform.specs.declared.AnimatedTransform.{AnimatedTransform}
 use Rattle.animated_transform.specs.AtTime.{atStart, atEnd}
 
 -- The constants of the pose between: what `slerp` works out anew at each call.
-abbrev pub AnimatedTransform·rigidMotion : AnimatedTransform → RigidMotion
-AnimatedTransform·rigidMotion m = RigidMotion·new (m .t0) (m .t1) (m .r0) (m .r1)
+abbrev pub AnimatedTransform·constants : AnimatedTransform → PoseConstants
+AnimatedTransform·constants m = PoseConstants·new (m .t0) (m .t1) (m .r0) (m .r1)
 
 -- The work, where a are the move's constants.
-unfoldable pub AnimatedTransform·movedPoint : AnimatedTransform → RigidMotion → Float → Point3f → PointAnswer
+unfoldable pub AnimatedTransform·movedPoint : AnimatedTransform → PoseConstants → Float → Point3f → PointAnswer
 AnimatedTransform·movedPoint m a time p =
     cond (atStart m time) (Transform·transformPoint (m .«start_transform») p)
     (cond (atEnd m time) (Transform·transformPoint (m .«end_transform») p)
@@ -27,4 +27,4 @@ AnimatedTransform·movedPoint m a time p =
 -- document 01, Refusals: 6 where "the time is NaN, or a coordinate is not finite"
 unfoldable pub AnimatedTransform·transformPoint : AnimatedTransform → Float → Point3f → PointAnswer
 AnimatedTransform·transformPoint m time p =
-    cond (isNan time || not (Point3f·isFinite p)) (Refused 6) (AnimatedTransform·movedPoint m (AnimatedTransform·rigidMotion m) time p)
+    cond (isNan time || not (Point3f·isFinite p)) (Refused 6) (AnimatedTransform·movedPoint m (AnimatedTransform·constants m) time p)

@@ -2,21 +2,21 @@
 // At and outside the end times, and where the two poses are equal, the stored transform moves the point; between them the pose at dt does.
 use animated_transform::AnimatedTransform;
 use bounds3::Point3f;
-use pose_steps::RigidMotion;
+use pose_steps::PoseConstants;
 use transform::PointAnswer;
 ghost use mathlib.Core.Path.{_≡_};
-ghost use Rattle.motion_point.specs.TransformPoint.{AnimatedTransform·rigidMotion, AnimatedTransform·movedPoint, AnimatedTransform·transformPoint};
+ghost use Rattle.motion_point.specs.TransformPoint.{AnimatedTransform·constants, AnimatedTransform·movedPoint, AnimatedTransform·transformPoint};
 
 // The constants of the pose between, computed once for any number of points. Accuracy: each operation but the arc cosine is correctly rounded.
-pub fn rigid_motion(m: AnimatedTransform) -> RigidMotion
-    ensures value { λ r. ⌜ r ≡ AnimatedTransform·rigidMotion m ⌝ }
+pub fn constants(m: AnimatedTransform) -> PoseConstants
+    ensures value { λ r. ⌜ r ≡ AnimatedTransform·constants m ⌝ }
 {
-    pose_slerp::rigid_motion(m.t0, m.t1, m.r0, m.r1)
+    pose_slerp::constants(m.t0, m.t1, m.r0, m.r1)
 }
 
 // Where a move with its constants at hand takes a point at a time, neither of which is judged here; refused with 5 where a finished value isn't finite.
 // Accuracy: each operation but sine and cosine is correctly rounded.
-pub fn moved_point(m: AnimatedTransform, a: RigidMotion, time: f32, p: Point3f) -> PointAnswer
+pub fn moved_point(m: AnimatedTransform, a: PoseConstants, time: f32, p: Point3f) -> PointAnswer
     ensures value { λ r. ⌜ r ≡ AnimatedTransform·movedPoint m a time p ⌝ }
 {
     if !m.actually_animated | (time <= m.start_time) {
@@ -42,5 +42,5 @@ pub fn transform_point(m: AnimatedTransform, time: f32, p: Point3f) -> PointAnsw
     if (time != time) | !p.is_finite() {
         return PointAnswer::Refused(6);
     }
-    moved_point(m, rigid_motion(m), time, p)
+    moved_point(m, constants(m), time, p)
 }

@@ -3,10 +3,10 @@ use mathlib.Core.Path.{_≡_, refl}
 use mathlib.Core.Bool.{Bool, true, false}
 use lib.Ieee.{eq, ofBits}
 use Rattle.float32.specs.Operators.{one}
-use Rattle.pose_steps.specs.Pose.{RigidMotion·new}
+use Rattle.pose_steps.specs.Pose.{PoseConstants·new}
 use Rattle.animated_transform.specs.declared.AnimatedTransform.{AnimatedTransform}
-use Rattle.motion_point.specs.TransformPoint.{AnimatedTransform·rigidMotion}
-use Rattle.motion_rows.specs.Rows.{flag, constantsRow, fieldsRows, transformAt, derivativeAt, coefficientsAt, AnimatedTransform·toRows, AnimatedTransform·fromRows, RigidMotion·fromRows}
+use Rattle.motion_point.specs.TransformPoint.{AnimatedTransform·constants}
+use Rattle.motion_rows.specs.Rows.{flag, constantsRow, fieldsRows, transformAt, derivativeAt, coefficientsAt, AnimatedTransform·toRows, AnimatedTransform·fromRows, PoseConstants·fromRows}
 
 flag-eq : (b : Bool) → eq (flag b) one ≡ b
 unfolding eq ofBits
@@ -17,6 +17,6 @@ pub from-rows-inverse : (m : AnimatedTransform) → AnimatedTransform·fromRows 
 unfolding AnimatedTransform·toRows fieldsRows constantsRow AnimatedTransform·fromRows transformAt derivativeAt coefficientsAt
 from-rows-inverse m = rw (flag-eq (m .«actually_animated»), flag-eq (m .«has_rotation»))
 
-pub constants-inverse : (m : AnimatedTransform) → RigidMotion·fromRows (AnimatedTransform·toRows m) ≡ AnimatedTransform·rigidMotion m
-unfolding AnimatedTransform·toRows fieldsRows constantsRow RigidMotion·fromRows RigidMotion·new
+pub constants-inverse : (m : AnimatedTransform) → PoseConstants·fromRows (AnimatedTransform·toRows m) ≡ AnimatedTransform·constants m
+unfolding AnimatedTransform·toRows fieldsRows constantsRow PoseConstants·fromRows PoseConstants·new
 constants-inverse m = refl

@@ -16,10 +16,10 @@ use Rattle.lent_arrays.specs.Arrays.{transformRows}
 use Rattle.axis_derivative.specs.declared.DerivativeTerm.{DerivativeTerm}
 use Rattle.axis_derivative.specs.declared.Derivative.{Derivative}
 use Rattle.coefficients.specs.declared.Coefficients.{Coefficients}
-use Rattle.pose_steps.specs.declared.RigidMotion.{RigidMotion}
+use Rattle.pose_steps.specs.declared.PoseConstants.{PoseConstants}
 use Rattle.animated_transform.specs.declared.AnimatedTransform.{AnimatedTransform}
 use Rattle.animated_transform.specs.declared.AnimatedTransformAnswer.{AnimatedTransformAnswer}
-use Rattle.motion_point.specs.TransformPoint.{AnimatedTransform·rigidMotion}
+use Rattle.motion_point.specs.TransformPoint.{AnimatedTransform·constants}
 
 -- ---- to rows
 abbrev pub flag : Bool → Float
@@ -39,7 +39,7 @@ derivativeRows d = termRow (d .c1) ∷ termRow (d .c2) ∷ termRow (d .c3) ∷ t
 
 unfoldable pub constantsRow : AnimatedTransform → Row
 constantsRow m =
-    let a = AnimatedTransform·rigidMotion m in
+    let a = AnimatedTransform·constants m in
     flag (m .«actually_animated») ∷ flag (m .«has_rotation») ∷ a .«cos_theta» ∷ a .theta ∷ []
 
 unfoldable pub fieldsRows : AnimatedTransform → Row → Rows
@@ -99,8 +99,8 @@ AnimatedTransform·fromRows rows =
     }
 
 -- the constants of the pose between, which stand beside the move
-unfoldable pub RigidMotion·fromRows : Rows → RigidMotion
-RigidMotion·fromRows rows =
+unfoldable pub PoseConstants·fromRows : Rows → PoseConstants
+PoseConstants·fromRows rows =
     record {
       t0 = vectorAt rows 16;
       t1 = vectorAt rows 17;

@@ -7,7 +7,7 @@ use axis_derivative::DerivativeTerm;
 use bounds3::Point3f;
 use coefficients::Coefficients;
 use matrix4x4::Matrix4x4;
-use pose_steps::RigidMotion;
+use pose_steps::PoseConstants;
 use quaternion::Quaternion;
 use transform::PointAnswer;
 use transform::Transform;
@@ -15,7 +15,7 @@ use vector3::Vector3f;
 ghost use Prim.Native.Nat.{_+_, _<_};
 ghost use mathlib.Core.Path.{_≡_};
 ghost use Rattle.motion_point.specs.TransformPoint.{AnimatedTransform·movedPoint};
-ghost use Rattle.motion_rows.specs.Rows.{flag, constantsRow, fieldsRows, vectorAt, quaternionAt, matrixAt, transformAt, termAt, derivativeAt, coefficientsAt, AnimatedTransform·toRows, AnimatedTransformAnswer·left, AnimatedTransform·fromRows, RigidMotion·fromRows};
+ghost use Rattle.motion_rows.specs.Rows.{flag, constantsRow, fieldsRows, vectorAt, quaternionAt, matrixAt, transformAt, termAt, derivativeAt, coefficientsAt, AnimatedTransform·toRows, AnimatedTransformAnswer·left, AnimatedTransform·fromRows, PoseConstants·fromRows};
 
 fn flag(b: bool) -> f32
     ensures value { λ r. ⌜ r ≡ flag b ⌝ }
@@ -27,7 +27,7 @@ fn flag(b: bool) -> f32
 fn constants_row(m: AnimatedTransform) -> [f32; 4]
     ensures value { λ r. ⌜ r ≡ constantsRow m ⌝ }
 {
-    let a = motion_point::rigid_motion(m);
+    let a = motion_point::constants(m);
     [
         flag(m.actually_animated),
         flag(m.has_rotation),
@@ -278,15 +278,15 @@ pub fn from_rows(rows: &[[f32; 4]; 44]) -> AnimatedTransform
 }
 
 // The constants of the pose between, which are kept beside the move.
-fn rigid_motion_from_rows(rows: &[[f32; 4]; 44]) -> RigidMotion
-    ensures value { λ r. ⌜ r ≡ RigidMotion·fromRows (now (rows .entry)) ⌝ }
+fn constants_from_rows(rows: &[[f32; 4]; 44]) -> PoseConstants
+    ensures value { λ r. ⌜ r ≡ PoseConstants·fromRows (now (rows .entry)) ⌝ }
 {
     let last = rows[43];
     let t0 = vector_at(rows, 16);
     let t1 = vector_at(rows, 17);
     let r0 = quaternion_at(rows, 18);
     let r1 = quaternion_at(rows, 19);
-    RigidMotion {
+    PoseConstants {
         t0,
         t1,
         r0,
@@ -299,7 +299,7 @@ fn rigid_motion_from_rows(rows: &[[f32; 4]; 44]) -> RigidMotion
 // `motion_point::moved_point` of a kept move, which reads the rows that it needs and no others; refused with 5 where a finished value isn't finite.
 // Accuracy: each operation but sine and cosine is correctly rounded.
 pub fn moved_point(rows: &[[f32; 4]; 44], time: f32, p: Point3f) -> PointAnswer
-    ensures value { λ r. ⌜ r ≡ AnimatedTransform·movedPoint (AnimatedTransform·fromRows (now (rows .entry))) (RigidMotion·fromRows (now (rows .entry))) time p ⌝ }
+    ensures value { λ r. ⌜ r ≡ AnimatedTransform·movedPoint (AnimatedTransform·fromRows (now (rows .entry))) (PoseConstants·fromRows (now (rows .entry))) time p ⌝ }
 {
     let start = rows[16];
     let end = rows[17];
@@ -311,7 +311,7 @@ pub fn moved_point(rows: &[[f32; 4]; 44], time: f32, p: Point3f) -> PointAnswer
         return transform_at(rows, 8).transform_point(p);
     }
     pose::moved_point(
-        rigid_motion_from_rows(rows),
+        constants_from_rows(rows),
         matrix_at(rows, 20),
         matrix_at(rows, 24),
         (time - start[3]) / (end[3] - start[3]),

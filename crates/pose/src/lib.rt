@@ -12,7 +12,7 @@ use pose_steps::IntervalVector;
 use pose_steps::JudgedMatrix;
 use pose_steps::JudgedQuaternion;
 use pose_steps::PoseAnswer;
-use pose_steps::RigidMotion;
+use pose_steps::PoseConstants;
 use transform::PointAnswer;
 use vector3::Vector3f;
 
@@ -58,7 +58,7 @@ fn judged(finite: bool, m: Matrix4x4) -> PoseAnswer
 
 // pbrt's `interpolate`, matrix half, at a dt between the two poses; refused with 5 where a finished value isn't finite.
 // Accuracy: each operation but sine and cosine is correctly rounded.
-pub fn matrix(a: RigidMotion, s0: Matrix4x4, s1: Matrix4x4, dt: f32) -> PoseAnswer
+pub fn matrix(a: PoseConstants, s0: Matrix4x4, s1: Matrix4x4, dt: f32) -> PoseAnswer
     ensures value { λ r. ⌜ r ≡ Pose·matrix a s0 s1 dt ⌝ }
 {
     let trans = pose_parts::translation(a.t0, a.t1, dt);
@@ -79,7 +79,13 @@ pub fn matrix(a: RigidMotion, s0: Matrix4x4, s1: Matrix4x4, dt: f32) -> PoseAnsw
 
 // pbrt's `transform_point` at a dt between the two poses; refused with 5 where a finished value isn't finite.
 // Accuracy: each operation but sine and cosine is correctly rounded.
-pub fn moved_point(a: RigidMotion, s0: Matrix4x4, s1: Matrix4x4, dt: f32, p: Point3f) -> PointAnswer
+pub fn moved_point(
+    a: PoseConstants,
+    s0: Matrix4x4,
+    s1: Matrix4x4,
+    dt: f32,
+    p: Point3f,
+) -> PointAnswer
     ensures value { λ r. ⌜ r ≡ Pose·movedPoint a s0 s1 dt p ⌝ }
 {
     let pose = matrix(a, s0, s1, dt);

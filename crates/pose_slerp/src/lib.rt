@@ -3,7 +3,7 @@
 // refused with 10 before its root is taken.
 // What far slerp needs that does not depend on t is computed by `perpendicular_to`, so that a caller with many intervals of t keeps it.
 ghost use mathlib.Core.Path.{_≡_};
-ghost use Rattle.pose_steps.specs.Pose.{RigidMotion·new, Pose·slerpNear, Pose·slerpFar, Pose·slerp};
+ghost use Rattle.pose_steps.specs.Pose.{PoseConstants·new, Pose·slerpNear, Pose·slerpFar, Pose·slerp};
 ghost use Rattle.pose_steps.specs.Enclose.{IntervalQuaternion·point, Pose·encloseSlerpNear, Pose·encloseSlerpFar, Pose·encloseSlerp};
 ghost use Rattle.interval.specs.Interval.{Interval·point};
 ghost use Rattle.pose_slerp.specs.Unjudged.{Perpendicular·of, IntervalQuaternion·combination, IntervalQuaternion·squared, IntervalQuaternion·quotient};
@@ -11,7 +11,7 @@ use interval::Interval;
 use interval_unjudged::ends_sum;
 use pose_steps::IntervalQuaternion;
 use pose_steps::JudgedQuaternion;
-use pose_steps::RigidMotion;
+use pose_steps::PoseConstants;
 use quaternion::Quaternion;
 use vector3::Vector3f;
 
@@ -23,12 +23,12 @@ pub struct Perpendicular {
 
 // The constants of a move: the dot product of its rotations and the angle between them are computed here, once.
 // Accuracy: each operation but the arc cosine is correctly rounded.
-pub fn rigid_motion(t0: Vector3f, t1: Vector3f, r0: Quaternion, r1: Quaternion) -> RigidMotion
-    ensures value { λ r. ⌜ r ≡ RigidMotion·new t0 t1 r0 r1 ⌝ }
+pub fn constants(t0: Vector3f, t1: Vector3f, r0: Quaternion, r1: Quaternion) -> PoseConstants
+    ensures value { λ r. ⌜ r ≡ PoseConstants·new t0 t1 r0 r1 ⌝ }
 {
     let cos_theta = r0.dot(r1);
     let theta = trig::acos(float32::clamp(cos_theta, -1.0, 1.0));
-    RigidMotion {
+    PoseConstants {
         t0,
         t1,
         r0,
@@ -81,7 +81,7 @@ pub fn slerp_far(q1: Quaternion, q2: Quaternion, cos_theta: f32, theta: f32, t: 
 }
 
 // pbrt's `slerp` of a move's two rotations, linear where their dot product is above 0.9995. Accuracy: each operation but sine and cosine is correctly rounded.
-pub fn slerp(a: RigidMotion, t: f32) -> Quaternion
+pub fn slerp(a: PoseConstants, t: f32) -> Quaternion
     ensures value { λ r. ⌜ r ≡ Pose·slerp a t ⌝ }
 {
     if a.cos_theta > 0.9995 {
@@ -201,7 +201,7 @@ pub fn perpendicular_to(q1: Quaternion, q2: Quaternion, cos_theta: f32) -> Perpe
 
 // slerp by the angle over an interval of t, with every interval judged, and refused as linear slerp is.
 // Accuracy: encloses, for an angle from 0 to a quarter turn and t from 0 to 1.
-pub fn slerp_far_enclosure(m: u8, a: RigidMotion, t: Interval) -> JudgedQuaternion
+pub fn slerp_far_enclosure(m: u8, a: PoseConstants, t: Interval) -> JudgedQuaternion
     ensures value { λ r. ⌜ r ≡ Pose·encloseSlerpFar m (IntervalQuaternion·point (a .r0)) (IntervalQuaternion·point (a .r1)) (Interval·point (a .«cos_theta»)) (Interval·point (a .theta)) t ⌝ }
 {
     let p = quaternion_point(a.r0);

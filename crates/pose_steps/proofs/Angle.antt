@@ -27,8 +27,8 @@ use Rattle.interval.specs.Interval.{Interval·point, Interval·new, Interval·h
 use Rattle.interval.specs.Contains.{Subset, Finite}
 use Rattle.interval.specs.Enclosure.{areAngles, first, notFinite, Judged·judge, Interval·mulEnclosure, Judged·mulEnclosure}
 use Rattle.interval.proofs.Isotone.{mul-isotone}
-use Rattle.pose_steps.specs.Pose.{Vector3f·list, Quaternion·list, RigidMotion·new}
-use Rattle.pose_steps.specs.Promise.{AllFinite, RigidMotion·Valid, quarterInterval}
+use Rattle.pose_steps.specs.Pose.{Vector3f·list, Quaternion·list, PoseConstants·new}
+use Rattle.pose_steps.specs.Promise.{AllFinite, PoseConstants·Valid, quarterInterval}
 
 pub quarter-finite : Finite quarterInterval
 quarter-finite = record { low = unfold ofBits in tt; high = unfold ofBits in tt }
@@ -82,8 +82,8 @@ theta-quarter c f l =
 
 -- A move whose parts are finite and whose rotations have a finite dot product of at least 0 is valid.
 pub new-valid : (t0 t1 : Vector3f) (r0 r1 : Quaternion) → AllFinite (Vector3f·list t0) → AllFinite (Vector3f·list t1) → AllFinite (Quaternion·list r0) → AllFinite (Quaternion·list r1)
-    → T (finite (Quaternion·dot r0 r1)) → positiveZero ≼ Quaternion·dot r0 r1 → RigidMotion·Valid (RigidMotion·new t0 t1 r0 r1)
-unfolding RigidMotion·new
+    → T (finite (Quaternion·dot r0 r1)) → positiveZero ≼ Quaternion·dot r0 r1 → PoseConstants·Valid (PoseConstants·new t0 t1 r0 r1)
+unfolding PoseConstants·new
 new-valid t0 t1 r0 r1 a b c d f l =
     let q = theta-quarter (Quaternion·dot r0 r1) f l in
     record { t0 = a; t1 = b; r0 = c; r1 = d; cosTheta = f; theta-from-zero = q .below; theta-to-quarter = q .above }

@@ -16,7 +16,7 @@ use Rattle.transform.specs.declared.PointAnswer.the-variants.{Moved}
 use Rattle.interval.specs.declared.Interval.{Interval}
 use Rattle.interval.specs.Interval.{Interval·point}
 use Rattle.unit_interval.specs.Unit.{unitInterval}
-use Rattle.pose_steps.specs.declared.RigidMotion.{RigidMotion}
+use Rattle.pose_steps.specs.declared.PoseConstants.{PoseConstants}
 use Rattle.pose_steps.specs.declared.IntervalVector.{IntervalVector}
 use Rattle.pose_steps.specs.declared.JudgedVector.{JudgedVector}
 use Rattle.pose_steps.specs.Pose.{Pose·movedPoint}
@@ -52,7 +52,7 @@ abbrev noRotation : Quaternion
 noRotation = record { v = vector 0 0 0; w = one }
 
 -- ---- a translation by 1 along x
-abbrev along : RigidMotion
+abbrev along : PoseConstants
 along = record { t0 = vector 0 0 0; t1 = vector 0x3f800000 0 0; r0 = noRotation; r1 = noRotation; «cos_theta» = one; theta = positiveZero }
 
 along-half : Pose·movedPoint along identity identity half (point 0 0 0) ≡ Moved (point 0x3f000000 0 0)
@@ -68,7 +68,7 @@ unfolding computing
 along-first-half = refl
 
 -- ---- a swing
-abbrev swing : RigidMotion
+abbrev swing : PoseConstants
 swing =
     record {
       t0 = vector 0 0 0;

@@ -32,8 +32,8 @@ use Rattle.transform.specs.Transform.{translation, Transform·mul}
 use Rattle.transform.specs.TransformPoint.{judged, Transform·transformPoint}
 use Rattle.transform.proofs.Wp.{moved-affine}
 use Rattle.rotation.specs.FromQuaternion.{inverseRotation, Transform·fromQuaternion}
-use Rattle.pose_steps.specs.declared.RigidMotion.{RigidMotion}
-use Rattle.pose_steps.specs.Pose.{RigidMotion·new, Pose·translation, Pose·slerpNear, Pose·slerpFar, slerpBy, Pose·slerp, Pose·scaleRow, Pose·scale, Pose·rotation, Pose·mulRow, Pose·mul, Pose·transformPoint, allFinite, PoseAnswer·judged, Pose·matrix, Pose·movedPoint}
+use Rattle.pose_steps.specs.declared.PoseConstants.{PoseConstants}
+use Rattle.pose_steps.specs.Pose.{PoseConstants·new, Pose·translation, Pose·slerpNear, Pose·slerpFar, slerpBy, Pose·slerp, Pose·scaleRow, Pose·scale, Pose·rotation, Pose·mulRow, Pose·mul, Pose·transformPoint, allFinite, PoseAnswer·judged, Pose·matrix, Pose·movedPoint}
 use Rattle.pose_steps.specs.Composition.{lerpTranslation, lerpScale, composition}
 use Rattle.pose_steps.proofs.Rows.{scale-bottom, rotation-bottom, mul-bottom}
 use Rattle.pose_steps.proofs.Finite.{all-each}
@@ -43,11 +43,11 @@ pub translation-same : (t0 t1 : Vector3f) (dt : Float) → Pose·translation t0 
 unfolding Pose·translation
 translation-same t0 t1 dt = refl
 
-pub slerp-same : (t0 t1 : Vector3f) (r0 r1 : Quaternion) (dt : Float) → Pose·slerp (RigidMotion·new t0 t1 r0 r1) dt ≡ Quaternion·slerp r0 r1 dt
-unfolding RigidMotion·new Pose·slerp Quaternion·slerp
+pub slerp-same : (t0 t1 : Vector3f) (r0 r1 : Quaternion) (dt : Float) → Pose·slerp (PoseConstants·new t0 t1 r0 r1) dt ≡ Quaternion·slerp r0 r1 dt
+unfolding PoseConstants·new Pose·slerp Quaternion·slerp
 slerp-same t0 t1 r0 r1 dt = go (lt slerpThreshold (Quaternion·dot r0 r1))
   where
-    go : (b : Bool) → slerpBy b (RigidMotion·new t0 t1 r0 r1) dt ≡ leaf.slerpBy b r0 r1 dt (Quaternion·dot r0 r1)
+    go : (b : Bool) → slerpBy b (PoseConstants·new t0 t1 r0 r1) dt ≡ leaf.slerpBy b r0 r1 dt (Quaternion·dot r0 r1)
     go true = unfold slerpBy leaf.slerpBy Pose·slerpNear leaf.slerpNear Quaternion·normalize Quaternion·add Quaternion·mul Quaternion·div Quaternion·dot in refl
     go false = unfold slerpBy leaf.slerpBy Pose·slerpFar leaf.slerpFar Quaternion·normalize Quaternion·add Quaternion·sub Quaternion·mul Quaternion·div Quaternion·dot in refl
 
@@ -125,10 +125,10 @@ translationOf v = translation (v .x) (v .y) (v .z)
 
 module _ (t0 t1 : Vector3f) (r0 r1 : Quaternion) (s0 s1 : Matrix4x4) (S : Transform) (dt : Float)
     (e : Matrix4x4·toRows (S .m) ≡ lerpScale (Matrix4x4·toRows s0) (Matrix4x4·toRows s1) dt) where
-  pub matrix-composition : Pose·matrix (RigidMotion·new t0 t1 r0 r1) s0 s1 dt .refusal ≡ 0 → composition t0 t1 r0 r1 S dt .m ≡ Pose·matrix (RigidMotion·new t0 t1 r0 r1) s0 s1 dt .m
-  unfolding RigidMotion·new Pose·matrix composition Transform·mul
+  pub matrix-composition : Pose·matrix (PoseConstants·new t0 t1 r0 r1) s0 s1 dt .refusal ≡ 0 → composition t0 t1 r0 r1 S dt .m ≡ Pose·matrix (PoseConstants·new t0 t1 r0 r1) s0 s1 dt .m
+  unfolding PoseConstants·new Pose·matrix composition Transform·mul
   matrix-composition z =
-      let a = RigidMotion·new t0 t1 r0 r1 in
+      let a = PoseConstants·new t0 t1 r0 r1 in
       let trans = Pose·translation t0 t1 dt in
       let rotate = Pose·slerp a dt in
       let scale = Pose·scale s0 s1 dt in
@@ -164,7 +164,7 @@ pub point-affine : (t : Transform) (p : Point3f) → T (Matrix4x4·isAffine (Mat
 unfolding Transform·transformPoint Pose·transformPoint
 point-affine t p a f = ap judged (moved-affine (Matrix4x4·toRows (t .m)) p a f)
 
-accepted-bottom : (a : RigidMotion) (s0 s1 : Matrix4x4) (dt : Float) → Pose·matrix a s0 s1 dt .refusal ≡ 0 → Pose·matrix a s0 s1 dt .m .r3 ≡ bottomRow
+accepted-bottom : (a : PoseConstants) (s0 s1 : Matrix4x4) (dt : Float) → Pose·matrix a s0 s1 dt .refusal ≡ 0 → Pose·matrix a s0 s1 dt .m .r3 ≡ bottomRow
 unfolding Pose·matrix
 accepted-bottom a s0 s1 dt z =
     let trans = Pose·translation (a .t0) (a .t1) dt in
@@ -178,10 +178,10 @@ accepted-bottom a s0 s1 dt z =
 
 module _ (t0 t1 : Vector3f) (r0 r1 : Quaternion) (s0 s1 : Matrix4x4) (S : Transform) (dt : Float)
     (e : Matrix4x4·toRows (S .m) ≡ lerpScale (Matrix4x4·toRows s0) (Matrix4x4·toRows s1) dt) where
-  pub point-composition : (p : Point3f) → Finite p → Pose·matrix (RigidMotion·new t0 t1 r0 r1) s0 s1 dt .refusal ≡ 0
-      → Transform·transformPoint (composition t0 t1 r0 r1 S dt) p ≡ Pose·movedPoint (RigidMotion·new t0 t1 r0 r1) s0 s1 dt p
+  pub point-composition : (p : Point3f) → Finite p → Pose·matrix (PoseConstants·new t0 t1 r0 r1) s0 s1 dt .refusal ≡ 0
+      → Transform·transformPoint (composition t0 t1 r0 r1 S dt) p ≡ Pose·movedPoint (PoseConstants·new t0 t1 r0 r1) s0 s1 dt p
   point-composition p f z =
-      let a = RigidMotion·new t0 t1 r0 r1 in
+      let a = PoseConstants·new t0 t1 r0 r1 in
       let M = Pose·matrix a s0 s1 dt .m in
       let h : composition t0 t1 r0 r1 S dt .m ≡ M = matrix-composition t0 t1 r0 r1 s0 s1 S dt e z in
       let i = affine-bottom M (accepted-bottom a s0 s1 dt z) in
@@ -189,6 +189,6 @@ module _ (t0 t1 : Vector3f) (r0 r1 : Quaternion) (s0 s1 : Matrix4x4) (S : Transf
       ∙ ap (λ (m : Matrix4x4). judged (Pose·transformPoint m p)) h
       ∙ answered a s0 s1 dt p z
     where
-      answered : (a : RigidMotion) (s0 s1 : Matrix4x4) (dt : Float) (p : Point3f) → Pose·matrix a s0 s1 dt .refusal ≡ 0
+      answered : (a : PoseConstants) (s0 s1 : Matrix4x4) (dt : Float) (p : Point3f) → Pose·matrix a s0 s1 dt .refusal ≡ 0
           → judged (Pose·transformPoint (Pose·matrix a s0 s1 dt .m) p) ≡ Pose·movedPoint a s0 s1 dt p
       answered a s0 s1 dt p z = unfold Pose·movedPoint judged in rw z

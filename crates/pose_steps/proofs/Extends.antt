@@ -27,7 +27,7 @@ use Rattle.formula.specs.Enclose.{enclosure}
 use Rattle.formula.specs.Promise.{Pairwise}
 use Rattle.formula.proofs.Pairwise.{pairwise-append}
 use Rattle.formula.proofs.Stage.{stage-extends}
-use Rattle.pose_steps.specs.declared.RigidMotion.{RigidMotion}
+use Rattle.pose_steps.specs.declared.PoseConstants.{PoseConstants}
 use Rattle.pose_steps.specs.declared.IntervalVector.{IntervalVector}
 use Rattle.pose_steps.specs.declared.IntervalQuaternion.{IntervalQuaternion}
 use Rattle.pose_steps.specs.declared.IntervalRow.{IntervalRow}
@@ -35,7 +35,7 @@ use Rattle.pose_steps.specs.declared.IntervalMatrix.{IntervalMatrix}
 use Rattle.pose_steps.specs.Stages.{translationStage, slerpNearStage, slerpFarStage, scaleRowStage, rotationStage, mulRowStage, transformPointStage}
 use Rattle.pose_steps.specs.Pose.{Vector3f·list, Quaternion·list, Matrix4x4·list, three, entries, Pose·translation, Pose·slerpNear, Pose·slerpFar, slerpBy, isNear, Pose·slerp, Pose·scaleRow, Pose·scale, Pose·rotation, Pose·mulRow, Pose·mul, Pose·transformPoint, allFinite, PoseAnswer·judged, Pose·matrix, Pose·movedPoint}
 use Rattle.pose_steps.specs.Enclose.{IntervalVector·list, IntervalVector·point, IntervalQuaternion·list, IntervalQuaternion·point, IntervalRow·list, IntervalRow·three, IntervalMatrix·list, IntervalMatrix·point, Pose·encloseTranslation, Pose·encloseSlerpNear, Pose·encloseSlerpFar, encloseSlerpBy, Pose·encloseSlerp, Pose·encloseScaleRow, Pose·encloseScale, Pose·encloseRotation, Pose·encloseMulRow, Pose·encloseMul, Pose·encloseTransformPoint, IntervalMatrix·translation, Pose·encloseMatrix, Pose·enclosePoint}
-use Rattle.pose_steps.specs.Promise.{AllFinite, RigidMotion·Valid, FiniteScale, quarterInterval, EnclosesScale, EnclosesMatrix, EnclosesPose, EnclosesAnswer}
+use Rattle.pose_steps.specs.Promise.{AllFinite, PoseConstants·Valid, FiniteScale, quarterInterval, EnclosesScale, EnclosesMatrix, EnclosesPose, EnclosesAnswer}
 use Rattle.pose_steps.proofs.Angle.{unit-finite, theta-angles, theta-finite, theta-subset}
 use Rattle.pose_steps.proofs.Valid.{translation-valid, near-valid, far-valid, scale-valid, rotation-valid, mul-valid, point-valid}
 use Rattle.pose_steps.proofs.Zero.{slerp-zero, scale-row-zero, scale-zero, rotation-zero, mul-row-zero, mul-zero, point-zero}
@@ -68,7 +68,7 @@ module _ (m : ℕ) {D : Interval} {dt : Float} (d : Encloses D dt) where
         rows-list Encloses (IntervalQuaternion·list P) (IntervalQuaternion·list Q) (C ∷ Θ ∷ D ∷ []) (Quaternion·list p) (Quaternion·list q) (cosθ ∷ θ ∷ dt ∷ []) e f
         (c, (t, (d, tt))))
 
-  pub slerp-extends : (a : RigidMotion) → RigidMotion·Valid a → Subset D unitInterval → Pose·encloseSlerp m a D .refusal ≡ 0
+  pub slerp-extends : (a : PoseConstants) → PoseConstants·Valid a → Subset D unitInterval → Pose·encloseSlerp m a D .refusal ≡ 0
       → Pairwise Encloses (IntervalQuaternion·list (Pose·encloseSlerp m a D .quaternion)) (Quaternion·list (Pose·slerp a dt))
   unfolding Pose·slerp Pose·encloseSlerp slerpBy encloseSlerpBy
   slerp-extends a v u = go (isNear a)
@@ -158,7 +158,7 @@ unfolding PoseAnswer·judged
 judged-pose true t e = record { accepted = refl; encloses = e }
 judged-pose false t e = absurd t
 
-module _ {a : RigidMotion} {s0 s1 : Matrix4x4} (v : RigidMotion·Valid a) (f : FiniteScale s0) (g : FiniteScale s1)
+module _ {a : PoseConstants} {s0 s1 : Matrix4x4} (v : PoseConstants·Valid a) (f : FiniteScale s0) (g : FiniteScale s1)
     {D : Interval} {dt : Float} (u : Subset D unitInterval) (d : Contains D dt) where
   pub matrix-extends : Pose·encloseMatrix a s0 s1 D .refusal ≡ 0 → EnclosesPose (Pose·encloseMatrix a s0 s1 D .matrix) (Pose·matrix a s0 s1 dt)
   unfolding Pose·matrix Pose·encloseMatrix

@@ -16,7 +16,7 @@ use Rattle.formula.specs.Enclose.{enclosure}
 use Rattle.formula.specs.Promise.{Pairwise}
 use Rattle.formula.proofs.Pairwise.{pairwise-append}
 use Rattle.formula.proofs.Stage.{stage-isotone}
-use Rattle.pose_steps.specs.declared.RigidMotion.{RigidMotion}
+use Rattle.pose_steps.specs.declared.PoseConstants.{PoseConstants}
 use Rattle.pose_steps.specs.declared.IntervalVector.{IntervalVector}
 use Rattle.pose_steps.specs.declared.IntervalQuaternion.{IntervalQuaternion}
 use Rattle.pose_steps.specs.declared.IntervalRow.{IntervalRow}
@@ -24,7 +24,7 @@ use Rattle.pose_steps.specs.declared.IntervalMatrix.{IntervalMatrix}
 use Rattle.pose_steps.specs.Stages.{translationStage, slerpNearStage, slerpFarStage, scaleRowStage, rotationStage, mulRowStage, transformPointStage}
 use Rattle.pose_steps.specs.Pose.{Vector3f·list, Quaternion·list, isNear}
 use Rattle.pose_steps.specs.Enclose.{IntervalVector·list, IntervalVector·point, IntervalQuaternion·list, IntervalQuaternion·point, IntervalRow·list, IntervalRow·three, IntervalMatrix·list, IntervalMatrix·point, Pose·encloseTranslation, Pose·encloseSlerpNear, Pose·encloseSlerpFar, encloseSlerpBy, Pose·encloseSlerp, Pose·encloseScaleRow, Pose·encloseScale, Pose·encloseRotation, Pose·encloseMulRow, Pose·encloseMul, Pose·encloseTransformPoint, IntervalMatrix·translation, Pose·encloseMatrix, Pose·enclosePoint}
-use Rattle.pose_steps.specs.Promise.{RigidMotion·Valid, FiniteScale, quarterInterval, RefinesScale, RefinesMatrix, NarrowerVector, NarrowerQuaternion, NarrowerRow, NarrowerMatrix}
+use Rattle.pose_steps.specs.Promise.{PoseConstants·Valid, FiniteScale, quarterInterval, RefinesScale, RefinesMatrix, NarrowerVector, NarrowerQuaternion, NarrowerRow, NarrowerMatrix}
 use Rattle.pose_steps.proofs.Angle.{unit-finite, theta-angles, theta-finite, theta-subset}
 use Rattle.pose_steps.proofs.Valid.{translation-valid, near-valid, far-valid, scale-valid, rotation-valid, mul-valid, point-valid}
 use Rattle.pose_steps.proofs.Zero.{slerp-zero, scale-row-zero, scale-zero, rotation-zero, mul-row-zero, mul-zero, point-zero}
@@ -61,7 +61,7 @@ module _ (m' : ℕ) {m : ℕ} (k : m ≡ 0) {D D' : Interval} (d : Refines D D')
               (c, (t, (d, tt))),
         ))
 
-  pub slerp-isotone : (a : RigidMotion) → RigidMotion·Valid a → Subset D' unitInterval → NarrowerQuaternion (Pose·encloseSlerp m a D) (Pose·encloseSlerp m' a D')
+  pub slerp-isotone : (a : PoseConstants) → PoseConstants·Valid a → Subset D' unitInterval → NarrowerQuaternion (Pose·encloseSlerp m a D) (Pose·encloseSlerp m' a D')
   unfolding Pose·encloseSlerp encloseSlerpBy
   slerp-isotone a v u = go (isNear a)
     where
@@ -140,7 +140,7 @@ translation-matrix-isotone W W' (x, (y, (z, e))) =
     let j = point-refines one one-finite in
     record { r0 = (j, (i, (i, (x, tt)))); r1 = (i, (j, (i, (y, tt)))); r2 = (i, (i, (j, (z, tt)))) }
 
-module _ {a : RigidMotion} {s0 s1 : Matrix4x4} (v : RigidMotion·Valid a) (f : FiniteScale s0) (g : FiniteScale s1)
+module _ {a : PoseConstants} {s0 s1 : Matrix4x4} (v : PoseConstants·Valid a) (f : FiniteScale s0) (g : FiniteScale s1)
     {D D' : Interval} (u : Subset D' unitInterval) (d : Subset D D') where
   pub matrix-isotone : NarrowerMatrix (Pose·encloseMatrix a s0 s1 D) (Pose·encloseMatrix a s0 s1 D')
   unfolding Pose·encloseMatrix

@@ -21,7 +21,7 @@ use Rattle.interval.specs.Interval.{Interval·point}
 use Rattle.interval.specs.Enclosure.{first, notFinite, notPositive, Judged·judge, Interval·divEnclosure, Interval·sqrtEnclosure, Judged·addEnclosure, Judged·subEnclosure, Judged·mulEnclosure, Judged·divEnclosure, Judged·sqrtEnclosure, Judged·sinEnclosure, Judged·cosEnclosure, Interval·addEnclosure, Interval·subEnclosure, Interval·mulEnclosure, Interval·sinEnclosure, Interval·cosEnclosure}
 use Rattle.formula.specs.Program.{Binary, sum, difference, product, quotient, Unary, root, sine, cosine, Expr, var, con, binary, unary, Program, _>>=_, give}
 use Rattle.formula.specs.Enclose.{Binary·enclose, Unary·enclose, Expr·enclose, Enclosure, enclosure, Expr·encloseAll, extend, Program·enclose}
-use Rattle.pose_steps.specs.declared.RigidMotion.{RigidMotion}
+use Rattle.pose_steps.specs.declared.PoseConstants.{PoseConstants}
 use Rattle.pose_steps.specs.declared.IntervalVector.{IntervalVector}
 use Rattle.pose_steps.specs.declared.IntervalRow.{IntervalRow}
 use Rattle.pose_steps.specs.declared.IntervalMatrix.{IntervalMatrix}
@@ -97,7 +97,7 @@ program-number (e >>= k) c n =
     program-number (k (var (length σ))) (extend σ j) (expr-number (c .refusal) σ e n)
 
 -- ---- the stages in sequence
-slerp-number : (m : ℕ) (a : RigidMotion) (D : Interval) → SliceNumber m → SliceNumber (Pose·encloseSlerp m a D .refusal)
+slerp-number : (m : ℕ) (a : PoseConstants) (D : Interval) → SliceNumber m → SliceNumber (Pose·encloseSlerp m a D .refusal)
 unfolding Pose·encloseSlerp encloseSlerpBy Pose·encloseSlerpNear Pose·encloseSlerpFar
 slerp-number m a D n = go (isNear a)
   where
@@ -134,7 +134,7 @@ pub transformPoint-number : (m : ℕ) (M : IntervalMatrix) (P : IntervalVector) 
 unfolding Pose·encloseTransformPoint
 transformPoint-number m M P n = program-number transformPointStage (enclosure m (IntervalMatrix·list M ++ IntervalVector·list P)) n
 
-module _ (a : RigidMotion) (s0 s1 : Matrix4x4) (D : Interval) where
+module _ (a : PoseConstants) (s0 s1 : Matrix4x4) (D : Interval) where
   pub matrix-number : SliceNumber (Pose·encloseMatrix a s0 s1 D .refusal)
   unfolding Pose·encloseMatrix Pose·encloseTranslation Pose·encloseRotation
   matrix-number =
@@ -157,7 +157,7 @@ module _ (a : RigidMotion) (s0 s1 : Matrix4x4) (D : Interval) where
   point-number P = let M = Pose·encloseMatrix a s0 s1 D in transformPoint-number (M .refusal) (M .matrix) P matrix-number
 
 -- ---- a point query's: 5 alone, and its point is finite where nothing is refused
-pub movedPoint-judged : (a : RigidMotion) (s0 s1 : Matrix4x4) (dt : Float) (p : Point3f) → PointAnswer·Judged (Pose·movedPoint a s0 s1 dt p)
+pub movedPoint-judged : (a : PoseConstants) (s0 s1 : Matrix4x4) (dt : Float) (p : Point3f) → PointAnswer·Judged (Pose·movedPoint a s0 s1 dt p)
 unfolding Pose·movedPoint
 movedPoint-judged a s0 s1 dt p =
     let pose = Pose·matrix a s0 s1 dt in

@@ -7,7 +7,7 @@ use Rattle.interval.specs.declared.Interval.{Interval}
 use Rattle.interval.specs.Interval.{Interval·point}
 use Rattle.formula.specs.Enclose.{enclosure}
 use Rattle.formula.proofs.Carries.{program-zero}
-use Rattle.pose_steps.specs.declared.RigidMotion.{RigidMotion}
+use Rattle.pose_steps.specs.declared.PoseConstants.{PoseConstants}
 use Rattle.pose_steps.specs.declared.IntervalVector.{IntervalVector}
 use Rattle.pose_steps.specs.declared.IntervalQuaternion.{IntervalQuaternion}
 use Rattle.pose_steps.specs.declared.IntervalRow.{IntervalRow}
@@ -17,7 +17,7 @@ use Rattle.pose_steps.specs.Pose.{isNear}
 use Rattle.pose_steps.specs.Enclose.{IntervalVector·list, IntervalQuaternion·list, IntervalQuaternion·point, IntervalRow·list, IntervalRow·three, IntervalMatrix·list, Pose·encloseSlerpNear, Pose·encloseSlerpFar, encloseSlerpBy, Pose·encloseSlerp, Pose·encloseScaleRow, Pose·encloseScale, Pose·encloseRotation, Pose·encloseMulRow, Pose·encloseMul, Pose·encloseTransformPoint}
 
 module _ (m : ℕ) where
-  pub slerp-zero : (a : RigidMotion) (D : Interval) → Pose·encloseSlerp m a D .refusal ≡ 0 → m ≡ 0
+  pub slerp-zero : (a : PoseConstants) (D : Interval) → Pose·encloseSlerp m a D .refusal ≡ 0 → m ≡ 0
   unfolding Pose·encloseSlerp encloseSlerpBy Pose·encloseSlerpNear Pose·encloseSlerpFar
   slerp-zero a D = go (isNear a)
     where

@@ -14,7 +14,7 @@ use Rattle.bounds3.specs.declared.Bounds3f.{Bounds3f}
 use Rattle.interval.specs.declared.Interval.{Interval}
 use Rattle.interval.specs.Interval.{Interval·point}
 use Rattle.formula.specs.Enclose.{Enclosure, enclosure, unbound, Program·enclose}
-use Rattle.pose_steps.specs.declared.RigidMotion.{RigidMotion}
+use Rattle.pose_steps.specs.declared.PoseConstants.{PoseConstants}
 use Rattle.pose_steps.specs.declared.IntervalVector.{IntervalVector}
 use Rattle.pose_steps.specs.declared.IntervalQuaternion.{IntervalQuaternion}
 use Rattle.pose_steps.specs.declared.IntervalRow.{IntervalRow}
@@ -91,12 +91,12 @@ unfoldable pub Pose·encloseSlerpFar : ℕ → IntervalQuaternion → IntervalQu
 Pose·encloseSlerpFar m q1 q2 cosθ θ t =
     JudgedQuaternion·of (Program·enclose (enclosure m (IntervalQuaternion·list q1 ++ IntervalQuaternion·list q2 ++ cosθ ∷ θ ∷ t ∷ [])) slerpFarStage)
 
-unfoldable pub encloseSlerpBy : Bool → ℕ → RigidMotion → Interval → JudgedQuaternion
+unfoldable pub encloseSlerpBy : Bool → ℕ → PoseConstants → Interval → JudgedQuaternion
 encloseSlerpBy true m a t = Pose·encloseSlerpNear m (IntervalQuaternion·point (a .r0)) (IntervalQuaternion·point (a .r1)) t
 encloseSlerpBy false m a t =
     Pose·encloseSlerpFar m (IntervalQuaternion·point (a .r0)) (IntervalQuaternion·point (a .r1)) (Interval·point (a .«cos_theta»)) (Interval·point (a .theta)) t
 
-unfoldable pub Pose·encloseSlerp : ℕ → RigidMotion → Interval → JudgedQuaternion
+unfoldable pub Pose·encloseSlerp : ℕ → PoseConstants → Interval → JudgedQuaternion
 Pose·encloseSlerp m a t = encloseSlerpBy (isNear a) m a t
 
 unfoldable pub Pose·encloseScaleRow : ℕ → IntervalRow → IntervalRow → Interval → JudgedRow
@@ -150,14 +150,14 @@ Pose·encloseComposition trans rotate s0 s1 dt =
     Pose·encloseMul (first .refusal) (first .matrix) (scale .matrix)
 
 -- document 01, Cover: "In a slice the steps of `interpolate` and `transform_point` are done in the Rust's order with each number an interval"
-unfoldable pub Pose·encloseMatrix : RigidMotion → Matrix4x4 → Matrix4x4 → Interval → JudgedMatrix
+unfoldable pub Pose·encloseMatrix : PoseConstants → Matrix4x4 → Matrix4x4 → Interval → JudgedMatrix
 Pose·encloseMatrix a s0 s1 dt =
     let trans = Pose·encloseTranslation 0 (IntervalVector·point (a .t0)) (IntervalVector·point (a .t1)) dt in
     let rotate = Pose·encloseSlerp (trans .refusal) a dt in
     Pose·encloseComposition (trans .vector) rotate s0 s1 dt
 
 -- The box that a box p of points is moved to.
-unfoldable pub Pose·enclosePoint : RigidMotion → Matrix4x4 → Matrix4x4 → Interval → IntervalVector → JudgedVector
+unfoldable pub Pose·enclosePoint : PoseConstants → Matrix4x4 → Matrix4x4 → Interval → IntervalVector → JudgedVector
 Pose·enclosePoint a s0 s1 dt p =
     let pose = Pose·encloseMatrix a s0 s1 dt in
     Pose·encloseTransformPoint (pose .refusal) (pose .matrix) p

@@ -1,6 +1,6 @@
 -- The steps read in floats: a move's pose at dt, `Pose·matrix`, and a point that it moves, `Pose·movedPoint`, stage by stage and in sequence. Definitions only.
 -- What is judged is what document 01 calls finished: the quaternion, the scale, the matrices, the products and the moved point; one that isn't finite is 5.
--- cos_theta and theta are the move's constants, worked out once (`RigidMotion·new`).
+-- cos_theta and theta are the move's constants, worked out once (`PoseConstants·new`).
 use mathlib.Core.Bool.{Bool, true, false, _&&_, cond}
 use mathlib.Core.List.{List, [], _∷_, _++_}
 use lib.Dec.{eqb}
@@ -24,7 +24,7 @@ use Rattle.transform.specs.Transform.{translation}
 use Rattle.transform.specs.declared.PointAnswer.{PointAnswer}
 use Rattle.transform.specs.declared.PointAnswer.the-variants.{Moved, Refused}
 use Rattle.formula.specs.Eval.{Program·eval}
-use Rattle.pose_steps.specs.declared.RigidMotion.{RigidMotion}
+use Rattle.pose_steps.specs.declared.PoseConstants.{PoseConstants}
 use Rattle.pose_steps.specs.declared.PoseAnswer.{PoseAnswer}
 use Rattle.pose_steps.specs.Stages.{translationStage, slerpNearStage, slerpFarStage, scaleRowStage, rotationStage, mulRowStage, transformPointStage}
 
@@ -72,21 +72,21 @@ unfoldable pub Pose·slerpFar : Quaternion → Quaternion → Float → Float �
 Pose·slerpFar q1 q2 cosθ θ t = Quaternion·ofList (Program·eval (Quaternion·list q1 ++ Quaternion·list q2 ++ cosθ ∷ θ ∷ t ∷ []) slerpFarStage)
 
 -- `slerp`: let cos_theta = q1.dot(q2) and let theta = clamp(cos_theta, -1.0, 1.0).acos()
-unfoldable pub RigidMotion·new : Vector3f → Vector3f → Quaternion → Quaternion → RigidMotion
-RigidMotion·new t0 t1 r0 r1 =
+unfoldable pub PoseConstants·new : Vector3f → Vector3f → Quaternion → Quaternion → PoseConstants
+PoseConstants·new t0 t1 r0 r1 =
     let cosθ = Quaternion·dot r0 r1 in
     record { t0 = t0; t1 = t1; r0 = r0; r1 = r1; «cos_theta» = cosθ; theta = acos (clamp cosθ (neg one) one) }
 
 -- A match and no `cond`, so that only the case that holds is computed.
-unfoldable pub slerpBy : Bool → RigidMotion → Float → Quaternion
+unfoldable pub slerpBy : Bool → PoseConstants → Float → Quaternion
 slerpBy true a t = Pose·slerpNear (a .r0) (a .r1) t
 slerpBy false a t = Pose·slerpFar (a .r0) (a .r1) (a .«cos_theta») (a .theta) t
 
 -- linear exactly when cos_theta > 0.9995
-abbrev pub isNear : RigidMotion → Bool
+abbrev pub isNear : PoseConstants → Bool
 isNear a = lt slerpThreshold (a .«cos_theta»)
 
-unfoldable pub Pose·slerp : RigidMotion → Float → Quaternion
+unfoldable pub Pose·slerp : PoseConstants → Float → Quaternion
 Pose·slerp a t = slerpBy (isNear a) a t
 
 unfoldable pub Pose·scaleRow : Row → Row → Float → Row
@@ -123,7 +123,7 @@ PoseAnswer·judged true m = record { m = m; refusal = 0 }
 PoseAnswer·judged false m = record { m = Matrix4x4·fromRows (tabulate (λ i. tabulate (λ j. positiveZero))); refusal = 5 }
 
 -- `interpolate`, matrix half: Transform::translate(&trans) * rotate.into() * Transform::from_matrix(&scale)
-unfoldable pub Pose·matrix : RigidMotion → Matrix4x4 → Matrix4x4 → Float → PoseAnswer
+unfoldable pub Pose·matrix : PoseConstants → Matrix4x4 → Matrix4x4 → Float → PoseAnswer
 Pose·matrix a s0 s1 dt =
     let trans = Pose·translation (a .t0) (a .t1) dt in
     let rotate = Pose·slerp a dt in
@@ -135,7 +135,7 @@ Pose·matrix a s0 s1 dt =
     PoseAnswer·judged (Quaternion·isFinite rotate && allFinite scale && allFinite translate && allFinite rotation && allFinite first && allFinite last) last
 
 -- `transform_point` between the two poses
-unfoldable pub Pose·movedPoint : RigidMotion → Matrix4x4 → Matrix4x4 → Float → Point3f → PointAnswer
+unfoldable pub Pose·movedPoint : PoseConstants → Matrix4x4 → Matrix4x4 → Float → Point3f → PointAnswer
 Pose·movedPoint a s0 s1 dt p =
     let pose = Pose·matrix a s0 s1 dt in
     let q = Pose·transformPoint (pose .m) p in

@@ -20,7 +20,7 @@ use Rattle.interval.specs.declared.Interval.{Interval}
 use Rattle.interval.specs.Contains.{Encloses, Refines}
 use Rattle.formula.specs.Enclose.{enclosure}
 use Rattle.formula.specs.Promise.{Pairwise, NarrowerAll}
-use Rattle.pose_steps.specs.declared.RigidMotion.{RigidMotion}
+use Rattle.pose_steps.specs.declared.PoseConstants.{PoseConstants}
 use Rattle.pose_steps.specs.declared.PoseAnswer.{PoseAnswer}
 use Rattle.pose_steps.specs.declared.IntervalVector.{IntervalVector}
 use Rattle.pose_steps.specs.declared.IntervalMatrix.{IntervalMatrix}
@@ -37,7 +37,7 @@ AllFinite [] = Unit {0}
 AllFinite (x ∷ l) = T (finite x) × AllFinite l
 
 -- Finite constants, and an angle from 0 to a quarter turn.
-pub record RigidMotion·Valid (a : RigidMotion) : Type 0 where
+pub record PoseConstants·Valid (a : PoseConstants) : Type 0 where
   pub t0 : AllFinite (Vector3f·list (a .t0))
   pub t1 : AllFinite (Vector3f·list (a .t1))
   pub r0 : AllFinite (Quaternion·list (a .r0))

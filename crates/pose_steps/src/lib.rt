@@ -6,7 +6,7 @@ use quaternion::Quaternion;
 use vector3::Vector3f;
 
 // Translation and rotation of the two poses. cos_theta is the dot product of the rotations and theta the angle between them.
-pub struct RigidMotion {
+pub struct PoseConstants {
     pub t0: Vector3f,
     pub t1: Vector3f,
     pub r0: Quaternion,

@@ -25,14 +25,14 @@ use Rattle.transform.specs.TransformBounds as transform
 use Rattle.bounds_query.specs.Query.{Bounds3f·refusal}
 use Rattle.axis_derivative.specs.declared.Derivative.{Derivative}
 use Rattle.unit_interval.specs.Unit.{dt}
-use Rattle.pose_steps.specs.declared.RigidMotion.{RigidMotion}
+use Rattle.pose_steps.specs.declared.PoseConstants.{PoseConstants}
 use Rattle.pose_steps.specs.Pose.{Pose·matrix, Pose·transformPoint, Pose·movedPoint}
 use Rattle.animated_transform.specs.declared.AnimatedTransform.{AnimatedTransform}
 use Rattle.animated_transform.specs.AtTime.{atStart, atEnd}
-use Rattle.motion_point.specs.TransformPoint.{AnimatedTransform·rigidMotion, AnimatedTransform·movedPoint, AnimatedTransform·transformPoint}
+use Rattle.motion_point.specs.TransformPoint.{AnimatedTransform·constants, AnimatedTransform·movedPoint, AnimatedTransform·transformPoint}
 use Rattle.motion_bounds.specs.MotionBounds.{BoundsAnswer·fromEnds, allPlaces, axisZeros, pointAt, unionZero, unionZeros, unionAxis, pointBounds, unionCorner, unionCorners, boxBounds, boundPointMotion, motionBounds, AnimatedTransform·boundPointMotion, AnimatedTransform·motionBounds}
 use Rattle.motion_cover.proofs.NonZero.{BoundsAnswer·NonZero, tested-nonzero, union-nonzero}
-use Rattle.motion_rows.specs.Rows.{AnimatedTransform·fromRows, RigidMotion·fromRows}
+use Rattle.motion_rows.specs.Rows.{AnimatedTransform·fromRows, PoseConstants·fromRows}
 use Rattle.motion_rows.specs.TransformPoint.{Rows·transformPoint}
 
 abbrev pub PointAnswer·NonZero : PointAnswer → Type 0
@@ -50,14 +50,14 @@ transform-point-nonzero : (t : Transform) (p : Point3f) → PointAnswer·NonZero
 unfolding Transform·transformPoint judged
 transform-point-nonzero t p = let q = movedPoint (Matrix4x4·toRows (t .m)) p in cond-keeps PointAnswer·NonZero (Point3f·isFinite q) (point.Moved q) (point.Refused 5) tt five
 
-pose-nonzero : (a : RigidMotion) (m : AnimatedTransform) (t : Float) (p : Point3f) → PointAnswer·NonZero (Pose·movedPoint a (m .s0) (m .s1) t p)
+pose-nonzero : (a : PoseConstants) (m : AnimatedTransform) (t : Float) (p : Point3f) → PointAnswer·NonZero (Pose·movedPoint a (m .s0) (m .s1) t p)
 unfolding Pose·movedPoint
 pose-nonzero a m t p =
     let pose = Pose·matrix a (m .s0) (m .s1) t in
     let q = Pose·transformPoint (pose .m) p in
     cond-keeps PointAnswer·NonZero (eqb (pose .refusal) 0 && Point3f·isFinite q) (point.Moved q) (point.Refused 5) tt five
 
-moved-point-nonzero : (m : AnimatedTransform) (a : RigidMotion) (time : Float) (p : Point3f) → PointAnswer·NonZero (AnimatedTransform·movedPoint m a time p)
+moved-point-nonzero : (m : AnimatedTransform) (a : PoseConstants) (time : Float) (p : Point3f) → PointAnswer·NonZero (AnimatedTransform·movedPoint m a time p)
 unfolding AnimatedTransform·movedPoint
 moved-point-nonzero m a time p =
     cond-keeps PointAnswer·NonZero (atStart m time) _ _ (transform-point-nonzero (m .«start_transform») p)
@@ -66,13 +66,13 @@ moved-point-nonzero m a time p =
 pub point-nonzero : (m : AnimatedTransform) (time : Float) (p : Point3f) → PointAnswer·NonZero (AnimatedTransform·transformPoint m time p)
 unfolding AnimatedTransform·transformPoint
 point-nonzero m time p =
-    cond-keeps PointAnswer·NonZero (isNan time || not (Point3f·isFinite p)) (point.Refused 6) _ six (moved-point-nonzero m (AnimatedTransform·rigidMotion m) time p)
+    cond-keeps PointAnswer·NonZero (isNan time || not (Point3f·isFinite p)) (point.Refused 6) _ six (moved-point-nonzero m (AnimatedTransform·constants m) time p)
 
 pub rows-point-nonzero : (rows : Rows) (time : Float) (p : Point3f) → PointAnswer·NonZero (Rows·transformPoint rows time p)
 unfolding Rows·transformPoint
 rows-point-nonzero rows time p =
     cond-keeps PointAnswer·NonZero (isNan time || not (Point3f·isFinite p)) (point.Refused 6) _ six
-    (moved-point-nonzero (AnimatedTransform·fromRows rows) (RigidMotion·fromRows rows) time p)
+    (moved-point-nonzero (AnimatedTransform·fromRows rows) (PoseConstants·fromRows rows) time p)
 
 -- ---- boxes
 from-moved-nonzero : (a : PointAnswer) → PointAnswer·NonZero a → BoundsAnswer·NonZero (transform.BoundsAnswer·fromMoved a)
@@ -104,19 +104,19 @@ transform-bounds-nonzero t b =
     (from-moved-nonzero _ (transform-point-nonzero t (b .«p_min»)))))))))
 
 -- ---- the motion box
-zeros-nonzero : (m : AnimatedTransform) (a : RigidMotion) (p : Point3f) (zeros : List Float) (n : ℕ) (r : BoundsAnswer) → BoundsAnswer·NonZero r → BoundsAnswer·NonZero (unionZeros m a p zeros n r)
+zeros-nonzero : (m : AnimatedTransform) (a : PoseConstants) (p : Point3f) (zeros : List Float) (n : ℕ) (r : BoundsAnswer) → BoundsAnswer·NonZero r → BoundsAnswer·NonZero (unionZeros m a p zeros n r)
 unfolding unionZeros
 zeros-nonzero m a p zeros n = loop-keeps (λ _. BoundsAnswer·NonZero) (λ k. unionZero m a p (getD zeros k nan)) n (λ k r _ h. one (getD zeros k nan) r h)
   where
     one : (x : Float) (r : BoundsAnswer) → BoundsAnswer·NonZero r → BoundsAnswer·NonZero (unionZero m a p x r)
     one x r h = unfold unionZero pointAt in union-moved-nonzero r _ h (moved-point-nonzero m a _ p)
 
-axis-nonzero : (m : AnimatedTransform) (a : RigidMotion) (p : Point3f) (d : Derivative) (r : BoundsAnswer) → BoundsAnswer·NonZero r → BoundsAnswer·NonZero (unionAxis allPlaces m a p d r)
+axis-nonzero : (m : AnimatedTransform) (a : PoseConstants) (p : Point3f) (d : Derivative) (r : BoundsAnswer) → BoundsAnswer·NonZero r → BoundsAnswer·NonZero (unionAxis allPlaces m a p d r)
 unfolding unionAxis
 axis-nonzero m a p d (bounds.Refused n) h = h
 axis-nonzero m a p d (bounds.Bounds b) h = let z = axisZeros a p d in tested-nonzero (z .refusal) _ (zeros-nonzero m a p (z .zeros) 8 (bounds.Bounds b) tt)
 
-point-bounds-nonzero : (m : AnimatedTransform) (a : RigidMotion) (p : Point3f) → BoundsAnswer·NonZero (pointBounds allPlaces m a p)
+point-bounds-nonzero : (m : AnimatedTransform) (a : PoseConstants) (p : Point3f) → BoundsAnswer·NonZero (pointBounds allPlaces m a p)
 unfolding pointBounds
 point-bounds-nonzero m a p =
     let c = m .coefficients in
@@ -124,7 +124,7 @@ point-bounds-nonzero m a p =
     cond-keeps BoundsAnswer·NonZero (not (m .«actually_animated»)) _ _ (from-moved-nonzero _ start)
     (axis-nonzero m a p (c .z) _ (axis-nonzero m a p (c .y) _ (axis-nonzero m a p (c .x) _ (from-ends-nonzero _ _ start (transform-point-nonzero (m .«end_transform») p)))))
 
-corners-nonzero : (m : AnimatedTransform) (a : RigidMotion) (b : Bounds3f) (n : ℕ) → BoundsAnswer·NonZero (unionCorners allPlaces m a b n)
+corners-nonzero : (m : AnimatedTransform) (a : PoseConstants) (b : Bounds3f) (n : ℕ) → BoundsAnswer·NonZero (unionCorners allPlaces m a b n)
 unfolding unionCorners
 corners-nonzero m a b n = loop-keeps (λ _. BoundsAnswer·NonZero) (unionCorner allPlaces m a b) n (λ k r _ h. one k r h) (bounds.Bounds Bounds3f·default) tt
   where
@@ -136,11 +136,11 @@ unfolding boxBounds
 box-bounds-nonzero m b =
     let start = transform-bounds-nonzero (m .«start_transform») b in
     cond-keeps BoundsAnswer·NonZero (not (m .«actually_animated»)) _ _ start
-    (cond-keeps BoundsAnswer·NonZero (not (m .«has_rotation»)) _ _ (union-nonzero _ _ start (transform-bounds-nonzero (m .«end_transform») b)) (corners-nonzero m (AnimatedTransform·rigidMotion m) b 8))
+    (cond-keeps BoundsAnswer·NonZero (not (m .«has_rotation»)) _ _ (union-nonzero _ _ start (transform-bounds-nonzero (m .«end_transform») b)) (corners-nonzero m (AnimatedTransform·constants m) b 8))
 
 pub point-motion-nonzero : (m : AnimatedTransform) (p : Point3f) → BoundsAnswer·NonZero (AnimatedTransform·boundPointMotion m p)
 unfolding boundPointMotion
-point-motion-nonzero m p = cond-keeps BoundsAnswer·NonZero (not (Point3f·isFinite p)) (bounds.Refused 6) _ (λ e. absurd (omega (arith, e))) (point-bounds-nonzero m (AnimatedTransform·rigidMotion m) p)
+point-motion-nonzero m p = cond-keeps BoundsAnswer·NonZero (not (Point3f·isFinite p)) (bounds.Refused 6) _ (λ e. absurd (omega (arith, e))) (point-bounds-nonzero m (AnimatedTransform·constants m) p)
 
 pub motion-nonzero : (m : AnimatedTransform) (b : Bounds3f) → BoundsAnswer·NonZero (AnimatedTransform·motionBounds m b)
 unfolding motionBounds

@@ -17,7 +17,7 @@ use Rattle.animated_transform.specs.New.{AnimatedTransform·new}
 use Rattle.animated_transform.proofs.Numbers.{new-refusal, new-refused}
 use Rattle.motion_point.specs.TransformPoint.{AnimatedTransform·transformPoint}
 use Rattle.motion_point.proofs.Query.{moved-point-judged, transform-point-answered}
-use Rattle.motion_rows.specs.Rows.{AnimatedTransform·fromRows, RigidMotion·fromRows}
+use Rattle.motion_rows.specs.Rows.{AnimatedTransform·fromRows, PoseConstants·fromRows}
 use Rattle.motion_rows.specs.TransformPoint.{Rows·transformPoint}
 use Rattle.interpolation.specs.Promise.{InterpolationNumber}
 use Rattle.interpolation.proofs.Numbers.{interpolate-refusal, interpolate-refused}
@@ -56,7 +56,7 @@ unfolding Rows·transformPoint
 rows-point-number rows time p =
     cond-keeps (λ (a : PointAnswer). OneOf (PointAnswer·refusal a) (0 ∷ 5 ∷ 6 ∷ [])) (isNan time || not (Point3f·isFinite p)) (Refused 6) _
     (inr (inr (inl refl)))
-    (worked (moved-point-judged (AnimatedTransform·fromRows rows) (RigidMotion·fromRows rows) time p .number))
+    (worked (moved-point-judged (AnimatedTransform·fromRows rows) (PoseConstants·fromRows rows) time p .number))
   where
     worked : {n : ℕ} → (n ≡ 0) ⊎ (n ≡ 5) → OneOf n (0 ∷ 5 ∷ 6 ∷ [])
     worked (inl e) = inl e

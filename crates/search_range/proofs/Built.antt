@@ -9,13 +9,13 @@ use Rattle.float32.specs.Operators.{positiveZero}
 use Rattle.animated_transform.specs.declared.AnimatedTransform.{AnimatedTransform}
 use Rattle.animated_transform.specs.Built.{Built}
 use Rattle.animated_transform.proofs.Built.{built-judged}
-use Rattle.pose_steps.specs.Pose.{RigidMotion·new}
+use Rattle.pose_steps.specs.Pose.{PoseConstants·new}
 use Rattle.pose_steps.proofs.Angle.{theta-quarter}
 use Rattle.search_range.specs.Assertions.{AssertionsHold}
 use Rattle.search_range.proofs.Assertions.{angles-in-range}
 
 pub built-asserted : {m : AnimatedTransform} → Built m → AssertionsHold m
-unfolding RigidMotion·new
+unfolding PoseConstants·new
 built-asserted {m} b f j e =
     let built = built-judged b in
     let theta = theta-quarter (Quaternion·dot (m .r0) (m .r1)) (built .dot) (built .dot-sign) in

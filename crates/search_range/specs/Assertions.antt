@@ -10,7 +10,7 @@ use Rattle.interval.specs.Interval.{pi}
 use Rattle.motion_derivative.specs.declared.MotionDerivative.{MotionDerivative}
 use Rattle.motion_derivative.specs.Derivative.{MotionDerivative·angles}
 use Rattle.animated_transform.specs.declared.AnimatedTransform.{AnimatedTransform}
-use Rattle.motion_point.specs.TransformPoint.{AnimatedTransform·rigidMotion}
+use Rattle.motion_point.specs.TransformPoint.{AnimatedTransform·constants}
 use Rattle.search_range.specs.Examined.{Examined}
 
 -- 2.0001 * PI, in f32: 0x400001a3 is the float nearest to 2.0001, and the product is 0x40c9126d, somewhat more than a full turn.
@@ -23,4 +23,4 @@ Interval·asserted X = le positiveZero (X .low) && le (X .high) rangeLimit
 
 -- The assertions hold for the angles of every interval that a search with the move's theta examines, whatever c1 to c5 are: so for every point, on each axis.
 abbrev pub AssertionsHold : AnimatedTransform → Type 0
-AssertionsHold m = (f : MotionDerivative) (j : Interval) → f .theta ≡ AnimatedTransform·rigidMotion m .theta → Examined f j → T (Interval·asserted (MotionDerivative·angles f j))
+AssertionsHold m = (f : MotionDerivative) (j : Interval) → f .theta ≡ AnimatedTransform·constants m .theta → Examined f j → T (Interval·asserted (MotionDerivative·angles f j))

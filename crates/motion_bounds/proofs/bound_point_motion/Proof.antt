@@ -11,17 +11,17 @@ returns : tie.Need-returns
 unfolding boundPointMotion
 returns c = rw (← c .before .is-finite .ensures, c .if1 .taken)
 
-rigid-motion-requires : tie.Need-rigid-motion-requires
-rigid-motion-requires c κs = search needs
+constants-requires : tie.Need-constants-requires
+constants-requires c κs = search needs
 
 point-bounds-requires : tie.Need-point-bounds-requires
 point-bounds-requires c κs = search needs
 
 returns-2 : tie.Need-returns-2
 unfolding boundPointMotion
-returns-2 c = rw (← c .before .before .before .is-finite .ensures, c .before .before .if1 .left, c .point-bounds .ensures, c .before .rigid-motion .ensures)
+returns-2 c = rw (← c .before .before .before .is-finite .ensures, c .before .before .if1 .left, c .point-bounds .ensures, c .before .constants .ensures)
 
 pub bound-point-motion-spec : {M : Type 1} → statement M
 bound-point-motion-spec =
     tie.close
-    (tie.spec is-finite-requires returns rigid-motion-requires point-bounds-requires returns-2)
+    (tie.spec is-finite-requires returns constants-requires point-bounds-requires returns-2)

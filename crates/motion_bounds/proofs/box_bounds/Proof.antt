@@ -21,15 +21,15 @@ returns-2 : tie.Need-returns-2
 unfolding boxBounds
 returns-2 c = rw (c .before .before .before .before .if1 .left, c .before .before .if2 .taken, c .union-bounds .ensures, c .before .transform-bounds2 .ensures .0, c .before .before .before .before .before .before .transform-bounds .ensures .0)
 
-rigid-motion-requires : tie.Need-rigid-motion-requires
-rigid-motion-requires c κs = search needs
+constants-requires : tie.Need-constants-requires
+constants-requires c κs = search needs
 
 union-corners-requires : tie.Need-union-corners-requires
 union-corners-requires c κs = search needs
 
 returns-3 : tie.Need-returns-3
 unfolding boxBounds
-returns-3 c = rw (c .before .before .before .before .if1 .left, c .before .before .if2 .left, c .union-corners .ensures, c .before .rigid-motion .ensures)
+returns-3 c = rw (c .before .before .before .before .if1 .left, c .before .before .if2 .left, c .union-corners .ensures, c .before .constants .ensures)
 
 pub box-bounds-spec : {M : Type 1} → statement M
 box-bounds-spec =
@@ -40,6 +40,6 @@ box-bounds-spec =
     transform-bounds-requires-2
     union-bounds-requires
     returns-2
-    rigid-motion-requires
+    constants-requires
     union-corners-requires
     returns-3)

@@ -20,8 +20,8 @@ abbrev μ-loop : tie.MeasureT-loop
 table-requires : tie.Need-table-requires Inv-loop μ-loop
 table-requires c κs = search needs
 
-rigid-motion-requires : tie.Need-rigid-motion-requires Inv-loop μ-loop
-rigid-motion-requires c κs = search needs
+constants-requires : tie.Need-constants-requires Inv-loop μ-loop
+constants-requires c κs = search needs
 
 perpendicular-to-requires : tie.Need-perpendicular-to-requires Inv-loop μ-loop
 perpendicular-to-requires c κs = search needs
@@ -63,7 +63,7 @@ returns c =
     let l = c .before .before .before .before .before .before .before .loop in
     let d = c .before .before .before .before .before .before .before .before .before .before .before .before .before .args .d in
     let h : d ≤ maxDepth = c .before .before .before .before .before .before .before .before .before .before .before .before .before .pre in
-    rw (← c .before .before .before .before .before .before .before .before .before .before .before .rigid-motion .ensures)
+    rw (← c .before .before .before .before .before .before .before .before .before .before .before .constants .ensures)
     (sym
     (slice-refused (l .inv .1) (to .result .t) (border-time _ _ _ (to .ensures) ∙ rw (high .ensures) (slice-end d _ h)) (slice .result) (slice .ensures) (c .enum-told .given .0 .0) (c .enum-told .given .1)
     (omega (arith, slice-count d h))))
@@ -99,7 +99,7 @@ returns-2 c =
     let l = c .before .loop in
     let d = c .before .before .before .before .before .before .before .args .d in
     let h : d ≤ maxDepth = c .before .before .before .before .before .before .before .pre in
-    rw (← c .before .before .before .before .before .rigid-motion .ensures) (sym (reached-last (l .inv .1) (omega (arith, slice-count d h))))
+    rw (← c .before .before .before .before .before .constants .ensures) (sym (reached-last (l .inv .1) (omega (arith, slice-count d h))))
 
 pub slices-enclosure-spec : {M : Type 1} → statement M
 slices-enclosure-spec =
@@ -108,7 +108,7 @@ slices-enclosure-spec =
     Inv-loop
     μ-loop
     table-requires
-    rigid-motion-requires
+    constants-requires
     perpendicular-to-requires
     shl-slices
     border-at-requires

@@ -6,7 +6,7 @@ use Rattle.bounds3.specs.declared.Point3f.{Point3f}
 use Rattle.transform.specs.declared.PointAnswer.{PointAnswer}
 use Rattle.transform.specs.TransformPoint.{Transform·transformPoint}
 use Rattle.unit_interval.specs.Unit.{dt}
-use Rattle.pose_steps.specs.declared.RigidMotion.{RigidMotion}
+use Rattle.pose_steps.specs.declared.PoseConstants.{PoseConstants}
 use Rattle.pose_steps.specs.Pose.{Pose·movedPoint}
 use Rattle.animated_transform.specs.declared.AnimatedTransform.{AnimatedTransform}
 use Rattle.motion_point.specs.TransformPoint.{AnimatedTransform·movedPoint}
@@ -15,7 +15,7 @@ use Rattle.motion_point.proofs.moved_point.Statement.{statement}
 use Rattle.motion_point.proofs.moved_point.Tie as tie
 
 -- after the start, by the answer of the second test
-abbrev late : AnimatedTransform → RigidMotion → Float → Point3f → Bool → PointAnswer
+abbrev late : AnimatedTransform → PoseConstants → Float → Point3f → Bool → PointAnswer
 late m a time p b = cond b (Transform·transformPoint (m .«end_transform») p) (Pose·movedPoint a (m .s0) (m .s1) (dt (m .«start_time») (m .«end_time») time) p)
 
 transform-point-requires : tie.Need-transform-point-requires

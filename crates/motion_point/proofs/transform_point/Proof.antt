@@ -6,7 +6,7 @@ use Rattle.bounds3.specs.declared.Point3f.{Point3f}
 use Rattle.transform.specs.declared.PointAnswer.{PointAnswer}
 use Rattle.transform.specs.declared.PointAnswer.the-variants.{Refused}
 use Rattle.animated_transform.specs.declared.AnimatedTransform.{AnimatedTransform}
-use Rattle.motion_point.specs.TransformPoint.{AnimatedTransform·rigidMotion, AnimatedTransform·movedPoint, AnimatedTransform·transformPoint}
+use Rattle.motion_point.specs.TransformPoint.{AnimatedTransform·constants, AnimatedTransform·movedPoint, AnimatedTransform·transformPoint}
 use Rattle.rounding.proofs.Order.{differs-nan}
 use borrow.Author.Needs.{needs}
 use Rattle.motion_point.proofs.transform_point.Statement.{statement}
@@ -14,7 +14,7 @@ use Rattle.motion_point.proofs.transform_point.Tie as tie
 
 -- by the answer of the test
 abbrev asked : AnimatedTransform → Float → Point3f → Bool → PointAnswer
-asked m time p b = cond b (Refused 6) (AnimatedTransform·movedPoint m (AnimatedTransform·rigidMotion m) time p)
+asked m time p b = cond b (Refused 6) (AnimatedTransform·movedPoint m (AnimatedTransform·constants m) time p)
 
 is-finite-requires : tie.Need-is-finite-requires
 is-finite-requires c κs = search needs
@@ -25,8 +25,8 @@ returns c =
     let args = c .before .before .args in
     rw (← differs-nan (args .time), ← c .before .is-finite .ensures) (sym (ap (asked (args .m) (args .time) (args .p)) (c .if1 .taken)))
 
-rigid-motion-requires : tie.Need-rigid-motion-requires
-rigid-motion-requires c κs = search needs
+constants-requires : tie.Need-constants-requires
+constants-requires c κs = search needs
 
 moved-point-requires : tie.Need-moved-point-requires
 moved-point-requires c κs = search needs
@@ -35,8 +35,8 @@ returns-2 : tie.Need-returns-2
 unfolding AnimatedTransform·transformPoint
 returns-2 c =
     let args = c .before .before .before .before .args in
-    rw (← differs-nan (args .time), ← c .before .before .before .is-finite .ensures, c .moved-point .ensures, c .before .rigid-motion .ensures)
+    rw (← differs-nan (args .time), ← c .before .before .before .is-finite .ensures, c .moved-point .ensures, c .before .constants .ensures)
     (sym (ap (asked (args .m) (args .time) (args .p)) (c .before .before .if1 .left)))
 
 pub transform-point-spec : {M : Type 1} → statement M
-transform-point-spec = tie.close (tie.spec is-finite-requires returns rigid-motion-requires moved-point-requires returns-2)
+transform-point-spec = tie.close (tie.spec is-finite-requires returns constants-requires moved-point-requires returns-2)

@@ -3,7 +3,7 @@ use mathlib.Core.Path.{sym}
 use lib.Ieee.{div}
 use Rattle.unit_interval.specs.Unit.{dt}
 use Rattle.motion_point.proofs.Query.{moved-point-start, moved-point-end, moved-point-between}
-use Rattle.motion_rows.specs.Rows.{AnimatedTransform·fromRows, RigidMotion·fromRows}
+use Rattle.motion_rows.specs.Rows.{AnimatedTransform·fromRows, PoseConstants·fromRows}
 use borrow.Author.Needs.{needs}
 use Rattle.motion_rows.proofs.moved_point.Statement.{statement}
 use Rattle.motion_rows.proofs.moved_point.Tie as tie
@@ -35,7 +35,7 @@ returns c =
     let a = c .before .before .before .before .before .before .args in
     let m = AnimatedTransform·fromRows (a .rows .now) in
     rw (c .transform-point .ensures .0, c .before .transform-at .ensures)
-    (sym (moved-point-start m (RigidMotion·fromRows (a .rows .now)) (a .time) (a .p) (c .before .before .if1 .taken)))
+    (sym (moved-point-start m (PoseConstants·fromRows (a .rows .now)) (a .time) (a .p) (c .before .before .if1 .taken)))
 
 array-read-if2 : tie.Need-array-read-if2
 array-read-if2 c = search needs
@@ -52,10 +52,10 @@ returns-2 c =
     let a = c .before .before .before .before .before .before .before .args in
     let m = AnimatedTransform·fromRows (a .rows .now) in
     rw (c .transform-point2 .ensures .0, c .before .transform-at2 .ensures)
-    (sym (moved-point-end m (RigidMotion·fromRows (a .rows .now)) (a .time) (a .p) (c .before .before .before .if1 .left) (c .before .before .if2 .taken)))
+    (sym (moved-point-end m (PoseConstants·fromRows (a .rows .now)) (a .time) (a .p) (c .before .before .before .if1 .left) (c .before .before .if2 .taken)))
 
-rigid-motion-from-rows-requires : tie.Need-rigid-motion-from-rows-requires
-rigid-motion-from-rows-requires c κs = search needs
+constants-from-rows-requires : tie.Need-constants-from-rows-requires
+constants-from-rows-requires c κs = search needs
 
 matrix-at-requires : tie.Need-matrix-at-requires
 matrix-at-requires c κs = search needs
@@ -80,8 +80,8 @@ unfolding AnimatedTransform·fromRows div dt
 returns-3 c =
     let a = c .before .before .before .before .before .before .before .before .before .args in
     let m = AnimatedTransform·fromRows (a .rows .now) in
-    rw (c .moved-point .ensures, c .before .matrix-at2 .ensures, c .before .before .matrix-at .ensures, c .before .before .before .rigid-motion-from-rows .ensures)
-    (sym (moved-point-between m (RigidMotion·fromRows (a .rows .now)) (a .time) (a .p) (c .before .before .before .before .before .if1 .left) (c .before .before .before .before .if2 .left)))
+    rw (c .moved-point .ensures, c .before .matrix-at2 .ensures, c .before .before .matrix-at .ensures, c .before .before .before .constants-from-rows .ensures)
+    (sym (moved-point-between m (PoseConstants·fromRows (a .rows .now)) (a .time) (a .p) (c .before .before .before .before .before .if1 .left) (c .before .before .before .before .if2 .left)))
 
 pub moved-point-spec : {M : Type 1} → statement M
 moved-point-spec =
@@ -99,7 +99,7 @@ moved-point-spec =
     transform-at-requires-2
     transform-point-requires-2
     returns-2
-    rigid-motion-from-rows-requires
+    constants-from-rows-requires
     matrix-at-requires
     matrix-at-requires-2
     array-read-moved-point

@@ -1,8 +1,8 @@
--- `rigid_motion_from_rows` meets its contract.
-use Rattle.motion_rows.specs.Rows.{RigidMotion·fromRows}
+-- `constants_from_rows` meets its contract.
+use Rattle.motion_rows.specs.Rows.{PoseConstants·fromRows}
 use borrow.Author.Needs.{needs}
-use Rattle.motion_rows.proofs.rigid_motion_from_rows.Statement.{statement}
-use Rattle.motion_rows.proofs.rigid_motion_from_rows.Tie as tie
+use Rattle.motion_rows.proofs.constants_from_rows.Statement.{statement}
+use Rattle.motion_rows.proofs.constants_from_rows.Tie as tie
 
 element-copy-out-last : tie.Need-element-copy-out-last
 element-copy-out-last c = search needs
@@ -26,11 +26,11 @@ array-read-t15 : tie.Need-array-read-t15
 array-read-t15 c = search needs
 
 returns : tie.Need-returns
-unfolding RigidMotion·fromRows
+unfolding PoseConstants·fromRows
 returns c = cc
 
-pub rigid-motion-from-rows-spec : {M : Type 1} → statement M
-rigid-motion-from-rows-spec =
+pub constants-from-rows-spec : {M : Type 1} → statement M
+constants-from-rows-spec =
     tie.close
     (tie.spec
     element-copy-out-last
