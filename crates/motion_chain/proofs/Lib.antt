@@ -2,7 +2,6 @@
 pub mod Built
 pub mod Cover
 pub mod MoveAt
-pub mod Answer
 pub mod TwoPoses
 pub mod Times
 pub mod Stretches

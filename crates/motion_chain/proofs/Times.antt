@@ -1,5 +1,6 @@
--- A query with a list of times answers at each time as a query of its own does, `times-answered`; it gives 5, 6 and 13 alone, `times-numbers`; the lent answers keep their length,
--- `times-left`; and of a built chain, for a point of a box whose cover is accepted, it answers at every time with a point inside the cover, `chain-contains-times`.
+-- A query with a list of times answers at each time as a query of its own does, `times-answered`; it gives 5, 6 and 13 alone, `times-numbers` (a query of its
+-- own 5 and 6, `chain-point-numbered`); the lent answers keep their length, `times-left`; and of a built chain, for a point of a box whose cover is accepted,
+-- it answers at every time with a point inside the cover, `chain-contains-times`.
 -- All rest on what an answered list is: each time answered, one point for each (`cons-moved`, `each-moved`), after checks that passed (`list-passed`).
 use Prim.Native.Nat.{ℕ, suc, _+_, _*_}
 use mathlib.Core.Path.{_≡_, refl, sym, ap, subst, _∙_}
@@ -23,15 +24,15 @@ use Rattle.transform.specs.declared.PointAnswer.the-variants.{Moved, Refused}
 use Rattle.transform.specs.Answer.{OneOf, PointAnswer·refusal, PointAnswer·point, PointAnswer·Judged, BoundsAnswer·bounds}
 use Rattle.animated_transform.specs.declared.AnimatedTransform.{AnimatedTransform}
 use Rattle.motion_point.specs.TransformPoint.{AnimatedTransform·constants, AnimatedTransform·movedPoint, AnimatedTransform·transformPoint}
+use Rattle.motion_point.specs.Answer.{PointAnswer·Numbered}
 use Rattle.motion_point.proofs.Query.{moved-point-judged, transform-point-accepted}
+use Rattle.motion_point.proofs.NonZero.{transform-point-numbered}
 use Rattle.motion_cover.specs.Theorem.{MovedInside}
-use Rattle.refusal_numbers.specs.Numbers.{PointAnswer·Numbered}
 use Rattle.motion_chain.specs.Chain.{every, Chain, Chain·moveAt, Chain·transformPoint, Chain·cover}
 use Rattle.motion_chain.specs.Built.{BuiltChain, Each}
 use Rattle.motion_chain.specs.Times.{timesAreNumbers, neverFalls, placesPerTime, listRefusal, PointsAnswer, moved, refused, PointsAnswer·refusal, PointsAnswer·points, PointsAnswer·cons, pointsAt, Chain·transformPoints, Points·list, PointsAnswer·left, Chain·pointsLeft}
 use Rattle.motion_chain.specs.TimesAnswer.{EachMoved, FirstRefused, TimesAnswered, PointsAnswer·Numbered, TimesNumbers, TimesLeft, PointsInside, ChainContainsTimes}
 use Rattle.motion_chain.proofs.Cover.{chain-contains}
-use Rattle.motion_chain.proofs.Answer.{every-chain-answer}
 
 -- ---- answers
 abbrev isMoved : PointsAnswer → Bool
@@ -158,6 +159,10 @@ module _ (c : Chain) (times : List Float) (p : Point3f) (places : ℕ) where
   query-moved qs e = tested-moved (listRefusal times p places) (pointsAt (λ t. Chain·transformPoint c t p) times) qs e
 
 -- ---- the numbers
+pub chain-point-numbered : (c : Chain) (time : Float) (p : Point3f) → PointAnswer·Numbered (0 ∷ 5 ∷ 6 ∷ []) (Chain·transformPoint c time p)
+unfolding Chain·transformPoint
+chain-point-numbered c time p = transform-point-numbered (Chain·moveAt c time) time p
+
 cons-numbered : (numbers : List ℕ) (a : PointAnswer) (r : PointsAnswer) → PointAnswer·Numbered numbers a → PointsAnswer·Numbered numbers r
     → PointsAnswer·Numbered numbers (PointsAnswer·cons a r)
 unfolding PointsAnswer·cons
@@ -167,7 +172,7 @@ cons-numbered numbers (Refused n) r h k = record { number = h .number; none = λ
 
 module _ (c : Chain) (p : Point3f) (finite : T (Point3f·isFinite p)) where
   time-numbered : (t : Float) → T (not (isNan t)) → PointAnswer·Numbered (0 ∷ 5 ∷ []) (Chain·transformPoint c t p)
-  time-numbered t n = record { number = go (judged .number); none = every-chain-answer .point c t p .none }
+  time-numbered t n = record { number = go (judged .number); none = chain-point-numbered c t p .none }
     where
       judged : PointAnswer·Judged (Chain·transformPoint c t p)
       judged =
@@ -285,7 +290,7 @@ each-inside c box p f (t ∷ times) n =
     let a = Chain·transformPoint c t p in
     let m = f t (and-l (not (isNan t)) (timesAreNumbers times) n) in
     cons-inside box a (PointAnswer·point a) (pointsAt (λ t. Chain·transformPoint c t p) times) t times
-    (every-chain-answer .point c t p .none (m .accepted)) (m .inside)
+    (chain-point-numbered c t p .none (m .accepted)) (m .inside)
     (each-inside c box p f times (and-r (not (isNan t)) (timesAreNumbers times) n))
 
 pub chain-contains-times : (c : Chain) (b : Bounds3f) (d : ℕ) → ChainContainsTimes c b (Chain·cover c b d)

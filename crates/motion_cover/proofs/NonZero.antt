@@ -3,13 +3,14 @@
 use Prim.Native.Nat.{ℕ, zero, suc, _^_}
 use mathlib.Core.Path.{_≡_, refl}
 use mathlib.Core.Bool.{Bool, true, false, cond}
+use mathlib.Core.List.{List}
 use lib.Dec.{eqb}
 use borrow.Author.Tests.{eqb-false}
 use Rattle.bounds3.specs.declared.Bounds3f.{Bounds3f}
 use Rattle.transform.specs.declared.Transform.{Transform}
 use Rattle.transform.specs.declared.BoundsAnswer.{BoundsAnswer}
 use Rattle.transform.specs.declared.BoundsAnswer.the-variants.{Bounds, Refused}
-use Rattle.transform.specs.Answer.{BoundsAnswer·refusal, BoundsAnswer·bounds}
+use Rattle.transform.specs.Answer.{OneOf, BoundsAnswer·refusal, BoundsAnswer·bounds}
 use Rattle.bounds_query.specs.Query.{BoundsAnswer·unionBounds, coverRefusal}
 use Rattle.unit_interval.specs.Unit.{slice}
 use Rattle.pose_steps.specs.declared.PoseConstants.{PoseConstants}
@@ -19,6 +20,7 @@ use Rattle.stored_box.specs.EnclosePoints.{Transform·enclosePoints}
 use Rattle.animated_transform.specs.declared.AnimatedTransform.{AnimatedTransform}
 use Rattle.motion_point.specs.TransformPoint.{AnimatedTransform·constants}
 use Rattle.motion_cover.specs.Cover.{BoundsAnswer·fromEnclosure, Transform·encloseBounds, AnimatedTransform·encloseBounds, AnimatedTransform·encloseEnds, unionSlices, AnimatedTransform·encloseMotion, AnimatedTransform·cover}
+use Rattle.motion_cover.specs.Answer.{BoundsAnswer·Numbered}
 
 abbrev pub BoundsAnswer·NonZero : BoundsAnswer → Type 0
 BoundsAnswer·NonZero (Bounds b) = Unit {0}
@@ -27,6 +29,9 @@ BoundsAnswer·NonZero (Refused n) = n ≡ 0 → ⊥
 pub nonzero-box : (r : BoundsAnswer) → BoundsAnswer·NonZero r → BoundsAnswer·refusal r ≡ 0 → r ≡ Bounds (BoundsAnswer·bounds r)
 nonzero-box (Bounds b) h e = refl
 nonzero-box (Refused n) h e = absurd (h e)
+
+pub bounds-numbered : {numbers : List ℕ} (a : BoundsAnswer) → BoundsAnswer·NonZero a → OneOf (BoundsAnswer·refusal a) numbers → BoundsAnswer·Numbered numbers a
+bounds-numbered a h k = record { number = k; none = nonzero-box a h }
 
 -- A number that was tested.
 pub tested-nonzero : (n : ℕ) (r : BoundsAnswer) → BoundsAnswer·NonZero r → BoundsAnswer·NonZero (cond (eqb n 0) r (Refused n))

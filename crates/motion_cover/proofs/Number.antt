@@ -1,8 +1,10 @@
--- The numbers that a cover can give are 5, 6, 7, 8 and 10, for all structs and arguments: `cover-number`; those of its work are 5 and 10: `motion-number`. A union's is one of its parts'.
+-- The numbers that a cover can give are 5, 6, 7, 8 and 10, for all structs and arguments: `cover-number`, `cover-numbered`; those of its work are 5 and 10:
+-- `motion-number`. A union's is one of its parts'.
 use Prim.Native.Nat.{ℕ, zero, suc, _^_}
 use mathlib.Core.Path.{refl}
 use mathlib.Core.Bool.{Bool, true, false, not, cond}
 use mathlib.Core.Logic.{inl, inr}
+use mathlib.Core.List.{[], _∷_}
 use lib.Dec.{eqb, ltb}
 use Rattle.bounds3.specs.declared.Bounds3f.{Bounds3f}
 use Rattle.bounds3.specs.Finite.{Bounds3f·isFinite}
@@ -10,7 +12,7 @@ use Rattle.interval.specs.declared.Interval.{Interval}
 use Rattle.transform.specs.declared.Transform.{Transform}
 use Rattle.transform.specs.declared.BoundsAnswer.{BoundsAnswer}
 use Rattle.transform.specs.declared.BoundsAnswer.the-variants.{Bounds, Refused}
-use Rattle.transform.specs.Answer.{BoundsAnswer·refusal}
+use Rattle.transform.specs.Answer.{OneOf, BoundsAnswer·refusal}
 use Rattle.bounds_query.specs.Query.{Bounds3f·isOrdered, Bounds3f·refusal, BoundsAnswer·unionBounds, maxDepth, coverRefusal}
 use Rattle.unit_interval.specs.Unit.{slice}
 use Rattle.pose_steps.specs.declared.PoseConstants.{PoseConstants}
@@ -22,7 +24,8 @@ use Rattle.stored_box.specs.EnclosePoints.{Transform·enclosePoints}
 use Rattle.animated_transform.specs.declared.AnimatedTransform.{AnimatedTransform}
 use Rattle.motion_point.specs.TransformPoint.{AnimatedTransform·constants}
 use Rattle.motion_cover.specs.Cover.{BoundsAnswer·fromEnclosure, Transform·encloseBounds, AnimatedTransform·encloseBounds, AnimatedTransform·encloseEnds, unionSlices, AnimatedTransform·encloseMotion, AnimatedTransform·cover}
-use Rattle.motion_cover.specs.Answer.{CoverNumber}
+use Rattle.motion_cover.specs.Answer.{CoverNumber, BoundsAnswer·Numbered}
+use Rattle.motion_cover.proofs.NonZero.{bounds-numbered, cover-nonzero}
 
 enclosure-number : (j : JudgedVector) → SliceNumber (j .refusal) → SliceNumber (BoundsAnswer·refusal (BoundsAnswer·fromEnclosure j))
 unfolding BoundsAnswer·fromEnclosure
@@ -83,3 +86,14 @@ cover-number m b d = go (eqb (coverRefusal b d) 0)
     go : (c : Bool) → CoverNumber (BoundsAnswer·refusal (cond c (AnimatedTransform·encloseMotion m b d) (Refused (coverRefusal b d))))
     go true = inr (inr (inr (motion-number m b d)))
     go false = arguments-number b d
+
+pub cover-numbered : (m : AnimatedTransform) (b : Bounds3f) (d : ℕ) → BoundsAnswer·Numbered (0 ∷ 5 ∷ 6 ∷ 7 ∷ 8 ∷ 10 ∷ []) (AnimatedTransform·cover m b d)
+cover-numbered m b d = bounds-numbered (AnimatedTransform·cover m b d) (cover-nonzero m b d) (go (cover-number m b d))
+  where
+    go : {n : ℕ} → CoverNumber n → OneOf n (0 ∷ 5 ∷ 6 ∷ 7 ∷ 8 ∷ 10 ∷ [])
+    go (inl e) = inr (inr (inl e))
+    go (inr (inl e)) = inr (inr (inr (inl e)))
+    go (inr (inr (inl e))) = inr (inr (inr (inr (inl e))))
+    go (inr (inr (inr (inl e)))) = inl e
+    go (inr (inr (inr (inr (inl e))))) = inr (inl e)
+    go (inr (inr (inr (inr (inr e))))) = inr (inr (inr (inr (inr (inl e)))))

@@ -1,2 +1,3 @@
 pub mod Built
 pub mod Query
+pub mod NonZero

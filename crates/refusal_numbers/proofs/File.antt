@@ -19,16 +19,17 @@ use Rattle.pose_steps.specs.Promise.{SliceNumber}
 use Rattle.pose_pair.specs.Pose.{Pose·isAffine}
 use Rattle.animated_transform.specs.declared.AnimatedTransform.{AnimatedTransform}
 use Rattle.animated_transform.specs.New.{AnimatedTransform·new}
-use Rattle.animated_transform.proofs.Numbers.{new-refusal, new-affine}
+use Rattle.animated_transform.proofs.Numbers.{new-affine}
 use Rattle.motion_cover.specs.Cover.{AnimatedTransform·encloseMotion, AnimatedTransform·cover}
+use Rattle.motion_cover.specs.Answer.{BoundsAnswer·Numbered}
+use Rattle.motion_cover.proofs.NonZero.{bounds-numbered}
 use Rattle.motion_cover.proofs.Number.{motion-number}
 use Rattle.motion_file.specs.declared.MoveFile.{MoveFile}
 use Rattle.motion_file.specs.Layout.{MoveFile·departs, MoveFile·read}
 use Rattle.motion_file.proofs.Files.{read-refusals}
 use Rattle.motion_answer.specs.Answer.{Pose·fromValues, coverDepth, MoveFile·move, MoveFile·cover}
 use Rattle.motion_answer.proofs.Contains.{file-nonzero}
-use Rattle.refusal_numbers.specs.Numbers.{BoundsAnswer·Numbered}
-use Rattle.refusal_numbers.proofs.Refused.{bounds-numbered, up-to-five}
+use Rattle.refusal_numbers.proofs.Building.{building-number}
 
 abbrev numbers : List ℕ
 numbers = 0 ∷ 1 ∷ 3 ∷ 4 ∷ 5 ∷ 6 ∷ 7 ∷ 10 ∷ 11 ∷ []
@@ -48,11 +49,11 @@ values-affine : (values : List Float) → Pose·isAffine (Pose·fromValues value
 unfolding Pose·isAffine Matrix4x4·isAffine eq ofBits
 values-affine values = refl
 
-building-number : (start end : List Float) → Number (AnimatedTransform·new (Pose·fromValues start) (Pose·fromValues end) .refusal)
-building-number start end =
+poses-number : (start end : List Float) → Number (AnimatedTransform·new (Pose·fromValues start) (Pose·fromValues end) .refusal)
+poses-number start end =
     let s = Pose·fromValues start in
     let e = Pose·fromValues end in
-    go (up-to-five (AnimatedTransform·new s e .refusal) (new-refusal s e)) (new-affine s e (values-affine start) (values-affine end))
+    go (building-number s e) (new-affine s e (values-affine start) (values-affine end))
   where
     go : {n : ℕ} → OneOf n (0 ∷ 1 ∷ 2 ∷ 3 ∷ 4 ∷ 5 ∷ []) → (n ≡ 2 → ⊥) → Number n
     go (inl e) h = inl e
@@ -90,7 +91,7 @@ file-number bytes =
     let move = MoveFile·move file in
     cond-keeps (λ (r : BoundsAnswer). Number (BoundsAnswer·refusal r)) (eqb (file .refusal) 0) _ _
     (cond-keeps (λ (r : BoundsAnswer). Number (BoundsAnswer·refusal r)) (eqb (move .refusal) 0) _ _
-    (cover-number (move .value) (Bounds3f·ofList (file .bounds))) (building-number (file .start) (file .end)))
+    (cover-number (move .value) (Bounds3f·ofList (file .bounds))) (poses-number (file .start) (file .end)))
     (read-number bytes)
 
 pub file-numbered : (bytes : List ℕ) → BoundsAnswer·Numbered numbers (MoveFile·cover (MoveFile·read bytes))

@@ -1,4 +1,5 @@
 mod NonZero
-mod Refused
+mod Building
 mod File
 pub mod Numbers
+pub mod Chain

@@ -1,18 +1,18 @@
--- No point query and no motion box is refused with 0: `point-nonzero`, `rows-point-nonzero`, `point-motion-nonzero`, `motion-nonzero`; of a cover it is
--- `cover-nonzero` of `motion_cover`. A number is refused only after the test that it isn't 0, and a union keeps one of its parts' numbers.
+-- No point query of rows and no motion box is refused with 0: `rows-point-nonzero`, `point-motion-nonzero`, `motion-nonzero`; of a point query it is in
+-- `transform-point-numbered` of motion_point, of a cover `cover-nonzero` of motion_cover. A number is refused only after the test that it isn't 0, and a union
+-- keeps one of its parts' numbers.
 use Prim.Native.Nat.{ℕ}
 use mathlib.Core.Path.{_≡_}
-use mathlib.Core.Bool.{not, _&&_, _||_}
+use mathlib.Core.Bool.{not, _||_}
 use mathlib.Core.List.{List}
 use native.Mathlib.Omega.{arith}
-use lib.Dec.{eqb}
 use lib.ListN.{getD}
 use lib.Ieee.{Float, nan, isNan}
 use Rattle.bounds3.specs.declared.Point3f.{Point3f}
 use Rattle.bounds3.specs.declared.Bounds3f.{Bounds3f}
 use Rattle.bounds3.specs.Bounds3f.{Bounds3f·default, Bounds3f·corner}
 use Rattle.bounds3.specs.Finite.{Point3f·isFinite}
-use Rattle.matrix4x4.specs.Rows.{Rows, Matrix4x4·toRows}
+use Rattle.matrix4x4.specs.Rows.{Rows}
 use Rattle.control_flow.proofs.Loop.{loop-keeps}
 use Rattle.control_flow.proofs.Choice.{cond-keeps}
 use Rattle.transform.specs.declared.Transform.{Transform}
@@ -20,58 +20,22 @@ use Rattle.transform.specs.declared.PointAnswer.{PointAnswer}
 use Rattle.transform.specs.declared.PointAnswer.the-variants as point
 use Rattle.transform.specs.declared.BoundsAnswer.{BoundsAnswer}
 use Rattle.transform.specs.declared.BoundsAnswer.the-variants as bounds
-use Rattle.transform.specs.TransformPoint.{movedPoint, judged, Transform·transformPoint}
 use Rattle.transform.specs.TransformBounds as transform
 use Rattle.bounds_query.specs.Query.{Bounds3f·refusal}
 use Rattle.axis_derivative.specs.declared.Derivative.{Derivative}
-use Rattle.unit_interval.specs.Unit.{dt}
 use Rattle.pose_steps.specs.declared.PoseConstants.{PoseConstants}
-use Rattle.pose_steps.specs.Pose.{Pose·matrix, Pose·transformPoint, Pose·movedPoint}
 use Rattle.animated_transform.specs.declared.AnimatedTransform.{AnimatedTransform}
-use Rattle.animated_transform.specs.AtTime.{atStart, atEnd}
-use Rattle.motion_point.specs.TransformPoint.{AnimatedTransform·constants, AnimatedTransform·movedPoint, AnimatedTransform·transformPoint}
+use Rattle.motion_point.specs.TransformPoint.{AnimatedTransform·constants}
+use Rattle.motion_point.proofs.NonZero.{PointAnswer·NonZero, six-nonzero, transform-point-nonzero, moved-point-nonzero}
 use Rattle.motion_bounds.specs.MotionBounds.{BoundsAnswer·fromEnds, allPlaces, axisZeros, pointAt, unionZero, unionZeros, unionAxis, pointBounds, unionCorner, unionCorners, boxBounds, boundPointMotion, motionBounds, AnimatedTransform·boundPointMotion, AnimatedTransform·motionBounds}
 use Rattle.motion_cover.proofs.NonZero.{BoundsAnswer·NonZero, tested-nonzero, union-nonzero}
 use Rattle.motion_rows.specs.Rows.{AnimatedTransform·fromRows, PoseConstants·fromRows}
 use Rattle.motion_rows.specs.TransformPoint.{Rows·transformPoint}
 
-abbrev pub PointAnswer·NonZero : PointAnswer → Type 0
-PointAnswer·NonZero (point.Moved p) = Unit {0}
-PointAnswer·NonZero (point.Refused n) = n ≡ 0 → ⊥
-
--- ---- points
-five : PointAnswer·NonZero (point.Refused 5)
-five e = absurd (omega (arith, e))
-
-six : PointAnswer·NonZero (point.Refused 6)
-six e = absurd (omega (arith, e))
-
-transform-point-nonzero : (t : Transform) (p : Point3f) → PointAnswer·NonZero (Transform·transformPoint t p)
-unfolding Transform·transformPoint judged
-transform-point-nonzero t p = let q = movedPoint (Matrix4x4·toRows (t .m)) p in cond-keeps PointAnswer·NonZero (Point3f·isFinite q) (point.Moved q) (point.Refused 5) tt five
-
-pose-nonzero : (a : PoseConstants) (m : AnimatedTransform) (t : Float) (p : Point3f) → PointAnswer·NonZero (Pose·movedPoint a (m .s0) (m .s1) t p)
-unfolding Pose·movedPoint
-pose-nonzero a m t p =
-    let pose = Pose·matrix a (m .s0) (m .s1) t in
-    let q = Pose·transformPoint (pose .m) p in
-    cond-keeps PointAnswer·NonZero (eqb (pose .refusal) 0 && Point3f·isFinite q) (point.Moved q) (point.Refused 5) tt five
-
-moved-point-nonzero : (m : AnimatedTransform) (a : PoseConstants) (time : Float) (p : Point3f) → PointAnswer·NonZero (AnimatedTransform·movedPoint m a time p)
-unfolding AnimatedTransform·movedPoint
-moved-point-nonzero m a time p =
-    cond-keeps PointAnswer·NonZero (atStart m time) _ _ (transform-point-nonzero (m .«start_transform») p)
-    (cond-keeps PointAnswer·NonZero (atEnd m time) _ _ (transform-point-nonzero (m .«end_transform») p) (pose-nonzero a m (dt (m .«start_time») (m .«end_time») time) p))
-
-pub point-nonzero : (m : AnimatedTransform) (time : Float) (p : Point3f) → PointAnswer·NonZero (AnimatedTransform·transformPoint m time p)
-unfolding AnimatedTransform·transformPoint
-point-nonzero m time p =
-    cond-keeps PointAnswer·NonZero (isNan time || not (Point3f·isFinite p)) (point.Refused 6) _ six (moved-point-nonzero m (AnimatedTransform·constants m) time p)
-
 pub rows-point-nonzero : (rows : Rows) (time : Float) (p : Point3f) → PointAnswer·NonZero (Rows·transformPoint rows time p)
 unfolding Rows·transformPoint
 rows-point-nonzero rows time p =
-    cond-keeps PointAnswer·NonZero (isNan time || not (Point3f·isFinite p)) (point.Refused 6) _ six
+    cond-keeps PointAnswer·NonZero (isNan time || not (Point3f·isFinite p)) (point.Refused 6) _ six-nonzero
     (moved-point-nonzero (AnimatedTransform·fromRows rows) (PoseConstants·fromRows rows) time p)
 
 -- ---- boxes

@@ -13,23 +13,20 @@ use Rattle.bounds3.specs.Finite.{Point3f·isFinite}
 use Rattle.transform.specs.declared.PointAnswer.{PointAnswer}
 use Rattle.transform.specs.declared.PointAnswer.the-variants.{Refused}
 use Rattle.transform.specs.Answer.{OneOf, PointAnswer·refusal}
-use Rattle.animated_transform.specs.New.{AnimatedTransform·new}
-use Rattle.animated_transform.proofs.Numbers.{new-refusal, new-refused}
-use Rattle.motion_point.specs.TransformPoint.{AnimatedTransform·transformPoint}
-use Rattle.motion_point.proofs.Query.{moved-point-judged, transform-point-answered}
+use Rattle.animated_transform.proofs.Numbers.{new-refused}
+use Rattle.motion_point.proofs.Query.{moved-point-judged}
+use Rattle.motion_point.proofs.NonZero.{point-numbered, transform-point-numbered}
 use Rattle.motion_rows.specs.Rows.{AnimatedTransform·fromRows, PoseConstants·fromRows}
 use Rattle.motion_rows.specs.TransformPoint.{Rows·transformPoint}
 use Rattle.interpolation.specs.Promise.{InterpolationNumber}
 use Rattle.interpolation.proofs.Numbers.{interpolate-refusal, interpolate-refused}
 use Rattle.motion_bounds.specs.MotionBounds.{AnimatedTransform·boundPointMotion, AnimatedTransform·motionBounds}
 use Rattle.motion_bounds.proofs.Numbers.{bound-point-motion-numbers, motion-bounds-numbers}
-use Rattle.motion_cover.specs.Cover.{AnimatedTransform·cover}
-use Rattle.motion_cover.specs.Answer.{CoverNumber}
-use Rattle.motion_cover.proofs.Number.{cover-number}
+use Rattle.motion_cover.proofs.NonZero.{bounds-numbered}
+use Rattle.motion_cover.proofs.Number.{cover-numbered}
 use Rattle.refusal_numbers.specs.Numbers.{EveryAnswer}
-use Rattle.motion_cover.proofs.NonZero.{cover-nonzero}
-use Rattle.refusal_numbers.proofs.NonZero.{point-nonzero, rows-point-nonzero, point-motion-nonzero, motion-nonzero}
-use Rattle.refusal_numbers.proofs.Refused.{point-numbered, bounds-numbered, up-to-five}
+use Rattle.refusal_numbers.proofs.Building.{building-number}
+use Rattle.refusal_numbers.proofs.NonZero.{rows-point-nonzero, point-motion-nonzero, motion-nonzero}
 use Rattle.refusal_numbers.proofs.File.{file-numbered}
 
 interpolate-number : {n : ℕ} → InterpolationNumber n → OneOf n (0 ∷ 4 ∷ 5 ∷ 6 ∷ [])
@@ -37,19 +34,6 @@ interpolate-number (inl e) = inl e
 interpolate-number (inr (inl e)) = inr (inl e)
 interpolate-number (inr (inr (inl e))) = inr (inr (inl e))
 interpolate-number (inr (inr (inr e))) = inr (inr (inr (inl e)))
-
-point-number : {n : ℕ} → (n ≡ 0) ⊎ ((n ≡ 5) ⊎ (n ≡ 6)) → OneOf n (0 ∷ 5 ∷ 6 ∷ [])
-point-number (inl e) = inl e
-point-number (inr (inl e)) = inr (inl e)
-point-number (inr (inr e)) = inr (inr (inl e))
-
-cover-one-of : {n : ℕ} → CoverNumber n → OneOf n (0 ∷ 5 ∷ 6 ∷ 7 ∷ 8 ∷ 10 ∷ [])
-cover-one-of (inl e) = inr (inr (inl e))
-cover-one-of (inr (inl e)) = inr (inr (inr (inl e)))
-cover-one-of (inr (inr (inl e))) = inr (inr (inr (inr (inl e))))
-cover-one-of (inr (inr (inr (inl e)))) = inl e
-cover-one-of (inr (inr (inr (inr (inl e))))) = inr (inl e)
-cover-one-of (inr (inr (inr (inr (inr e))))) = inr (inr (inr (inr (inr (inl e)))))
 
 rows-point-number : (rows : Rows) (time : Float) (p : Point3f) → OneOf (PointAnswer·refusal (Rows·transformPoint rows time p)) (0 ∷ 5 ∷ 6 ∷ [])
 unfolding Rows·transformPoint
@@ -64,13 +48,12 @@ rows-point-number rows time p =
 
 pub every-answer : EveryAnswer
 every-answer = record {
-  building = λ start end. record { number = up-to-five (AnimatedTransform·new start end .refusal) (new-refusal start end); refused = new-refused start end };
-  point = λ m time p.
-      point-numbered (AnimatedTransform·transformPoint m time p) (point-nonzero m time p) (point-number (transform-point-answered m time p .number));
+  building = λ start end. record { number = building-number start end; refused = new-refused start end };
+  point = transform-point-numbered;
   rows-point = λ rows time p. point-numbered (Rows·transformPoint rows time p) (rows-point-nonzero rows time p) (rows-point-number rows time p);
   interpolate = λ m time. record { number = interpolate-number (interpolate-refusal m time); refused = interpolate-refused m time };
   point-motion = λ m p. bounds-numbered (AnimatedTransform·boundPointMotion m p) (point-motion-nonzero m p) (bound-point-motion-numbers m p .number);
   motion = λ m b. bounds-numbered (AnimatedTransform·motionBounds m b) (motion-nonzero m b) (motion-bounds-numbers m b .number);
-  cover = λ m b d. bounds-numbered (AnimatedTransform·cover m b d) (cover-nonzero m b d) (cover-one-of (cover-number m b d));
+  cover = cover-numbered;
   file = file-numbered;
 }

@@ -9,35 +9,25 @@ use Rattle.matrix4x4.specs.Rows.{Rows}
 use Rattle.bounds3.specs.declared.Point3f.{Point3f}
 use Rattle.bounds3.specs.declared.Bounds3f.{Bounds3f}
 use Rattle.transform.specs.declared.TransformAnswer.{TransformAnswer}
-use Rattle.transform.specs.declared.PointAnswer.{PointAnswer}
-use Rattle.transform.specs.declared.PointAnswer.the-variants.{Moved}
-use Rattle.transform.specs.declared.BoundsAnswer.{BoundsAnswer}
-use Rattle.transform.specs.declared.BoundsAnswer.the-variants.{Bounds}
-use Rattle.transform.specs.Answer.{OneOf, PointAnswer·refusal, PointAnswer·point, BoundsAnswer·refusal, BoundsAnswer·bounds}
+use Rattle.transform.specs.Answer.{OneOf}
 use Rattle.transform.specs.Transform.{TransformAnswer·refused}
 use Rattle.pose_pair.specs.declared.Pose.{Pose}
 use Rattle.animated_transform.specs.declared.AnimatedTransform.{AnimatedTransform}
 use Rattle.animated_transform.specs.declared.AnimatedTransformAnswer.{AnimatedTransformAnswer}
 use Rattle.animated_transform.specs.New.{AnimatedTransformAnswer·refused, AnimatedTransform·new}
 use Rattle.motion_point.specs.TransformPoint.{AnimatedTransform·transformPoint}
+use Rattle.motion_point.specs.Answer.{PointAnswer·Numbered}
 use Rattle.motion_rows.specs.TransformPoint.{Rows·transformPoint}
 use Rattle.interpolation.specs.Interpolate.{AnimatedTransform·interpolate}
 use Rattle.motion_bounds.specs.MotionBounds.{AnimatedTransform·boundPointMotion, AnimatedTransform·motionBounds}
 use Rattle.motion_cover.specs.Cover.{AnimatedTransform·cover}
+use Rattle.motion_cover.specs.Answer.{BoundsAnswer·Numbered}
 use Rattle.motion_file.specs.Layout.{MoveFile·read}
 use Rattle.motion_answer.specs.Answer.{MoveFile·cover}
 
 -- ---- an answer and its number
--- The number is one of those listed, and an answer whose number is 0 is a moved point. (After a refusal the point is +0 by `PointAnswer·point`.)
-pub record PointAnswer·Numbered (numbers : List ℕ) (a : PointAnswer) : Type 0 where
-  pub number : OneOf (PointAnswer·refusal a) numbers
-  pub none : PointAnswer·refusal a ≡ 0 → a ≡ Moved (PointAnswer·point a)
-
--- The same of a box.
-pub record BoundsAnswer·Numbered (numbers : List ℕ) (a : BoundsAnswer) : Type 0 where
-  pub number : OneOf (BoundsAnswer·refusal a) numbers
-  pub none : BoundsAnswer·refusal a ≡ 0 → a ≡ Bounds (BoundsAnswer·bounds a)
-
+-- Of a point it is `PointAnswer·Numbered` of motion_point, of a box `BoundsAnswer·Numbered` of motion_cover: the number is one of those listed, and an answer
+-- whose number is 0 is a moved point, or a box.
 -- Of a struct with its number beside it: an answer whose number is not 0 is the refused one with that number, +0 and no throughout.
 pub record TransformAnswer·Numbered (numbers : List ℕ) (a : TransformAnswer) : Type 0 where
   pub number : OneOf (a .refusal) numbers

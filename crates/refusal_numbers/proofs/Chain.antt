@@ -22,12 +22,14 @@ use Rattle.animated_transform.specs.declared.AnimatedTransformAnswer.{AnimatedT
 use Rattle.animated_transform.specs.New.{AnimatedTransform·new}
 use Rattle.transform.specs.Answer.{OneOf}
 use Rattle.motion_cover.specs.Cover.{AnimatedTransform·cover}
-use Rattle.refusal_numbers.specs.Numbers.{BoundsAnswer·Numbered}
-use Rattle.refusal_numbers.proofs.Numbers.{every-answer}
-use Rattle.motion_chain.specs.Chain.{minPoses, maxPoses, neighbours, every, firstNumber, posesRise, chainRefusal, ChainAnswer, built, refused, ChainAnswer·fromMoves, Chain·new, Chain·moveAt, Chain·transformPoint, unionCovers, Chain·cover}
+use Rattle.motion_cover.specs.Answer.{BoundsAnswer·Numbered}
+use Rattle.motion_cover.proofs.Number.{cover-numbered}
+use Rattle.motion_chain.specs.Chain.{minPoses, maxPoses, neighbours, every, firstNumber, posesRise, chainRefusal, ChainAnswer, built, refused, ChainAnswer·fromMoves, Chain·new, unionCovers, Chain·cover}
 use Rattle.motion_chain.specs.Built.{Each}
-use Rattle.motion_chain.specs.Answer.{ChainAnswer·Numbered, EveryChainAnswer}
 use Rattle.motion_chain.proofs.Cover.{chain-cover-proper}
+use Rattle.motion_chain.proofs.Times.{chain-point-numbered}
+use Rattle.refusal_numbers.specs.Chain.{ChainAnswer·Numbered, EveryChainAnswer}
+use Rattle.refusal_numbers.proofs.Building.{building-number}
 
 -- ---- the numbers of building, 0 being none
 abbrev numbers : List ℕ
@@ -67,7 +69,7 @@ more n (k ∷ ns) ks (inl e) = inl e
 more n (k ∷ ns) ks (inr h) = inr (more n ns ks h)
 
 new-number : (p q : Pose) → Number (AnimatedTransform·new p q .refusal)
-new-number p q = more (AnimatedTransform·new p q .refusal) (0 ∷ 1 ∷ 2 ∷ 3 ∷ 4 ∷ 5 ∷ []) (12 ∷ []) (every-answer .building p q .number)
+new-number p q = more (AnimatedTransform·new p q .refusal) (0 ∷ 1 ∷ 2 ∷ 3 ∷ 4 ∷ 5 ∷ []) (12 ∷ []) (building-number p q)
 
 -- A number that was tested.
 tested : (n : ℕ) (a : ChainAnswer) → Number n → ChainAnswer·Numbered numbers a → ChainAnswer·Numbered numbers (cond (eqb n 0) a (refused n))
@@ -114,13 +116,13 @@ unfolding unionCovers
 covers-numbered b depth r [] h = h
 covers-numbered b depth r (m ∷ moves) h =
     let s = AnimatedTransform·cover m b depth in
-    covers-numbered b depth (BoundsAnswer·unionBounds r s) moves (union-numbered r s h (every-answer .cover m b depth))
+    covers-numbered b depth (BoundsAnswer·unionBounds r s) moves (union-numbered r s h (cover-numbered m b depth))
 
 pub every-chain-answer : EveryChainAnswer
-unfolding Chain·transformPoint Chain·cover
+unfolding Chain·cover
 every-chain-answer = record {
   building = building-numbered;
-  point = λ c time p. every-answer .point (Chain·moveAt c time) time p;
-  cover = λ c b depth. covers-numbered b depth (AnimatedTransform·cover (c .first) b depth) (c .rest) (every-answer .cover (c .first) b depth);
+  point = chain-point-numbered;
+  cover = λ c b depth. covers-numbered b depth (AnimatedTransform·cover (c .first) b depth) (c .rest) (cover-numbered (c .first) b depth);
   proper = λ built b depth. chain-cover-proper b depth built;
 }

@@ -8,10 +8,10 @@ use Rattle.bounds3.specs.declared.Point3f.{Point3f}
 use Rattle.bounds3.specs.declared.Bounds3f.{Bounds3f}
 use Rattle.pose_pair.specs.declared.Pose.{Pose}
 use Rattle.transform.specs.Answer.{OneOf}
-use Rattle.motion_cover.specs.Answer.{Proper}
-use Rattle.refusal_numbers.specs.Numbers.{PointAnswer·Numbered, BoundsAnswer·Numbered}
+use Rattle.motion_point.specs.Answer.{PointAnswer·Numbered}
+use Rattle.motion_cover.specs.Answer.{BoundsAnswer·Numbered, Proper}
 use Rattle.motion_chain.specs.Chain.{Chain, ChainAnswer, built, ChainAnswer·refusal, Chain·new, Chain·transformPoint, Chain·cover}
 use Rattle.motion_chain.specs.Built.{BuiltChain}
 
 -- The number is one of those listed, and an answer whose number is 0 is a chain.
 pub record ChainAnswer·Numbered (numbers : List ℕ) (a : ChainAnswer) : Type 0 where
