@@ -1,5 +1,6 @@
--- A finer cover of a built move is never a wider one: `cover-finer`. A slice of a greater depth lies in the slice that it was cut from, so that it is accepted where that one is and
--- its box lies in that one's (`piece-finer`); what lies in the coarse cover, part by part, has its union in it.
+-- A finer cover of a built move is never a wider one: `cover-finer`. A part of an interval of dt is accepted where the whole is, and its box lies in the
+-- whole's (`piece-isotone`); so it is of a slice of a greater depth and the slice that it was cut from (`piece-finer`). What lies in the coarse cover, part by
+-- part, has its union in it.
 use Prim.Native.Nat.{ℕ, zero, suc, _+_, _/_, _^_, _≤_, _<_}
 use mathlib.Core.Path.{_≡_, refl, sym, ap, subst}
 use mathlib.Core.Bool.{Bool, true, false}
@@ -15,7 +16,9 @@ use Rattle.transform.specs.declared.BoundsAnswer.the-variants.{Bounds}
 use Rattle.transform.specs.Answer.{BoundsAnswer·refusal, BoundsAnswer·bounds}
 use Rattle.bounds_query.specs.Query.{Bounds3f·refusal, BoundsAnswer·unionBounds, maxDepth, coverRefusal}
 use Rattle.bounds_query.proofs.Union.{union-accepted}
-use Rattle.unit_interval.specs.Unit.{slice}
+use Rattle.interval.specs.declared.Interval.{Interval}
+use Rattle.interval.specs.Contains as interval
+use Rattle.unit_interval.specs.Unit.{unitInterval, slice}
 use Rattle.unit_interval.proofs.Slices.{slice-unit, slice-finer, finer-lt}
 use Rattle.pose_steps.specs.declared.JudgedVector.{JudgedVector}
 use Rattle.pose_steps.specs.Enclose.{Pose·enclosePoint, Bounds3f·intervals, IntervalVector·bounds}
@@ -75,24 +78,27 @@ unfolding BoundsAnswer·fromEnclosure
 from-enclosure-box j e = rw (eq-eqb (j .refusal) 0 e)
 
 module _ {m : AnimatedTransform} (built : Built m) (b : Bounds3f) (r : BoxRefines b) where
-  -- ---- a slice of a greater depth
+  -- ---- a part of an interval of dt
+  pub piece-isotone : (D D' : Interval) (c : Bounds3f) → interval.Subset D D' → interval.Subset D' unitInterval
+      → BoxWithin (AnimatedTransform·encloseBounds m (AnimatedTransform·constants m) D' b) c
+      → BoxWithin (AnimatedTransform·encloseBounds m (AnimatedTransform·constants m) D b) c
+  unfolding AnimatedTransform·encloseBounds
+  piece-isotone D D' c s u w =
+      let B = Bounds3f·intervals b in
+      let a = AnimatedTransform·constants m in
+      let whole = Pose·enclosePoint a (m .s0) (m .s1) D' B in
+      let part = Pose·enclosePoint a (m .s0) (m .s1) D B in
+      let g = from-enclosure-accepted whole (w .box) (w .accepted) in
+      let (s0, s1) = built-scales built in
+      let (z, e) = point-isotone (built-valid built) s0 s1 u s B B r (g .accepted) in
+      let inWhole = subst (Subset (IntervalVector·bounds (part .vector))) (g .bounds) (refines-subset (part .vector) (whole .vector) e) in
+      record { box = IntervalVector·bounds (part .vector); accepted = from-enclosure-box part z; subset = subset-trans inWhole (w .subset) }
+
+  -- a slice of a greater depth
   pub piece-finer : (d n k : ℕ) (c : Bounds3f) → k < 2 ^ (d + n)
       → BoxWithin (AnimatedTransform·encloseBounds m (AnimatedTransform·constants m) (slice d (k / 2 ^ n)) b) c
       → BoxWithin (AnimatedTransform·encloseBounds m (AnimatedTransform·constants m) (slice (d + n) k) b) c
-  unfolding AnimatedTransform·encloseBounds
-  piece-finer d n k c h w =
-      let B = Bounds3f·intervals b in
-      let a = AnimatedTransform·constants m in
-      let coarse = Pose·enclosePoint a (m .s0) (m .s1) (slice d (k / 2 ^ n)) B in
-      let fine = Pose·enclosePoint a (m .s0) (m .s1) (slice (d + n) k) B in
-      let g = from-enclosure-accepted coarse (w .box) (w .accepted) in
-      let (s0, s1) = built-scales built in
-      let (z, e) = point-isotone (built-valid built) s0 s1 (slice-unit d (k / 2 ^ n) (finer-lt d n k h)) (slice-finer d n k) B B r (g .accepted) in
-      record {
-        box = IntervalVector·bounds (fine .vector);
-        accepted = from-enclosure-box fine z;
-        subset = subset-trans (subst (Subset (IntervalVector·bounds (fine .vector))) (g .bounds) (refines-subset (fine .vector) (coarse .vector) e)) (w .subset);
-      }
+  piece-finer d n k c h = piece-isotone (slice (d + n) k) (slice d (k / 2 ^ n)) c (slice-finer d n k) (slice-unit d (k / 2 ^ n) (finer-lt d n k h))
 
   -- ---- what an accepted union of ends and slices holds
   slices-within : (d k : ℕ) (c : Bounds3f) → k ≤ 2 ^ d → unionSlices m (AnimatedTransform·constants m) b d (AnimatedTransform·encloseEnds m b) k ≡ Bounds c
