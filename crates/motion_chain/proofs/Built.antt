@@ -26,7 +26,8 @@ use Rattle.animated_transform.specs.declared.AnimatedTransform.{AnimatedTransfo
 use Rattle.animated_transform.specs.declared.AnimatedTransformAnswer.{AnimatedTransformAnswer}
 use Rattle.animated_transform.specs.New.{firstRefusal, AnimatedTransformAnswer·refused, assembled, between, work, AnimatedTransform·new}
 use Rattle.animated_transform.specs.Built.{Built}
-use Rattle.motion_chain.specs.Chain.{neighbours, every, firstNumber, minPoses, maxPoses, posesRise, chainRefusal, Chain, ChainAnswer, built, refused, ChainAnswer·fromMoves, Chain·new}
+use Rattle.motion_chain.specs.Chain.{minPoses, maxPoses, neighbours, every, firstNumber, posesRise, stage, chainStages, chainRefusal}
+use Rattle.motion_chain.specs.Chain.{Chain, ChainAnswer, built, refused, ChainAnswer·fromMoves, Chain·new}
 use Rattle.motion_chain.specs.Built.{BuiltChain, Each, Contiguous, BuiltMoves, PairsWorked}
 
 -- ---- numbers that were not met
@@ -37,6 +38,25 @@ first-none n ns = go (eqb n 0) (eqb-true n 0) (eqb-false n 0)
     go : (b : Bool) → (b ≡ true → n ≡ 0) → (b ≡ false → n ≡ 0 → ⊥) → cond b (firstNumber ns) n ≡ 0 → (n ≡ 0) × (firstNumber ns ≡ 0)
     go true f g e = (f refl, e)
     go false f g e = absurd (g refl e)
+
+first-each : (ns : List ℕ) → firstNumber ns ≡ 0 → Each (λ n. n ≡ 0) ns
+first-each [] e = tt
+first-each (n ∷ ns) e = let (z, h) = first-none n ns e in (z, first-each ns h)
+
+stage-each : {A : Type 0} (number : A → ℕ) (xs : List A) → stage number xs ≡ 0 → Each (λ x. number x ≡ 0) xs
+stage-each number [] e = tt
+stage-each number (x ∷ xs) e = let (z, h) = first-none (number x) (map number xs) e in (z, stage-each number xs h)
+
+-- A stage that asks one test of each.
+tested-each : {A : Type 0} (test : A → Bool) (n : ℕ) (xs : List A) → stage (λ x. cond (not (test x)) (suc n) 0) xs ≡ 0 → Each (λ x. T (test x)) xs
+tested-each test n [] e = tt
+tested-each test n (x ∷ xs) e =
+    let (z, h) = first-none (cond (not (test x)) (suc n) 0) (map (λ y. cond (not (test y)) (suc n) 0) xs) e in
+    (passed (test x) z, tested-each test n xs h)
+  where
+    passed : (b : Bool) → _≡_ {A = ℕ} (cond (not b) (suc n) 0) 0 → T b
+    passed true e = tt
+    passed false e = absurd (omega (arith, e))
 
 abbrev isBuilt : ChainAnswer → Bool
 isBuilt (built c) = true
@@ -55,30 +75,29 @@ tested-built n a c = go (eqb n 0) (eqb-true n 0)
 
 -- ---- the checks
 pub record Passed (poses : List Pose) : Type 0 where
-  pub finite : T (every Pose·isFinite poses)
-  pub affine : T (every Pose·isAffine poses)
+  pub finite : Each (λ p. T (Pose·isFinite p)) poses
+  pub affine : Each (λ p. T (Pose·isAffine p)) poses
   pub least : minPoses ≤ length poses
   pub greatest : length poses ≤ maxPoses
   pub rise : T (posesRise poses)
-  pub times : firstNumber (map (λ (p, q). timesRefusal (p .time) (q .time)) (neighbours poses)) ≡ 0
+  pub times : Each (λ (p, q). timesRefusal (p .time) (q .time) ≡ 0) (neighbours poses)
 
 pub checks-passed : (poses : List Pose) → chainRefusal poses ≡ 0 → Passed poses
 unfolding chainRefusal
-checks-passed poses =
-    go (every Pose·isFinite poses) (every Pose·isAffine poses) (ltb (length poses) minPoses) (ltb maxPoses (length poses)) (posesRise poses)
-    (λ h. h) (λ h. h) (nltb→le (length poses) minPoses) (nltb→le maxPoses (length poses)) (λ h. h)
+checks-passed poses e =
+    let (finite, (affine, (twelve, (times, _)))) = first-each (chainStages poses) e in
+    go (ltb (length poses) minPoses) (ltb maxPoses (length poses)) (posesRise poses)
+    (nltb→le (length poses) minPoses) (nltb→le maxPoses (length poses)) (λ h. h)
+    (tested-each Pose·isFinite 0 poses finite) (tested-each Pose·isAffine 1 poses affine) twelve
+    (stage-each (λ (p, q). timesRefusal (p .time) (q .time)) (neighbours poses) times)
   where
-    times : ℕ
-    times = firstNumber (map (λ (p, q). timesRefusal (p .time) (q .time)) (neighbours poses))
-
-    go : (f a few many r : Bool) → (T f → T (every Pose·isFinite poses)) → (T a → T (every Pose·isAffine poses)) → (T (not few) → minPoses ≤ length poses)
-        → (T (not many) → length poses ≤ maxPoses) → (T r → T (posesRise poses)) → _≡_ {A = ℕ} (cond (not f) 1 (cond (not a) 2 (cond (few || many || not r) 12 times))) 0 → Passed poses
-    go true true false false true F A l g R e = record { finite = F tt; affine = A tt; least = l tt; greatest = g tt; rise = R tt; times = e }
-    go true true false false false F A l g R e = absurd (omega arith)
-    go true true false true r F A l g R e = absurd (omega arith)
-    go true true true many r F A l g R e = absurd (omega arith)
-    go true false few many r F A l g R e = absurd (omega arith)
-    go false a few many r F A l g R e = absurd (omega arith)
+    go : (few many r : Bool) → (T (not few) → minPoses ≤ length poses) → (T (not many) → length poses ≤ maxPoses) → (T r → T (posesRise poses))
+        → Each (λ p. T (Pose·isFinite p)) poses → Each (λ p. T (Pose·isAffine p)) poses → _≡_ {A = ℕ} (cond (few || many || not r) 12 0) 0
+        → Each (λ (p, q). timesRefusal (p .time) (q .time) ≡ 0) (neighbours poses) → Passed poses
+    go false false true l g R f a e t = record { finite = f; affine = a; least = l tt; greatest = g tt; rise = R tt; times = t }
+    go false false false l g R f a e t = absurd (omega (arith, e))
+    go false true r l g R f a e t = absurd (omega (arith, e))
+    go true many r l g R f a e t = absurd (omega (arith, e))
 
 pub pair-worked : (p q : Pose) → T (Pose·isFinite p) → T (Pose·isFinite q) → T (Pose·isAffine p) → T (Pose·isAffine q) → timesRefusal (p .time) (q .time) ≡ 0
     → AnimatedTransform·new p q ≡ work p q
@@ -86,20 +105,14 @@ unfolding AnimatedTransform·new posesRefusal
 pair-worked p q f g a b e = rw (is-true (Pose·isFinite p) f, is-true (Pose·isFinite q) g, is-true (Pose·isAffine p) a, is-true (Pose·isAffine q) b, e)
 
 pub pairs-worked : (poses : List Pose) → PairsWorked poses
-unfolding neighbours every
+unfolding neighbours
 pairs-worked poses e = let h = checks-passed poses e in go poses (h .finite) (h .affine) (h .times)
   where
-    go : (xs : List Pose) → T (every Pose·isFinite xs) → T (every Pose·isAffine xs) → firstNumber (map (λ (p, q). timesRefusal (p .time) (q .time)) (neighbours xs)) ≡ 0
-        → Each (λ (p, q). AnimatedTransform·new p q ≡ work p q) (neighbours xs)
-    go [] f a n = tt
-    go (p ∷ []) f a n = tt
-    go (p ∷ q ∷ xs) f a n =
-        let f' = and-r (Pose·isFinite p) (every Pose·isFinite (q ∷ xs)) f in
-        let a' = and-r (Pose·isAffine p) (every Pose·isAffine (q ∷ xs)) a in
-        let (z, n') = first-none (timesRefusal (p .time) (q .time)) (map (λ (p, q). timesRefusal (p .time) (q .time)) (neighbours (q ∷ xs))) n in
-        let w = pair-worked p q (and-l (Pose·isFinite p) (every Pose·isFinite (q ∷ xs)) f) (and-l (Pose·isFinite q) (every Pose·isFinite xs) f')
-        (and-l (Pose·isAffine p) (every Pose·isAffine (q ∷ xs)) a) (and-l (Pose·isAffine q) (every Pose·isAffine xs) a') z in
-        (w, go (q ∷ xs) f' a' n')
+    go : (xs : List Pose) → Each (λ p. T (Pose·isFinite p)) xs → Each (λ p. T (Pose·isAffine p)) xs
+        → Each (λ (p, q). timesRefusal (p .time) (q .time) ≡ 0) (neighbours xs) → Each (λ (p, q). AnimatedTransform·new p q ≡ work p q) (neighbours xs)
+    go [] fs ns ts = tt
+    go (p ∷ []) fs ns ts = tt
+    go (p ∷ q ∷ xs) (f, (g, fs)) (a, (b, ns)) (t, ts) = (pair-worked p q f g a b t, go (q ∷ xs) (g, fs) (b, ns) ts)
 
 -- ---- one pair
 pub record NewTimes (start end : Float) (a : AnimatedTransformAnswer) : Type 0 where

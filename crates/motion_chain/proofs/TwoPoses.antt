@@ -37,20 +37,28 @@ tested-same n = go (eqb n 0) (eqb-true n 0)
     go true f = sym (f refl)
     go false f = refl
 
+-- The stages of two poses, of which f and g are finite, a and b affine, where the times rise.
+stages-same : (f g a b : Bool) (n : ℕ)
+    → firstNumber (
+    firstNumber (cond (not f) 1 0 ∷ cond (not g) 1 0 ∷ [])
+    ∷ firstNumber (cond (not a) 2 0 ∷ cond (not b) 2 0 ∷ [])
+    ∷ 0
+    ∷ firstNumber (n ∷ [])
+    ∷ []
+    )
+    ≡ cond (not (f && g)) 1 (cond (not (a && b)) 2 n)
+unfolding firstNumber
+stages-same true true true true n = tested-same (cond (eqb n 0) 0 n) ∙ tested-same n
+stages-same true true true false n = refl
+stages-same true true false b n = refl
+stages-same true false a b n = refl
+stages-same false g a b n = refl
+
 checks-same : (p q : Pose) → T (lt (p .time) (q .time)) → chainRefusal (p ∷ q ∷ []) ≡ posesRefusal p q
-unfolding chainRefusal posesRefusal posesRise every neighbours firstNumber
-checks-same p q =
-    go (Pose·isFinite p) (Pose·isFinite q) (Pose·isAffine p) (Pose·isAffine q) (lt (p .time) (q .time)) (timesRefusal (p .time) (q .time)) (tested-same (timesRefusal (p .time) (q .time)))
-  where
-    go : (f g a b l : Bool) (n : ℕ) → cond (eqb n 0) 0 n ≡ n → T l
-        → _≡_ {A = ℕ} (cond (not (f && (g && true))) 1 (cond (not (a && (b && true))) 2 (cond (false || false || not (l && true)) 12 (cond (eqb n 0) 0 n))))
-        (cond (not (f && g)) 1 (cond (not (a && b)) 2 n))
-    go true true true true true n e h = e
-    go true true true false true n e h = refl
-    go true true false b true n e h = refl
-    go true false a b true n e h = refl
-    go false g a b true n e h = refl
-    go f g a b false n e h = absurd h
+unfolding chainRefusal posesRefusal posesRise every neighbours
+checks-same p q l =
+    rw (is-true (lt (p .time) (q .time)) l)
+    (stages-same (Pose·isFinite p) (Pose·isFinite q) (Pose·isAffine p) (Pose·isAffine q) (timesRefusal (p .time) (q .time)))
 
 -- ---- one move's answer as a chain's
 module _ (a : AnimatedTransformAnswer) where
@@ -78,11 +86,15 @@ rising-same p q l = rw (checks-same p q l) (go (eqb (posesRefusal p q) 0) (eqb-f
 
 -- ---- times that don't rise
 not-rising-refused : (p q : Pose) → T (every Pose·isFinite (p ∷ q ∷ [])) → T (every Pose·isAffine (p ∷ q ∷ [])) → T (not (lt (p .time) (q .time))) → Chain·new (p ∷ q ∷ []) ≡ refused 12
-unfolding Chain·new chainRefusal
-not-rising-refused p q f a l = rw (is-true (every Pose·isFinite (p ∷ q ∷ [])) f, is-true (every Pose·isAffine (p ∷ q ∷ [])) a, pair-not-rising)
+unfolding Chain·new chainRefusal posesRise every neighbours firstNumber
+not-rising-refused p q f a l =
+    let (f0, f1) = both Pose·isFinite f in
+    let (a0, a1) = both Pose·isAffine a in
+    let falls = is-false (lt (p .time) (q .time)) l in
+    rw (is-true (Pose·isFinite p) f0, is-true (Pose·isFinite q) f1, is-true (Pose·isAffine p) a0, is-true (Pose·isAffine q) a1, falls)
   where
-    pair-not-rising : posesRise (p ∷ q ∷ []) ≡ false
-    pair-not-rising = unfold posesRise neighbours every in rw (is-false (lt (p .time) (q .time)) l)
+    both : (test : Pose → Bool) → T (test p && (test q && true)) → T (test p) × T (test q)
+    both test h = (and-l (test p) (test q && true) h, and-l (test q) true (and-r (test p) (test q && true) h))
 
 lt-irrefl : (x : Float) → lt x x ≡ false
 unfolding lt

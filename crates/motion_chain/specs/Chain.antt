@@ -48,14 +48,26 @@ firstNumber (n ∷ ns) = firstRefusal n (firstNumber ns)
 unfoldable pub posesRise : List Pose → Bool
 posesRise poses = every (λ (p, q). lt (p .time) (q .time)) (neighbours poses)
 
--- "the whole chain's checks", in order: document 01's 1 and 2 of every pose; "Fewer than 2 poses, more than 32 or times that don't rise strictly are 12, judged after 2 and before 3";
--- document 01's 3 of each neighbouring pair, whose times rise by then. 0 is none.
+-- What is asked of each item in turn: the first number met, or 0 for none.
+abbrev pub stage : {A : Type 0} → (A → ℕ) → List A → ℕ
+stage number items = firstNumber (map number items)
+
+-- "the whole chain's checks", each over the whole chain before the next
+abbrev pub chainStages : List Pose → List ℕ
+chainStages poses =
+    -- document 01, 1 of every pose: "a matrix entry or time is not finite"
+    stage (λ p. cond (not (Pose·isFinite p)) 1 0) poses
+    -- document 01, 2 of every pose: "a bottom row isn't 0, 0, 0, 1"
+    ∷ stage (λ p. cond (not (Pose·isAffine p)) 2 0) poses
+    -- "Fewer than 2 poses, more than 32 or times that don't rise strictly are 12, judged after 2 and before 3"
+    ∷ cond (ltb (length poses) minPoses || ltb maxPoses (length poses) || not (posesRise poses)) 12 0
+    -- document 01, 3 of each neighbouring pair, whose times rise by then: "end − start is not finite"
+    ∷ stage (λ (p, q). timesRefusal (p .time) (q .time)) (neighbours poses)
+    ∷ []
+
+-- The number of the first stage that has one, or 0 for none.
 unfoldable pub chainRefusal : List Pose → ℕ
-chainRefusal poses =
-    cond (not (every Pose·isFinite poses)) 1
-    (cond (not (every Pose·isAffine poses)) 2
-    (cond (ltb (length poses) minPoses || ltb maxPoses (length poses) || not (posesRise poses)) 12
-    (firstNumber (map (λ (p, q). timesRefusal (p .time) (q .time)) (neighbours poses)))))
+chainRefusal poses = firstNumber (chainStages poses)
 
 -- ---- building
 
@@ -80,7 +92,7 @@ ChainAnswer·refusal (refused n) = n
 unfoldable pub ChainAnswer·fromMoves : List AnimatedTransformAnswer → ChainAnswer
 ChainAnswer·fromMoves [] = refused 12
 ChainAnswer·fromMoves (a ∷ answers) =
-    let n = firstNumber (map (λ x. x .refusal) (a ∷ answers)) in
+    let n = stage (λ x. x .refusal) (a ∷ answers) in
     cond (eqb n 0) (built (record { first = a .value; rest = map (λ x. x .value) answers })) (refused n)
 
 -- "Each neighbouring pair is a move of document 01, worked in rising order once the whole chain's checks are over"

@@ -24,7 +24,8 @@ use Rattle.transform.specs.Answer.{OneOf}
 use Rattle.motion_cover.specs.Cover.{AnimatedTransform·cover}
 use Rattle.motion_cover.specs.Answer.{BoundsAnswer·Numbered}
 use Rattle.motion_cover.proofs.Number.{cover-numbered}
-use Rattle.motion_chain.specs.Chain.{minPoses, maxPoses, neighbours, every, firstNumber, posesRise, chainRefusal, ChainAnswer, built, refused, ChainAnswer·fromMoves, Chain·new, unionCovers, Chain·cover}
+use Rattle.motion_chain.specs.Chain.{minPoses, maxPoses, neighbours, firstNumber, posesRise, stage, chainStages, chainRefusal}
+use Rattle.motion_chain.specs.Chain.{ChainAnswer, built, refused, ChainAnswer·fromMoves, Chain·new, unionCovers, Chain·cover}
 use Rattle.motion_chain.specs.Built.{Each}
 use Rattle.motion_chain.proofs.Cover.{chain-cover-proper}
 use Rattle.motion_chain.proofs.Times.{chain-point-numbered}
@@ -55,13 +56,19 @@ times-number : (pair : Pose × Pose) → Number (timesRefusal (pair .0 .time) (p
 unfolding timesRefusal
 times-number (p, q) = chosen (lt (q .time) (p .time) || not (finite (q .time ⊖ p .time))) 3 0 (inr (inr (inr (inl refl)))) (inl refl)
 
+stage-number : {A : Type 0} (f : A → ℕ) (xs : List A) → ((x : A) → Number (f x)) → Number (stage f xs)
+stage-number f xs h = first-number (map f xs) (map-each f xs h)
+
 checks-number : (poses : List Pose) → Number (chainRefusal poses)
 unfolding chainRefusal
 checks-number poses =
-    chosen (not (every Pose·isFinite poses)) 1 _ (inr (inl refl))
-    (chosen (not (every Pose·isAffine poses)) 2 _ (inr (inr (inl refl)))
-    (chosen (ltb (length poses) minPoses || ltb maxPoses (length poses) || not (posesRise poses)) 12 _ (inr (inr (inr (inr (inr (inr (inl refl)))))))
-    (first-number (map (λ (p, q). timesRefusal (p .time) (q .time)) (neighbours poses)) (map-each (λ (p, q). timesRefusal (p .time) (q .time)) (neighbours poses) times-number))))
+    let finite = stage-number (λ p. cond (not (Pose·isFinite p)) 1 0) poses (λ p. chosen (not (Pose·isFinite p)) 1 0 (inr (inl refl)) (inl refl)) in
+    let affine = stage-number (λ p. cond (not (Pose·isAffine p)) 2 0) poses (λ p. chosen (not (Pose·isAffine p)) 2 0 (inr (inr (inl refl))) (inl refl)) in
+    let few = ltb (length poses) minPoses in
+    let many = ltb maxPoses (length poses) in
+    let twelve = chosen (few || many || not (posesRise poses)) 12 0 (inr (inr (inr (inr (inr (inr (inl refl))))))) (inl refl) in
+    let times = stage-number (λ (p, q). timesRefusal (p .time) (q .time)) (neighbours poses) times-number in
+    first-number (chainStages poses) (finite, (affine, (twelve, (times, tt))))
 
 more : (n : ℕ) (ns ks : List ℕ) → OneOf n ns → OneOf n (ns ++ ks)
 more n [] ks h = absurd h
@@ -84,7 +91,7 @@ from-moves-numbered : (answers : List AnimatedTransformAnswer) → Each (λ a. N
 unfolding ChainAnswer·fromMoves
 from-moves-numbered [] h = record { number = inr (inr (inr (inr (inr (inr (inl refl)))))); none = λ e. absurd (omega (arith, e)) }
 from-moves-numbered (a ∷ answers) h =
-    tested (firstNumber (map (λ x. x .refusal) (a ∷ answers))) _ (first-number (map (λ x. x .refusal) (a ∷ answers)) (each (a ∷ answers) h))
+    tested (stage (λ x. x .refusal) (a ∷ answers)) _ (first-number (map (λ x. x .refusal) (a ∷ answers)) (each (a ∷ answers) h))
     (record { number = inl refl; none = λ _. (record { first = a .value; rest = map (λ x. x .value) answers }, refl) })
   where
     each : (xs : List AnimatedTransformAnswer) → Each (λ x. Number (x .refusal)) xs → Each Number (map (λ x. x .refusal) xs)
