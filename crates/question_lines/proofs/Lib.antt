@@ -1,0 +1,6 @@
+pub mod Put
+pub mod Pieces
+pub mod Kept
+pub mod Decimals
+pub mod Floats
+pub mod Positions
