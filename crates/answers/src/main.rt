@@ -1,101 +1,97 @@
 // A test program: answers questions about the libraries' functions, a question a line of standard input, an answer line each, in order,
 // so that any other implementation can be compared with them through a pipe. What is read at once is answered before more is read.
-mod angles;
-mod line;
+mod answer;
 mod matrices;
 mod moves;
-mod numbers;
-mod output;
-mod parts;
 mod question;
-mod text;
 
-use line::State;
-use line::answer_line;
-use line::answer_lines;
-use output::put;
-use output::send;
-use text::byte;
-use text::part;
-
-// What lasts from block to block: how many bytes of a line that has not ended stand at the start of the input,
-// whether the input goes on, and what lasts from line to line.
-struct Block {
-    held: usize,
-    more: bool,
-    state: State,
-}
+use question_lines::part;
 
 fn main() {
     let mut input = [0u8; 16384];
     let mut out = [0u8; 16384];
-    let mut b = Block {
-        held: 0,
-        more: true,
-        state: State {
-            written: 0,
-            kept: moves::none(),
-        },
-    };
+    let mut motion = [[moves::NONE; 4]; 44];
+    let mut held = 0;
     let mut turns = u64::MAX;
     while turns > 0 {
-        let next = answer_block(&mut input, &mut out, b);
-        b = next;
-        if !b.more {
+        let n = question_lines::read_more(&mut input, held);
+        if n == held {
             break;
         }
+        held = answer_block(&mut input, n, &mut out, &mut motion);
         turns -= 1;
     }
+    answer_rest(&input, held, &mut out, &mut motion);
 }
 
-// Reads once, answers what has been read and sends the answers.
-fn answer_block(input: &mut [u8], out: &mut [u8], b: Block) -> Block {
-    let held = b.held;
-    let n = read_more(input, held);
-    if n == held {
-        return last_block(part(input, 0, n), out, b.state);
-    }
-    next_block(input, n, out, b.state)
+// The last line need not have ended.
+fn answer_rest(
+    input: &[u8; 16384],
+    held: usize,
+    out: &mut [u8; 16384],
+    motion: &mut [[f32; 4]; 44],
+) {
+    let written = answer_line(part(input, 0, held), out, 0, motion);
+    send(out, written);
 }
 
-// The first `n` bytes of the input: the lines that have ended are answered, and what follows them is kept.
-fn next_block(input: &mut [u8], n: usize, out: &mut [u8], s: State) -> Block {
-    let l = answer_lines(part(input, 0, n), out, s);
-    let state = l.state;
-    send(out, state.written);
-    Block {
-        held: keep(input, l.next, n),
-        more: true,
-        state: state.at(0),
-    }
+// The first `n` bytes of the input: the lines that have ended are answered, and what follows them is kept,
+// of a line that is too long one byte too many, so that it stays so. Answers how many bytes are kept.
+fn answer_block(
+    input: &mut [u8],
+    n: usize,
+    out: &mut [u8; 16384],
+    motion: &mut [[f32; 4]; 44],
+) -> usize {
+    let next = answer_lines(part(input, 0, n), out, motion);
+    question_lines::keep(input, next, n, 1201)
 }
 
-// The end of the input: its last line need not have ended.
-fn last_block(line: &[u8], out: &mut [u8], s: State) -> Block {
-    let state = answer_line(line, out, s);
-    send(out, state.written);
-    Block {
-        held: 0,
-        more: false,
-        state: state.at(0),
+// Answers each line of `text` that ends in a line feed, and answers where the first line starts that has not ended.
+fn answer_lines(text: &[u8], out: &mut [u8; 16384], motion: &mut [[f32; 4]; 44]) -> usize {
+    let mut written = 0;
+    let mut at = 0;
+    while at < text.len() {
+        let end = bytes::scan::find(text, at, text.len(), b'\n');
+        if end == text.len() {
+            break;
+        }
+        written = answer_line(&text[at..end], out, written, motion);
+        at = end + 1;
     }
+    send(out, written);
+    at
 }
 
-// Reads once into `input` from `held` on, and answers how many bytes it then holds.
-fn read_more(input: &mut [u8], held: usize) -> usize {
-    if held < input.len() {
-        let got = libc::read(libc::STDIN_FILENO, &mut input[held..]);
-        return held + io::count(got, &input[held..]);
+// Answers a line. An empty line, or one that starts with #, has no answer.
+fn answer_line(
+    line: &[u8],
+    out: &mut [u8; 16384],
+    written: usize,
+    motion: &mut [[f32; 4]; 44],
+) -> usize {
+    if line.len() == 0 {
+        return written;
     }
-    held
+    if line[0] == b'#' {
+        return written;
+    }
+    let at = make_room(out, written);
+    let mut x = [0.0f32; 34];
+    let q = question::parse(line, &mut x);
+    answer::put_answer(q, &x, out, at, motion)
 }
 
-// Moves the bytes from `from` up to `to` to the start of `input`, and answers how many are kept:
-// of a line that is too long one byte too many, so that it stays so.
-fn keep(input: &mut [u8], from: usize, to: usize) -> usize {
-    let mut end = 0;
-    for at in from..to {
-        end = put(input, end, byte(input, at));
+// Half of the output is free after this, which is more than the longest answer has.
+fn make_room(out: &[u8; 16384], written: usize) -> usize {
+    if 8192 < written {
+        send(out, written);
+        return 0;
     }
-    if end < 1201 { end } else { 1201 }
+    written
+}
+
+// Writes the first bytes of a text to standard output.
+fn send(text: &[u8], size: usize) {
+    io::write_all(libc::STDOUT_FILENO, part(text, 0, size));
 }

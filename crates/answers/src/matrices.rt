@@ -1,137 +1,116 @@
-// Questions about matrices and quaternions: inverse M, mul M M, quat M, rotation Q, dot Q Q, normalize Q, slerp T Q Q, bounds M BOX.
+// Questions about matrices and quaternions: rotation Q, normalize Q, quat M, slerp T Q Q, inverse M, mul M M, bounds M BOX, decompose M (t, r and S),
+// zeros C1 C2 C3 C4 C5 THETA (how many, then eight places).
 // A matrix is 16 floats by rows, a quaternion x y z w, a box x0 y0 z0 x1 y1 z1; `bounds` is what `transform_bounds` makes of the box.
-use crate::output::put_bounds_answer;
-use crate::output::put_ok_float;
-use crate::output::put_ok_matrix;
-use crate::output::put_ok_quaternion;
-use crate::output::put_refused;
-use crate::question::Form;
-use crate::question::Kind;
-use crate::question::Question;
-use crate::question::floats;
-use bounds3::Bounds3f;
-use bounds3::Point3f;
-use check::same;
 use hexadecimal::float_of_bits;
-use matrix4x4::Matrix4x4;
 use quaternion::Quaternion;
 use transform::Transform;
 use vector3::Vector3f;
 
-pub enum Matrix {
-    Inverse,
-    Mul,
-    Quat,
-    Rotation,
-    Dot,
-    Normalize,
-    Slerp,
-    Bounds,
-}
-
-pub fn form_of(name: &[u8]) -> Form {
-    if same(name, b"inverse") {
-        return floats(Kind::Matrix(Matrix::Inverse), 16);
-    }
-    if same(name, b"mul") {
-        return floats(Kind::Matrix(Matrix::Mul), 32);
-    }
-    if same(name, b"quat") {
-        return floats(Kind::Matrix(Matrix::Quat), 16);
-    }
-    if same(name, b"rotation") {
-        return floats(Kind::Matrix(Matrix::Rotation), 4);
-    }
-    if same(name, b"dot") {
-        return floats(Kind::Matrix(Matrix::Dot), 8);
-    }
-    if same(name, b"normalize") {
-        return floats(Kind::Matrix(Matrix::Normalize), 4);
-    }
-    if same(name, b"slerp") {
-        return floats(Kind::Matrix(Matrix::Slerp), 9);
-    }
-    if same(name, b"bounds") {
-        return floats(Kind::Matrix(Matrix::Bounds), 22);
-    }
-    floats(Kind::Malformed, 0)
-}
-
-pub fn answer(m: Matrix, q: Question, out: &mut [u8], at: usize) -> usize {
-    let words = q.words;
-    match m {
-        Matrix::Inverse => answer_inverse(words, out, at),
-        Matrix::Mul => {
-            let product = matrix4x4::mul(matrix_at(words, 0), matrix_at(words, 16));
-            put_ok_matrix(out, at, product)
+pub fn answer(kind: usize, x: &[f32; 34], rows: &mut [[f32; 4]; 36]) -> u8 {
+    match kind {
+        11 => {
+            let t = rotation::transform_from_quaternion(quaternion_at(x, 0));
+            put_matrix(t.m.to_rows(), 0, rows)
         }
-        Matrix::Quat => {
-            let r = matrix_quaternion::quaternion_from_matrix(matrix_at(words, 0));
-            put_ok_quaternion(out, at, r)
-        }
-        Matrix::Rotation => {
-            let t = rotation::transform_from_quaternion(quaternion_at(words, 0));
-            let m = t.m;
-            put_ok_matrix(out, at, m.to_rows())
-        }
-        Matrix::Dot => put_ok_float(
-            out,
-            at,
-            quaternion_at(words, 0).dot(quaternion_at(words, 4)),
-        ),
-        Matrix::Normalize => put_ok_quaternion(out, at, quaternion_at(words, 0).normalize()),
-        Matrix::Slerp => {
-            let r = quaternion::slerp(
-                quaternion_at(words, 1),
-                quaternion_at(words, 5),
-                float_at(words, 0),
-            );
-            put_ok_quaternion(out, at, r)
-        }
-        Matrix::Bounds => answer_bounds(words, out, at),
+        15 => inverse(x, rows),
+        16 => put_matrix(matrix4x4::mul(matrix_at(x, 0), matrix_at(x, 16)), 0, rows),
+        17 => bounds(x, rows),
+        18 => decompose(x, rows),
+        19 => zeros(x, rows),
+        _ => put_quaternion(quaternion_value(kind, x), 0, rows),
     }
 }
 
-fn answer_inverse(words: [u32; 34], out: &mut [u8], at: usize) -> usize {
-    let r = matrix_inverse::inverse(matrix_at(words, 0));
-    if r.refusal != 0 {
-        return put_refused(out, at, r.refusal);
+fn quaternion_value(kind: usize, x: &[f32; 34]) -> Quaternion {
+    match kind {
+        12 => quaternion_at(x, 0).normalize(),
+        13 => matrix_quaternion::quaternion_from_matrix(matrix_at(x, 0)),
+        _ => quaternion::slerp(quaternion_at(x, 1), quaternion_at(x, 5), x[0]),
     }
-    let m = r.m;
-    put_ok_matrix(out, at, m.to_rows())
 }
 
-// The float at a place of the arguments, 0 beyond them.
-pub fn float_at(words: [u32; 34], i: usize) -> f32 {
-    if i < 34 { float_of_bits(words[i]) } else { 0.0 }
+fn inverse(x: &[f32; 34], rows: &mut [[f32; 4]; 36]) -> u8 {
+    let r = matrix_inverse::inverse(matrix_at(x, 0));
+    put_matrix(r.m.to_rows(), 0, rows);
+    r.refusal
 }
 
-fn row_at(words: [u32; 34], i: usize) -> [f32; 4] {
+fn bounds(x: &[f32; 34], rows: &mut [[f32; 4]; 36]) -> u8 {
+    let m = matrix_at(x, 0);
+    let b = bounds_at(x, 16);
+    let moved = Transform::from_matrices(m, m).transform_bounds(lent_arrays::bounds(&b));
+    let mut values = [0.0f32; 6];
+    let refusal = lent_arrays::put_bounds(moved, &mut values);
+    put_bounds(values, rows);
+    refusal
+}
+
+fn decompose(x: &[f32; 34], rows: &mut [[f32; 4]; 36]) -> u8 {
+    let d = decomposition::decompose(matrix_at(x, 0));
+    let t = d.t;
+    rows[0] = [t.x, t.y, t.z, 0.0];
+    put_quaternion(d.r, 1, rows);
+    put_matrix(d.s.to_rows(), 2, rows);
+    d.refusal
+}
+
+fn zeros(x: &[f32; 34], rows: &mut [[f32; 4]; 36]) -> u8 {
+    let z = zero_search::interval_find_zeros(x[0], x[1], x[2], x[3], x[4], x[5]);
+    let places = z.zeros;
+    put_zeros(places, rows);
+    rows[35] = [float_of_bits((z.count % 10) as u32), 0.0, 0.0, 0.0];
+    z.refusal
+}
+
+fn put_zeros(z: [f32; 8], rows: &mut [[f32; 4]; 36]) {
+    rows[0] = [z[0], z[1], z[2], z[3]];
+    rows[1] = [z[4], z[5], z[6], z[7]];
+}
+
+pub fn put_bounds(b: [f32; 6], rows: &mut [[f32; 4]; 36]) {
+    rows[0] = [b[0], b[1], b[2], b[3]];
+    rows[1] = [b[4], b[5], 0.0, 0.0];
+}
+
+fn put_quaternion(q: Quaternion, i: usize, rows: &mut [[f32; 4]; 36]) -> u8 {
+    let v = q.v;
+    if i < 36 {
+        rows[i] = [v.x, v.y, v.z, q.w];
+    }
+    0
+}
+
+fn put_matrix(m: [[f32; 4]; 4], i: usize, rows: &mut [[f32; 4]; 36]) -> u8 {
+    if i < 33 {
+        rows[i] = m[0];
+        rows[i + 1] = m[1];
+        rows[i + 2] = m[2];
+        rows[i + 3] = m[3];
+    }
+    0
+}
+
+pub fn row_at(x: &[f32; 34], i: usize) -> [f32; 4] {
     if i < 31 {
-        return [
-            float_at(words, i),
-            float_at(words, i + 1),
-            float_at(words, i + 2),
-            float_at(words, i + 3),
-        ];
+        return [x[i], x[i + 1], x[i + 2], x[i + 3]];
     }
     [0.0; 4]
 }
 
-pub fn matrix_at(words: [u32; 34], i: usize) -> [[f32; 4]; 4] {
+pub fn matrix_at(x: &[f32; 34], i: usize) -> [[f32; 4]; 4] {
     if i < 19 {
         return [
-            row_at(words, i),
-            row_at(words, i + 4),
-            row_at(words, i + 8),
-            row_at(words, i + 12),
+            row_at(x, i),
+            row_at(x, i + 4),
+            row_at(x, i + 8),
+            row_at(x, i + 12),
         ];
     }
     [[0.0; 4]; 4]
 }
 
-fn quaternion_at(words: [u32; 34], i: usize) -> Quaternion {
-    let r = row_at(words, i);
+pub fn quaternion_at(x: &[f32; 34], i: usize) -> Quaternion {
+    let r = row_at(x, i);
     let v = Vector3f {
         x: r[0],
         y: r[1],
@@ -140,27 +119,14 @@ fn quaternion_at(words: [u32; 34], i: usize) -> Quaternion {
     Quaternion { v, w: r[3] }
 }
 
-pub fn point_at(words: [u32; 34], i: usize) -> Point3f {
-    let r = row_at(words, i);
-    Point3f {
-        x: r[0],
-        y: r[1],
-        z: r[2],
-    }
+pub fn point_at(x: &[f32; 34], i: usize) -> [f32; 3] {
+    let r = row_at(x, i);
+    [r[0], r[1], r[2]]
 }
 
-pub fn bounds_at(words: [u32; 34], i: usize) -> Bounds3f {
-    if i < 28 {
-        return Bounds3f {
-            p_min: point_at(words, i),
-            p_max: point_at(words, i + 3),
-        };
+pub fn bounds_at(x: &[f32; 34], i: usize) -> [f32; 6] {
+    if i < 29 {
+        return [x[i], x[i + 1], x[i + 2], x[i + 3], x[i + 4], x[i + 5]];
     }
-    Bounds3f::from_point(point_at(words, i))
-}
-
-fn answer_bounds(words: [u32; 34], out: &mut [u8], at: usize) -> usize {
-    let m = matrix_at(words, 0);
-    let moved = Transform::from_matrices(m, m).transform_bounds(bounds_at(words, 16));
-    put_bounds_answer(out, at, moved)
+    [0.0; 6]
 }

@@ -1,187 +1,100 @@
-// A line as a question: a name, then its arguments with one space before each. A float is eight hexadecimal digits, its bits.
-use crate::angles;
-use crate::angles::Angle;
-use crate::matrices;
-use crate::matrices::Matrix;
-use crate::moves;
-use crate::moves::Move;
-use crate::numbers;
-use crate::numbers::Number;
-use crate::parts;
-use crate::parts::Part;
-use crate::text::part;
-use hexadecimal::Word;
+// A line as a question: a name, then its arguments with one space before each.
+use question_lines::Decimal;
+use question_lines::part;
+use question_lines::position;
 
-// What is asked: a group of questions has a variant here, and its names, their forms and the answers in a module of its own.
-pub enum Kind {
-    Malformed,
-    Number(Number),
-    Angle(Angle),
-    Matrix(Matrix),
-    Part(Part),
-    Build,
-    Move(Move),
-}
-
-// What comes after a name: a decimal number or none, then floats, at most 34.
-pub struct Form {
-    pub kind: Kind,
-    pub decimal: bool,
-    pub floats: usize,
-}
-
+// What is asked, as the place of its name, and the decimal number among the arguments, 0 where there is none.
 pub struct Question {
-    pub kind: Kind,
+    pub kind: usize,
     pub decimal: u64,
-    pub words: [u32; 34],
 }
 
-pub enum Decimal {
-    Value(u64),
-    Malformed,
+// How many floats each question has, in the order of the names.
+const FLOATS: [usize; 27] = [
+    1, // abs A
+    1, // root A
+    1, // sin A
+    1, // cos A
+    1, // acos C
+    2, // least A B
+    2, // greatest A B
+    3, // lerp T A B
+    3, // clamp V A B
+    0, // whole N
+    8, // dot Q Q
+    4, // rotation Q
+    4, // normalize Q
+    16, // quat M
+    9, // slerp T Q Q
+    16, // inverse M
+    32, // mul M M
+    22, // bounds M BOX
+    16, // decompose M
+    6, // zeros C1 C2 C3 C4 C5 THETA
+    34, // move T0 M0 T1 M1
+    0, // parts
+    4, // point T X Y Z
+    1, // interp T
+    6, // motion BOX
+    3, // pmotion X Y Z
+    6, // cover D BOX
+];
+
+// The place of a name, 27 where it is none.
+fn kind_of(name: &[u8]) -> usize {
+    let kind = position(
+        name,
+        b"abs root sin cos acos least greatest lerp clamp whole dot rotation normalize quat slerp inverse mul bounds decompose zeros",
+    );
+    if kind < 20 {
+        return kind;
+    }
+    let of_move = position(name, b"move parts point interp motion pmotion cover");
+    if of_move < 7 { 20 + of_move } else { 27 }
 }
 
-pub fn parse(line: &[u8]) -> Question {
+pub fn parse(line: &[u8], x: &mut [f32; 34]) -> Question {
     if line.len() > 1200 {
         return malformed();
     }
     let end = bytes::scan::find(line, 0, line.len(), b' ');
-    let f = form_of(part(line, 0, end));
-    if f.decimal {
-        return parse_decimal(line, end, f);
+    let kind = kind_of(part(line, 0, end));
+    // `whole` and `cover` have a decimal number.
+    if (kind == 9) | (kind == 26) {
+        return parse_decimal(line, end, kind, x);
     }
-    parse_floats(line, end, f, 0)
-}
-
-// The form of a name: each group knows its own names.
-fn form_of(name: &[u8]) -> Form {
-    let number = numbers::form_of(name);
-    if is_known(number) {
-        return number;
-    }
-    let angle = angles::form_of(name);
-    if is_known(angle) {
-        return angle;
-    }
-    let matrix = matrices::form_of(name);
-    if is_known(matrix) {
-        return matrix;
-    }
-    let part = parts::form_of(name);
-    if is_known(part) {
-        return part;
-    }
-    moves::form_of(name)
-}
-
-fn is_known(f: Form) -> bool {
-    let kind = f.kind;
-    if let Kind::Malformed = kind {
-        false
-    } else {
-        true
-    }
-}
-
-// The form of a question that has only floats.
-pub fn floats(kind: Kind, count: usize) -> Form {
-    Form {
-        kind,
-        decimal: false,
-        floats: count,
-    }
+    parse_floats(line, end, kind, 0, x)
 }
 
 fn malformed() -> Question {
     Question {
-        kind: Kind::Malformed,
+        kind: 27,
         decimal: 0,
-        words: [0u32; 34],
     }
 }
 
 // A decimal number from the space at `at` on, then floats.
-fn parse_decimal(line: &[u8], at: usize, f: Form) -> Question {
-    if at < line.len() {
-        let start = at + 1;
-        let end = bytes::scan::find(line, start, line.len(), b' ');
-        return match read_decimal(part(line, start, end)) {
-            Decimal::Value(n) => parse_floats(line, end, f, n),
-            Decimal::Malformed => malformed(),
-        };
+fn parse_decimal(line: &[u8], at: usize, kind: usize, x: &mut [f32; 34]) -> Question {
+    if line.len() <= at {
+        return malformed();
+    }
+    let start = at + 1;
+    let end = bytes::scan::find(line, start, line.len(), b' ');
+    match question_lines::read_decimal(part(line, start, end)) {
+        Decimal::Value(n) => parse_floats(line, end, kind, n, x),
+        Decimal::Malformed => malformed(),
+    }
+}
+
+// Floats from `at` on, up to the line's end.
+fn parse_floats(line: &[u8], at: usize, kind: usize, n: u64, x: &mut [f32; 34]) -> Question {
+    if question_lines::read_floats(part(line, at, line.len()), floats_of(kind), x) {
+        return Question { kind, decimal: n };
     }
     malformed()
 }
 
-// Floats from `at` on, up to the line's end.
-fn parse_floats(line: &[u8], at: usize, f: Form, n: u64) -> Question {
-    if line.len() < at {
-        return malformed();
-    }
-    let kind = f.kind;
-    let count = f.floats;
-    let mut words = [0u32; 34];
-    let mut k = 0;
-    let mut place = at;
-    while k < 34 {
-        if count <= k {
-            break;
-        }
-        match float_at(line, place) {
-            Word::Bits(w) => words[k] = w,
-            Word::Malformed => return malformed(),
-        }
-        place += 9;
-        k += 1;
-    }
-    if place != line.len() {
-        return malformed();
-    }
-    Question {
-        kind,
-        decimal: n,
-        words,
-    }
-}
-
-// A space and a float.
-fn float_at(line: &[u8], at: usize) -> Word {
-    if at < line.len() {
-        if line[at] == b' ' {
-            return hexadecimal::read_word(line, at + 1);
-        }
-    }
-    Word::Malformed
-}
-
-// A whole number below 2^64.
-fn read_decimal(word: &[u8]) -> Decimal {
-    if word.len() == 0 {
-        return Decimal::Malformed;
-    }
-    let mut value = 0;
-    for i in 0..word.len() {
-        match append_digit(value, word[i]) {
-            Decimal::Value(n) => value = n,
-            Decimal::Malformed => return Decimal::Malformed,
-        }
-    }
-    Decimal::Value(value)
-}
-
-fn append_digit(n: u64, b: u8) -> Decimal {
-    if b < 48 {
-        return Decimal::Malformed;
-    }
-    if b > 57 {
-        return Decimal::Malformed;
-    }
-    if n > u64::MAX / 10 {
-        return Decimal::Malformed;
-    }
-    let d = (b - 48) as u64;
-    if d > u64::MAX - n * 10 {
-        return Decimal::Malformed;
-    }
-    Decimal::Value(n * 10 + d)
+// How many floats a question has.
+fn floats_of(kind: usize) -> usize {
+    if kind < 27 { FLOATS[kind] } else { 0 }
 }

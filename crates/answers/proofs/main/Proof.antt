@@ -1,4 +1,4 @@
--- `main` is safe and ends: the count of turns falls.
+-- `main` is safe and ends.
 use mathlib.Core.Path.{_≡_}
 use lib.ListN.{length}
 use borrow.Author.Needs.{needs}
@@ -6,22 +6,22 @@ use Rattle.answers.proofs.main.Statement.{statement}
 use Rattle.answers.proofs.main.Tie as tie
 
 abbrev Inv-loop : tie.InvT-loop
-Inv-loop input₀ out₀ b₀ turns₀ input out b turns = (16384 ≡ length input) × (16384 ≡ length out)
+Inv-loop input₀ out₀ motion₀ held₀ turns₀ input out motion held turns = 16384 ≡ length input
 
 abbrev μ-loop : tie.MeasureT-loop
-μ-loop input₀ out₀ b₀ turns₀ input out b turns = turns
-
-none-requires : tie.Need-none-requires Inv-loop μ-loop
-none-requires c κs = search needs
+μ-loop input₀ out₀ motion₀ held₀ turns₀ input out motion held turns = turns
 
 loop-holds : tie.Need-loop-holds Inv-loop μ-loop
 loop-holds c = search needs
 
+slice-aggregate-read-more : tie.Need-slice-aggregate-read-more Inv-loop μ-loop
+slice-aggregate-read-more c = search needs
+
+read-more-requires : tie.Need-read-more-requires Inv-loop μ-loop
+read-more-requires c κs = search needs
+
 slice-aggregate-answer-block : tie.Need-slice-aggregate-answer-block Inv-loop μ-loop
 slice-aggregate-answer-block c = search needs
-
-slice-aggregate-answer-block-2 : tie.Need-slice-aggregate-answer-block-2 Inv-loop μ-loop
-slice-aggregate-answer-block-2 c = search needs
 
 answer-block-requires : tie.Need-answer-block-requires Inv-loop μ-loop
 answer-block-requires c κs = search needs
@@ -35,11 +35,11 @@ loop-less c = search needs
 loop-again : tie.Need-loop-again Inv-loop μ-loop
 loop-again c = search needs
 
+answer-rest-requires : tie.Need-answer-rest-requires Inv-loop μ-loop
+answer-rest-requires c κs = search needs
+
 returns : tie.Need-returns Inv-loop μ-loop
 returns c = search needs
-
-returns-2 : tie.Need-returns-2 Inv-loop μ-loop
-returns-2 c = search needs
 
 pub main-spec : {M : Type 1} → statement M
 main-spec =
@@ -47,13 +47,13 @@ main-spec =
     (tie.spec
     Inv-loop
     μ-loop
-    none-requires
     loop-holds
+    slice-aggregate-read-more
+    read-more-requires
     slice-aggregate-answer-block
-    slice-aggregate-answer-block-2
     answer-block-requires
     sub-turns
     loop-less
     loop-again
-    returns
-    returns-2)
+    answer-rest-requires
+    returns)

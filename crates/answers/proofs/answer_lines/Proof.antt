@@ -1,16 +1,15 @@
 -- `answer_lines` is safe and ends.
-use borrow.Author.Needs.{needs}
-use Prim.Native.Nat.{_-_}
-use mathlib.Core.Path.{_≡_}
+use Prim.Native.Nat.{_-_, _≤_}
 use lib.ListN.{length}
-use Rattle.answers.proofs.line.answer_lines.Statement.{statement}
-use Rattle.answers.proofs.line.answer_lines.Tie as tie
+use borrow.Author.Needs.{needs}
+use Rattle.answers.proofs.answer_lines.Statement.{statement}
+use Rattle.answers.proofs.answer_lines.Tie as tie
 
 abbrev Inv-loop : tie.InvT-loop
-Inv-loop text out₀ state₀ at₀ out state at = length out ≡ length out₀
+Inv-loop text out₀ motion₀ written₀ at₀ out motion written at = at ≤ length text
 
 abbrev μ-loop : tie.MeasureT-loop
-μ-loop text out₀ state₀ at₀ out state at = length text - at
+μ-loop text out₀ motion₀ written₀ at₀ out motion written at = length text - at
 
 loop-holds : tie.Need-loop-holds Inv-loop μ-loop
 loop-holds c = search needs
@@ -18,8 +17,14 @@ loop-holds c = search needs
 find-requires : tie.Need-find-requires Inv-loop μ-loop
 find-requires c κs = search needs
 
-part-requires : tie.Need-part-requires Inv-loop μ-loop
-part-requires c κs = search needs
+sub-answer-line : tie.Need-sub-answer-line Inv-loop μ-loop
+sub-answer-line c = search needs
+
+part-answer-line-start : tie.Need-part-answer-line-start Inv-loop μ-loop
+part-answer-line-start c = search needs
+
+part-answer-line-end : tie.Need-part-answer-line-end Inv-loop μ-loop
+part-answer-line-end c = search needs
 
 answer-line-requires : tie.Need-answer-line-requires Inv-loop μ-loop
 answer-line-requires c κs = search needs
@@ -33,17 +38,11 @@ loop-less c = search needs
 loop-again : tie.Need-loop-again Inv-loop μ-loop
 loop-again c = search needs
 
-same-length : tie.Need-same-length Inv-loop μ-loop
-same-length c = search needs
+send-requires : tie.Need-send-requires Inv-loop μ-loop
+send-requires c κs = search needs
 
 returns : tie.Need-returns Inv-loop μ-loop
 returns c = search needs
-
-same-length-2 : tie.Need-same-length-2 Inv-loop μ-loop
-same-length-2 c = search needs
-
-returns-2 : tie.Need-returns-2 Inv-loop μ-loop
-returns-2 c = search needs
 
 pub answer-lines-spec : {M : Type 1} → statement M
 answer-lines-spec =
@@ -53,12 +52,12 @@ answer-lines-spec =
     μ-loop
     loop-holds
     find-requires
-    part-requires
+    sub-answer-line
+    part-answer-line-start
+    part-answer-line-end
     answer-line-requires
     add-at
     loop-less
     loop-again
-    same-length
-    returns
-    same-length-2
-    returns-2)
+    send-requires
+    returns)
