@@ -7,14 +7,14 @@
 
 int main(void)
 {
-    const float start[4][4] = {{1, 0, 0, 0}, {0, 1, 0, 0}, {0, 0, 1, 0}, {0, 0, 0, 1}};
-    const float end[4][4] = {{1, 0, 0, 1}, {0, 1, 0, 0}, {0, 0, 1, 0}, {0, 0, 0, 1}};
+    const jellyplain_pose start = {0, {{1, 0, 0, 0}, {0, 1, 0, 0}, {0, 0, 1, 0}, {0, 0, 0, 1}}};
+    const jellyplain_pose end = {1, {{1, 0, 0, 1}, {0, 1, 0, 0}, {0, 0, 1, 0}, {0, 0, 0, 1}}};
     const float origin[3] = {0, 0, 0};
     const float boom[6] = {0, 0, 0, 0, 2, 0};
     jellyplain_move move;
     float moved[3], transform[2][4][4], bounds[6];
 
-    uint8_t refusal = jellyplain_build(0, start, 1, end, &move);
+    uint8_t refusal = jellyplain_build(&start, &end, &move);
     if (refusal != JELLYPLAIN_NONE) {
         printf("refused with %d\n", refusal);
         return 1;

@@ -14,6 +14,12 @@
 extern "C" {
 #endif
 
+/* A matrix of four rows at a time. */
+typedef struct {
+    float time;
+    float matrix[4][4];
+} jellyplain_pose;
+
 /* A built move. Its contents are the library's own business: leave them as jellyplain_build wrote them. Queries on any other contents are answered too, but the guarantee
  * of jellyplain_cover is for built moves. */
 typedef struct {
@@ -34,8 +40,8 @@ enum jellyplain_refusal {
     JELLYPLAIN_SQUARED_LENGTH = 10  /* a cover's slices are too wide for the rotation in them: ask with a greater depth */
 };
 
-/* The move from one pose to another, each a matrix of four rows at a time. Numbers 1 to 5. */
-uint8_t jellyplain_build(float start_time, const float start[4][4], float end_time, const float end[4][4], jellyplain_move *motion);
+/* The move from one pose to another. Numbers 1 to 5. */
+uint8_t jellyplain_build(const jellyplain_pose *start, const jellyplain_pose *end, jellyplain_move *motion);
 
 /* Where the point p stands at a time. Numbers 5 and 6. */
 uint8_t jellyplain_point(const jellyplain_move *motion, float time, const float p[3], float moved[3]);

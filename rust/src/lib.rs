@@ -32,8 +32,9 @@ pub type Matrix = [[f32; 4]; 4];
 
 pub const IDENTITY: Matrix = [[1.0, 0.0, 0.0, 0.0], [0.0, 1.0, 0.0, 0.0], [0.0, 0.0, 1.0, 0.0], [0.0, 0.0, 0.0, 1.0]];
 
-/// A matrix at a time.
+/// A matrix at a time. The library reads it as 17 floats.
 #[derive(Clone, Copy, Debug, PartialEq)]
+#[repr(C)]
 pub struct Pose {
     pub time: f32,
     pub matrix: Matrix,
@@ -87,7 +88,7 @@ impl Move {
     /// The move from one pose to another: pbrt's `AnimatedTransform::new`. Refused with numbers 1 to 5.
     pub fn new(start: &Pose, end: &Pose) -> Result<Move, Refusal> {
         let mut rows = library::EMPTY;
-        let number = unsafe { library::jellyplain_build(start.time, &start.matrix, end.time, &end.matrix, &mut rows) };
+        let number = unsafe { library::jellyplain_build(start, end, &mut rows) };
         answered(number, Move { rows })
     }
 

@@ -1,13 +1,15 @@
 //! The functions of the archive libapi.a, as crates/api/src/lib.rt exports them and c/jellyplain.h declares them. A reference to an array crosses as a thin pointer, so that
 //! no length can be wrong; references to be written are borrowed apart from all others.
 
+use crate::Pose;
+
 /// A built move as its caller keeps it. What stands in it is the library's own business.
 pub type Rows = [[f32; 4]; 44];
 
 pub const EMPTY: Rows = [[0.0; 4]; 44];
 
 extern "C" {
-    pub fn jellyplain_build(start_time: f32, start: &[[f32; 4]; 4], end_time: f32, end: &[[f32; 4]; 4], motion: &mut Rows) -> u8;
+    pub fn jellyplain_build(start: &Pose, end: &Pose, motion: &mut Rows) -> u8;
     pub fn jellyplain_point(motion: &Rows, time: f32, p: &[f32; 3], moved: &mut [f32; 3]) -> u8;
     pub fn jellyplain_interpolate(motion: &Rows, time: f32, transform: &mut [[f32; 4]; 8]) -> u8;
     pub fn jellyplain_bound_point_motion(motion: &Rows, p: &[f32; 3], out: &mut [f32; 6]) -> u8;
@@ -24,7 +26,7 @@ mod tests {
         let mut end = IDENTITY;
         end[0][3] = 1.0;
         let mut rows = EMPTY;
-        assert_eq!(unsafe { jellyplain_build(0.0, &IDENTITY, 1.0, &end, &mut rows) }, 0);
+        assert_eq!(unsafe { jellyplain_build(&Pose { time: 0.0, matrix: IDENTITY }, &Pose { time: 1.0, matrix: end }, &mut rows) }, 0);
         rows
     }
 
@@ -34,7 +36,7 @@ mod tests {
         let mut kept = rows;
         let mut flat = IDENTITY;
         flat[2] = [0.0; 4];
-        assert_eq!(unsafe { jellyplain_build(0.0, &flat, 1.0, &IDENTITY, &mut kept) }, 4);
+        assert_eq!(unsafe { jellyplain_build(&Pose { time: 0.0, matrix: flat }, &Pose { time: 1.0, matrix: IDENTITY }, &mut kept) }, 4);
         assert_eq!(kept, rows);
 
         let (origin, mut three, mut six, mut eight) = ([0.0; 3], [7.0; 3], [7.0; 6], [[7.0; 4]; 8]);

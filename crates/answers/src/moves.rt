@@ -4,9 +4,9 @@
 // x y z, each kc kx ky kz.
 // A move is kept as the library's callers keep it, in 44 rows (`motion_rows`).
 use crate::matrices::bounds_at;
-use crate::matrices::matrix_at;
 use crate::matrices::point_at;
 use crate::matrices::put_bounds;
+use crate::matrices::row_at;
 use hexadecimal::float_of_bits;
 
 // The rows of a move that `parts` asks for, in order; of a translation's row the last float, a time, isn't asked for.
@@ -53,13 +53,43 @@ pub const NONE: f32 = 2.0;
 
 // Builds a move and keeps it, or none where it is refused.
 pub fn build(x: &[f32; 34], motion: &mut [[f32; 4]; 44]) -> u8 {
-    let start = matrix_at(x, 1);
-    let end = matrix_at(x, 18);
-    let refusal = api::jellyplain_build(x[0], &start, x[17], &end, motion);
+    let start = pose_at(x, 0);
+    let end = pose_at(x, 17);
+    let refusal = api::jellyplain_build(&start, &end, motion);
     if refusal != 0 {
         motion[43] = [NONE; 4];
     }
     refusal
+}
+
+// A pose's 17 floats, from a place on.
+fn pose_at(x: &[f32; 34], i: usize) -> [f32; 17] {
+    if i < 18 {
+        let a = row_at(x, i);
+        let b = row_at(x, i + 4);
+        let c = row_at(x, i + 8);
+        let d = row_at(x, i + 12);
+        return [
+            a[0],
+            a[1],
+            a[2],
+            a[3],
+            b[0],
+            b[1],
+            b[2],
+            b[3],
+            c[0],
+            c[1],
+            c[2],
+            c[3],
+            d[0],
+            d[1],
+            d[2],
+            d[3],
+            x[i + 16],
+        ];
+    }
+    [0.0; 17]
 }
 
 pub fn answer(

@@ -4,26 +4,22 @@
 use Prim.Native.Nat.{ℕ}
 use mathlib.Core.List.{List}
 use lib.Ieee.{Float}
-use Rattle.matrix4x4.specs.Rows.{Rows, Matrix4x4·fromRows}
+use Rattle.matrix4x4.specs.Rows.{Rows}
 use Rattle.bounds3.specs.List.{Point3f·ofList, Bounds3f·ofList}
 use Rattle.transform.specs.declared.TransformAnswer.{TransformAnswer}
 use Rattle.transform.specs.declared.PointAnswer.{PointAnswer}
 use Rattle.transform.specs.declared.BoundsAnswer.{BoundsAnswer}
-use Rattle.pose_pair.specs.declared.Pose.{Pose}
 use Rattle.animated_transform.specs.declared.AnimatedTransformAnswer.{AnimatedTransformAnswer}
 use Rattle.animated_transform.specs.New.{AnimatedTransform·new}
 use Rattle.interpolation.specs.Interpolate.{AnimatedTransform·interpolate}
 use Rattle.motion_bounds.specs.MotionBounds.{AnimatedTransform·boundPointMotion, AnimatedTransform·motionBounds}
 use Rattle.motion_cover.specs.Cover.{AnimatedTransform·cover}
+use Rattle.lent_arrays.specs.Arrays.{Pose·ofList}
 use Rattle.motion_rows.specs.Rows.{AnimatedTransform·fromRows}
 use Rattle.motion_rows.specs.TransformPoint.{Rows·transformPoint}
 
--- a time and the four rows of a matrix
-abbrev pub Pose·fromRows : Float → Rows → Pose
-Pose·fromRows time m = record { time = time; m = Matrix4x4·fromRows m }
-
-abbrev pub Rows·new : Float → Rows → Float → Rows → AnimatedTransformAnswer
-Rows·new startTime start endTime end = AnimatedTransform·new (Pose·fromRows startTime start) (Pose·fromRows endTime end)
+abbrev pub Rows·new : List Float → List Float → AnimatedTransformAnswer
+Rows·new start end = AnimatedTransform·new (Pose·ofList start) (Pose·ofList end)
 
 abbrev pub Rows·point : Rows → Float → List Float → PointAnswer
 Rows·point rows time p = Rows·transformPoint rows time (Point3f·ofList p)

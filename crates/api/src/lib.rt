@@ -3,8 +3,6 @@
 // handed in, and any rows may be asked, but the guarantee is for rows that building has written.
 use animated_transform::AnimatedTransform;
 use bounds3::Point3f;
-use matrix4x4::Matrix4x4;
-use pose_pair::Pose;
 use transform::PointAnswer;
 ghost use mathlib.Core.Path.{_≡_};
 ghost use Rattle.bounds3.specs.List.{Point3f·ofList};
@@ -13,19 +11,8 @@ ghost use Rattle.motion_point.specs.TransformPoint.{AnimatedTransform·transfor
 ghost use Rattle.lent_arrays.specs.Arrays.{PointAnswer·left, TransformAnswer·left, BoundsAnswer·left};
 ghost use Rattle.motion_rows.specs.Rows.{AnimatedTransform·toRows, AnimatedTransformAnswer·left};
 ghost use Rattle.motion_rows.specs.TransformPoint.{Rows·transformPoint};
-ghost use Rattle.api.specs.Answers.{Pose·fromRows, Rows·new, Rows·point, Rows·interpolate, Rows·boundPointMotion, Rows·motionBounds, Rows·cover};
+ghost use Rattle.api.specs.Answers.{Rows·new, Rows·point, Rows·interpolate, Rows·boundPointMotion, Rows·motionBounds, Rows·cover};
 ghost use Rattle.api.specs.Kept.{Rows·Holds, KeptCoverContainsMotion};
-
-fn pose(time: f32, m: &[[f32; 4]; 4]) -> Pose
-    ensures value { λ r. ⌜ r ≡ Pose·fromRows time (now (m .entry)) ⌝ }
-{
-    let r0 = m[0];
-    let r1 = m[1];
-    let r2 = m[2];
-    let r3 = m[3];
-    let m = Matrix4x4 { r0, r1, r2, r3 };
-    Pose { time, m }
-}
 
 fn transform_point(motion: &[[f32; 4]; 44], time: f32, p: Point3f) -> PointAnswer
     ensures value { λ r. ⌜ r ≡ Rows·transformPoint (now (motion .entry)) time p ⌝ }
@@ -36,22 +23,20 @@ fn transform_point(motion: &[[f32; 4]; 44], time: f32, p: Point3f) -> PointAnswe
     motion_rows::moved_point(motion, time, p)
 }
 
-// Builds a move from two poses, each a time and the four rows of a matrix. Refused with 1 to 5.
+// Builds a move from two poses, each 17 floats: a time and a matrix row by row. Refused with 1 to 5.
 // Accuracy: each operation but the arc cosine is correctly rounded.
 #[no_mangle]
 pub extern "C" fn jellyplain_build(
-    start_time: f32,
-    start: &[[f32; 4]; 4],
-    end_time: f32,
-    end: &[[f32; 4]; 4],
+    start: &[f32; 17],
+    end: &[f32; 17],
     motion: &mut [[f32; 4]; 44],
 ) -> u8
-    ensures refusal { λ r. ⌜ r ≡ Rows·new «start_time» (now (start .entry)) «end_time» (now (end .entry)) .refusal ⌝ }
-    ensures left { λ _. ⌜ now (motion .exit) ≡ AnimatedTransformAnswer·left (Rows·new «start_time» (now (start .entry)) «end_time» (now (end .entry))) (now (motion .entry)) ⌝ }
-    ensures holds { λ r. ⌜ (r ≡ 0 → Rows·Holds (now (motion .exit)) (Rows·new «start_time» (now (start .entry)) «end_time» (now (end .entry)) .value)) ⌝ }
+    ensures refusal { λ r. ⌜ r ≡ Rows·new (now (start .entry)) (now (end .entry)) .refusal ⌝ }
+    ensures left { λ _. ⌜ now (motion .exit) ≡ AnimatedTransformAnswer·left (Rows·new (now (start .entry)) (now (end .entry))) (now (motion .entry)) ⌝ }
+    ensures holds { λ r. ⌜ (r ≡ 0 → Rows·Holds (now (motion .exit)) (Rows·new (now (start .entry)) (now (end .entry)) .value)) ⌝ }
 {
     motion_rows::put_motion(
-        AnimatedTransform::new(pose(start_time, start), pose(end_time, end)),
+        AnimatedTransform::new(lent_arrays::pose(start), lent_arrays::pose(end)),
         motion,
     )
 }

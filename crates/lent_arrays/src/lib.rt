@@ -1,7 +1,9 @@
-// Points, boxes and transforms that cross to Rust and C in arrays of floats, and answers put into a lent array: the answer's number is returned, 0 for none,
+// Poses, points, boxes and transforms that cross to Rust and C in arrays of floats, and answers put into a lent array: the answer's number is returned, 0 for none,
 // and after a refusal the array is as it was. A box is its least corner and its greatest, a transform the four rows of its matrix and those of its inverse.
 use bounds3::Bounds3f;
 use bounds3::Point3f;
+use matrix4x4::Matrix4x4;
+use pose_pair::Pose;
 use transform::BoundsAnswer;
 use transform::PointAnswer;
 use transform::Transform;
@@ -9,7 +11,7 @@ use transform::TransformAnswer;
 ghost use mathlib.Core.Path.{_≡_};
 ghost use Rattle.bounds3.specs.List.{Point3f·ofList, Bounds3f·list, Bounds3f·ofList};
 ghost use Rattle.transform.specs.Answer.{PointAnswer·refusal, BoundsAnswer·refusal};
-ghost use Rattle.lent_arrays.specs.Arrays.{transformRows, PointAnswer·left, BoundsAnswer·left, TransformAnswer·left};
+ghost use Rattle.lent_arrays.specs.Arrays.{Pose·ofList, transformRows, PointAnswer·left, BoundsAnswer·left, TransformAnswer·left};
 
 // The point of three coordinates. Accuracy: exact.
 pub fn point(p: &[f32; 3]) -> Point3f
@@ -46,6 +48,18 @@ pub fn bounds_values(b: Bounds3f) -> [f32; 6]
     let l = b.p_min;
     let h = b.p_max;
     [l.x, l.y, l.z, h.x, h.y, h.z]
+}
+
+// The pose of 17 floats: its time, then its matrix row by row. Accuracy: exact.
+pub fn pose(values: &[f32; 17]) -> Pose
+    ensures value { λ r. ⌜ r ≡ Pose·ofList (now (values .entry)) ⌝ }
+{
+    let r0 = [values[1], values[2], values[3], values[4]];
+    let r1 = [values[5], values[6], values[7], values[8]];
+    let r2 = [values[9], values[10], values[11], values[12]];
+    let r3 = [values[13], values[14], values[15], values[16]];
+    let m = Matrix4x4 { r0, r1, r2, r3 };
+    Pose { time: values[0], m }
 }
 
 // Puts a moved point into `out`, or after a refusal nothing, and gives the refusal's number, 0 for none. Accuracy: exact.

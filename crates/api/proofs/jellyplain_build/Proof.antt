@@ -1,5 +1,5 @@
 -- `jellyplain_build` meets its contract: the building of the two poses, and what it leaves holds the move (`build-clauses`).
-use Rattle.api.specs.Answers.{Pose·fromRows}
+use Rattle.lent_arrays.specs.Arrays.{Pose·ofList}
 use Rattle.api.proofs.Kept.{build-clauses}
 use borrow.Author.Needs.{needs}
 use Rattle.api.proofs.jellyplain_build.Statement.{statement}
@@ -21,7 +21,7 @@ returns : tie.Need-returns
 returns c =
     let a = c .before .before .before .before .before .args in
     let new = c .before .before .new in
-    build-clauses (Pose·fromRows (a .start-time) (a .start .now)) (Pose·fromRows (a .end-time) (a .end .now)) (new .result) _ _ (a .motion .now)
+    build-clauses (Pose·ofList (a .start .now)) (Pose·ofList (a .end .now)) (new .result) _ _ (a .motion .now)
     (rw (new .ensures .0, c .before .before .before .pose2 .ensures, c .before .before .before .before .pose .ensures)) (new .ensures .1)
     (c .put-motion .ensures .0) (c .put-motion .ensures .1)
 
