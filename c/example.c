@@ -1,4 +1,4 @@
-/* A move by one metre along x, asked from C. In the repository's root:
+/* A move by one metre along x, and a chain that goes there and back, asked from C. In the repository's root:
  *     rt staticlib api && cc -Wall -Wextra -I c c/example.c target/staticlib/libapi.a -o target/example && target/example
  */
 #include <stdio.h>
@@ -11,8 +11,16 @@ int main(void)
     const jellyplain_pose end = {1, {{1, 0, 0, 1}, {0, 1, 0, 0}, {0, 0, 1, 0}, {0, 0, 0, 1}}};
     const float origin[3] = {0, 0, 0};
     const float boom[6] = {0, 0, 0, 0, 2, 0};
+    const jellyplain_pose there_and_back[3] = {start, end, {2, {{1, 0, 0, 0}, {0, 1, 0, 0}, {0, 0, 1, 0}, {0, 0, 0, 1}}}};
+    const float times[3] = {0.5f, 1, 1.5f};
+    static jellyplain_chain chain;
     jellyplain_move move;
-    float moved[3], transform[2][4][4], bounds[6];
+    float moved[3], transform[2][4][4], bounds[6], points[9];
+
+    if (jellyplain_layout() != JELLYPLAIN_LAYOUT) {
+        printf("the archive has another layout\n");
+        return 1;
+    }
 
     uint8_t refusal = jellyplain_build(&start, &end, &move);
     if (refusal != JELLYPLAIN_NONE) {
@@ -25,6 +33,11 @@ int main(void)
         printf("its inverse takes back by %g\n", transform[1][0][3]);
     if (jellyplain_cover(&move, boom, 10, bounds) == JELLYPLAIN_NONE)
         printf("reserved: %g %g %g to %g %g %g\n", bounds[0], bounds[1], bounds[2], bounds[3], bounds[4], bounds[5]);
+    if (jellyplain_build_chain(there_and_back, 3, &chain) == JELLYPLAIN_NONE
+        && jellyplain_chain_points(&chain, times, 3, origin, points, 9) == JELLYPLAIN_NONE)
+        printf("there and back: x is %g, %g and %g\n", points[0], points[3], points[6]);
+    if (jellyplain_chain_cover(&chain, boom, 10, bounds) == JELLYPLAIN_NONE)
+        printf("reserved for both: %g %g %g to %g %g %g\n", bounds[0], bounds[1], bounds[2], bounds[3], bounds[4], bounds[5]);
     printf("at depth 13: refused with %d\n", jellyplain_cover(&move, boom, 13, bounds));
     return 0;
 }

@@ -1,5 +1,6 @@
-/* The functions of the archive libapi.a, which `rt staticlib api` writes to target/staticlib: a move by two poses is built once, kept by its caller, and asked many times.
- * Their contracts are proved in crates/api, whose specs/ say what each returns and leaves for all arguments; this header itself is not checked against them.
+/* The functions of the archive libapi.a, which `rt staticlib api` writes to target/staticlib: a move by two poses, or a chain of up to 32 poses, is built once, kept by its
+ * caller, and asked many times. Their contracts are proved in crates/api, whose specs/ say what each returns and leaves for all arguments; this header itself is not checked
+ * against them, nor are its inline functions, each of which makes one call.
  *
  * Each function answers a refusal number, 0 for none (the enum below). Where nothing is refused it writes the array that it is lent last, whole; after a refusal that array is
  * as it was. Any floats may be handed in. Pointers must be valid for the sizes that are written here and aligned for float, and the array that is written overlaps no other.
@@ -8,6 +9,7 @@
 #ifndef JELLYPLAIN_H
 #define JELLYPLAIN_H
 
+#include <stddef.h>
 #include <stdint.h>
 
 #ifdef __cplusplus
@@ -26,6 +28,20 @@ typedef struct {
     float rows[44][4];
 } jellyplain_move;
 
+/* The most poses and moves that a chain has. */
+#define JELLYPLAIN_POSES 32
+#define JELLYPLAIN_MOVES 31
+
+/* A built chain: its first `count` moves, one fewer than its poses. Any of them may be asked by itself. Leave it as jellyplain_build_chain wrote it. */
+typedef struct {
+    size_t count;
+    jellyplain_move moves[JELLYPLAIN_MOVES];
+} jellyplain_chain;
+
+/* The layout of these structs. The archive has been built with the same where jellyplain_layout() is this number. */
+#define JELLYPLAIN_LAYOUT 1
+uint32_t jellyplain_layout(void);
+
 enum jellyplain_refusal {
     JELLYPLAIN_NONE = 0,
     JELLYPLAIN_POSE_NOT_FINITE = 1, /* a matrix entry or a time of a pose isn't finite */
@@ -37,7 +53,10 @@ enum jellyplain_refusal {
     JELLYPLAIN_CORNERS = 7,         /* a least corner is above its greatest corner on some axis */
     JELLYPLAIN_DEPTH = 8,           /* the depth is above 12 */
     JELLYPLAIN_NINTH_ZERO = 9,      /* a motion box's search finds more than eight zeros on an axis */
-    JELLYPLAIN_SQUARED_LENGTH = 10  /* a cover's slices are too wide for the rotation in them: ask with a greater depth */
+    JELLYPLAIN_SQUARED_LENGTH = 10, /* a cover's slices are too wide for the rotation in them: ask with a greater depth */
+    JELLYPLAIN_FILE = 11,           /* a move file departs from its layout: only the program `cover` reads files */
+    JELLYPLAIN_CHAIN = 12,          /* a chain has fewer than 2 poses or more than 32, or its times don't rise strictly */
+    JELLYPLAIN_TIME_LIST = 13       /* a list of times falls, or the answers aren't three places a time */
 };
 
 /* The move from one pose to another. Numbers 1 to 5. */
@@ -57,6 +76,43 @@ uint8_t jellyplain_motion_bounds(const jellyplain_move *motion, const float b[6]
 
 /* A box that holds every point of the box b at every time but NaN, from 2^depth slices of the move. Numbers 5, 6, 7, 8 and 10. */
 uint8_t jellyplain_cover(const jellyplain_move *motion, const float b[6], uint32_t depth, float bounds[6]);
+
+/* ---- chains, by their moves; the inline functions below take the struct */
+
+/* The moves of a chain of poses whose times rise strictly, one fewer than poses, into the front of `moves`; those behind them stay. Numbers 1, 2, 12, 3, 4 and 5. */
+uint8_t jellyplain_build_moves(const jellyplain_pose *poses, size_t count, jellyplain_move moves[JELLYPLAIN_MOVES]);
+
+/* Where the point p stands at a time: a time equal to an inner pose's belongs to the earlier move. Numbers 5 and 6, and 12 for no moves. */
+uint8_t jellyplain_moves_point(const jellyplain_move *moves, size_t count, float time, const float p[3], float moved[3]);
+
+/* Where the point p stands at each time of a list that never falls, three places a time. Numbers 6, 13 and 5, and 12 for no moves; all places stay after a refusal. */
+uint8_t jellyplain_moves_points(const jellyplain_move *moves, size_t count, const float *times, size_t times_count, const float p[3], float *answers, size_t places);
+
+/* A box that holds every point of the box b at every time but NaN, from 2^depth slices of each move. Numbers 5, 6, 7, 8 and 10, and 12 for no moves. */
+uint8_t jellyplain_moves_cover(const jellyplain_move *moves, size_t count, const float b[6], uint32_t depth, float bounds[6]);
+
+static inline uint8_t jellyplain_build_chain(const jellyplain_pose *poses, size_t count, jellyplain_chain *chain)
+{
+    uint8_t refusal = jellyplain_build_moves(poses, count, chain->moves);
+    if (refusal == JELLYPLAIN_NONE)
+        chain->count = count - 1;
+    return refusal;
+}
+
+static inline uint8_t jellyplain_chain_point(const jellyplain_chain *chain, float time, const float p[3], float moved[3])
+{
+    return jellyplain_moves_point(chain->moves, chain->count, time, p, moved);
+}
+
+static inline uint8_t jellyplain_chain_points(const jellyplain_chain *chain, const float *times, size_t times_count, const float p[3], float *answers, size_t places)
+{
+    return jellyplain_moves_points(chain->moves, chain->count, times, times_count, p, answers, places);
+}
+
+static inline uint8_t jellyplain_chain_cover(const jellyplain_chain *chain, const float b[6], uint32_t depth, float bounds[6])
+{
+    return jellyplain_moves_cover(chain->moves, chain->count, b, depth, bounds);
+}
 
 #ifdef __cplusplus
 }

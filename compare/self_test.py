@@ -1,9 +1,10 @@
 #!/usr/bin/env python3
 """Shows that compare/run sees a wrong side: the oracle stands on both sides, with one answer changed.
 
-  self_test.py     runs every trial and says what was seen; status 0 if all was as it should be. Needs target/bin/cover.
+  self_test.py [KIND..]   runs every trial, or those of some kinds, and says what was seen; status 0 if all was as it should be
 
-With WRONG in the environment it is itself the program that answers: the one behind it, and then the changes that WRONG names.
+With WRONG in the environment it is itself the program that answers: the one behind it, and then the changes that WRONG names. In the place of `cover` it is the
+oracle, with tools/move_files.py for a reader.
 """
 import os
 import re
@@ -15,7 +16,7 @@ import tempfile
 HERE = os.path.dirname(os.path.abspath(__file__))
 ROOT = os.path.dirname(HERE)
 ORACLE = os.path.join(ROOT, "oracle/target/release/answers")
-COVER = os.path.join(ROOT, "target/bin/cover")
+CHAIN_ORACLE = os.path.join(ROOT, "oracle/target/release/chain_answers")
 
 WORDS = {
     "numbers": "abs root least greatest lerp clamp whole",
@@ -26,6 +27,7 @@ WORDS = {
     "bounds": "motion pmotion",
     "motion": "motion pmotion zeros",
     "covers": "cover",
+    "chains": "chain lone cpoint ctimes ccover cinterp cparts cmotion cpmotion",
 }
 
 
@@ -53,32 +55,78 @@ def changed(change, question, answer):
     word = values[0]
     if change == word and answer.startswith(b"ok ") and answer[-8:] != b"7fc00000":
         return other_digit(answer) if first_time(change) else answer
-    if change == "built" and word == "move" and answer == b"ok":
+    if change == "built" and word in ("move", "chain") and answer.startswith(b"ok"):
         return b"refused 5" if first_time(change) else answer
+    if change == "too_long" and word == "chain" and answer == b"refused 12" and len(values) == 3 + 33 * 18:
+        return b"ok 33" if first_time(change) else answer
+    if change == "falling" and word == "ctimes" and answer == b"refused 13":
+        return b"ok" + b" 00000000" * int(values[2]) if first_time(change) else answer
+    if change == "list_outside" and word == "ctimes" and answer.startswith(b"ok "):
+        return answer[:-8] + float_bits(3.4e38)
     if change == "refusal" and answer.startswith(b"refused"):
         return other_digit(answer) if first_time(change) else answer
-    if change == "unanswered" and word == "point":
+    if change == "unanswered" and word in ("point", "cpoint"):
         return b"refused 5"
-    if change == "box_zeros" and word in ("motion", "pmotion", "cover", "bounds"):
+    if change == "list_unanswered" and word == "ctimes":
+        return b"refused 5"
+    if change == "box_zeros" and word in ("motion", "pmotion", "cover", "bounds", "ccover", "cmotion", "cpmotion"):
         return re.sub(rb"\b[08]0000000\b", lambda zero: b"80000000" if zero[0] == b"00000000" else b"00000000", answer)
-    if change == "point_zero" and word == "point" and b" 00000000" in answer:
+    if change == "point_zero" and word in ("point", "cpoint") and b" 00000000" in answer:
         return answer.replace(b" 00000000", b" 80000000", 1) if first_time(change) else answer
     if change == "nan_bits":
         return answer.replace(b"7fc00000", b"ffc12345")
-    if change == "narrow" and word == "cover" and answer.startswith(b"ok"):
-        corner = answer.split()[1:4]
-        return b" ".join([b"ok"] + corner + corner)
-    if change == "growing" and word == "cover" and answer.startswith(b"ok"):
-        return b"ok ff7fffff ff7fffff ff7fffff 7f7fffff 7f7fffff " + float_bits(3.3e38 + 1e35 * int(values[1]))
-    if change == "shallow" and word == "cover" and answer.startswith(b"ok") and int(values[1]) > 2:
-        return b"refused 10"
+    if word in ("cover", "ccover") and answer.startswith(b"ok"):
+        depth, corner = int(values[-7]), answer.split()[1:4]
+        if change == "narrow":
+            return b" ".join([b"ok"] + corner + corner)
+        if change == "growing":
+            return b"ok ff7fffff ff7fffff ff7fffff 7f7fffff 7f7fffff " + float_bits(3.3e38 + 1e35 * depth)
+        if change == "shallow" and depth > 2:
+            return b"refused 10"
     return answer
 
 
+def asked_otherwise(changes, asked, given):
+    """The questions that a program with a wrong idea of chains would ask the right one, and the place of each answer among its answers."""
+    stream, places, chains = [], [], {}
+    for question, answer in zip(asked, given):
+        words = question.split(b" ")
+        if words[0] == b"chain" and answer != b"error":
+            chains[words[1]] = words if answer.startswith(b"ok") else None
+        chain = chains.get(words[1]) if len(words) > 1 else None
+        if words[0] == b"lone":
+            chain = chains[words[1]] = None
+        if "slots_kept" in changes and words[0] in (b"chain", b"lone") and answer.startswith(b"refused"):
+            # Asked about in a slot that no question has.
+            words[1] = b"4"
+        if "one_slot" in changes and len(words) > 1 and words[1] in (b"0", b"1", b"2", b"3"):
+            words[1] = b"0"
+        question = b" ".join(words)
+        if chain and ("first_move_points" in changes and words[0] == b"cpoint" or "first_move_covers" in changes and words[0] == b"ccover"):
+            stream += [b" ".join(chain[:3 + 2 * 18]), question, b" ".join(chain)]
+            places.append(len(stream) - 2)
+        else:
+            stream.append(question)
+            places.append(len(stream) - 1)
+    return stream, places
+
+
+CHAIN_CHANGES = {"slots_kept", "one_slot", "first_move_points", "first_move_covers"}
+
+
+def answers_to(questions, arguments=()):
+    text = b"".join(question + b"\n" for question in questions)
+    return subprocess.run([os.environ["BEHIND"], *arguments], input=text, stdout=subprocess.PIPE, check=True).stdout.splitlines()
+
+
 def answers(changes):
-    text = sys.stdin.buffer.read()
-    asked = [line for line in text.split(b"\n") if line and not line.startswith(b"#")]
-    given = subprocess.run([ORACLE], input=text, stdout=subprocess.PIPE, check=True).stdout.splitlines()
+    asked = [line for line in sys.stdin.buffer.read().split(b"\n") if line and not line.startswith(b"#")]
+    given = answers_to(asked)
+    if CHAIN_CHANGES & set(changes):
+        stream, places = asked_otherwise(changes, asked, given)
+        otherwise = answers_to(stream)
+        given = [answer if answer.startswith(b"refused") and question.startswith((b"chain ", b"lone ")) else otherwise[place]
+                 for question, answer, place in zip(asked, given, places)]
     for change in changes:
         given = [changed(change, question, answer) for question, answer in zip(asked, given)]
     if "missing" in changes and first_time("missing"):
@@ -90,22 +138,45 @@ def answers(changes):
         sys.exit(1)
 
 
-def cover():
-    printed = subprocess.run([COVER], input=sys.stdin.buffer.read(), stdout=subprocess.PIPE, check=True).stdout
-    if printed.startswith(b"x0") and first_time("box") or printed.startswith(b"refused") and first_time("number"):
+def printed_for(data):
+    """What `cover` prints for a file."""
+    sys.path.insert(0, os.path.join(ROOT, "tools"))
+    import move_files
+    bits = move_files.read(data)
+    if bits is None:
+        return b"refused\n11\n"
+    words = [b"%08x" % b for b in bits]
+    poses = [b" ".join(words[i:i + 13] + [b"00000000"] * 3 + [b"3f800000", b"00000000"]) for i in range(0, len(words) - 6, 13)]
+    built, cover = answers_to([b" ".join([b"chain 0 plain"] + poses), b" ".join([b"ccover 0 10"] + words[-6:])], ["--any-length"])
+    answer = cover if built.startswith(b"ok") else built
+    return b"x0 y0 z0 x1 y1 z1\n" + answer[3:] + b"\n" if answer.startswith(b"ok") else answer.replace(b" ", b"\n") + b"\n"
+
+
+def cover(is_wrong):
+    printed = printed_for(sys.stdin.buffer.read())
+    if is_wrong and (printed.startswith(b"x0") and first_time("box") or printed.startswith(b"refused") and first_time("number")):
         printed = other_digit(printed[:-1]) + b"\n"
     sys.stdout.buffer.write(printed)
 
 
 # ---- the trials
 
-def trial(title, kind, changes, different, shown=(), sides=("--answers",), moves=40):
-    """`different` is how many differences are to be told; None for some."""
+SIDES = {"--answers": ORACLE, "--oracle": ORACLE, "--chain-answers": CHAIN_ORACLE, "--chain-oracle": CHAIN_ORACLE}
+BOTH, BOTH_OF_CHAINS = ("--answers", "--oracle"), ("--chain-answers", "--chain-oracle")
+
+
+def trial(title, kind, changes, different, shown=(), sides=None, cases=40):
+    """`different` is how many differences are to be told; None for some. The changes are on some sides, or on the project's alone."""
+    if len(sys.argv) > 1 and not set(kind.split(",")) & set(sys.argv[1:]):
+        return None
+    is_of_chains = kind in ("chains", "files")
+    sides = sides or ("--chain-answers" if is_of_chains else "--answers",)
     with tempfile.TemporaryDirectory() as folder:
-        command = [os.path.join(HERE, "run"), "--no-build", "--kinds", kind, "--moves", str(moves), "--show", "100"]
-        for side in ("--answers", "--cover", "--oracle"):
-            command += [side, os.path.abspath(__file__) if side in sides else COVER if side == "--cover" else ORACLE]
-        environment = dict(os.environ, WRONG=" ".join(changes), TRIAL=folder)
+        command = [os.path.join(HERE, "run"), "--no-build", "--kinds", kind, "--moves", str(cases), "--chains", str(cases), "--files", str(cases), "--show", "100"]
+        for side, program in SIDES.items():
+            command += [side, os.path.abspath(__file__) if side in sides and kind != "files" else program]
+        command += ["--cover", os.path.abspath(__file__)]
+        environment = dict(os.environ, WRONG=" ".join(changes), TRIAL=folder, BEHIND=CHAIN_ORACLE if is_of_chains else ORACLE)
         run = subprocess.run(command, env=environment, stdout=subprocess.PIPE, stderr=subprocess.PIPE, text=True)
     if run.returncode == 2:
         sys.exit("nothing could be compared:\n" + run.stderr)
@@ -133,13 +204,31 @@ def main():
         trial("an answer missing", "angles", ["missing"], 1, ["no answer"]),
         trial("an answer too many", "angles", ["too_many"], 1, ["the project has an answer too many"]),
         trial("a failure at the end", "angles", ["failure"], 1, ["the project ends by a failure"]),
-        trial("covers too small, on both sides", "covers", ["narrow"], None, ["guarantee: a point leaves"], ("--answers", "--oracle")),
-        trial("points refused, on both sides", "covers", ["unanswered"], None, ["guarantee: a point of an accepted cover is not answered"], ("--answers", "--oracle")),
-        trial("covers that grow on one axis with the depth, on both sides", "covers", ["growing"], None, ["a finer cover is wider"], ("--answers", "--oracle")),
-        trial("covers refused above depth 2, on both sides", "covers", ["shallow"], None, ["a finer cover is refused"], ("--answers", "--oracle")),
-        trial("files as they are", "files", [], 0, moves=4000, sides=()),
-        trial("a digit of one file's box and of one file's refusal", "files", ["program"], 2, ["cover, the program"], ("--cover",), moves=4000),
+        trial("covers too small, on both sides", "covers", ["narrow"], None, ["guarantee: a point leaves"], BOTH),
+        trial("points refused, on both sides", "covers", ["unanswered"], None, ["guarantee: a point of an accepted cover is not answered"], BOTH),
+        trial("covers that grow on one axis with the depth, on both sides", "covers", ["growing"], None, ["a finer cover is wider"], BOTH),
+        trial("covers refused above depth 2, on both sides", "covers", ["shallow"], None, ["a finer cover is refused"], BOTH),
+        trial("chains as they are", "chains", [], 0, cases=200),
+        trial("a built chain refused", "chains", ["built"], 1, ["chain"]),
+        trial("33 poses accepted", "chains", ["too_long"], 1, ["chain"]),
+        trial("another number of one chain's refusal", "chains", ["refusal"], 1),
+        trial("a list that falls, or has not its places, answered", "chains", ["falling"], 1, ["ctimes"]),
+        trial("every zero of every box of chains with the other sign", "chains", ["box_zeros"], 0),
+        trial("one zero of a chain's point with the other sign", "chains", ["point_zero"], 1, ["cpoint"]),
+        trial("slots kept after a refusal", "chains", ["slots_kept"], None, ["cpoint"], cases=200),
+        trial("one slot for all", "chains", ["one_slot"], None, ["cpoint"], cases=200),
+        trial("points of the first move alone", "chains", ["first_move_points"], None, ["cpoint"]),
+        trial("covers of the first move alone, on both sides", "chains", ["first_move_covers"], None, ["guarantee: a point leaves"], BOTH_OF_CHAINS),
+        trial("covers of chains too small, on both sides", "chains", ["narrow"], None, ["guarantee: a point leaves"], BOTH_OF_CHAINS),
+        trial("points of chains refused, on both sides", "chains", ["unanswered"], None, ["guarantee: a point of an accepted cover is not answered"], BOTH_OF_CHAINS),
+        trial("lists of times refused, on both sides", "chains", ["list_unanswered"], None, ["guarantee: a point of an accepted cover is not answered"], BOTH_OF_CHAINS),
+        trial("the last points of lists elsewhere, on both sides", "chains", ["list_outside"], None, ["guarantee: a point leaves"], BOTH_OF_CHAINS),
+        trial("covers of chains that grow with the depth, on both sides", "chains", ["growing"], None, ["a finer cover is wider"], BOTH_OF_CHAINS),
+        trial("covers of chains refused above depth 2, on both sides", "chains", ["shallow"], None, ["a finer cover is refused"], BOTH_OF_CHAINS),
+        trial("files as they are", "files", ["file"], 0, cases=200),
+        trial("a digit of one file's box and of one file's refusal", "files", ["wrong_file"], 2, ["cover, the program"], cases=200),
     ]
+    results = [right for right in results if right is not None]
     print("%d of %d trials as they should be" % (sum(results), len(results)))
     sys.exit(0 if all(results) else 1)
 
@@ -147,7 +236,7 @@ def main():
 if __name__ == "__main__":
     if "WRONG" not in os.environ:
         main()
-    elif os.environ["WRONG"] == "program":
-        cover()
+    elif os.environ["WRONG"] in ("file", "wrong_file"):
+        cover(os.environ["WRONG"] == "wrong_file")
     else:
         answers(os.environ["WRONG"].split())

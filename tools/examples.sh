@@ -3,15 +3,15 @@
 # whatever their sign. Then on a file of as many bytes as one may have, and of one more: `main` has no contract, and these runs hold what it reads and prints.
 # Exit status 1 where one differs.
 #   tools/examples.sh                     compares; target/bin/cover must be built
-#   tools/examples.sh --expect PROGRAM    writes the .expected files of examples/ by what PROGRAM answers at depth 10: the oracle's `answers`, so that they
-#                                         come from outside the libraries; those of examples/refused/ are document 01's numbers
+#   tools/examples.sh --expect PROGRAM    writes the .expected files of examples/ by what PROGRAM answers at depth 10: the oracle's `chain_answers`, so that
+#                                         they come from outside the libraries; those of examples/refused/ are the documents' numbers
 set -u
 cd "$(dirname "$0")/.." || exit 2
-# A move file as two questions: the move, with the bottom rows that the file leaves out, and its cover.
+# A move file as two questions: the chain, its poses with the bottom rows that the file leaves out and a pad, and its cover.
 questions() {
-    awk 'NR == 2 || NR == 3 { poses = poses " " $0 " 00000000 00000000 00000000 3f800000" } NR == 5 { print "move" poses; print "cover 10 " $0 }' "$1"
+    awk 'NR == 1 { next } $1 == "x0" { getline; print "chain 0 plain" poses; print "ccover 0 10 " $0; exit } { poses = poses " " $0 " 00000000 00000000 00000000 3f800000 00000000" }' "$1"
 }
-# Their answers as the text that the program prints; a refused move leaves the cover without an answer.
+# Their answers as the text that the program prints; a refused chain leaves the cover without an answer.
 printed() {
     awk '$1 == "refused" { print "refused"; print $2; done = 1; exit } NR == 2 && $1 == "ok" { print "x0 y0 z0 x1 y1 z1"; print substr($0, 4); done = 1 } END { exit !done }'
 }

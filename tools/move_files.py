@@ -1,12 +1,12 @@
 #!/usr/bin/env python3
-"""Makes move files, good and damaged, and says what document 01's layout asks for each.
+"""Makes move files, good and damaged, with any number of pose lines, and says what their layout (document 01, with document 02's chains) asks for each.
 
   move_files.py stream COUNT SEED [-]      the files one after the other, each behind its length as eight hexadecimal digits and a line feed
-  move_files.py answers COUNT SEED [-]     a line for each: the 32 values as lower-case bits, every NaN as 7fc00000, or `refused 11`
+  move_files.py answers COUNT SEED [-]     a line for each: 13 values for each pose and 6 of the box as lower-case bits, every NaN as 7fc00000, or `refused 11`
   move_files.py write DIR COUNT SEED [-]   the files as DIR/0000.txt and so on, the answers as DIR/answers
   move_files.py read FILE                  the answer for one file
 
-With - each file holds the next line of standard input, 32 values as `answers` prints them, and not values of chance.
+With - each file holds the next line of standard input, values as `answers` prints them, and not values of chance.
 The reader below goes by regular expressions over whole lines and shares nothing with the proved one.
 """
 import os
@@ -18,11 +18,13 @@ import sys
 POSE = b"time m00 m01 m02 m03 m10 m11 m12 m13 m20 m21 m22 m23"
 BOX = b"x0 y0 z0 x1 y1 z1"
 MOST = 65536
+# Pose lines that go into a file.
+MOST_POSES = 559
 LINE = re.compile(rb"[^ \n]+(?: +[^ \n]+)*\Z")
 VALUE = re.compile(rb"[0-9a-fA-F]{8}\Z")
 
 
-# ---- what document 01 asks
+# ---- what the layout asks
 
 def words_of(line):
     return re.findall(rb"[^ ]+", line) if LINE.match(line) else None
@@ -36,13 +38,13 @@ def values_of(line, count):
 
 
 def read(data):
-    """The 32 values' bits, or None for refusal 11."""
+    """The bits of the values, 13 for each pose line and 6 for the box, or None for refusal 11."""
     if len(data) > MOST or not data.endswith(b"\n"):
         return None
     lines = data[:-1].split(b"\n")
-    if len(lines) != 5 or words_of(lines[0]) != POSE.split() or words_of(lines[3]) != BOX.split():
+    if len(lines) < 3 or words_of(lines[0]) != POSE.split() or words_of(lines[-2]) != BOX.split():
         return None
-    parts = [values_of(lines[1], 13), values_of(lines[2], 13), values_of(lines[4], 6)]
+    parts = [values_of(line, 13) for line in lines[1:-2]] + [values_of(lines[-1], 6)]
     return None if None in parts else sum(parts, [])
 
 
@@ -82,10 +84,28 @@ def line(rng, words):
     return out
 
 
+def good_values(rng):
+    """A row of 13 values for each pose and one of 6 for the box."""
+    poses = rng.choice([2, 2, 2, 2, 3, 3, 4, 7, 0, 1, 32, 33])
+    values = rng.given or [value(rng) for _ in range(13 * poses + 6)]
+    return [values[i:i + 13] for i in range(0, len(values) - 6, 13)] + [values[-6:]]
+
+
 def good_lines(rng):
-    values = iter(rng.given) if rng.given else (value(rng) for _ in range(32))
-    rows = [line(rng, [word(rng, next(values)) for _ in range(n)]) for n in [13, 13, 6]]
-    return [line(rng, POSE.split()), rows[0], rows[1], line(rng, BOX.split()), rows[2]]
+    rows = [line(rng, [word(rng, bits) for bits in row]) for row in good_values(rng)]
+    return [line(rng, POSE.split())] + rows[:-1] + [line(rng, BOX.split()), rows[-1]]
+
+
+def many_lines(rng, count):
+    """So many pose lines, as short as they can be: the poses over and over, at times one with a value that is not finite."""
+    rows = good_values(rng)
+    poses = [list(rows[i % (len(rows) - 1)]) for i in range(count)] if len(rows) > 1 else [[value(rng) for _ in range(13)] for _ in range(count)]
+    if rng.randrange(2):
+        poses = [[b & 0x7F7FFFFF if b & 0x7F800000 == 0x7F800000 else b for b in pose] for pose in poses]
+        if rng.randrange(2):
+            rng.choice([poses[0], poses[-1], rng.choice(poses)])[rng.randrange(13)] = rng.choice([0x7F800000, 0xFF800000, 0x7FC00000])
+    lines = [b" ".join(word(rng, bits) for bits in row) for row in poses + rows[-1:]]
+    return [POSE] + lines[:-1] + [BOX, lines[-1]]
 
 
 def joined(lines):
@@ -94,9 +114,12 @@ def joined(lines):
 
 def filled(rng, size):
     """A good file of that many bytes: spaces between two words of one line make it up."""
-    lines = good_lines(rng)
+    return spread(rng, good_lines(rng), size)
+
+
+def spread(rng, lines, size):
     lack = size - len(joined(lines))
-    k = rng.randrange(5)
+    k = rng.randrange(len(lines))
     place = rng.choice([m.start() for m in re.finditer(b" ", lines[k])])
     lines[k] = lines[k][:place] + b" " * lack + lines[k][place:]
     return joined(lines)
@@ -109,7 +132,7 @@ def change_byte(rng, data, old, new):
 
 
 def damages():
-    """Each takes a generator and five good lines and gives a file, which most often departs from the layout."""
+    """Each takes a generator and a good file's lines and gives a file, which most often departs from the layout."""
     made = []
 
     def damage(f):
@@ -117,16 +140,16 @@ def damages():
         return f
 
     def some_line(rng, lines, f):
-        k = rng.randrange(5)
+        k = rng.randrange(len(lines))
         return joined(lines[:k] + [f(lines[k])] + lines[k + 1:])
 
     def some_values(rng, lines, f):
-        k = rng.choice([1, 2, 4])
+        k = rng.choice([i for i in range(1, len(lines)) if i != len(lines) - 2])
         words = lines[k].split()
         return joined(lines[:k] + [line(rng, f(words))] + lines[k + 1:])
 
     def some_names(rng, lines, f):
-        k = rng.choice([0, 3])
+        k = rng.choice([0, len(lines) - 2])
         words = lines[k].split()
         return joined(lines[:k] + [line(rng, f(words))] + lines[k + 1:])
 
@@ -159,9 +182,17 @@ def damages():
     damage(lambda rng, lines: some_line(rng, lines, lambda l: b" " * 3 + l + b" " * 3))
     damage(lambda rng, lines: joined(lines + [rng.choice(lines)]))
     damage(lambda rng, lines: joined(lines[:1] + lines[1:2] + lines[1:]))
-    damage(lambda rng, lines: joined([l for i, l in enumerate(lines) if i != rng.randrange(5)]))
-    damage(lambda rng, lines: joined(lines[:rng.randrange(5)]))
-    damage(lambda rng, lines: joined(rng.sample(lines, 5)))
+    damage(lambda rng, lines: joined(lines[:1] + lines[1:-2] + lines[1:]))
+    damage(lambda rng, lines: joined(lines[:1] + lines[-2:]))
+    damage(lambda rng, lines: joined(lines[:2] + lines[-2:]))
+    damage(lambda rng, lines: joined(lines[:-2] + lines[-1:] + lines[-2:]))
+    damage(lambda rng, lines: joined(lines[:-2] + lines[:1] + lines[1:-2] + lines[-2:]))
+    damage(lambda rng, lines: joined([l for i, l in enumerate(lines) if i != rng.randrange(len(lines))]))
+    damage(lambda rng, lines: joined(lines[:rng.randrange(len(lines))]))
+    damage(lambda rng, lines: joined(rng.sample(lines, len(lines))))
+    damage(lambda rng, lines: joined(many_lines(rng, rng.choice([2, 3, 31, 32, 33, 34, 64, 100]))))
+    damage(lambda rng, lines: joined(many_lines(rng, rng.choice([MOST_POSES - 1, MOST_POSES, MOST_POSES, MOST_POSES + 1]))))
+    damage(lambda rng, lines: spread(rng, many_lines(rng, MOST_POSES), MOST + rng.choice([0, 0, -1, 1])))
     damage(lambda rng, lines: joined(lines) + joined(lines))
     damage(lambda rng, lines: some_values(rng, lines, lambda w: w[:-1]))
     damage(lambda rng, lines: some_values(rng, lines, lambda w: w[1:]))
@@ -182,8 +213,8 @@ def damages():
     damage(lambda rng, lines: some_names(rng, lines, lambda w: w[:-1]))
     damage(lambda rng, lines: some_names(rng, lines, lambda w: w[1:]))
     damage(lambda rng, lines: some_names(rng, lines, lambda w: w + [rng.choice([b"pad", b"m30", w[-1]])]))
-    damage(lambda rng, lines: joined([line(rng, POSE.split() + [b"pad"]), lines[1] + b" 00000000", lines[2] + b" 00000000"] + lines[3:]))
-    damage(lambda rng, lines: joined(lines[3:] + lines[:3]))
+    damage(lambda rng, lines: joined([line(rng, POSE.split() + [b"pad"])] + [l + b" 00000000" for l in lines[1:-2]] + lines[-2:]))
+    damage(lambda rng, lines: joined(lines[-2:] + lines[:-2]))
 
     @damage
     def byte_changed(rng, lines):
@@ -218,7 +249,7 @@ DAMAGES = damages()
 
 
 def files(count, seed, given):
-    """Every damage in turn, and a good file after each third. `given` are rows of 32 values to be held in turn, or none."""
+    """Every damage in turn, and a good file after each third. `given` are rows of values to be held in turn, or none."""
     rng = random.Random(seed)
     for i in range(count):
         rng.given = given[i % len(given)] if given else None

@@ -1,9 +1,10 @@
 #!/usr/bin/env bash
-# Makes crates/answers/stdin and crates/answers/stdout: the questions of each group and their expected answer lines, in this order.
-# Each group's expected values come from outside the libraries:
+# Makes the fixed lists that the tests replay, questions in stdin and their expected answer lines in stdout: of crates/answers the groups below, in this order,
+# and of crates/chain_answers those of chains. Each group's expected values come from outside the libraries:
 #   numbers                                        hardware float arithmetic   tools/number_vectors.rs
 #   angles                                         exact fractions             tools/angle_vectors.py
 #   matrices, boxes, zeros, moves, their queries   the original Rust, and for covers a second implementation beside it   oracle/ (which says where it looks for pbrt-rust's sources)
+#   chains                                         the same, move by move
 set -eu
 cd "$(dirname "$0")/.."
 made=$(mktemp -d)
@@ -31,4 +32,7 @@ vectors=$made/oracle/release/vectors
 cat "$made/questions" >>"$made/stdin"
 "$made/oracle/release/answers" <"$made/questions" >>"$made/stdout"
 cp "$made/stdin" "$made/stdout" crates/answers/
-wc -l crates/answers/stdin crates/answers/stdout
+mkdir -p crates/chain_answers
+"$vectors" chains 150 1 >crates/chain_answers/stdin
+"$made/oracle/release/chain_answers" <crates/chain_answers/stdin >crates/chain_answers/stdout
+wc -l crates/answers/stdin crates/answers/stdout crates/chain_answers/stdin crates/chain_answers/stdout

@@ -6,9 +6,11 @@
 
 #[cfg(boost)]
 mod boost;
+mod chains;
 mod inputs;
 
 use inputs::{array, cases, original_bounds, original_matrix, original_point, Case, Kind, Random, CALLS};
+use jellyplain::Bounds;
 use oracle::core::transform::{AnimatedTransform, Transform};
 use oracle::cover::cover;
 use std::hint::black_box;
@@ -230,4 +232,6 @@ fn main() {
     compare_all("shifting", &shifting);
     compare_boost(&[("turning", &turning), ("shifting", &shifting)]);
     growth("turning", &turning[..2]);
+    println!("\n{:32} {:>12} {:>12} {:>8}   quartiles", "a chain, nanoseconds a call", "chain", "moves", "ratio");
+    chains::compare_chains(&mut random);
 }

@@ -1,4 +1,4 @@
-//! Lines of questions and answers (the protocol is `answers`' own): when two answers are the same, and the floats in them.
+//! Lines of questions and answers (the protocol is that of `answers` and `chain_answers`): when two answers are the same, and the floats in them.
 
 /// The lines of a text, each without its line feed.
 pub fn lines(text: &[u8]) -> impl Iterator<Item = &[u8]> {
@@ -21,9 +21,52 @@ pub fn text(line: &[u8]) -> String {
     String::from_utf8_lossy(line).into_owned()
 }
 
-/// `move` with its 34 floats.
-pub fn is_whole_move(question: &[u8]) -> bool {
-    question.starts_with(b"move ") && question.len() == 4 + 34 * 9
+/// The poses of a question that builds, each its time and 16 entries as words: of `move`, or of `chain` and `lone` without their pads.
+pub fn poses(question: &[u8]) -> Option<Vec<Vec<&[u8]>>> {
+    let words: Vec<&[u8]> = words(question).collect();
+    let (values, size) = match words.as_slice() {
+        [b"move", values @ ..] if values.len() == 34 => (values, 17),
+        [b"chain" | b"lone", _, _, values @ ..] => (values, 18),
+        _ => return None,
+    };
+    values.len().is_multiple_of(size).then(|| values.chunks(size).map(|pose| pose[..17].to_vec()).collect())
+}
+
+/// A move or chain is built.
+pub fn builds(question: &[u8]) -> bool {
+    matches!(words(question).next(), Some(b"move" | b"chain" | b"lone"))
+}
+
+/// What a program keeps between questions, by the questions that built it: a move, or chains in four slots.
+#[derive(Default)]
+pub struct Kept<'a>([&'a [u8]; 5]);
+
+impl<'a> Kept<'a> {
+    /// The place that a question fills or asks about: the move's, or that of the slot which its second word names.
+    fn place(question: &[u8]) -> usize {
+        let mut words = words(question);
+        match (words.next(), words.next()) {
+            (Some(b"chain" | b"lone" | b"cpoint" | b"ctimes" | b"ccover" | b"cinterp" | b"cparts" | b"cmotion" | b"cpmotion"), Some([slot @ b'0'..=b'3'])) => {
+                1 + usize::from(slot - b'0')
+            }
+            _ => 0,
+        }
+    }
+
+    /// The question by which was built what a question is about; empty for one that builds.
+    pub fn before(&self, question: &[u8]) -> &'a [u8] {
+        if builds(question) {
+            b""
+        } else {
+            self.0[Kept::place(question)]
+        }
+    }
+
+    pub fn note(&mut self, question: &'a [u8], answer: &[u8]) {
+        if builds(question) && answer != b"error" {
+            self.0[Kept::place(question)] = question;
+        }
+    }
 }
 
 /// Eight hexadecimal digits, lower case as in an answer.
@@ -65,5 +108,5 @@ pub fn same(is_box: bool, a: &[u8], b: &[u8]) -> bool {
 
 /// The questions whose answer is a box.
 pub fn answers_a_box(question: &[u8]) -> bool {
-    matches!(words(question).next(), Some(b"motion" | b"pmotion" | b"cover" | b"bounds"))
+    matches!(words(question).next(), Some(b"motion" | b"pmotion" | b"cover" | b"bounds" | b"ccover" | b"cmotion" | b"cpmotion"))
 }

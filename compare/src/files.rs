@@ -1,28 +1,38 @@
 //! Move files, good and damaged: what the program `cover` prints for each, against what the oracle says of it.
-//! tools/move_files.py makes the files, around the moves and boxes of `vectors covers`, and reads their layout; the oracle builds the move and covers the box at depth 10.
+//! tools/move_files.py makes the files, around the moves and boxes of `vectors covers` and the chains and boxes of `vectors chains`, and reads their layout; the
+//! oracle builds the chain and covers the box at depth 10.
 
-use crate::answer::{is_whole_move, lines, same, text, words};
+use crate::answer::{lines, poses, same, text, words};
 use crate::program::{give_up, output_of, run, Programs};
 use crate::report::Report;
 use std::path::Path;
 
 const BOX: &[u8] = b"x0 y0 z0 x1 y1 z1";
 
-/// A row of 32 values for each move, refused ones too: both times with the upper three rows of their poses, and the last box that was asked for before.
-fn values(programs: &Programs, count: usize, seed: u64) -> Vec<u8> {
-    let asked = output_of(&programs.vectors, &["covers", &count.to_string(), &seed.to_string()], b"");
+/// A row of values for each move or chain of a kind, refused ones too: for each pose its time and upper three rows, then the last box that was asked for before.
+fn rows(programs: &Programs, kind: &str, count: usize, seed: u64) -> Vec<Vec<u8>> {
+    let asked = output_of(&programs.vectors, &[kind, &count.to_string(), &seed.to_string()], b"");
     let mut rows = Vec::new();
     let mut bounds: Vec<&[u8]> = vec![b"00000000"; 6];
     for line in lines(&asked) {
-        let values: Vec<&[u8]> = words(line).skip(1).collect();
-        if is_whole_move(line) {
-            rows.push([&values[..13], &values[17..30], &bounds].concat().join(&b' '));
-        } else if line.starts_with(b"cover ") && values.len() == 7 {
-            bounds = values[1..].to_vec();
+        if let Some(poses) = poses(line) {
+            let values: Vec<&[u8]> = poses.iter().flat_map(|pose| &pose[..13]).chain(&bounds).copied().collect();
+            rows.push(values.join(&b' '));
+        }
+        match words(line).collect::<Vec<_>>().as_slice() {
+            [b"cover", _, values @ ..] | [b"ccover", _, _, values @ ..] if values.len() == 6 => bounds = values.to_vec(),
+            _ => (),
         }
     }
-    // The fixed moves come first.
-    rows[rows.len().saturating_sub(count)..].join(&b'\n')
+    // The fixed ones come first.
+    rows.split_off(rows.len().saturating_sub(count))
+}
+
+/// Two rows of chains after each row of a move.
+fn values(programs: &Programs, count: usize, seed: u64) -> Vec<u8> {
+    let (moves, chains) = (rows(programs, "covers", count, seed), rows(programs, "chains", count, seed));
+    let row = |i: usize| if i.is_multiple_of(3) { &moves[i % moves.len()] } else { &chains[i % chains.len()] };
+    (0..count).map(row).cloned().collect::<Vec<_>>().join(&b'\n')
 }
 
 /// The files of the stream, each behind its length as eight hexadecimal digits and a line feed.
@@ -37,12 +47,14 @@ fn split(mut stream: &[u8]) -> Vec<&[u8]> {
     files
 }
 
-/// The two questions that a good file's values ask.
+/// The two questions that a good file's values ask: its poses as a chain, with their bottom rows and pads of zero, and the cover of its box.
 fn questions_of(values: &[u8]) -> Vec<u8> {
     let values: Vec<&[u8]> = words(values).collect();
-    let bottom: [&[u8]; 4] = [b"00000000", b"00000000", b"00000000", b"3f800000"];
-    let build = [&[b"move".as_slice()], &values[..13], &bottom, &values[13..26], &bottom].concat().join(&b' ');
-    let cover = [&[b"cover".as_slice(), b"10"], &values[26..]].concat().join(&b' ');
+    let (poses, bounds) = values.split_at(values.len() - 6);
+    let bottom_and_pad: [&[u8]; 5] = [b"00000000", b"00000000", b"00000000", b"3f800000", b"00000000"];
+    let poses: Vec<&[u8]> = poses.chunks(13).flat_map(|pose| [pose, &bottom_and_pad].concat()).collect();
+    let build = [&[b"chain".as_slice(), b"0", b"plain"], poses.as_slice()].concat().join(&b' ');
+    let cover = [&[b"ccover".as_slice(), b"0", b"10"], bounds].concat().join(&b' ');
     [build, cover, vec![]].join(&b'\n')
 }
 
@@ -72,13 +84,14 @@ pub fn compare(programs: &Programs, count: usize, seed: u64, report: &mut Report
     }
     let is_good = |answer: &&&[u8]| !answer.starts_with(b"refused");
     let asked: Vec<u8> = layout.iter().filter(is_good).flat_map(|values| questions_of(values)).collect();
-    let answers = output_of(&programs.oracle, &[], &asked);
+    // A file may hold more poses than a line of the protocol's.
+    let answers = output_of(&programs.chains.oracle, &["--any-length"], &asked);
     let mut answers = lines(&answers);
     for (i, (file, layout)) in files.iter().zip(&layout).enumerate() {
         let expected = if is_good(&layout) {
             let mut next = || answers.next().unwrap_or_else(|| give_up("the oracle has too few answers for the files"));
             let (built, cover) = (next(), next());
-            if built == b"ok" {
+            if built.starts_with(b"ok") {
                 cover
             } else {
                 built

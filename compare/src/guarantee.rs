@@ -1,61 +1,92 @@
-//! The guarantee, tested from outside: each point of the box, asked at any time, is answered, and lies inside the cover that was accepted.
-//! And that a cover at a greater depth is accepted and lies inside it too.
+//! The guarantee, tested from outside: each point of the box, asked at any time, is answered, and lies inside the cover that was accepted, of a move or of
+//! a chain. And that a cover at a greater depth is accepted and lies inside it too.
 
-use crate::answer::{accepted, floats, is_whole_move, lines, questions, text, words, write_float};
-use crate::program::{run_both, Programs};
+use crate::answer::{accepted, float, floats, lines, poses, questions, text, words, write_float, Kept};
+use crate::program::{run_both, Sides};
 use crate::random::Random;
-use crate::report::Report;
+use crate::report::{Guarantee, Report};
 
 /// An accepted cover: the lines that ask and answer it, and their numbers.
 struct Cover<'a> {
     built: &'a [u8],
     question: &'a [u8],
     answer: &'a [u8],
-    times: [f32; 2],
+    /// The poses' times.
+    times: Vec<f32>,
     depth: u32,
     asked: [f32; 6],
     cover: [f32; 6],
+    /// The slot of a chain or of a move built by itself.
+    slot: Option<char>,
+    is_chain: bool,
 }
 
-/// How many borders of slices are asked at, and how many times between.
+/// How many borders of slices are asked at, and how many times between: more of them for a chain of many moves.
 const BORDERS: usize = 4;
 const BETWEEN: usize = 8;
+/// At so many poses' times, or fewer.
+const POSES: usize = 10;
 
 const MAX_DEPTH: u32 = 12;
 /// Greater depths mostly end here, since each depth takes twice as long.
 const COMMON_DEPTH: u32 = 9;
+/// A chain's slices at a greater depth mostly stay below this.
+const COMMON_SLICES: usize = 2048;
 
 fn accepted_covers<'a>(asked: &'a [u8], answers: &'a [u8]) -> Vec<Cover<'a>> {
     let mut covers = Vec::new();
-    let mut built: &[u8] = b"";
+    let mut kept = Kept::default();
     for (question, answer) in questions(asked).zip(lines(answers)) {
-        if is_whole_move(question) {
-            built = question;
-        }
+        let built = kept.before(question);
+        kept.note(question, answer);
         let mut values = words(question);
-        let (Some(b"cover"), Some(depth), Some(cover)) = (values.next(), values.next(), accepted(answer)) else { continue };
-        let (Some(asked), Some(poses)) = (floats(values), floats::<34>(words(built).skip(1))) else { continue };
+        let slot = match values.next() {
+            Some(b"cover") => None,
+            Some(b"ccover") => values.next().and_then(|slot| slot.first()).map(|slot| char::from(*slot)),
+            _ => continue,
+        };
+        let (Some(depth), Some(cover), Some(asked), Some(poses)) = (values.next(), accepted(answer), floats(values), poses(built)) else { continue };
         let Ok(depth) = text(depth).parse() else { continue };
-        covers.push(Cover { built, question, answer, times: [poses[0], poses[17]], depth, asked, cover });
+        let Some(times) = poses.iter().map(|pose| float(pose[0])).collect::<Option<Vec<f32>>>() else { continue };
+        if times.len() < 2 {
+            // A cover of what was refused; the comparison tells.
+            continue;
+        }
+        covers.push(Cover { built, question, answer, times, depth, asked, cover, slot, is_chain: built.starts_with(b"chain") });
     }
     covers
 }
 
-/// Before, at and after the ends, and the infinities; some borders of slices and their neighbours; others between.
+/// The first and the last, and others of chance where there are many.
+fn some_poses(times: &[f32], random: &mut Random) -> Vec<f32> {
+    let last = times.len() - 1;
+    let picked = |random: &mut Random| times[1 + random.below(last as u64 - 1) as usize];
+    match last {
+        0..POSES => times.to_vec(),
+        _ => [times[0], times[last]].into_iter().chain((2..POSES).map(|_| picked(random))).collect(),
+    }
+}
+
+/// Before, at and after the poses, and the infinities; some borders of slices and their neighbours; others between.
 fn times(cover: &Cover, random: &mut Random) -> Vec<f32> {
-    let [start, end] = cover.times;
-    let mut times = vec![f32::NEG_INFINITY, f32::MIN, start - 1.0, start.next_down(), start, start.next_up()];
-    times.extend([end.next_down(), end, end.next_up(), end + 1.0, f32::MAX, f32::INFINITY]);
-    let at = |part: f64| (f64::from(start) + part * (f64::from(end) - f64::from(start))) as f32;
+    let (start, end) = (cover.times[0], cover.times[cover.times.len() - 1]);
+    let mut times = vec![f32::NEG_INFINITY, f32::MIN, start - 1.0, end + 1.0, f32::MAX, f32::INFINITY];
+    for time in some_poses(&cover.times, random) {
+        times.extend([time.next_down(), time, time.next_up()]);
+    }
+    let moves: Vec<(f64, f64)> = cover.times.windows(2).map(|pair| (f64::from(pair[0]), f64::from(pair[1]))).collect();
+    let at = |(start, end): (f64, f64), part: f64| (start + part * (end - start)) as f32;
     let slices = 1u64 << cover.depth.min(MAX_DEPTH);
-    for _ in 0..BORDERS {
-        let border = at(random.below(slices + 1) as f64 / slices as f64);
+    let more = moves.len().min(POSES) - 1;
+    for _ in 0..BORDERS + more {
+        let border = at(random.pick(&moves), random.below(slices + 1) as f64 / slices as f64);
         times.extend([border.next_down(), border, border.next_up()]);
     }
-    times.extend((0..BETWEEN).map(|_| at(random.unit())));
+    times.extend((0..BETWEEN + more).map(|_| at(random.pick(&moves), random.unit())));
     times
 }
 
+#[derive(Clone, Copy)]
 enum Place {
     Corner,
     FaceCentre,
@@ -82,36 +113,48 @@ fn point(cover: &Cover, place: Place, random: &mut Random) -> [f32; 3] {
     })
 }
 
-/// Asks at each time for a corner and for a point at another place. How many questions that makes.
-fn ask_points(questions: &mut Vec<u8>, cover: &Cover, random: &mut Random) -> usize {
-    let times = times(cover, random);
+/// A question's name, and the slot it asks about: `point`, or `cpoint 2`.
+fn name(cover: &Cover, question: &str) -> String {
+    match cover.slot {
+        None => question.to_owned(),
+        Some(slot) => format!("c{question} {slot}"),
+    }
+}
+
+fn ask(questions: &mut Vec<u8>, question: &str, values: &[&[f32]]) {
+    questions.extend_from_slice(question.as_bytes());
+    values.iter().copied().flatten().for_each(|x| write_float(questions, *x));
+    questions.push(b'\n');
+}
+
+/// Asks at each time for a corner and for a point at another place, and of a chain for a point at all of the times.
+fn ask_points(questions: &mut Vec<u8>, cover: &Cover, random: &mut Random) {
+    let mut times = times(cover, random);
     for time in &times {
-        let other = [FaceCentre, Inside, Mixed].into_iter().nth(random.below(3) as usize).unwrap();
-        for place in [Corner, other] {
-            questions.extend_from_slice(b"point");
-            write_float(questions, *time);
-            point(cover, place, random).iter().for_each(|x| write_float(questions, *x));
-            questions.push(b'\n');
+        for place in [Corner, random.pick(&[FaceCentre, Inside, Mixed])] {
+            ask(questions, &name(cover, "point"), &[&[*time], &point(cover, place, random)]);
         }
     }
-    2 * times.len()
+    if cover.is_chain {
+        times.sort_by(f32::total_cmp);
+        let places = 3 * times.len();
+        ask(questions, &format!("{} {places}", name(cover, "times")), &[&point(cover, Mixed, random), &times]);
+    }
 }
 
 /// A greater depth: once in a while any, else one up to the common depth, or the next.
-fn greater_depth(depth: u32, random: &mut Random) -> Option<u32> {
-    let most = if random.below(16) == 0 { MAX_DEPTH } else { COMMON_DEPTH.max(depth + 1) };
-    (depth < MAX_DEPTH).then(|| depth + 1 + random.below(u64::from(most - depth)) as u32)
+fn greater_depth(cover: &Cover, random: &mut Random) -> Option<u32> {
+    let slices = COMMON_SLICES.checked_div(cover.times.len() - 1).map_or(0, usize::ilog2);
+    let common = if cover.slot.is_some() { slices.min(COMMON_DEPTH) } else { COMMON_DEPTH };
+    let most = if random.below(16) == 0 && cover.times.len() < 8 { MAX_DEPTH } else { common.max(cover.depth + 1) };
+    (cover.depth < MAX_DEPTH).then(|| cover.depth + 1 + random.below(u64::from(most - cover.depth)) as u32)
 }
 
-/// Asks for the same box at a greater depth. Whether there is one.
-fn ask_finer(questions: &mut Vec<u8>, cover: &Cover, random: &mut Random) -> bool {
-    let depth = greater_depth(cover.depth, random);
-    if let Some(depth) = depth {
-        questions.extend_from_slice(format!("cover {depth}").as_bytes());
-        cover.asked.iter().for_each(|x| write_float(questions, *x));
-        questions.push(b'\n');
+/// Asks for the same box at a greater depth, where there is one.
+fn ask_finer(questions: &mut Vec<u8>, cover: &Cover, random: &mut Random) {
+    if let Some(depth) = greater_depth(cover, random) {
+        ask(questions, &format!("{} {depth}", name(cover, "cover")), &[&cover.asked]);
     }
-    depth.is_some()
 }
 
 /// What it takes to ask again.
@@ -119,31 +162,59 @@ fn told<'a>(cover: &Cover<'a>, question: &'a [u8], answer: &'a [u8]) -> [(&'stat
     [("", cover.built), ("", cover.question), ("project:", cover.answer), ("", question), ("project:", answer)]
 }
 
-fn check_point(cover: &Cover, question: &[u8], answer: &[u8], report: &mut Report) {
-    report.guarantee.points += 1;
-    let Some(p) = accepted::<3>(answer) else {
-        report.guarantee.refused += 1;
+fn guarantee<'a>(cover: &Cover, report: &'a mut Report) -> &'a mut Guarantee {
+    if cover.slot.is_some() {
+        &mut report.chain_guarantee
+    } else {
+        &mut report.guarantee
+    }
+}
+
+/// The points of an answer, three floats each.
+fn answered(answer: &[u8]) -> Option<Vec<[f32; 3]>> {
+    let values: Vec<f32> = words(answer.strip_prefix(b"ok ")?).map(float).collect::<Option<_>>()?;
+    let points = values.chunks_exact(3);
+    points.remainder().is_empty().then(|| points.map(|p| [p[0], p[1], p[2]]).collect())
+}
+
+/// How many points a question asks for: `ctimes S PLACES ..` tells it.
+fn points_asked(question: &[u8]) -> usize {
+    let mut words = words(question);
+    match words.next() {
+        Some(b"ctimes") => words.nth(1).and_then(|places| text(places).parse::<usize>().ok()).unwrap_or(0) / 3,
+        _ => 1,
+    }
+}
+
+fn check_points(cover: &Cover, question: &[u8], answer: &[u8], report: &mut Report) {
+    let count = points_asked(question);
+    guarantee(cover, report).points += count as u64;
+    let Some(points) = answered(answer).filter(|points| points.len() == count) else {
+        guarantee(cover, report).refused += 1;
         report.found("guarantee: a point of an accepted cover is not answered", &told(cover, question, answer));
         return;
     };
     let (low, high) = (&cover.cover[..3], &cover.cover[3..]);
-    if !(0..3).all(|axis| low[axis] <= p[axis] && p[axis] <= high[axis]) {
-        report.guarantee.outside += 1;
+    let is_inside = |p: &[f32; 3]| (0..3).all(|axis| low[axis] <= p[axis] && p[axis] <= high[axis]);
+    let is_touching = |p: &[f32; 3]| is_inside(p) && (0..3).any(|axis| low[axis] == p[axis] || p[axis] == high[axis]);
+    let outside = points.iter().filter(|p| !is_inside(p)).count();
+    if outside > 0 {
         report.found("guarantee: a point leaves its accepted cover", &told(cover, question, answer));
-    } else if (0..3).any(|axis| low[axis] == p[axis] || p[axis] == high[axis]) {
-        report.guarantee.touching += 1;
     }
+    let guarantee = guarantee(cover, report);
+    guarantee.outside += outside as u64;
+    guarantee.touching += points.iter().filter(|p| is_touching(p)).count() as u64;
 }
 
 fn check_finer(cover: &Cover, question: &[u8], answer: &[u8], report: &mut Report) {
-    report.guarantee.finer += 1;
+    guarantee(cover, report).finer += 1;
     let Some(finer) = accepted::<6>(answer) else {
-        report.guarantee.finer_refused += 1;
+        guarantee(cover, report).finer_refused += 1;
         report.found("a finer cover is refused", &told(cover, question, answer));
         return;
     };
     if !(0..3).all(|axis| cover.cover[axis] <= finer[axis] && finer[axis + 3] <= cover.cover[axis + 3]) {
-        report.guarantee.finer_wider += 1;
+        guarantee(cover, report).finer_wider += 1;
         report.found("a finer cover is wider", &told(cover, question, answer));
     }
 }
@@ -152,32 +223,38 @@ fn row(question: &[u8]) -> &'static str {
     match words(question).next() {
         Some(b"move") => "move of an accepted cover",
         Some(b"cover") => "cover at a greater depth",
+        Some(b"chain" | b"lone") => "chain of an accepted cover",
+        Some(b"ccover") => "chain's cover at a greater depth",
+        Some(b"cpoint") => "point of a chain's accepted cover",
+        Some(b"ctimes") => "list of times of a chain's accepted cover",
         _ => "point of an accepted cover",
     }
 }
 
 /// Tests every cover that the project accepted in its answers to a batch. The points and finer covers are compared with the oracle's too.
-pub fn test(programs: &Programs, asked: &[u8], answers: &[u8], random: &mut Random, report: &mut Report) {
+pub fn test(sides: &Sides, asked: &[u8], answers: &[u8], random: &mut Random, report: &mut Report) {
     let covers = accepted_covers(asked, answers);
     let mut text = Vec::new();
     let mut counts = Vec::new();
     for cover in &covers {
+        let before = text.len();
         text.extend_from_slice(cover.built);
         text.push(b'\n');
-        counts.push((ask_finer(&mut text, cover, random), ask_points(&mut text, cover, random)));
+        ask_finer(&mut text, cover, random);
+        ask_points(&mut text, cover, random);
+        counts.push(lines(&text[before..]).count());
     }
-    let runs = run_both(programs, &text);
+    let runs = run_both(sides, &text);
     report.compare(&text, &runs, row);
     let mut pairs = questions(&text).zip(lines(&runs[0].output));
-    for (cover, (finer, points)) in covers.iter().zip(counts) {
-        report.guarantee.covers += 1;
-        // The answer to `move`.
-        pairs.next();
-        for (question, answer) in pairs.by_ref().take(usize::from(finer)) {
-            check_finer(cover, question, answer, report);
-        }
-        for (question, answer) in pairs.by_ref().take(points) {
-            check_point(cover, question, answer, report);
+    for (cover, count) in covers.iter().zip(counts) {
+        guarantee(cover, report).covers += 1;
+        // The first answer is that of the question that builds.
+        for (question, answer) in pairs.by_ref().take(count).skip(1) {
+            match words(question).next() {
+                Some(b"cover" | b"ccover") => check_finer(cover, question, answer, report),
+                _ => check_points(cover, question, answer, report),
+            }
         }
     }
 }

@@ -7,8 +7,7 @@ mod program;
 mod random;
 mod report;
 
-use answer::is_whole_move;
-use program::{give_up, run_both, Programs};
+use program::{give_up, run_both, Programs, Sides};
 use random::Random;
 use report::{grouped, name_of, Report};
 use std::collections::BTreeMap;
@@ -18,27 +17,31 @@ use std::sync::mpsc::{channel, sync_channel, RecvTimeoutError, SyncSender};
 use std::sync::{Arc, Mutex};
 use std::time::{Duration, Instant};
 
-const KINDS: &[&str] = &["numbers", "angles", "matrices", "boxes", "moves", "bounds", "motion", "covers", "files"];
+const KINDS: &[&str] = &["numbers", "angles", "matrices", "boxes", "moves", "bounds", "motion", "covers", "chains", "files"];
 
 const HELP: &str = "\
-compare/run [--moves N] [--seed N] [--kinds A,B,..] [--files N] [--no-build] ..
+compare/run [--moves N] [--chains N] [--seed N] [--kinds A,B,..] [--files N] [--no-build] ..
 
-  --moves N        cases of each kind beside the fixed ones                      20000
-  --seed N         the same seed makes the same cases                            7
-  --kinds A,B      some of: numbers angles matrices boxes moves bounds motion covers files; all of them without it
-  --files N        files for the program `cover`                                 a tenth of the moves
-  --show N         how many differences are printed                              10
-  --workers N      batches worked at once                                        the number of processors
-  --no-build       takes the project's programs as they stand
-  --answers PATH   the project's program `answers`                               target/bin/answers
-  --cover PATH     the project's program `cover`                                 target/bin/cover
-  --oracle PATH    the oracle's program `answers`                                oracle/target/release/answers
+  --moves N              cases of each kind beside the fixed ones                20000
+  --chains N             chains, with their questions, beside the fixed ones     a quarter of the moves
+  --files N              files for the program `cover`                           a tenth of the moves
+  --seed N               the same seed makes the same cases                      7
+  --kinds A,B            some of: numbers angles matrices boxes moves bounds motion covers chains files; all of them without it
+  --show N               how many differences are printed                        10
+  --workers N            batches worked at once                                  the number of processors
+  --no-build             takes the project's programs as they stand
+  --answers PATH         the project's program `answers`                         target/bin/answers
+  --chain-answers PATH   the project's program `chain_answers`                   target/bin/chain_answers
+  --cover PATH           the project's program `cover`                           target/bin/cover
+  --oracle PATH          the oracle's program `answers`                          oracle/target/release/answers
+  --chain-oracle PATH    the oracle's program `chain_answers`                    oracle/target/release/chain_answers
 Exit status: 0 no difference, 1 a difference, 2 nothing could be compared.";
 
 struct Options {
     moves: u64,
     seed: u64,
     kinds: Vec<String>,
+    chains: Option<u64>,
     files: Option<u64>,
     show: usize,
     workers: usize,
@@ -51,15 +54,15 @@ fn number(option: &str, value: &str) -> u64 {
 
 fn options() -> Options {
     let programs = Programs {
-        answers: "target/bin/answers".into(),
+        moves: Sides { project: "target/bin/answers".into(), oracle: "oracle/target/release/answers".into() },
+        chains: Sides { project: "target/bin/chain_answers".into(), oracle: "oracle/target/release/chain_answers".into() },
         cover: "target/bin/cover".into(),
-        oracle: "oracle/target/release/answers".into(),
         vectors: "oracle/target/release/vectors".into(),
         move_files: "tools/move_files.py".into(),
     };
     let workers = std::thread::available_parallelism().map_or(2, usize::from);
     let kinds = KINDS.iter().map(|kind| kind.to_string()).collect();
-    let mut options = Options { moves: 20_000, seed: 7, kinds, files: None, show: 10, workers, programs };
+    let mut options = Options { moves: 20_000, seed: 7, kinds, chains: None, files: None, show: 10, workers, programs };
     let mut arguments = std::env::args().skip(1);
     while let Some(option) = arguments.next() {
         if option == "--help" || option == "-h" {
@@ -70,13 +73,16 @@ fn options() -> Options {
         match option.as_str() {
             "--moves" => options.moves = number(&option, &value),
             "--seed" => options.seed = number(&option, &value),
+            "--chains" => options.chains = Some(number(&option, &value)),
             "--files" => options.files = Some(number(&option, &value)),
             "--show" => options.show = number(&option, &value) as usize,
             "--workers" => options.workers = number(&option, &value).max(1) as usize,
             "--kinds" => options.kinds = value.split(',').map(str::to_owned).collect(),
-            "--answers" => options.programs.answers = value.into(),
+            "--answers" => options.programs.moves.project = value.into(),
+            "--chain-answers" => options.programs.chains.project = value.into(),
             "--cover" => options.programs.cover = value.into(),
-            "--oracle" => options.programs.oracle = value.into(),
+            "--oracle" => options.programs.moves.oracle = value.into(),
+            "--chain-oracle" => options.programs.chains.oracle = value.into(),
             _ => give_up(&format!("no option {option}; --help lists them")),
         }
     }
@@ -86,40 +92,46 @@ fn options() -> Options {
     options
 }
 
-/// Work for one worker: whole cases, so that fresh programs have every move that is asked about.
+/// Work for one worker: whole cases, so that fresh programs have every move and chain that is asked about.
 enum Batch {
-    Questions { kind: String, questions: Vec<u8>, moves: u64 },
+    Questions { kind: String, questions: Vec<u8>, built: u64 },
     Files { count: u64, seed: u64 },
 }
 
 const BATCH_BYTES: usize = 1 << 18;
 const BATCH_FILES: u64 = 200;
 
-/// Cuts what `vectors` prints for a kind into batches: before a move, or anywhere as long as there was none.
+fn are_chains(kind: &str) -> bool {
+    kind == "chains"
+}
+
+/// Cuts what `vectors` prints for a kind into batches: before a move, or anywhere as long as there was none; chains at the comment before a case.
 fn cut_questions(options: &Options, kind: &str, send: impl Fn(Batch)) {
     let vectors = &options.programs.vectors;
+    let cases = if are_chains(kind) { options.chains.unwrap_or(options.moves / 4) } else { options.moves };
     let mut child = Command::new(vectors)
-        .args([kind, &options.moves.to_string(), &options.seed.to_string()])
+        .args([kind, &cases.to_string(), &options.seed.to_string()])
         .stdout(Stdio::piped())
         .spawn()
         .unwrap_or_else(|e| give_up(&format!("{}: {e}", vectors.display())));
     let mut reader = BufReader::new(child.stdout.take().unwrap());
-    let (mut batch, mut moves, mut any_move) = (Vec::new(), 0, false);
+    let (mut batch, mut built, mut any_built) = (Vec::new(), 0, false);
     let mut line = Vec::new();
     while reader.read_until(b'\n', &mut line).unwrap_or_else(|e| give_up(&format!("vectors: {e}"))) > 0 {
-        let is_move = is_whole_move(line.strip_suffix(b"\n").unwrap_or(&line));
-        if batch.len() >= BATCH_BYTES && (is_move || !any_move) {
-            send(Batch::Questions { kind: kind.to_owned(), questions: std::mem::take(&mut batch), moves });
-            moves = 0;
+        let is_built = answer::poses(line.strip_suffix(b"\n").unwrap_or(&line)).is_some();
+        let may_cut = if are_chains(kind) { line == b"#\n" } else { is_built || !any_built };
+        if batch.len() >= BATCH_BYTES && may_cut {
+            send(Batch::Questions { kind: kind.to_owned(), questions: std::mem::take(&mut batch), built });
+            built = 0;
         }
-        any_move |= is_move;
-        moves += u64::from(is_move);
+        any_built |= is_built;
+        built += u64::from(is_built);
         batch.append(&mut line);
     }
     if !child.wait().is_ok_and(|status| status.success()) {
         give_up(&format!("vectors {kind} failed"));
     }
-    send(Batch::Questions { kind: kind.to_owned(), questions: batch, moves });
+    send(Batch::Questions { kind: kind.to_owned(), questions: batch, built });
 }
 
 fn make_batches(options: &Options, batches: &SyncSender<Batch>) {
@@ -143,12 +155,13 @@ fn compare(options: &Options, batch: &Batch, number: u64) -> Report {
     let mut report = Report::default();
     match batch {
         Batch::Files { count, seed } => files::compare(programs, *count as usize, *seed, &mut report),
-        Batch::Questions { kind, questions, moves } => {
-            let runs = run_both(programs, questions);
-            report.moves = *moves;
+        Batch::Questions { kind, questions, built } => {
+            let (sides, count) = if are_chains(kind) { (&programs.chains, &mut report.chains) } else { (&programs.moves, &mut report.moves) };
+            *count = *built;
+            let runs = run_both(sides, questions);
             report.compare(questions, &runs, name_of);
-            if kind == "covers" {
-                guarantee::test(programs, questions, &runs[0].output, &mut Random::new(options.seed, number), &mut report);
+            if kind == "covers" || are_chains(kind) {
+                guarantee::test(sides, questions, &runs[0].output, &mut Random::new(options.seed, number), &mut report);
             }
         }
     }
@@ -208,14 +221,15 @@ fn main() {
         }
         if told.elapsed() > Duration::from_secs(4) {
             told = Instant::now();
-            let (seconds, moves, answers, different) = (began.elapsed().as_secs(), grouped(all.moves), grouped(all.answers()), grouped(all.different()));
-            eprintln!("{seconds:5} s  {kind}: {moves} moves, {answers} answers, {different} different");
+            let [moves, chains, answers, different] = [all.moves, all.chains, all.answers(), all.different()].map(grouped);
+            eprintln!("{:5} s  {kind}: {moves} moves, {chains} chains, {answers} answers, {different} different", began.elapsed().as_secs());
         }
     }
     if taken != queue.lock().unwrap().1 {
         give_up("a worker failed");
     }
-    println!("{} moves of each kind, seed {}: {} moves in all, {} s\n", grouped(options.moves), options.seed, grouped(all.moves), began.elapsed().as_secs());
+    let [each, moves, chains] = [options.moves, all.moves, all.chains].map(grouped);
+    println!("{each} moves of each kind, seed {}: {moves} moves and {chains} chains in all, {} s\n", options.seed, began.elapsed().as_secs());
     print!("{}", all.tables());
     println!("\n{} answers, {} different", grouped(all.answers()), grouped(all.different()));
     std::process::exit(if all.different() == 0 { 0 } else { 1 });

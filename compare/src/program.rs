@@ -7,11 +7,19 @@ use std::thread;
 
 /// Where the programs stand. The paths are read from the repository's folder.
 pub struct Programs {
-    pub answers: PathBuf,
+    /// `answers`, asked about moves.
+    pub moves: Sides,
+    /// `chain_answers`, asked about chains.
+    pub chains: Sides,
     pub cover: PathBuf,
-    pub oracle: PathBuf,
     pub vectors: PathBuf,
     pub move_files: PathBuf,
+}
+
+/// A program of the project's and the oracle's of the same name.
+pub struct Sides {
+    pub project: PathBuf,
+    pub oracle: PathBuf,
 }
 
 /// What a program wrote, and whether it ended with status 0.
@@ -42,11 +50,11 @@ pub fn run(program: &Path, arguments: &[&str], input: &[u8]) -> Run {
     Run { output, ended_well: status.success() }
 }
 
-/// Runs the project's `answers` and the oracle on the same questions, both at once.
-pub fn run_both(programs: &Programs, questions: &[u8]) -> [Run; 2] {
+/// Runs the project's program and the oracle's on the same questions, both at once.
+pub fn run_both(sides: &Sides, questions: &[u8]) -> [Run; 2] {
     thread::scope(|scope| {
-        let project = scope.spawn(|| run(&programs.answers, &[], questions));
-        let oracle = run(&programs.oracle, &[], questions);
+        let project = scope.spawn(|| run(&sides.project, &[], questions));
+        let oracle = run(&sides.oracle, &[], questions);
         [project.join().unwrap(), oracle]
     })
 }

@@ -1,14 +1,17 @@
 //! What was compared and what was found, in numbers and in words.
 
-use crate::answer::{answers_a_box, lines, questions, same, text, words};
+use crate::answer::{answers_a_box, lines, questions, same, text, words, Kept};
 use crate::program::Run;
 use std::fmt::Write;
+
+/// One more than the greatest number of a refusal.
+const REFUSALS: usize = 23;
 
 /// The answers to one kind of question, as the oracle has them.
 #[derive(Default)]
 struct Count {
     answers: u64,
-    refused: [u64; 12],
+    refused: [u64; REFUSALS],
     malformed: u64,
     different: u64,
 }
@@ -28,14 +31,30 @@ pub struct Guarantee {
 }
 
 impl Guarantee {
+    fn add(&mut self, more: &Guarantee) {
+        self.covers += more.covers;
+        self.points += more.points;
+        self.touching += more.touching;
+        self.refused += more.refused;
+        self.outside += more.outside;
+        self.finer += more.finer;
+        self.finer_refused += more.finer_refused;
+        self.finer_wider += more.finer_wider;
+    }
+
+    fn row(&self, of: &str) -> String {
+        let cells = [self.covers, self.points, self.touching, self.refused, self.outside].map(grouped);
+        format!("| {of} | {} |\n", cells.join(" | "))
+    }
+
     fn different(&self) -> u64 {
         self.refused + self.outside + self.finer_refused + self.finer_wider
     }
 
-    fn finer_line(&self) -> String {
+    fn finer_line(&self, of: &str) -> String {
         match (self.finer_refused, self.finer_wider) {
-            (0, 0) => format!("finer covers: {}, none wider", grouped(self.finer)),
-            (refused, wider) => format!("finer covers: {}, {} wider, {} refused", grouped(self.finer), grouped(wider), grouped(refused)),
+            (0, 0) => format!("finer covers of {of}: {}, none wider\n", grouped(self.finer)),
+            (refused, wider) => format!("finer covers of {of}: {}, {} wider, {} refused\n", grouped(self.finer), grouped(wider), grouped(refused)),
         }
     }
 }
@@ -43,7 +62,10 @@ impl Guarantee {
 #[derive(Default)]
 pub struct Report {
     pub moves: u64,
+    pub chains: u64,
     pub guarantee: Guarantee,
+    /// That of chains.
+    pub chain_guarantee: Guarantee,
     rows: Vec<(&'static str, Count)>,
     found: Vec<String>,
 }
@@ -55,6 +77,7 @@ const MOST_FOUND: usize = 100;
 const NAMES: &[&str] = &[
     "move", "parts", "point", "interp", "motion", "pmotion", "cover", "zeros", "sin", "cos", "acos", "abs", "root", "least", "greatest", "lerp", "clamp", "whole",
     "inverse", "mul", "quat", "rotation", "dot", "normalize", "slerp", "decompose", "bounds",
+    "chain", "lone", "cpoint", "ctimes", "ccover", "cinterp", "cparts", "cmotion", "cpmotion",
 ];
 
 /// The question's first word; every line that starts otherwise is `another line`.
@@ -93,7 +116,7 @@ impl Report {
         if answer == b"error" {
             count.malformed += 1;
         } else if let Some(number) = answer.strip_prefix(b"refused ").and_then(|n| text(n).parse::<usize>().ok()) {
-            count.refused[number.min(11)] += 1;
+            count.refused[number.min(REFUSALS - 1)] += 1;
         }
     }
 
@@ -111,11 +134,11 @@ impl Report {
 
     /// Compares two programs' answers to the same questions, line by line. `row` tells the row of a question.
     pub fn compare(&mut self, asked: &[u8], [project, oracle]: &[Run; 2], row: fn(&[u8]) -> &'static str) {
-        let mut kept: &[u8] = b"";
+        let mut kept = Kept::default();
         let (mut ours, mut theirs) = (lines(&project.output), lines(&oracle.output));
         for question in questions(asked) {
             let (name, row) = (name_of(question), row(question));
-            let before = if name == "move" { b"" } else { kept };
+            let before = kept.before(question);
             let (Some(a), Some(b)) = (ours.next(), theirs.next()) else {
                 self.row(row).different += 1;
                 let end = |run: &Run| {
@@ -130,9 +153,7 @@ impl Report {
                 self.found(name, &[("", before), ("", question), ("project:", a), ("oracle:", b)]);
             }
             self.compared(row, b, is_same);
-            if name == "move" && b != b"error" {
-                kept = question;
-            }
+            kept.note(question, b);
         }
         for (who, rest, run) in [("project", ours.next(), project), ("oracle", theirs.next(), oracle)] {
             if rest.is_some() || !run.ended_well {
@@ -144,7 +165,7 @@ impl Report {
     }
 
     pub fn different(&self) -> u64 {
-        self.rows.iter().map(|(_, count)| count.different).sum::<u64>() + self.guarantee.different()
+        self.rows.iter().map(|(_, count)| count.different).sum::<u64>() + self.guarantee.different() + self.chain_guarantee.different()
     }
 
     pub fn answers(&self) -> u64 {
@@ -164,16 +185,10 @@ impl Report {
             row.different += count.different;
             row.refused.iter_mut().zip(count.refused).for_each(|(all, more)| *all += more);
         }
-        let (all, more) = (&mut self.guarantee, other.guarantee);
-        all.covers += more.covers;
-        all.points += more.points;
-        all.touching += more.touching;
-        all.refused += more.refused;
-        all.outside += more.outside;
-        all.finer += more.finer;
-        all.finer_refused += more.finer_refused;
-        all.finer_wider += more.finer_wider;
+        self.guarantee.add(&other.guarantee);
+        self.chain_guarantee.add(&other.chain_guarantee);
         self.moves += other.moves;
+        self.chains += other.chains;
     }
 
     /// The counts as tables of Markdown.
@@ -183,15 +198,16 @@ impl Report {
         // Other rows than the questions' come last, in their own order.
         rows.sort_by_key(|(row, _)| NAMES.iter().position(|name| name == row).unwrap_or(NAMES.len()));
         for (name, count) in rows {
-            let numbers: Vec<String> = (1..12).filter(|n| count.refused[*n] > 0).map(|n| format!("{n}: {}", grouped(count.refused[n]))).collect();
+            let numbers: Vec<String> = (1..REFUSALS).filter(|n| count.refused[*n] > 0).map(|n| format!("{n}: {}", grouped(count.refused[n]))).collect();
             let (answers, malformed, different) = (grouped(count.answers), grouped(count.malformed), grouped(count.different));
             writeln!(out, "| {name} | {answers} | {} | {malformed} | {different} |", numbers.join(", ")).unwrap();
         }
-        let g = &self.guarantee;
-        if g.covers > 0 {
-            out += "\n| accepted covers | points of them, at a time | on a face of the cover | not answered | outside |\n|---|---|---|---|---|\n";
-            let cells = [g.covers, g.points, g.touching, g.refused, g.outside].map(grouped);
-            writeln!(out, "| {} |\n\n{}", cells.join(" | "), g.finer_line()).unwrap();
+        let tested: Vec<_> = [("moves", &self.guarantee), ("chains", &self.chain_guarantee)].into_iter().filter(|(_, g)| g.covers > 0).collect();
+        if !tested.is_empty() {
+            out += "\n| of | accepted covers | points of them, at a time | on a face of the cover | not answered | outside |\n|---|---|---|---|---|---|\n";
+            tested.iter().for_each(|(of, g)| out += &g.row(of));
+            out.push('\n');
+            tested.iter().for_each(|(of, g)| out += &g.finer_line(of));
         }
         out
     }

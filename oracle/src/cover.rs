@@ -155,7 +155,7 @@ fn moved(m: &Matrix, b: &[Interval; 3]) -> Judged<[f32; 6]> {
     Ok([xp.low, yp.low, zp.low, xp.high, yp.high, zp.high])
 }
 
-fn union(a: [f32; 6], b: [f32; 6]) -> [f32; 6] {
+pub fn union(a: [f32; 6], b: [f32; 6]) -> [f32; 6] {
     std::array::from_fn(|i| if i < 3 { least(a[i], b[i]) } else { greatest(a[i], b[i]) })
 }
 

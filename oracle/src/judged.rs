@@ -38,7 +38,7 @@ pub fn bounds_values(b: &Bounds3f) -> [f32; 6] {
     [b.p_min.x, b.p_min.y, b.p_min.z, b.p_max.x, b.p_max.y, b.p_max.z]
 }
 
-fn finite(values: &[f32]) -> Judged<()> {
+pub fn finite(values: &[f32]) -> Judged<()> {
     if values.iter().all(|x| x.is_finite()) {
         Ok(())
     } else {
@@ -46,7 +46,7 @@ fn finite(values: &[f32]) -> Judged<()> {
     }
 }
 
-fn finite_matrix(m: &Matrix4x4) -> Judged<()> {
+pub fn finite_matrix(m: &Matrix4x4) -> Judged<()> {
     finite(m.m.as_flattened())
 }
 
@@ -167,14 +167,21 @@ pub fn decompose(m: &Matrix4x4) -> Judged<Parts> {
     Ok(original)
 }
 
+/// 2 of a matrix: either zero will do.
+pub fn check_bottom_row(m: &Matrix4x4) -> Judged<()> {
+    if m.m[3] == [0.0, 0.0, 0.0, 1.0] {
+        Ok(())
+    } else {
+        Err(BOTTOM_ROW)
+    }
+}
+
 /// 1, 2, 3; both inverses; start parts, end parts; the dot product before and after the flip; with rotation, the perpendicular quaternion and the coefficients.
 pub fn build(start_time: f32, start: &Matrix4x4, end_time: f32, end: &Matrix4x4) -> Judged<Move> {
     if finite(&[start_time, end_time]).and(finite_matrix(start)).and(finite_matrix(end)).is_err() {
         return Err(POSE_NOT_FINITE);
     }
-    if start.m[3] != [0.0, 0.0, 0.0, 1.0] || end.m[3] != [0.0, 0.0, 0.0, 1.0] {
-        return Err(BOTTOM_ROW);
-    }
+    check_bottom_row(start).and(check_bottom_row(end))?;
     if end_time < start_time || !(end_time - start_time).is_finite() {
         return Err(TIMES);
     }

@@ -1,4 +1,4 @@
-//! Document 01's refusal numbers.
+//! The refusal numbers of documents 01 and 02.
 
 /// Building: a matrix entry or time is not finite.
 pub const POSE_NOT_FINITE: u8 = 1;
@@ -20,3 +20,7 @@ pub const DEPTH: u8 = 8;
 pub const NINTH_ZERO: u8 = 9;
 /// In a cover's slerp, the low end of a squared length to be rooted is zero or below.
 pub const SQUARED_LENGTH: u8 = 10;
+/// Fewer than 2 poses, more than 32, or times that don't rise strictly.
+pub const CHAIN: u8 = 12;
+/// A list of times that falls, or answers that aren't three places a time.
+pub const TIME_LIST: u8 = 13;

@@ -1,4 +1,4 @@
-//! A move by two poses: where a point of it stands at a time, and which box holds a box of it at every time. Safe functions over the library `api`, whose contracts are proved
+//! A move by two poses, or a chain of up to 32: where a point of it stands at a time, and which box holds a box of it at every time. Safe functions over the library `api`, whose contracts are proved
 //! (`crates/api`); this package itself is not. It needs `rt staticlib api`, run once in the repository's root.
 //!
 //! A move is built once and asked many times:
@@ -20,7 +20,7 @@
 //! # Ok::<(), Refusal>(())
 //! ```
 //!
-//! Any floats may be handed in, NaN and infinities included; what can't be worked with is refused, and nothing panics.
+//! Any floats may be handed in, NaN and infinities included; what can't be worked with is refused. Nothing panics, but for an archive that was built with another layout.
 
 mod library;
 mod refusal;
@@ -70,7 +70,7 @@ pub struct Transform {
     pub inverse: Matrix,
 }
 
-/// A built move. It is only made by [`Move::new`], so that the guarantee of [`Move::cover`] holds of every value of this type.
+/// A built move. It is only made by [`Move::new`] and [`Chain::new`], so that the guarantee of [`Move::cover`] holds of every value of this type.
 #[derive(Clone, Copy, Debug)]
 pub struct Move {
     rows: library::Rows,
@@ -87,6 +87,7 @@ fn answered<T>(number: u8, value: T) -> Result<T, Refusal> {
 impl Move {
     /// The move from one pose to another: pbrt's `AnimatedTransform::new`. Refused with numbers 1 to 5.
     pub fn new(start: &Pose, end: &Pose) -> Result<Move, Refusal> {
+        library::check_layout();
         let mut rows = library::EMPTY;
         let number = unsafe { library::jellyplain_build(start, end, &mut rows) };
         answered(number, Move { rows })
@@ -128,6 +129,53 @@ impl Move {
     pub fn cover(&self, b: &Bounds, depth: u32) -> Result<Bounds, Refusal> {
         let mut bounds = [0.0; 6];
         let number = unsafe { library::jellyplain_cover(&self.rows, &b.to_array(), depth, &mut bounds) };
+        answered(number, Bounds::from_array(bounds))
+    }
+}
+
+/// A built chain: the moves between neighbouring poses. It is only made by [`Chain::new`], so that the guarantee of [`Chain::cover`] holds of every value of this type.
+#[derive(Clone, Debug)]
+pub struct Chain {
+    moves: Vec<library::Rows>,
+}
+
+impl Chain {
+    /// The chain of 2 to 32 poses whose times rise strictly. Refused with numbers 1, 2, 12, 3, 4 and 5, in this order.
+    pub fn new(poses: &[Pose]) -> Result<Chain, Refusal> {
+        library::check_layout();
+        let mut moves = [library::EMPTY; library::MOVES];
+        let number = unsafe { library::jellyplain_build_moves(poses.as_ptr(), poses.len(), &mut moves) };
+        let count = if number == 0 { poses.len() - 1 } else { 0 };
+        answered(number, Chain { moves: moves[..count].to_vec() })
+    }
+
+    /// The moves, one fewer than the poses: the one at place i goes from pose i to the next.
+    pub fn moves(&self) -> impl ExactSizeIterator<Item = Move> + '_ {
+        self.moves.iter().map(|rows| Move { rows: *rows })
+    }
+
+    /// Where a point stands at a time. A time equal to an inner pose's belongs to the earlier move, times outside to the first and the last.
+    /// Refused with [`Refusal::Query`] and [`Refusal::NotFinite`].
+    pub fn point(&self, time: f32, p: [f32; 3]) -> Result<[f32; 3], Refusal> {
+        let mut moved = [0.0; 3];
+        let number = unsafe { library::jellyplain_moves_point(self.moves.as_ptr(), self.moves.len(), time, &p, &mut moved) };
+        answered(number, moved)
+    }
+
+    /// Where a point stands at each time of a list that never falls. Refused with [`Refusal::Query`], [`Refusal::TimeList`] and [`Refusal::NotFinite`].
+    pub fn points(&self, times: &[f32], p: [f32; 3]) -> Result<Vec<[f32; 3]>, Refusal> {
+        let mut points = vec![[0.0; 3]; times.len()];
+        let (moves, answers) = (&self.moves, points.as_mut_ptr().cast::<f32>());
+        let number =
+            unsafe { library::jellyplain_moves_points(moves.as_ptr(), moves.len(), times.as_ptr(), times.len(), &p, answers, 3 * times.len()) };
+        answered(number, points)
+    }
+
+    /// A box that holds every point of `b` at every time but NaN: [`Chain::point`] and [`Chain::points`] answer points inside it. It is the union of the moves' covers, each from
+    /// 2^depth slices. Refused as [`Move::cover`].
+    pub fn cover(&self, b: &Bounds, depth: u32) -> Result<Bounds, Refusal> {
+        let mut bounds = [0.0; 6];
+        let number = unsafe { library::jellyplain_moves_cover(self.moves.as_ptr(), self.moves.len(), &b.to_array(), depth, &mut bounds) };
         answered(number, Bounds::from_array(bounds))
     }
 }

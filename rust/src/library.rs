@@ -1,5 +1,5 @@
 //! The functions of the archive libapi.a, as crates/api/src/lib.rt exports them and c/jellyplain.h declares them. A reference to an array crosses as a thin pointer, so that
-//! no length can be wrong; references to be written are borrowed apart from all others.
+//! no length can be wrong, and a slice as a pointer and its length; references to be written are borrowed apart from all others.
 
 use crate::Pose;
 
@@ -8,6 +8,9 @@ pub type Rows = [[f32; 4]; 44];
 
 pub const EMPTY: Rows = [[0.0; 4]; 44];
 
+/// The most moves that a chain has.
+pub const MOVES: usize = 31;
+
 extern "C" {
     pub fn jellyplain_build(start: &Pose, end: &Pose, motion: &mut Rows) -> u8;
     pub fn jellyplain_point(motion: &Rows, time: f32, p: &[f32; 3], moved: &mut [f32; 3]) -> u8;
@@ -15,6 +18,28 @@ extern "C" {
     pub fn jellyplain_bound_point_motion(motion: &Rows, p: &[f32; 3], out: &mut [f32; 6]) -> u8;
     pub fn jellyplain_motion_bounds(motion: &Rows, b: &[f32; 6], out: &mut [f32; 6]) -> u8;
     pub fn jellyplain_cover(motion: &Rows, b: &[f32; 6], depth: u32, out: &mut [f32; 6]) -> u8;
+    pub fn jellyplain_layout() -> u32;
+    pub fn jellyplain_build_moves(poses: *const Pose, count: usize, moves: &mut [Rows; MOVES]) -> u8;
+    pub fn jellyplain_moves_point(moves: *const Rows, count: usize, time: f32, p: &[f32; 3], moved: &mut [f32; 3]) -> u8;
+    pub fn jellyplain_moves_points(
+        moves: *const Rows,
+        count: usize,
+        times: *const f32,
+        times_count: usize,
+        p: &[f32; 3],
+        answers: *mut f32,
+        places: usize,
+    ) -> u8;
+    pub fn jellyplain_moves_cover(moves: *const Rows, count: usize, b: &[f32; 6], depth: u32, out: &mut [f32; 6]) -> u8;
+}
+
+/// The layout in which poses, moves and chains cross to the archive.
+pub const LAYOUT: u32 = 1;
+
+/// The archive that was linked has this package's layout, or the program stops here.
+pub fn check_layout() {
+    let layout = unsafe { jellyplain_layout() };
+    assert_eq!(layout, LAYOUT, "libapi.a has another layout than this package: run `rt staticlib api` in the repository's root");
 }
 
 #[cfg(test)]
@@ -48,6 +73,31 @@ mod tests {
         assert_eq!(unsafe { jellyplain_motion_bounds(&rows, &[1.0, 0.0, 0.0, 0.0, 0.0, 0.0], &mut six) }, 7);
         assert_eq!(unsafe { jellyplain_cover(&rows, &[0.0; 6], 0, &mut six) }, 10);
         assert_eq!(six, [7.0; 6]);
+    }
+
+    #[test]
+    fn refused_chains_leave_all_as_it_was() {
+        let at = |time: f32| Pose { time, matrix: IDENTITY };
+        let mut moves = [[[7.0f32; 4]; 44]; MOVES];
+        let poses = [at(0.0), at(1.0), at(1.0)];
+        assert_eq!(unsafe { jellyplain_build_moves(poses.as_ptr(), 3, &mut moves) }, 12);
+        assert_eq!(moves, [[[7.0; 4]; 44]; MOVES]);
+        assert_eq!(unsafe { jellyplain_build_moves(poses.as_ptr(), 2, &mut moves) }, 0);
+        assert_eq!(moves[1..], [[[7.0; 4]; 44]; MOVES - 1]);
+
+        let (origin, times, mut nine) = ([0.0; 3], [0.0, 2.0, 1.0], [7.0f32; 9]);
+        let mut points = |times: &[f32], places: usize| unsafe {
+            jellyplain_moves_points(moves.as_ptr(), 1, times.as_ptr(), times.len(), &origin, nine.as_mut_ptr(), places)
+        };
+        assert_eq!(points(&times, 9), 13);
+        assert_eq!(points(&times[..2], 9), 13);
+        assert_eq!(points(&[0.0, 2.0, f32::NAN], 9), 6);
+        assert_eq!(nine, [7.0; 9]);
+        let (mut three, mut six) = ([7.0; 3], [7.0; 6]);
+        assert_eq!(unsafe { jellyplain_moves_point(moves.as_ptr(), 0, 0.0, &origin, &mut three) }, 12);
+        assert_eq!(unsafe { jellyplain_moves_cover(moves.as_ptr(), 0, &[0.0; 6], 10, &mut six) }, 12);
+        assert_eq!(unsafe { jellyplain_moves_cover(moves.as_ptr(), 1, &[0.0; 6], 13, &mut six) }, 8);
+        assert_eq!((three, six), ([7.0; 3], [7.0; 6]));
     }
 
     /// Rows that no building made are answered too: here a move at rest whose matrices are all zeros, so that a point's wp is zero.

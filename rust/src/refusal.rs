@@ -26,19 +26,23 @@ pub enum Refusal {
     SquaredLength = 10,
     /// A move file departs from its layout. Only the program `cover` reads files; no function here gives it.
     File = 11,
+    /// A chain has fewer than 2 poses or more than 32, or its times don't rise strictly.
+    Chain = 12,
+    /// A list of times falls.
+    TimeList = 13,
 }
 
 impl Refusal {
-    const ALL: [Refusal; 11] = {
+    const ALL: [Refusal; 13] = {
         use Refusal::*;
-        [PoseNotFinite, BottomRow, Times, ZeroPivot, NotFinite, Query, Corners, Depth, NinthZero, SquaredLength, File]
+        [PoseNotFinite, BottomRow, Times, ZeroPivot, NotFinite, Query, Corners, Depth, NinthZero, SquaredLength, File, Chain, TimeList]
     };
 
     pub fn number(self) -> u8 {
         self as u8
     }
 
-    /// The refusal of a number from 1 to 11.
+    /// The refusal of a number from 1 to 13.
     pub fn from_number(number: u8) -> Option<Refusal> {
         Refusal::ALL.into_iter().find(|refusal| refusal.number() == number)
     }
@@ -58,6 +62,8 @@ impl fmt::Display for Refusal {
             Refusal::NinthZero => "the motion box's search finds more than eight zeros",
             Refusal::SquaredLength => "the slices are too wide for the rotation in them",
             Refusal::File => "the file departs from its layout",
+            Refusal::Chain => "a chain has 2 to 32 poses with times that rise strictly",
+            Refusal::TimeList => "the list of times falls",
         };
         write!(f, "refused with {}: {reason}", self.number())
     }
@@ -71,7 +77,7 @@ mod tests {
 
     #[test]
     fn numbers() {
-        assert!((1..=11).all(|number| Refusal::from_number(number).unwrap().number() == number));
-        assert_eq!((Refusal::from_number(0), Refusal::from_number(12)), (None, None));
+        assert!((1..=13).all(|number| Refusal::from_number(number).unwrap().number() == number));
+        assert_eq!((Refusal::from_number(0), Refusal::from_number(14)), (None, None));
     }
 }

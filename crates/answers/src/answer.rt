@@ -1,5 +1,5 @@
-// A question's answer: whole numbers, then rows of floats, or the number of a refusal.
-// The rows of an answer are lent; the last of them holds the whole numbers, each as the float that has its bits.
+// A question's answer: for one question a whole number, then rows of floats, or the number of a refusal.
+// The rows of an answer are lent; the last of them starts with the whole number, as the float that has its bits.
 use crate::matrices;
 use crate::moves;
 use crate::question::Question;
@@ -31,7 +31,7 @@ const FLOATS: [usize; 27] = [
     23, // decompose
     8, // zeros
     0, // move
-    138, // parts
+    0, // parts: `put_parts`
     3, // point
     32, // interp
     6, // motion
@@ -47,18 +47,16 @@ pub fn put_answer(
     at: usize,
     motion: &mut [[f32; 4]; 44],
 ) -> usize {
-    let mut rows = [[0.0f32; 4]; 36];
+    if q.kind == 21 {
+        return moves::put_parts(motion, out, at);
+    }
+    let mut rows = [[0.0f32; 4]; 9];
     let refusal = answer(q, x, motion, &mut rows);
     put_line(q.kind, refusal, &rows, out, at)
 }
 
 // The number of a refusal, 0 for none, and 255 for a line that is no question, or one about a move where none is kept.
-fn answer(
-    q: Question,
-    x: &[f32; 34],
-    motion: &mut [[f32; 4]; 44],
-    rows: &mut [[f32; 4]; 36],
-) -> u8 {
+fn answer(q: Question, x: &[f32; 34], motion: &mut [[f32; 4]; 44], rows: &mut [[f32; 4]; 9]) -> u8 {
     let kind = q.kind;
     if kind < 11 {
         rows[0] = [value(kind, q.decimal, x), 0.0, 0.0, 0.0];
@@ -96,7 +94,7 @@ fn value(kind: usize, n: u64, x: &[f32; 34]) -> f32 {
 fn put_line(
     kind: usize,
     refusal: u8,
-    rows: &[[f32; 4]; 36],
+    rows: &[[f32; 4]; 9],
     out: &mut [u8; 16384],
     at: usize,
 ) -> usize {
@@ -109,29 +107,25 @@ fn put_line(
     question_lines::put_refused(refusal, out, at)
 }
 
-fn put_values(kind: usize, rows: &[[f32; 4]; 36], out: &mut [u8; 16384], at: usize) -> usize {
+fn put_values(kind: usize, rows: &[[f32; 4]; 9], out: &mut [u8; 16384], at: usize) -> usize {
     let ok = put_text(b"ok", out, at);
-    let start = put_wholes(kind, rows[35], out, ok);
+    let start = put_whole(kind, rows[8][0], out, ok);
     let end = put_rows(kind, rows, out, start);
     put_text(b"\n", out, end)
 }
 
-// `zeros` has one whole number, `parts` two.
-fn put_wholes(kind: usize, row: [f32; 4], out: &mut [u8; 16384], at: usize) -> usize {
-    if (kind != 19) & (kind != 21) {
+// `zeros` has a whole number.
+fn put_whole(kind: usize, x: f32, out: &mut [u8; 16384], at: usize) -> usize {
+    if kind != 19 {
         return at;
     }
-    let first = put_decimal(bits_of_float(row[0]) as u64, out, at);
-    if kind == 19 {
-        return first;
-    }
-    put_decimal(bits_of_float(row[1]) as u64, out, first)
+    put_decimal(bits_of_float(x) as u64, out, at)
 }
 
-fn put_rows(kind: usize, rows: &[[f32; 4]; 36], out: &mut [u8; 16384], at: usize) -> usize {
+fn put_rows(kind: usize, rows: &[[f32; 4]; 9], out: &mut [u8; 16384], at: usize) -> usize {
     let mut end = at;
     let mut left = floats_of(kind);
-    for i in 0..35 {
+    for i in 0..8 {
         if left == 0 {
             break;
         }
@@ -146,14 +140,14 @@ fn floats_of(kind: usize) -> usize {
     if kind < 27 { FLOATS[kind] } else { 0 }
 }
 
-// How many floats of a row are asked for: three of a translation, in `decompose` and twice in `parts`.
+// How many floats of a row are asked for: three of the translation in `decompose`.
 fn row_size(kind: usize, i: usize, left: usize) -> usize
     ensures { λ r. ⌜ r ≤ left ⌝ }
 {
     if left < 4 {
         return left;
     }
-    if (kind == 18) & (i == 0) | (kind == 21) & (i % 10 == 0) & (i < 20) {
+    if (kind == 18) & (i == 0) {
         return 3;
     }
     4

@@ -6,7 +6,7 @@ use quaternion::Quaternion;
 use transform::Transform;
 use vector3::Vector3f;
 
-pub fn answer(kind: usize, x: &[f32; 34], rows: &mut [[f32; 4]; 36]) -> u8 {
+pub fn answer(kind: usize, x: &[f32; 34], rows: &mut [[f32; 4]; 9]) -> u8 {
     match kind {
         11 => {
             let t = rotation::transform_from_quaternion(quaternion_at(x, 0));
@@ -29,13 +29,13 @@ fn quaternion_value(kind: usize, x: &[f32; 34]) -> Quaternion {
     }
 }
 
-fn inverse(x: &[f32; 34], rows: &mut [[f32; 4]; 36]) -> u8 {
+fn inverse(x: &[f32; 34], rows: &mut [[f32; 4]; 9]) -> u8 {
     let r = matrix_inverse::inverse(matrix_at(x, 0));
     put_matrix(r.m.to_rows(), 0, rows);
     r.refusal
 }
 
-fn bounds(x: &[f32; 34], rows: &mut [[f32; 4]; 36]) -> u8 {
+fn bounds(x: &[f32; 34], rows: &mut [[f32; 4]; 9]) -> u8 {
     let m = matrix_at(x, 0);
     let b = bounds_at(x, 16);
     let moved = Transform::from_matrices(m, m).transform_bounds(lent_arrays::bounds(&b));
@@ -45,7 +45,7 @@ fn bounds(x: &[f32; 34], rows: &mut [[f32; 4]; 36]) -> u8 {
     refusal
 }
 
-fn decompose(x: &[f32; 34], rows: &mut [[f32; 4]; 36]) -> u8 {
+fn decompose(x: &[f32; 34], rows: &mut [[f32; 4]; 9]) -> u8 {
     let d = decomposition::decompose(matrix_at(x, 0));
     let t = d.t;
     rows[0] = [t.x, t.y, t.z, 0.0];
@@ -54,34 +54,34 @@ fn decompose(x: &[f32; 34], rows: &mut [[f32; 4]; 36]) -> u8 {
     d.refusal
 }
 
-fn zeros(x: &[f32; 34], rows: &mut [[f32; 4]; 36]) -> u8 {
+fn zeros(x: &[f32; 34], rows: &mut [[f32; 4]; 9]) -> u8 {
     let z = zero_search::interval_find_zeros(x[0], x[1], x[2], x[3], x[4], x[5]);
     let places = z.zeros;
     put_zeros(places, rows);
-    rows[35] = [float_of_bits((z.count % 10) as u32), 0.0, 0.0, 0.0];
+    rows[8] = [float_of_bits((z.count % 10) as u32), 0.0, 0.0, 0.0];
     z.refusal
 }
 
-fn put_zeros(z: [f32; 8], rows: &mut [[f32; 4]; 36]) {
+fn put_zeros(z: [f32; 8], rows: &mut [[f32; 4]; 9]) {
     rows[0] = [z[0], z[1], z[2], z[3]];
     rows[1] = [z[4], z[5], z[6], z[7]];
 }
 
-pub fn put_bounds(b: [f32; 6], rows: &mut [[f32; 4]; 36]) {
+pub fn put_bounds(b: [f32; 6], rows: &mut [[f32; 4]; 9]) {
     rows[0] = [b[0], b[1], b[2], b[3]];
     rows[1] = [b[4], b[5], 0.0, 0.0];
 }
 
-fn put_quaternion(q: Quaternion, i: usize, rows: &mut [[f32; 4]; 36]) -> u8 {
+fn put_quaternion(q: Quaternion, i: usize, rows: &mut [[f32; 4]; 9]) -> u8 {
     let v = q.v;
-    if i < 36 {
+    if i < 9 {
         rows[i] = [v.x, v.y, v.z, q.w];
     }
     0
 }
 
-fn put_matrix(m: [[f32; 4]; 4], i: usize, rows: &mut [[f32; 4]; 36]) -> u8 {
-    if i < 33 {
+fn put_matrix(m: [[f32; 4]; 4], i: usize, rows: &mut [[f32; 4]; 9]) -> u8 {
+    if i < 6 {
         rows[i] = m[0];
         rows[i + 1] = m[1];
         rows[i + 2] = m[2];

@@ -7,46 +7,7 @@ use crate::matrices::bounds_at;
 use crate::matrices::point_at;
 use crate::matrices::put_bounds;
 use crate::matrices::row_at;
-use hexadecimal::float_of_bits;
-
-// The rows of a move that `parts` asks for, in order; of a translation's row the last float, a time, isn't asked for.
-const PARTS: [usize; 35] = [
-    16,
-    18,
-    20,
-    21,
-    22,
-    23,
-    4,
-    5,
-    6,
-    7,
-    17,
-    19,
-    24,
-    25,
-    26,
-    27,
-    12,
-    13,
-    14,
-    15,
-    28,
-    33,
-    38,
-    29,
-    34,
-    39,
-    30,
-    35,
-    40,
-    31,
-    36,
-    41,
-    32,
-    37,
-    42,
-];
+use question_lines::put_text;
 
 // What stands first in the last row where no move is kept: a kept move has 0 or 1 there.
 pub const NONE: f32 = 2.0;
@@ -92,23 +53,32 @@ fn pose_at(x: &[f32; 34], i: usize) -> [f32; 17] {
     [0.0; 17]
 }
 
+// Answers `parts`.
+pub fn put_parts(motion: &[[f32; 4]; 44], out: &mut [u8; 16384], at: usize) -> usize {
+    if is_none(motion[43]) {
+        return put_text(b"error\n", out, at);
+    }
+    let ok = put_text(b"ok", out, at);
+    let end = motion_parts::put_parts(motion, out, ok);
+    put_text(b"\n", out, end)
+}
+
 pub fn answer(
     kind: usize,
     n: u64,
     x: &[f32; 34],
     motion: &[[f32; 4]; 44],
-    rows: &mut [[f32; 4]; 36],
+    rows: &mut [[f32; 4]; 9],
 ) -> u8 {
     if is_none(motion[43]) {
         return 255;
     }
     match kind {
-        21 => parts(motion, rows),
         22 => point(x, motion, rows),
         23 => interpolate(x, motion, rows),
         24 => motion_bounds(x, motion, rows),
         25 => bound_point_motion(x, motion, rows),
-        26 => cover(x, depth(n), motion, rows),
+        26 => cover(x, question_lines::saturated(n), motion, rows),
         _ => 255,
     }
 }
@@ -117,32 +87,7 @@ fn is_none(last: [f32; 4]) -> bool {
     last[0] == NONE
 }
 
-fn parts(motion: &[[f32; 4]; 44], rows: &mut [[f32; 4]; 36]) -> u8 {
-    rows[35] = flags(motion[43]);
-    put_parts(motion, rows);
-    0
-}
-
-fn put_parts(motion: &[[f32; 4]; 44], rows: &mut [[f32; 4]; 36]) {
-    for k in 0..35 {
-        rows[k] = row_of(motion, PARTS[k]);
-    }
-}
-
-// Whether a move is animated and whether it rotates, as whole numbers.
-fn flags(last: [f32; 4]) -> [f32; 4] {
-    [flag(last[0]), flag(last[1]), 0.0, 0.0]
-}
-
-fn flag(x: f32) -> f32 {
-    if x == 1.0 { float_of_bits(1) } else { 0.0 }
-}
-
-fn row_of(motion: &[[f32; 4]; 44], i: usize) -> [f32; 4] {
-    if i < 44 { motion[i] } else { [0.0; 4] }
-}
-
-fn point(x: &[f32; 34], motion: &[[f32; 4]; 44], rows: &mut [[f32; 4]; 36]) -> u8 {
+fn point(x: &[f32; 34], motion: &[[f32; 4]; 44], rows: &mut [[f32; 4]; 9]) -> u8 {
     let p = point_at(x, 1);
     let mut moved = [0.0f32; 3];
     let refusal = api::jellyplain_point(motion, x[0], &p, &mut moved);
@@ -150,11 +95,11 @@ fn point(x: &[f32; 34], motion: &[[f32; 4]; 44], rows: &mut [[f32; 4]; 36]) -> u
     refusal
 }
 
-fn put_point(p: [f32; 3], rows: &mut [[f32; 4]; 36]) {
+fn put_point(p: [f32; 3], rows: &mut [[f32; 4]; 9]) {
     rows[0] = [p[0], p[1], p[2], 0.0];
 }
 
-fn interpolate(x: &[f32; 34], motion: &[[f32; 4]; 44], rows: &mut [[f32; 4]; 36]) -> u8 {
+fn interpolate(x: &[f32; 34], motion: &[[f32; 4]; 44], rows: &mut [[f32; 4]; 9]) -> u8 {
     let mut pose = [[0.0f32; 4]; 8];
     let refusal = api::jellyplain_interpolate(motion, x[0], &mut pose);
     for i in 0..8 {
@@ -163,7 +108,7 @@ fn interpolate(x: &[f32; 34], motion: &[[f32; 4]; 44], rows: &mut [[f32; 4]; 36]
     refusal
 }
 
-fn motion_bounds(x: &[f32; 34], motion: &[[f32; 4]; 44], rows: &mut [[f32; 4]; 36]) -> u8 {
+fn motion_bounds(x: &[f32; 34], motion: &[[f32; 4]; 44], rows: &mut [[f32; 4]; 9]) -> u8 {
     let asked = bounds_at(x, 0);
     let mut b = [0.0f32; 6];
     let refusal = api::jellyplain_motion_bounds(motion, &asked, &mut b);
@@ -171,7 +116,7 @@ fn motion_bounds(x: &[f32; 34], motion: &[[f32; 4]; 44], rows: &mut [[f32; 4]; 3
     refusal
 }
 
-fn bound_point_motion(x: &[f32; 34], motion: &[[f32; 4]; 44], rows: &mut [[f32; 4]; 36]) -> u8 {
+fn bound_point_motion(x: &[f32; 34], motion: &[[f32; 4]; 44], rows: &mut [[f32; 4]; 9]) -> u8 {
     let p = point_at(x, 0);
     let mut b = [0.0f32; 6];
     let refusal = api::jellyplain_bound_point_motion(motion, &p, &mut b);
@@ -179,15 +124,10 @@ fn bound_point_motion(x: &[f32; 34], motion: &[[f32; 4]; 44], rows: &mut [[f32; 
     refusal
 }
 
-fn cover(x: &[f32; 34], depth: u32, motion: &[[f32; 4]; 44], rows: &mut [[f32; 4]; 36]) -> u8 {
+fn cover(x: &[f32; 34], depth: u32, motion: &[[f32; 4]; 44], rows: &mut [[f32; 4]; 9]) -> u8 {
     let asked = bounds_at(x, 0);
     let mut b = [0.0f32; 6];
     let refusal = api::jellyplain_cover(motion, &asked, depth, &mut b);
     put_bounds(b, rows);
     refusal
-}
-
-// A depth as the cover takes it: one of 2^32 or more is as much above 12 as the greatest below.
-fn depth(n: u64) -> u32 {
-    if n < 4294967296 { n as u32 } else { u32::MAX }
 }

@@ -1,5 +1,5 @@
 -- A kept move is the move that was built: what building leaves holds it (`build-clauses`), the point query of the rows is the move's (`kept-point`), and the cover of the rows
--- holds what the point query of the rows answers (`cover-clauses`).
+-- holds what the point query of the rows answers (`cover-clauses`); the last also of a kept chain (`moves-cover-clauses`).
 use Prim.Native.Nat.{ℕ}
 use mathlib.Core.Path.{_≡_, ap, sym, _∙_}
 use mathlib.Core.List.{List}
@@ -20,8 +20,11 @@ use Rattle.bounds3.specs.List.{Bounds3f·list, Bounds3f·ofList}
 use Rattle.lent_arrays.specs.Arrays.{BoundsAnswer·left}
 use Rattle.motion_rows.specs.Rows.{AnimatedTransform·toRows, AnimatedTransform·fromRows, AnimatedTransformAnswer·left}
 use Rattle.motion_rows.specs.TransformPoint.{Rows·transformPoint}
-use Rattle.motion_rows.proofs.RoundTrip.{from-rows-inverse, constants-inverse}
+use Rattle.motion_rows.proofs.RoundTrip.{from-rows-inverse, transform-point-kept}
+use Rattle.chain_rows.specs.Theorem.{KeptChainContainsMotion}
+use Rattle.chain_rows.proofs.Contains as chain
 use Rattle.api.specs.Answers.{Rows·cover}
+use Rattle.api.specs.Chains.{Moves·coverOf}
 use Rattle.api.specs.Kept.{Rows·Holds, KeptCoverContainsMotion}
 
 -- Of what building gives for two poses: its number, what it leaves, and that this holds the move where the number is 0.
@@ -38,8 +41,7 @@ build-clauses s e a r rows old same built number left = rw (← same) (number, (
 
 pub kept-point : (rows : Rows) (m : AnimatedTransform) (time : Float) (p : Point3f) → rows ≡ AnimatedTransform·toRows m
     → Rows·transformPoint rows time p ≡ AnimatedTransform·transformPoint m time p
-unfolding Rows·transformPoint AnimatedTransform·transformPoint
-kept-point rows m time p e = rw (e, from-rows-inverse m, constants-inverse m)
+kept-point rows m time p e = rw e (transform-point-kept m time p)
 
 -- The three clauses of the cover, from its number and what it leaves: number 0 is a box, and the array holds it.
 pub cover-clauses : (rows : Rows) (b : List Float) (d r : ℕ) (bounds old : List Float)
@@ -58,3 +60,16 @@ cover-clauses rows b d r bounds old number left = (number, (left, contains))
         let point : Rows·transformPoint rows time p ≡ AnimatedTransform·transformPoint (AnimatedTransform·fromRows rows) time p =
         rw move (kept-point rows m time p (holds .same)) in
         rw (point, box) (cover-contains (AnimatedTransform·fromRows rows) (Bounds3f·ofList b) d time p built accepted nan inside)
+
+pub moves-cover-clauses : (rows : List Rows) (b : List Float) (d r : ℕ) (bounds old : List Float)
+    → r ≡ BoundsAnswer·refusal (Moves·coverOf rows b d) → bounds ≡ BoundsAnswer·left (Moves·coverOf rows b d) old
+    → (r ≡ BoundsAnswer·refusal (Moves·coverOf rows b d)) × ((bounds ≡ BoundsAnswer·left (Moves·coverOf rows b d) old)
+    × (r ≡ 0 → KeptChainContainsMotion rows (Bounds3f·ofList b) (Bounds3f·ofList bounds)))
+moves-cover-clauses rows b d r bounds old number left = (number, (left, contains))
+  where
+    contains : r ≡ 0 → KeptChainContainsMotion rows (Bounds3f·ofList b) (Bounds3f·ofList bounds)
+    contains none =
+        let accepted : BoundsAnswer·refusal (Moves·coverOf rows b d) ≡ 0 = sym number ∙ none in
+        let box : bounds ≡ Bounds3f·list (BoundsAnswer·bounds (Moves·coverOf rows b d)) =
+        left ∙ ap (λ (c : BoundsAnswer). BoundsAnswer·left c old) (chain.cover-answered rows (Bounds3f·ofList b) d accepted) in
+        rw box (chain.kept-contains rows (Bounds3f·ofList b) d accepted)

@@ -1,27 +1,24 @@
-// The library that Rust and C link: a move is built once, kept by its caller as 44 rows of four floats, and asked many times. Each function returns the number
-// of a refusal, 0 for none. Where nothing is refused it writes the array that it is lent last; after a refusal that array is as it was. Any floats may be
-// handed in, and any rows may be asked, but the guarantee is for rows that building has written.
+// The library that Rust and C link: a move is built once, kept by its caller as 44 rows of four floats, and asked many times; a chain is kept as the rows of
+// its moves, one block for each. Each function returns the number of a refusal, 0 for none. Where nothing is refused it writes the array that it is lent last;
+// after a refusal that array is as it was. Any floats may be handed in, and any rows may be asked, but the guarantee is for rows that building has written.
 use animated_transform::AnimatedTransform;
-use bounds3::Point3f;
-use transform::PointAnswer;
+ghost use Prim.Native.Nat.{_-_};
 ghost use mathlib.Core.Path.{_≡_};
-ghost use Rattle.bounds3.specs.List.{Point3f·ofList};
+ghost use lib.ListN.{length, take};
+ghost use Rattle.bounds3.specs.List.{Point3f·ofList, Bounds3f·ofList};
 ghost use Rattle.transform.specs.Answer.{PointAnswer·refusal, BoundsAnswer·refusal};
 ghost use Rattle.motion_point.specs.TransformPoint.{AnimatedTransform·transformPoint};
 ghost use Rattle.lent_arrays.specs.Arrays.{PointAnswer·left, TransformAnswer·left, BoundsAnswer·left};
 ghost use Rattle.motion_rows.specs.Rows.{AnimatedTransform·toRows, AnimatedTransformAnswer·left};
-ghost use Rattle.motion_rows.specs.TransformPoint.{Rows·transformPoint};
+ghost use Rattle.motion_chain.specs.Chain.{Chain, built, ChainAnswer·refusal, Chain·new, Chain·transformPoint};
+ghost use Rattle.motion_chain.specs.Times.{PointsAnswer·refusal, PointsAnswer·left, Chain·transformPoints};
+ghost use Rattle.chain_poses.specs.Poses.{Poses·ofLists};
+ghost use Rattle.chain_rows.specs.Kept.{Chain·toRows};
+ghost use Rattle.chain_rows.specs.Theorem.{Moves·Holds, KeptChainContainsMotion};
+ghost use Rattle.chain_build.specs.Build.{ChainAnswer·left};
+ghost use Rattle.api.specs.Chains.{layoutNumber, Moves·point, Moves·points, Moves·coverOf};
 ghost use Rattle.api.specs.Answers.{Rows·new, Rows·point, Rows·interpolate, Rows·boundPointMotion, Rows·motionBounds, Rows·cover};
 ghost use Rattle.api.specs.Kept.{Rows·Holds, KeptCoverContainsMotion};
-
-fn transform_point(motion: &[[f32; 4]; 44], time: f32, p: Point3f) -> PointAnswer
-    ensures value { λ r. ⌜ r ≡ Rows·transformPoint (now (motion .entry)) time p ⌝ }
-{
-    if (time != time) | !p.is_finite() {
-        return PointAnswer::Refused(6);
-    }
-    motion_rows::moved_point(motion, time, p)
-}
 
 // Builds a move from two poses, each 17 floats: a time and a matrix row by row. Refused with 1 to 5.
 // Accuracy: each operation but the arc cosine is correctly rounded.
@@ -53,7 +50,10 @@ pub extern "C" fn jellyplain_point(
     ensures left { λ _. ⌜ now (moved .exit) ≡ PointAnswer·left (Rows·point (now (motion .entry)) time (now (p .entry))) (now (moved .entry)) ⌝ }
     ensures built { λ _. ⌜ ((m : AnimatedTransform) → now (motion .entry) ≡ AnimatedTransform·toRows m → Rows·point (now (motion .entry)) time (now (p .entry)) ≡ AnimatedTransform·transformPoint m time (Point3f·ofList (now (p .entry)))) ⌝ }
 {
-    lent_arrays::put_point(transform_point(motion, time, lent_arrays::point(p)), moved)
+    lent_arrays::put_point(
+        motion_rows::transform_point(motion, time, lent_arrays::point(p)),
+        moved,
+    )
 }
 
 // The transform at a time: the rows of its matrix, and then those of its inverse. Refused with 4, 5 or 6.
@@ -124,6 +124,83 @@ pub extern "C" fn jellyplain_cover(
             lent_arrays::bounds(b),
             depth,
         ),
+        bounds,
+    )
+}
+
+// The number of the layout in which poses, moves and chains cross: 17 floats, 44 rows, up to 31 blocks. It changes where one of them does, so that a caller
+// built against another layout is told. Accuracy: exact.
+#[no_mangle]
+pub extern "C" fn jellyplain_layout() -> u32
+    ensures value { λ r. ⌜ r ≡ layoutNumber ⌝ }
+{
+    1
+}
+
+// Builds a chain from 2 to 32 poses; the rows of its moves, one fewer than poses, then stand in the front blocks. Refused with 1, 2, 12, 3, 4 or 5.
+// Accuracy: each operation but the arc cosine is correctly rounded.
+#[no_mangle]
+pub extern "C" fn jellyplain_build_moves(
+    poses: &[[f32; 17]],
+    moves: &mut [[[f32; 4]; 44]; 31],
+) -> u8
+    ensures refusal { λ r. ⌜ r ≡ ChainAnswer·refusal (Chain·new (Poses·ofLists (now (poses .entry)))) ⌝ }
+    ensures left { λ _. ⌜ now (moves .exit) ≡ ChainAnswer·left (Chain·new (Poses·ofLists (now (poses .entry)))) (now (moves .entry)) ⌝ }
+    ensures holds { λ _. ⌜ ((c : Chain) → Chain·new (Poses·ofLists (now (poses .entry))) ≡ built c → Moves·Holds (take (length (now (poses .entry)) - 1) (now (moves .exit))) c) ⌝ }
+{
+    chain_build::build(poses, moves)
+}
+
+// Where a point stands at a time of a chain. Refused with 5 or 6, and with 12 where there are no moves.
+// Accuracy: each operation but sine and cosine is correctly rounded.
+#[no_mangle]
+pub extern "C" fn jellyplain_moves_point(
+    moves: &[[[f32; 4]; 44]],
+    time: f32,
+    p: &[f32; 3],
+    moved: &mut [f32; 3],
+) -> u8
+    ensures refusal { λ r. ⌜ r ≡ PointAnswer·refusal (Moves·point (now (moves .entry)) time (now (p .entry))) ⌝ }
+    ensures left { λ _. ⌜ now (moved .exit) ≡ PointAnswer·left (Moves·point (now (moves .entry)) time (now (p .entry))) (now (moved .entry)) ⌝ }
+    ensures kept { λ _. ⌜ ((c : Chain) → now (moves .entry) ≡ Chain·toRows c → Moves·point (now (moves .entry)) time (now (p .entry)) ≡ Chain·transformPoint c time (Point3f·ofList (now (p .entry)))) ⌝ }
+{
+    lent_arrays::put_point(
+        chain_rows::transform_point(moves, time, lent_arrays::point(p)),
+        moved,
+    )
+}
+
+// Where a point stands at each time of a list that never falls, three places a time. Refused with 6, 13 or 5, and with 12 where there are no moves.
+// Accuracy: each operation but sine and cosine is correctly rounded.
+#[no_mangle]
+pub extern "C" fn jellyplain_moves_points(
+    moves: &[[[f32; 4]; 44]],
+    times: &[f32],
+    p: &[f32; 3],
+    answers: &mut [f32],
+) -> u8
+    ensures refusal { λ r. ⌜ r ≡ PointsAnswer·refusal (Moves·points (now (moves .entry)) (now (times .entry)) (now (p .entry)) (length (now (answers .entry)))) ⌝ }
+    ensures left { λ _. ⌜ now (answers .exit) ≡ PointsAnswer·left (Moves·points (now (moves .entry)) (now (times .entry)) (now (p .entry)) (length (now (answers .entry)))) (now (answers .entry)) ⌝ }
+    ensures kept { λ _. ⌜ ((c : Chain) → now (moves .entry) ≡ Chain·toRows c → Moves·points (now (moves .entry)) (now (times .entry)) (now (p .entry)) (length (now (answers .entry))) ≡ Chain·transformPoints c (now (times .entry)) (Point3f·ofList (now (p .entry))) (length (now (answers .entry)))) ⌝ }
+{
+    chain_times::transform_points(moves, times, lent_arrays::point(p), answers)
+}
+
+// A box that holds the box b at every time of a chain, from 2^depth slices of each move; where 0 is returned it stands in `bounds`. Refused with 5, 6, 7, 8 or
+// 10, and with 12 where there are no moves. Accuracy: encloses.
+#[no_mangle]
+pub extern "C" fn jellyplain_moves_cover(
+    moves: &[[[f32; 4]; 44]],
+    b: &[f32; 6],
+    depth: u32,
+    bounds: &mut [f32; 6],
+) -> u8
+    ensures refusal { λ r. ⌜ r ≡ BoundsAnswer·refusal (Moves·coverOf (now (moves .entry)) (now (b .entry)) depth) ⌝ }
+    ensures left { λ _. ⌜ now (bounds .exit) ≡ BoundsAnswer·left (Moves·coverOf (now (moves .entry)) (now (b .entry)) depth) (now (bounds .entry)) ⌝ }
+    ensures contains_motion { λ r. ⌜ (r ≡ 0 → KeptChainContainsMotion (now (moves .entry)) (Bounds3f·ofList (now (b .entry))) (Bounds3f·ofList (now (bounds .exit)))) ⌝ }
+{
+    lent_arrays::put_bounds(
+        chain_cover::cover(moves, lent_arrays::bounds(b), depth),
         bounds,
     )
 }

@@ -1,17 +1,18 @@
--- Whole files and the texts that answer them, computed by antt from the definitions: `all-answered`, a row for each file. Document 01's own example, and one or more files for each
--- number that needs no slice: 11, which precedes all others, 1, 3 and 4 of building, 6 and 7 of the box, 5 of the start box.
+-- Whole files and the texts that answer them, computed by antt from the definitions: `all-answered`, a row for each file. Document 01's own example, a chain
+-- of three poses, and one or more files for each number that needs no slice: 11, which precedes all others, 1, 12, 3 and 4 of building, 6 and 7 of the box, 5
+-- of the start box.
 use Prim.Native.String.{String, _++_}
 use mathlib.Core.Path.{_≡_, refl}
 use mathlib.Core.List.{List, [], _∷_, map}
 use lib.Ieee.{ofBits, toBits}
 use Rattle.hexadecimal.specs.Digit.{digitValue}
 use Rattle.hexadecimal.specs.Word.{digits, digitsOnly, number}
-use Rattle.animated_transform.specs.Computing as building
-use Rattle.motion_cover.specs.Computing as query
+use Rattle.motion_chain.specs.Computing as chain
+use Rattle.chain_poses.specs.Poses.{Poses·ofLists}
 use Rattle.motion_file.specs.Text.{ascii, split, singleSpaced, equal}
-use Rattle.motion_file.specs.Layout.{allValues, fits, valuesOf, conforms, MoveFile·read}
+use Rattle.motion_file.specs.Layout.{allValues, fits, valuesOf, conforms, keepsLayout, poseOf, MoveFile·read, MoveFile·poses}
 use Rattle.motion_text.specs.Answer.{line, boundsText, refusalText}
-use Rattle.motion_answer.specs.Answer.{MoveFile·move, MoveFile·cover, BoundsAnswer·text, answerText}
+use Rattle.motion_answer.specs.Answer.{ChainAnswer·cover, MoveFile·chain, MoveFile·cover, BoundsAnswer·text, answerText}
 
 -- floats by their bits
 abbrev o : String
@@ -42,8 +43,9 @@ end = pose one one o
 abbrev box : String
 box = "3f800000 40000000 40400000 40800000 40a00000 40c00000\n"
 
-abbrev file : String → String → String → String
-file a b c = "time m00 m01 m02 m03 m10 m11 m12 m13 m20 m21 m22 m23\n" ++ a ++ b ++ "x0 y0 z0 x1 y1 z1\n" ++ c
+-- a file by its lines of poses and its box's
+abbrev file : String → String → String
+file poses c = "time m00 m01 m02 m03 m10 m11 m12 m13 m20 m21 m22 m23\n" ++ poses ++ "x0 y0 z0 x1 y1 z1\n" ++ c
 
 record Row : Type 0 where
   bytes : String
@@ -52,29 +54,39 @@ record Row : Type 0 where
 abbrev refused : String → String → Row
 refused number bytes = record { bytes = bytes; text = "refused\n" ++ number ++ "\n" }
 
+abbrev covered : String → Row
+covered bytes = record { bytes = bytes; text = "x0 y0 z0 x1 y1 z1\n3f800000 40000000 40400000 40800000 40a00000 40c00000\n" }
+
 rows : List Row
 rows =
-    -- move B: the identity at times 0 and 1
-    record { bytes = file start end box; text = "x0 y0 z0 x1 y1 z1\n3f800000 40000000 40400000 40800000 40a00000 40c00000\n" }
+    -- move B: the identity at times 0 and 1; at time 2 too
+    covered (file (start ++ end) box)
+    ∷ covered (file (start ++ end ++ pose two one o) box)
     -- a line too many; also with an infinite entry, which is 1 in a file that keeps the layout
-    ∷ refused "11" (file start end (box ++ box))
-    ∷ refused "11" (file (pose o one infinity) end (box ++ box))
-    ∷ refused "1" (file (pose o one infinity) end box)
-    -- the end time below the start time; also with a box that is 7 under a move that is built
-    ∷ refused "3" (file start (pose minusOne one o) box)
-    ∷ refused "3" (file start (pose minusOne one o) "3f800000 40000000 40400000 00000000 40a00000 40c00000\n")
+    ∷ refused "11" (file (start ++ end) (box ++ box))
+    ∷ refused "11" (file (pose o one infinity ++ end) (box ++ box))
+    ∷ refused "1" (file (pose o one infinity ++ end) box)
+    -- no pose; one, also with an infinite entry; times that fall, that are equal; also with a box that is 7 under a chain that is built
+    ∷ refused "12" (file "" box)
+    ∷ refused "12" (file start box)
+    ∷ refused "1" (file (pose o one infinity) box)
+    ∷ refused "12" (file (start ++ pose minusOne one o) box)
+    ∷ refused "12" (file (start ++ end ++ end) box)
+    ∷ refused "12" (file (start ++ start) "3f800000 40000000 40400000 00000000 40a00000 40c00000\n")
+    -- from time −3e38 to time 3e38
+    ∷ refused "3" (file (pose "ff61b1e6" one o ++ pose "7f61b1e6" one o) box)
     -- a linear part of zeros
-    ∷ refused "4" (file start (pose one o one) box)
+    ∷ refused "4" (file (start ++ pose one o one) box)
     -- an infinite corner; a least corner above the greatest; both
-    ∷ refused "6" (file start end "3f800000 40000000 40400000 7f800000 40a00000 40c00000\n")
-    ∷ refused "7" (file start end "3f800000 40000000 40400000 00000000 40a00000 40c00000\n")
-    ∷ refused "6" (file start end "3f800000 40000000 7f800000 00000000 40a00000 40c00000\n")
+    ∷ refused "6" (file (start ++ end) "3f800000 40000000 40400000 7f800000 40a00000 40c00000\n")
+    ∷ refused "7" (file (start ++ end) "3f800000 40000000 40400000 00000000 40a00000 40c00000\n")
+    ∷ refused "6" (file (start ++ end) "3f800000 40000000 7f800000 00000000 40a00000 40c00000\n")
     -- twice the greatest float
-    ∷ refused "5" (file (pose o two o) end "3f800000 40000000 40400000 7f7fffff 40a00000 40c00000\n")
+    ∷ refused "5" (file (pose o two o ++ end) "3f800000 40000000 40400000 7f7fffff 40a00000 40c00000\n")
     ∷ []
 
 unfoldable computing : Unit {0}
-unfolding ascii split singleSpaced equal allValues fits valuesOf conforms MoveFile·read digitsOnly number digitValue building.computing query.computing line boundsText refusalText digits ofBits toBits MoveFile·move MoveFile·cover BoundsAnswer·text answerText
+unfolding ascii split singleSpaced equal allValues fits valuesOf conforms keepsLayout poseOf MoveFile·read MoveFile·poses digitsOnly number digitValue chain.computing Poses·ofLists line boundsText refusalText digits ofBits toBits ChainAnswer·cover MoveFile·chain MoveFile·cover BoundsAnswer·text answerText
 computing = tt
 
 all-answered : map (λ (row : Row). answerText (ascii (row .bytes))) rows ≡ map (λ (row : Row). ascii (row .text)) rows

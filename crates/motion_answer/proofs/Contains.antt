@@ -1,9 +1,9 @@
--- The guarantee for a file, from that of the cover and of building: `file-contains` of what `file_cover` gives, and `answer-clauses` of what `answer` returns
--- and leaves. A box is answered only where nothing was refused (`file-nonzero`), and its text is whole where 72 bytes are lent (`answer-length`).
+-- The guarantee for a file, from that of a chain's cover: `file-contains` of the cover that a file asks for, and `answer-clauses` of what `answer` returns
+-- and leaves. A box is answered only where nothing was refused (`file-accepted`), and its text is whole where 72 bytes are lent (`answer-length`).
 use Prim.Native.Nat.{ℕ, _≤_}
 use native.Mathlib.Omega.{arith}
-use mathlib.Core.Path.{_≡_, refl, sym, ap, subst}
-use mathlib.Core.Bool.{Bool, true, false}
+use mathlib.Core.Path.{_≡_, refl, sym, ap, subst, _∙_}
+use mathlib.Core.Bool.{Bool, true, false, cond}
 use mathlib.Core.Logic.{inl, inr}
 use mathlib.Core.List.{List, _++_}
 use borrow.Author.Tests.{eqb-true, eqb-false, le-leb}
@@ -11,57 +11,97 @@ use lib.Dec.{eqb}
 use lib.ListN.{length, take, drop}
 use lib.Seq.{take-append-seam}
 use Rattle.bounds3.specs.declared.Bounds3f.{Bounds3f}
-use Rattle.bounds3.specs.List.{Bounds3f·ofList}
 use Rattle.transform.specs.declared.BoundsAnswer.{BoundsAnswer}
 use Rattle.transform.specs.declared.BoundsAnswer.the-variants.{Bounds, Refused}
 use Rattle.transform.specs.Answer.{BoundsAnswer·refusal, BoundsAnswer·bounds}
-use Rattle.animated_transform.specs.declared.AnimatedTransformAnswer.{AnimatedTransformAnswer}
-use Rattle.animated_transform.specs.Built.{Built}
-use Rattle.motion_cover.specs.Theorem.{CoverContainsMotion}
-use Rattle.motion_cover.proofs.NonZero.{BoundsAnswer·NonZero, nonzero-box, tested-nonzero, cover-nonzero}
-use Rattle.motion_file.specs.declared.MoveFile.{MoveFile}
-use Rattle.motion_file.specs.Layout.{MoveFile·read}
+use Rattle.motion_cover.specs.Theorem.{MovedInside}
+use Rattle.motion_chain.specs.Chain.{Chain, ChainAnswer, built, refused, ChainAnswer·refusal, Chain·transformPoint, Chain·cover}
+use Rattle.motion_chain.specs.Built.{BuiltChain}
+use Rattle.motion_chain.proofs.Cover.{chain-cover-answered, chain-contains}
+use Rattle.chain_poses.specs.Poses.{Poses·ofLists}
+use Rattle.motion_file.specs.Layout.{MoveFile·read, MoveFile·poses}
 use Rattle.motion_text.specs.Answer.{front, lengthIn}
 use Rattle.motion_text.proofs.Pastes.{Wrote}
-use Rattle.motion_answer.specs.Answer.{coverDepth, MoveFile·move, MoveFile·cover, BoundsAnswer·text, answerText}
-use Rattle.motion_answer.specs.Theorem.{FileContainsMotion, answerOf, AnswerContainsMotion, longestText}
+use Rattle.motion_answer.specs.Answer.{coverDepth, ChainAnswer·cover, MoveFile·chain, MoveFile·box, MoveFile·cover, BoundsAnswer·text, answerText}
+use Rattle.motion_answer.specs.Theorem.{FileContainsMotion, AnswerContainsMotion, longestText}
+use Rattle.motion_answer.proofs.Built.{times-binary32, new-none}
 use Rattle.motion_answer.proofs.Length.{answer-length}
 
--- The cover r of the file's box under the file's move, where that was built and r holds its motion.
-pub file-contains : (r : BoundsAnswer) (file : MoveFile) (move : AnimatedTransformAnswer) (box : Bounds3f)
-    → move ≡ MoveFile·move file → box ≡ Bounds3f·ofList (file .bounds)
-    → Built (move .value) → CoverContainsMotion (move .value) box r → BoundsAnswer·refusal r ≡ 0 → FileContainsMotion file (BoundsAnswer·bounds r)
-file-contains r file move box e f built contains accepted =
-    let b : Built (MoveFile·move file .value) = subst (λ (x : AnimatedTransformAnswer). Built (x .value)) e built in
-    let c : CoverContainsMotion (MoveFile·move file .value) (Bounds3f·ofList (file .bounds)) r =
-    subst (λ (x : Bounds3f). CoverContainsMotion (MoveFile·move file .value) x r) f
-    (subst (λ (x : AnimatedTransformAnswer). CoverContainsMotion (x .value) box r) e contains) in
-    record { built = b; contains = λ time p. c time p b accepted }
+-- ---- where the number is 0
 
--- ---- the answer's number
-pub file-nonzero : (file : MoveFile) → BoundsAnswer·NonZero (MoveFile·cover file)
-unfolding MoveFile·cover
-file-nonzero file =
-    let move = MoveFile·move file in
-    tested-nonzero (file .refusal) _ (tested-nonzero (move .refusal) _ (cover-nonzero (move .value) (Bounds3f·ofList (file .bounds)) coverDepth))
+-- the chain was built, and the answer is its cover
+pub record Accepted (bytes : List ℕ) : Type 0 where
+  pub chain : Chain
+  pub from-file : MoveFile·chain bytes ≡ built chain
+  pub same : MoveFile·cover bytes ≡ Chain·cover chain (MoveFile·box bytes) coverDepth
 
+built-cover : (c : Chain) (b : Bounds3f) → ChainAnswer·cover (built c) b ≡ Chain·cover c b coverDepth
+unfolding ChainAnswer·cover
+built-cover c b = refl
+
+chain-none : (a : ChainAnswer) (b : Bounds3f) → (ChainAnswer·refusal a ≡ 0 → (c : Chain) × (a ≡ built c))
+    → BoundsAnswer·refusal (ChainAnswer·cover a b) ≡ 0 → (c : Chain) × (a ≡ built c)
+unfolding ChainAnswer·cover
+chain-none (built c) b h e = (c, refl)
+chain-none (refused n) b h e = h e
+
+pub file-accepted : (bytes : List ℕ) → BoundsAnswer·refusal (MoveFile·cover bytes) ≡ 0 → Accepted bytes
+unfolding MoveFile·cover MoveFile·chain
+file-accepted bytes = go (eqb n 0) refl (eqb-false n 0)
+  where
+    n : ℕ
+    n = MoveFile·read bytes .refusal
+
+    a : ChainAnswer
+    a = MoveFile·chain bytes
+
+    b : Bounds3f
+    b = MoveFile·box bytes
+
+    go : (t : Bool) → eqb n 0 ≡ t → (t ≡ false → n ≡ 0 → ⊥) → BoundsAnswer·refusal (cond t (ChainAnswer·cover a b) (Refused n)) ≡ 0 → Accepted bytes
+    go true t f e =
+        let (c, s) = chain-none a b (new-none (Poses·ofLists (MoveFile·poses bytes))) e in
+        record { chain = c; from-file = s; same = rw t (ap (λ (x : ChainAnswer). ChainAnswer·cover x b) s ∙ built-cover c b) }
+    go false t f e = absurd (f refl e)
+
+pub file-answered : (bytes : List ℕ) → BoundsAnswer·refusal (MoveFile·cover bytes) ≡ 0
+    → MoveFile·cover bytes ≡ Bounds (BoundsAnswer·bounds (MoveFile·cover bytes))
+file-answered bytes e =
+    let r = file-accepted bytes e in
+    rw (r .same) (chain-cover-answered (MoveFile·box bytes) coverDepth (r .chain) (rw (r .same) at e))
+
+file-built : (bytes : List ℕ) (c : Chain) → MoveFile·chain bytes ≡ built c → BuiltChain c
+unfolding MoveFile·chain
+file-built bytes c e = record { poses = Poses·ofLists (MoveFile·poses bytes); times-binary32 = times-binary32 bytes; accepted = e }
+
+pub file-contains : (bytes : List ℕ) → BoundsAnswer·refusal (MoveFile·cover bytes) ≡ 0 → FileContainsMotion bytes (BoundsAnswer·bounds (MoveFile·cover bytes))
+file-contains bytes e =
+    let r = file-accepted bytes e in
+    let is-built = file-built bytes (r .chain) (r .from-file) in
+    record {
+      chain = r .chain;
+      from-file = r .from-file;
+      is-built = is-built;
+      contains = λ time p n i. subst (λ (x : BoundsAnswer). MovedInside (BoundsAnswer·bounds x) (Chain·transformPoint (r .chain) time p)) (sym (r .same))
+          (chain-contains (r .chain) (MoveFile·box bytes) coverDepth time p is-built (rw (r .same) at e) n i);
+    }
+
+-- ---- the text
 number-refused : (r : BoundsAnswer) → (BoundsAnswer·refusal r ≡ 0 → ⊥) → r ≡ Refused (BoundsAnswer·refusal r)
 number-refused (Bounds b) h = absurd (h refl)
 number-refused (Refused n) h = refl
 
--- ---- the text
-text-contains : (bytes : List ℕ) → (BoundsAnswer·refusal (answerOf bytes) ≡ 0 → FileContainsMotion (MoveFile·read bytes) (BoundsAnswer·bounds (answerOf bytes)))
-    → AnswerContainsMotion bytes (answerText bytes)
+text-contains : (bytes : List ℕ) → AnswerContainsMotion bytes (answerText bytes)
 unfolding answerText BoundsAnswer·text
-text-contains bytes h = go (eqb (BoundsAnswer·refusal r) 0) (eqb-true (BoundsAnswer·refusal r) 0) (eqb-false (BoundsAnswer·refusal r) 0)
+text-contains bytes = go (eqb (BoundsAnswer·refusal r) 0) (eqb-true (BoundsAnswer·refusal r) 0) (eqb-false (BoundsAnswer·refusal r) 0)
   where
     r : BoundsAnswer
-    r = answerOf bytes
+    r = MoveFile·cover bytes
 
     go : (b : Bool) → (b ≡ true → BoundsAnswer·refusal r ≡ 0) → (b ≡ false → BoundsAnswer·refusal r ≡ 0 → ⊥) → AnswerContainsMotion bytes (BoundsAnswer·text r)
     go true f g =
         let e = f refl in
-        inr (record { accepted = e; printed = ap BoundsAnswer·text (nonzero-box r (file-nonzero (MoveFile·read bytes)) e); contains = h e })
+        inr (record { accepted = e; printed = ap BoundsAnswer·text (file-answered bytes e); contains = file-contains bytes e })
     go false f g = inl (record { refused = g refl; printed = ap BoundsAnswer·text (number-refused r (g refl)) })
 
 -- A text that fits stands whole in the front of the buffer.
@@ -69,23 +109,18 @@ front-text : (text buffer after : List ℕ) (r : ℕ) → length text ≤ length
 unfolding front lengthIn
 front-text text buffer after r fits e f = rw (e, f, le-leb (length text) (length buffer) fits) (take-append-seam text (drop (length text) buffer))
 
-same-text : (bytes : List ℕ) (cover : BoundsAnswer) → cover ≡ answerOf bytes → BoundsAnswer·text cover ≡ answerText bytes
+same-text : (bytes : List ℕ) (cover : BoundsAnswer) → cover ≡ MoveFile·cover bytes → BoundsAnswer·text cover ≡ answerText bytes
 unfolding answerText
 same-text bytes cover e = ap BoundsAnswer·text e
 
--- The four clauses of `answer`, from what its three calls give.
-pub answer-clauses : (bytes buffer after : List ℕ) (r : ℕ) (file : MoveFile) (cover : BoundsAnswer) → file ≡ MoveFile·read bytes → cover ≡ MoveFile·cover file
-    → (BoundsAnswer·refusal cover ≡ 0 → FileContainsMotion file (BoundsAnswer·bounds cover)) → Wrote (BoundsAnswer·text cover) buffer after r
+-- The four clauses of `answer`, from what its two calls give.
+pub answer-clauses : (bytes buffer after : List ℕ) (r : ℕ) (cover : BoundsAnswer)
+    → cover ≡ MoveFile·cover bytes → Wrote (BoundsAnswer·text cover) buffer after r
     → (r ≡ lengthIn (answerText bytes) buffer) × ((after ≡ front (answerText bytes) buffer) × (((r ≤ length after) × (r ≡ length (take r after)))
     × (longestText ≤ length buffer → AnswerContainsMotion bytes (take r after))))
-answer-clauses bytes buffer after r file cover e f h w =
-    let same : cover ≡ answerOf bytes = rw (← e) f in
-    let text = same-text bytes cover same in
+answer-clauses bytes buffer after r cover e w =
+    let text = same-text bytes cover e in
     let (number, (left, counts)) : Wrote (answerText bytes) buffer after r = subst (λ (x : List ℕ). Wrote x buffer after r) text w in
-    let file-holds : BoundsAnswer·refusal cover ≡ 0 → FileContainsMotion (MoveFile·read bytes) (BoundsAnswer·bounds cover) =
-    subst (λ (x : MoveFile). BoundsAnswer·refusal cover ≡ 0 → FileContainsMotion x (BoundsAnswer·bounds cover)) e h in
-    let holds = text-contains bytes
-    (subst (λ (x : BoundsAnswer). BoundsAnswer·refusal x ≡ 0 → FileContainsMotion (MoveFile·read bytes) (BoundsAnswer·bounds x)) same file-holds) in
     let whole : longestText ≤ length buffer → take r after ≡ answerText bytes =
     λ room. front-text (answerText bytes) buffer after r (omega (arith, answer-length bytes, room)) number left in
-    (number, (left, (counts, λ room. subst (AnswerContainsMotion bytes) (sym (whole room)) holds)))
+    (number, (left, (counts, λ room. subst (AnswerContainsMotion bytes) (sym (whole room)) (text-contains bytes))))

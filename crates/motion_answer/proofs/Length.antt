@@ -9,7 +9,6 @@ use lib.ListN.{length}
 use Rattle.bounds3.specs.List.{Bounds3f·list}
 use Rattle.transform.specs.declared.BoundsAnswer.{BoundsAnswer}
 use Rattle.transform.specs.declared.BoundsAnswer.the-variants.{Bounds, Refused}
-use Rattle.motion_file.specs.Layout.{MoveFile·read}
 use Rattle.motion_text.specs.Answer.{zerosInFront}
 use Rattle.motion_text.proofs.Written.{length-bounds, length-refusal}
 use Rattle.motion_answer.specs.Answer.{MoveFile·cover, BoundsAnswer·text, answerText}
@@ -25,7 +24,7 @@ zeros-few n = go (ltb n 10) (ltb n 100)
 
 pub answer-length : (bytes : List ℕ) → length (answerText bytes) ≤ longestText
 unfolding answerText BoundsAnswer·text
-answer-length bytes = go (MoveFile·cover (MoveFile·read bytes))
+answer-length bytes = go (MoveFile·cover bytes)
   where
     go : (c : BoundsAnswer) → length (BoundsAnswer·text c) ≤ 72
     go (Bounds box) = omega (arith, length-bounds (Bounds3f·list box) refl)

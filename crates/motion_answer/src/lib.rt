@@ -1,48 +1,43 @@
 // From a move file to the text that answers it: document 01's program `cover` but for its reading and writing.
-use animated_transform::AnimatedTransform;
-use matrix4x4::Matrix4x4;
-use motion_file::MoveFile;
-use pose_pair::Pose;
+use bounds3::Bounds3f;
 use transform::BoundsAnswer;
 ghost use Prim.Native.Nat.{_≤_};
 ghost use mathlib.Core.Path.{_≡_};
 ghost use lib.ListN.{length, take};
+ghost use Rattle.motion_chain.specs.Chain.{Chain·new};
+ghost use Rattle.chain_poses.specs.Poses.{Poses·ofLists};
 ghost use Rattle.motion_text.specs.Answer.{front, lengthIn};
-ghost use Rattle.transform.specs.Answer.{BoundsAnswer·refusal, BoundsAnswer·bounds};
-ghost use Rattle.motion_answer.specs.Theorem.{FileContainsMotion, AnswerContainsMotion, longestText};
-ghost use Rattle.motion_answer.specs.Answer.{Pose·fromValues, MoveFile·cover, BoundsAnswer·text, answerText};
+ghost use Rattle.motion_answer.specs.Theorem.{AnswerContainsMotion, longestText};
+ghost use Rattle.motion_answer.specs.Answer.{ChainAnswer·cover, MoveFile·cover, BoundsAnswer·text, answerText};
 
 const DEPTH: u32 = 10;
 
-// A pose as a file has it: its time and the upper three rows of its matrix, row by row. Accuracy: exact.
-fn pose(values: [f32; 13]) -> Pose
-    ensures value { λ r. ⌜ r ≡ Pose·fromValues values ⌝ }
+// The cover of a box under the chain of the poses, refused by building, then by the query. Accuracy: encloses.
+fn poses_cover(poses: &[[f32; 17]], b: Bounds3f) -> BoundsAnswer
+    ensures value { λ r. ⌜ r ≡ ChainAnswer·cover (Chain·new (Poses·ofLists (now (poses .entry)))) b ⌝ }
 {
-    let m = Matrix4x4 {
-        r0: [values[1], values[2], values[3], values[4]],
-        r1: [values[5], values[6], values[7], values[8]],
-        r2: [values[9], values[10], values[11], values[12]],
-        r3: [0.0, 0.0, 0.0, 1.0],
-    };
-    Pose { time: values[0], m }
+    let mut moves = [[[0.0f32; 4]; 44]; 31];
+    let refusal = chain_build::build(poses, &mut moves);
+    if refusal != 0 {
+        return BoundsAnswer::Refused(refusal);
+    }
+    // A chain has a move fewer than poses.
+    let n = poses.len() - 1;
+    chain_cover::cover(&moves[..n], b, DEPTH)
 }
 
-// The cover of the file's box under the file's move, refused with 11, then by building, then by the query. Accuracy: encloses.
-fn file_cover(file: MoveFile) -> BoundsAnswer
-    ensures value { λ r. ⌜ r ≡ MoveFile·cover file ⌝ }
-    ensures contains_motion { λ r. ⌜ (BoundsAnswer·refusal r ≡ 0 → FileContainsMotion file (BoundsAnswer·bounds r)) ⌝ }
+// The cover of the file's box under the file's chain, refused with 11, then by building, then by the query. Accuracy: encloses.
+fn file_cover(bytes: &[u8]) -> BoundsAnswer
+    ensures value { λ r. ⌜ r ≡ MoveFile·cover (now (bytes .entry)) ⌝ }
 {
+    let mut poses = [[0.0f32; 17]; 559];
+    let file = motion_file::read(bytes, &mut poses);
     if file.refusal != 0 {
         return BoundsAnswer::Refused(file.refusal);
     }
-    let start = file.start;
-    let end = file.end;
-    let built = AnimatedTransform::new(pose(start), pose(end));
-    if built.refusal != 0 {
-        return BoundsAnswer::Refused(built.refusal);
-    }
+    let n = file.count;
     let values = file.bounds;
-    motion_cover::cover(built.value, lent_arrays::bounds(&values), DEPTH)
+    poses_cover(&poses[..n], lent_arrays::bounds(&values))
 }
 
 // Writes a box or a refusal into the front of `out`.
@@ -57,13 +52,14 @@ fn write(cover: BoundsAnswer, out: &mut [u8]) -> usize
     }
 }
 
-// Writes the text that answers a file's bytes, its cover or its refusal, into the front of `out`, and gives its length, at most 72; where it doesn't fit, `out`
-// is kept as it is and the answer is 0. Where 72 bytes are lent, the text is a refusal or a box that holds the file's move. Accuracy: encloses, where it is a box.
+// Writes the text that answers a file's bytes, its cover or its refusal, into the front of `out`, and gives its length, at most 72; where it doesn't fit,
+// `out` is kept as it is and the answer is 0. Where 72 bytes are lent, the text is a refusal or a box that holds the file's chain. Accuracy: encloses, where
+// it is a box.
 pub fn answer(bytes: &[u8], out: &mut [u8]) -> usize
     ensures value { λ r. ⌜ r ≡ lengthIn (answerText (now (bytes .entry))) (now (out .entry)) ⌝ }
     ensures text { λ _. ⌜ now (out .exit) ≡ front (answerText (now (bytes .entry))) (now (out .entry)) ⌝ }
     ensures counts { λ r. ⌜ (r ≤ length (now (out .exit))) × (r ≡ length (take r (now (out .exit)))) ⌝ }
     ensures contains_motion { λ r. ⌜ (longestText ≤ length (now (out .entry)) → AnswerContainsMotion (now (bytes .entry)) (take r (now (out .exit)))) ⌝ }
 {
-    write(file_cover(motion_file::read(bytes)), out)
+    write(file_cover(bytes), out)
 }

@@ -26,7 +26,7 @@ use Rattle.animated_transform.specs.declared.AnimatedTransform.{AnimatedTransfo
 use Rattle.animated_transform.specs.declared.AnimatedTransformAnswer.{AnimatedTransformAnswer}
 use Rattle.animated_transform.specs.New.{firstRefusal, AnimatedTransformAnswer·refused, assembled, between, work, AnimatedTransform·new}
 use Rattle.animated_transform.specs.Built.{Built}
-use Rattle.motion_chain.specs.Chain.{minPoses, maxPoses, neighbours, every, firstNumber, posesRise, stage, chainStages, chainRefusal}
+use Rattle.motion_chain.specs.Chain.{minPoses, maxPoses, neighbours, every, firstNumber, stage, Pose·number, Pair·number, chainStages, chainRefusal}
 use Rattle.motion_chain.specs.Chain.{Chain, ChainAnswer, built, refused, ChainAnswer·fromMoves, Chain·new}
 use Rattle.motion_chain.specs.Built.{BuiltChain, Each, Contiguous, BuiltMoves, PairsWorked}
 
@@ -39,6 +39,13 @@ first-none n ns = go (eqb n 0) (eqb-true n 0) (eqb-false n 0)
     go true f g e = (f refl, e)
     go false f g e = absurd (g refl e)
 
+pub first-only : (n : ℕ) → firstRefusal n 0 ≡ n
+first-only n = go (eqb n 0) (eqb-true n 0)
+  where
+    go : (b : Bool) → (b ≡ true → n ≡ 0) → cond b 0 n ≡ n
+    go true f = sym (f refl)
+    go false f = refl
+
 first-each : (ns : List ℕ) → firstNumber ns ≡ 0 → Each (λ n. n ≡ 0) ns
 first-each [] e = tt
 first-each (n ∷ ns) e = let (z, h) = first-none n ns e in (z, first-each ns h)
@@ -48,13 +55,13 @@ stage-each number [] e = tt
 stage-each number (x ∷ xs) e = let (z, h) = first-none (number x) (map number xs) e in (z, stage-each number xs h)
 
 -- A stage that asks one test of each.
-tested-each : {A : Type 0} (test : A → Bool) (n : ℕ) (xs : List A) → stage (λ x. cond (not (test x)) (suc n) 0) xs ≡ 0 → Each (λ x. T (test x)) xs
+tested-each : {A : Type 0} (test : A → Bool) (n : ℕ) (xs : List A) → stage (λ x. cond (test x) 0 (suc n)) xs ≡ 0 → Each (λ x. T (test x)) xs
 tested-each test n [] e = tt
 tested-each test n (x ∷ xs) e =
-    let (z, h) = first-none (cond (not (test x)) (suc n) 0) (map (λ y. cond (not (test y)) (suc n) 0) xs) e in
+    let (z, h) = first-none (cond (test x) 0 (suc n)) (map (λ y. cond (test y) 0 (suc n)) xs) e in
     (passed (test x) z, tested-each test n xs h)
   where
-    passed : (b : Bool) → _≡_ {A = ℕ} (cond (not b) (suc n) 0) 0 → T b
+    passed : (b : Bool) → _≡_ {A = ℕ} (cond b 0 (suc n)) 0 → T b
     passed true e = tt
     passed false e = absurd (omega (arith, e))
 
@@ -79,25 +86,29 @@ pub record Passed (poses : List Pose) : Type 0 where
   pub affine : Each (λ p. T (Pose·isAffine p)) poses
   pub least : minPoses ≤ length poses
   pub greatest : length poses ≤ maxPoses
-  pub rise : T (posesRise poses)
+  pub rise : Each (λ (p, q). T (lt (p .time) (q .time))) (neighbours poses)
   pub times : Each (λ (p, q). timesRefusal (p .time) (q .time) ≡ 0) (neighbours poses)
 
 pub checks-passed : (poses : List Pose) → chainRefusal poses ≡ 0 → Passed poses
-unfolding chainRefusal
+unfolding chainRefusal Pose·number Pair·number
 checks-passed poses e =
-    let (finite, (affine, (twelve, (times, _)))) = first-each (chainStages poses) e in
-    go (ltb (length poses) minPoses) (ltb maxPoses (length poses)) (posesRise poses)
-    (nltb→le (length poses) minPoses) (nltb→le maxPoses (length poses)) (λ h. h)
-    (tested-each Pose·isFinite 0 poses finite) (tested-each Pose·isAffine 1 poses affine) twelve
-    (stage-each (λ (p, q). timesRefusal (p .time) (q .time)) (neighbours poses) times)
+    let (finite, (affine, (count, (rise, (times, _))))) = first-each (chainStages poses) e in
+    let (least, greatest) =
+    counted (ltb (length poses) minPoses) (ltb maxPoses (length poses)) (nltb→le (length poses) minPoses) (nltb→le maxPoses (length poses)) count in
+    record {
+      finite = tested-each Pose·isFinite 0 poses finite;
+      affine = tested-each Pose·isAffine 1 poses affine;
+      least = least;
+      greatest = greatest;
+      rise = tested-each (λ (p, q). lt (p .time) (q .time)) 11 (neighbours poses) rise;
+      times = stage-each (λ (p, q). timesRefusal (p .time) (q .time)) (neighbours poses) times;
+    }
   where
-    go : (few many r : Bool) → (T (not few) → minPoses ≤ length poses) → (T (not many) → length poses ≤ maxPoses) → (T r → T (posesRise poses))
-        → Each (λ p. T (Pose·isFinite p)) poses → Each (λ p. T (Pose·isAffine p)) poses → _≡_ {A = ℕ} (cond (few || many || not r) 12 0) 0
-        → Each (λ (p, q). timesRefusal (p .time) (q .time) ≡ 0) (neighbours poses) → Passed poses
-    go false false true l g R f a e t = record { finite = f; affine = a; least = l tt; greatest = g tt; rise = R tt; times = t }
-    go false false false l g R f a e t = absurd (omega (arith, e))
-    go false true r l g R f a e t = absurd (omega (arith, e))
-    go true many r l g R f a e t = absurd (omega (arith, e))
+    counted : (few many : Bool) → (T (not few) → minPoses ≤ length poses) → (T (not many) → length poses ≤ maxPoses)
+        → _≡_ {A = ℕ} (cond (few || many) 12 0) 0 → (minPoses ≤ length poses) × (length poses ≤ maxPoses)
+    counted false false l g e = (l tt, g tt)
+    counted false true l g e = absurd (omega (arith, e))
+    counted true many l g e = absurd (omega (arith, e))
 
 pub pair-worked : (p q : Pose) → T (Pose·isFinite p) → T (Pose·isFinite q) → T (Pose·isAffine p) → T (Pose·isAffine q) → timesRefusal (p .time) (q .time) ≡ 0
     → AnimatedTransform·new p q ≡ work p q
@@ -164,17 +175,18 @@ record Worked (time : Float) (moves : List AnimatedTransform) : Type 0 where
   each : Each Built moves
   contiguous : Contiguous time moves
 
-moves-worked : (p : Pose) (poses : List Pose) → T (every (λ x. fits binary32 (x .time)) (p ∷ poses)) → T (posesRise (p ∷ poses))
+moves-worked : (p : Pose) (poses : List Pose) → T (every (λ x. fits binary32 (x .time)) (p ∷ poses))
+    → Each (λ (p, q). T (lt (p .time) (q .time))) (neighbours (p ∷ poses))
     → firstNumber (numbers (answers (p ∷ poses))) ≡ 0 → Worked (p .time) (values (answers (p ∷ poses)))
-unfolding posesRise neighbours every
+unfolding neighbours every
 moves-worked p [] f r n = record { each = tt; contiguous = tt }
-moves-worked p (q ∷ poses) f r n =
+moves-worked p (q ∷ poses) f (r, rs) n =
     let a = AnimatedTransform·new p q in
     let rest = answers (q ∷ poses) in
     let (z, n') = first-none (a .refusal) (numbers rest) n in
     let f' = and-r (fits binary32 (p .time)) (every (λ x. fits binary32 (x .time)) (q ∷ poses)) f in
     let t = new-times p q in
-    let w = moves-worked q poses f' (and-r (lt (p .time) (q .time)) (posesRise (q ∷ poses)) r) n' in
+    let w = moves-worked q poses f' rs n' in
     let move : Built (a .value) = record {
       start = p;
       end = q;
@@ -186,7 +198,7 @@ moves-worked p (q ∷ poses) f r n =
       each = (move, w .each);
       contiguous = (
         t .start-time z,
-        rw (t .start-time z, t .end-time z) (and-l (lt (p .time) (q .time)) (posesRise (q ∷ poses)) r),
+        rw (t .start-time z, t .end-time z) r,
         rw (t .end-time z) (w .contiguous),
       );
     }

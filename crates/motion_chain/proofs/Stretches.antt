@@ -44,7 +44,7 @@ unfolding neverFalls
 rises-later t [] h = tt
 rises-later t (u ∷ times) h = and-r (le t u) (neverFalls (u ∷ times)) h
 
-rises-drop : (n : ℕ) (times : List Float) → T (neverFalls times) → T (neverFalls (drop n times))
+pub rises-drop : (n : ℕ) (times : List Float) → T (neverFalls times) → T (neverFalls (drop n times))
 rises-drop zero times h = h
 rises-drop (suc n) [] h = h
 rises-drop (suc n) (t ∷ times) h = rises-drop n times (rises-later t times h)
@@ -57,7 +57,7 @@ module _ (end : Float) where
   abbrev Above : Float → Type 0
   Above t = le t end ≡ false
 
-  front-up-to : (times : List Float) → Each UpTo (take (countUpTo end times) times)
+  pub front-up-to : (times : List Float) → Each UpTo (take (countUpTo end times) times)
   unfolding countUpTo
   front-up-to [] = tt
   front-up-to (t ∷ times) = go (le t end) (λ h. h) (front-up-to times)
@@ -76,7 +76,7 @@ module _ (end : Float) where
       next false f = refl
       next true f = absurd (subst T a (f tt))
 
-  rest-above : (times : List Float) → T (neverFalls times) → Each Above (drop (countUpTo end times) times)
+  pub rest-above : (times : List Float) → T (neverFalls times) → Each Above (drop (countUpTo end times) times)
   unfolding countUpTo
   rest-above [] h = tt
   rest-above (t ∷ times) h = go (le t end) (λ e. all-above t times e h) (rest-above times (rises-later t times h))
@@ -166,12 +166,12 @@ unfolding PointsAnswer·append
 nothing-append (moved qs) = refl
 nothing-append (refused n) = refl
 
-points-append : (query : Float → PointAnswer) (xs ys : List Float) → pointsAt query (xs ++ ys) ≡ PointsAnswer·append (pointsAt query xs) (pointsAt query ys)
+pub points-append : (query : Float → PointAnswer) (xs ys : List Float) → pointsAt query (xs ++ ys) ≡ PointsAnswer·append (pointsAt query xs) (pointsAt query ys)
 unfolding pointsAt
 points-append query [] ys = nothing-append (pointsAt query ys)
 points-append query (x ∷ xs) ys = ap (PointsAnswer·cons (query x)) (points-append query xs ys) ∙ cons-append (query x) (pointsAt query xs) (pointsAt query ys)
 
-points-same : (f g : Float → PointAnswer) (times : List Float) → Each (λ t. f t ≡ g t) times → pointsAt f times ≡ pointsAt g times
+pub points-same : (f g : Float → PointAnswer) (times : List Float) → Each (λ t. f t ≡ g t) times → pointsAt f times ≡ pointsAt g times
 unfolding pointsAt
 points-same f g [] h = refl
 points-same f g (t ∷ times) (h, hs) = rw (h, points-same f g times hs)

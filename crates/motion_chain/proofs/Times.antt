@@ -163,7 +163,7 @@ pub chain-point-numbered : (c : Chain) (time : Float) (p : Point3f) → PointAns
 unfolding Chain·transformPoint
 chain-point-numbered c time p = transform-point-numbered (Chain·moveAt c time) time p
 
-cons-numbered : (numbers : List ℕ) (a : PointAnswer) (r : PointsAnswer) → PointAnswer·Numbered numbers a → PointsAnswer·Numbered numbers r
+pub cons-numbered : (numbers : List ℕ) (a : PointAnswer) (r : PointsAnswer) → PointAnswer·Numbered numbers a → PointsAnswer·Numbered numbers r
     → PointsAnswer·Numbered numbers (PointsAnswer·cons a r)
 unfolding PointsAnswer·cons
 cons-numbered numbers (Moved q) (moved qs) h k = record { number = k .number; none = λ _. refl }

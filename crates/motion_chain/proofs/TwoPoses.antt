@@ -1,7 +1,7 @@
 -- A chain of two poses is document 01's move, but for times that don't rise strictly: `two-poses`, `single-move`. The checks of the chain are those of the pair (`checks-same`).
 use Prim.Native.Nat.{ℕ, _+_, _*_}
 use mathlib.Core.Path.{_≡_, refl, sym, _∙_}
-use mathlib.Core.Bool.{Bool, true, false, not, _&&_, _||_, cond}
+use mathlib.Core.Bool.{Bool, true, false, not, _&&_, cond}
 use mathlib.Core.List.{[], _∷_}
 use native.Mathlib.Nat.{mul-pos, zero-lt-suc}
 use native.Mathlib.Omega.{arith}
@@ -25,37 +25,32 @@ use Rattle.pose_pair.specs.Pose.{Pose·isFinite, Pose·isAffine, timesRefusal, 
 use Rattle.animated_transform.specs.declared.AnimatedTransform.{AnimatedTransform}
 use Rattle.animated_transform.specs.declared.AnimatedTransformAnswer.{AnimatedTransformAnswer}
 use Rattle.animated_transform.specs.New.{AnimatedTransformAnswer·refused, work, AnimatedTransform·new}
-use Rattle.motion_chain.specs.Chain.{neighbours, every, firstNumber, posesRise, chainRefusal, built, refused, ChainAnswer·fromMoves, Chain·new, moveFrom, Chain·moveAt, Chain·transformPoint, unionCovers, Chain·cover}
+use Rattle.motion_chain.specs.Chain.{neighbours, every, firstNumber, Pose·number, Pair·number, chainRefusal, built, refused, ChainAnswer·fromMoves, Chain·new}
+use Rattle.motion_chain.specs.Chain.{moveFrom, Chain·moveAt, Chain·transformPoint, unionCovers, Chain·cover}
 use Rattle.motion_chain.specs.TwoPoses.{Chain·single, TwoPoses, SingleMove}
-use Rattle.motion_chain.proofs.Built.{pair-worked}
+use Rattle.motion_chain.proofs.Built.{first-only, pair-worked}
 
 -- ---- the checks
-tested-same : (n : ℕ) → cond (eqb n 0) 0 n ≡ n
-tested-same n = go (eqb n 0) (eqb-true n 0)
-  where
-    go : (b : Bool) → (b ≡ true → n ≡ 0) → cond b 0 n ≡ n
-    go true f = sym (f refl)
-    go false f = refl
-
 -- The stages of two poses, of which f and g are finite, a and b affine, where the times rise.
 stages-same : (f g a b : Bool) (n : ℕ)
     → firstNumber (
-    firstNumber (cond (not f) 1 0 ∷ cond (not g) 1 0 ∷ [])
-    ∷ firstNumber (cond (not a) 2 0 ∷ cond (not b) 2 0 ∷ [])
+    firstNumber (cond f 0 1 ∷ cond g 0 1 ∷ [])
+    ∷ firstNumber (cond a 0 2 ∷ cond b 0 2 ∷ [])
     ∷ 0
+    ∷ firstNumber (0 ∷ [])
     ∷ firstNumber (n ∷ [])
     ∷ []
     )
     ≡ cond (not (f && g)) 1 (cond (not (a && b)) 2 n)
 unfolding firstNumber
-stages-same true true true true n = tested-same (cond (eqb n 0) 0 n) ∙ tested-same n
+stages-same true true true true n = first-only (cond (eqb n 0) 0 n) ∙ first-only n
 stages-same true true true false n = refl
 stages-same true true false b n = refl
 stages-same true false a b n = refl
 stages-same false g a b n = refl
 
 checks-same : (p q : Pose) → T (lt (p .time) (q .time)) → chainRefusal (p ∷ q ∷ []) ≡ posesRefusal p q
-unfolding chainRefusal posesRefusal posesRise every neighbours
+unfolding chainRefusal posesRefusal Pose·number Pair·number neighbours
 checks-same p q l =
     rw (is-true (lt (p .time) (q .time)) l)
     (stages-same (Pose·isFinite p) (Pose·isFinite q) (Pose·isAffine p) (Pose·isAffine q) (timesRefusal (p .time) (q .time)))
@@ -64,11 +59,11 @@ checks-same p q l =
 module _ (a : AnimatedTransformAnswer) where
   from-move-built : a .refusal ≡ 0 → ChainAnswer·fromMoves (a ∷ []) ≡ built (Chain·single (a .value))
   unfolding ChainAnswer·fromMoves firstNumber
-  from-move-built e = rw (tested-same (a .refusal), eq-eqb (a .refusal) 0 e)
+  from-move-built e = rw (first-only (a .refusal), eq-eqb (a .refusal) 0 e)
 
   from-move-refused : (a .refusal ≡ 0 → ⊥) → ChainAnswer·fromMoves (a ∷ []) ≡ refused (a .refusal)
   unfolding ChainAnswer·fromMoves firstNumber
-  from-move-refused f = rw (tested-same (a .refusal)) (go (eqb (a .refusal) 0) (eqb-true (a .refusal) 0))
+  from-move-refused f = rw (first-only (a .refusal)) (go (eqb (a .refusal) 0) (eqb-true (a .refusal) 0))
     where
       go : (b : Bool) → (b ≡ true → a .refusal ≡ 0) → cond b (built (Chain·single (a .value))) (refused (a .refusal)) ≡ refused (a .refusal)
       go true g = absurd (f (g refl))
@@ -86,7 +81,7 @@ rising-same p q l = rw (checks-same p q l) (go (eqb (posesRefusal p q) 0) (eqb-f
 
 -- ---- times that don't rise
 not-rising-refused : (p q : Pose) → T (every Pose·isFinite (p ∷ q ∷ [])) → T (every Pose·isAffine (p ∷ q ∷ [])) → T (not (lt (p .time) (q .time))) → Chain·new (p ∷ q ∷ []) ≡ refused 12
-unfolding Chain·new chainRefusal posesRise every neighbours firstNumber
+unfolding Chain·new chainRefusal Pose·number Pair·number every neighbours firstNumber
 not-rising-refused p q f a l =
     let (f0, f1) = both Pose·isFinite f in
     let (a0, a1) = both Pose·isAffine a in

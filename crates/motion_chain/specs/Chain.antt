@@ -1,7 +1,7 @@
 -- A chain of poses: how it is judged and built, which of its moves a time belongs to, its point query and its cover. Definitions only.
 -- Quotations are of document 02, "Poses in a chain", unless another document is named.
 use Prim.Native.Nat.{ℕ}
-use mathlib.Core.Bool.{Bool, true, not, _&&_, _||_, cond}
+use mathlib.Core.Bool.{Bool, true, _&&_, _||_, cond}
 use mathlib.Core.List.{List, [], _∷_, map}
 use lib.Dec.{eqb, ltb}
 use lib.ListN.{length}
@@ -44,25 +44,37 @@ unfoldable pub firstNumber : List ℕ → ℕ
 firstNumber [] = 0
 firstNumber (n ∷ ns) = firstRefusal n (firstNumber ns)
 
--- "times that rise strictly"
-unfoldable pub posesRise : List Pose → Bool
-posesRise poses = every (λ (p, q). lt (p .time) (q .time)) (neighbours poses)
-
 -- What is asked of each item in turn: the first number met, or 0 for none.
 abbrev pub stage : {A : Type 0} → (A → ℕ) → List A → ℕ
 stage number items = firstNumber (map number items)
 
+-- What the stage of number k asks of a pose by itself: its number where it isn't so, or 0.
+unfoldable pub Pose·number : ℕ → Pose → ℕ
+Pose·number k p =
+    -- document 01: "a matrix entry or time is not finite"
+    cond (eqb k 1) (cond (Pose·isFinite p) 0 1)
+    -- document 01: "a bottom row isn't 0, 0, 0, 1"
+    (cond (eqb k 2) (cond (Pose·isAffine p) 0 2)
+    0)
+
+-- What the stage of number k asks of two neighbouring poses.
+unfoldable pub Pair·number : ℕ → Pose × Pose → ℕ
+Pair·number k (p, q) =
+    -- "times that don't rise strictly"
+    cond (eqb k 12) (cond (lt (p .time) (q .time)) 0 12)
+    -- document 01, of times that rise: "end − start is not finite"
+    (cond (eqb k 3) (timesRefusal (p .time) (q .time))
+    0)
+
 -- "the whole chain's checks", each over the whole chain before the next
 abbrev pub chainStages : List Pose → List ℕ
 chainStages poses =
-    -- document 01, 1 of every pose: "a matrix entry or time is not finite"
-    stage (λ p. cond (not (Pose·isFinite p)) 1 0) poses
-    -- document 01, 2 of every pose: "a bottom row isn't 0, 0, 0, 1"
-    ∷ stage (λ p. cond (not (Pose·isAffine p)) 2 0) poses
+    stage (Pose·number 1) poses
+    ∷ stage (Pose·number 2) poses
     -- "Fewer than 2 poses, more than 32 or times that don't rise strictly are 12, judged after 2 and before 3"
-    ∷ cond (ltb (length poses) minPoses || ltb maxPoses (length poses) || not (posesRise poses)) 12 0
-    -- document 01, 3 of each neighbouring pair, whose times rise by then: "end − start is not finite"
-    ∷ stage (λ (p, q). timesRefusal (p .time) (q .time)) (neighbours poses)
+    ∷ cond (ltb (length poses) minPoses || ltb maxPoses (length poses)) 12 0
+    ∷ stage (Pair·number 12) (neighbours poses)
+    ∷ stage (Pair·number 3) (neighbours poses)
     ∷ []
 
 -- The number of the first stage that has one, or 0 for none.

@@ -1,4 +1,4 @@
--- The layout's definition on files written out: `file-read`, `upper-case-read` and `spaces-read` keep the layout, `all-depart` lists files that don't.
+-- The layout's definition on files written out: `all-read` lists files that keep the layout, with no poses, one, two and three, `all-depart` files that don't.
 -- antt computes each.
 use Prim.Native.String.{String, _++_}
 use mathlib.Core.Path.{_≡_, refl}
@@ -9,7 +9,7 @@ use lib.Ieee.{Float, binary32, ofBits}
 use Rattle.hexadecimal.specs.Digit.{digitValue}
 use Rattle.hexadecimal.specs.Word.{digitsOnly, number}
 use Rattle.motion_file.specs.Text.{ascii, split, singleSpaced, equal}
-use Rattle.motion_file.specs.Layout.{allValues, fits, valuesOf, conforms, MoveFile·departs, MoveFile·read}
+use Rattle.motion_file.specs.Layout.{allValues, fits, valuesOf, conforms, keepsLayout, poseOf, MoveFile·departs, MoveFile·read, MoveFile·poses}
 use Rattle.motion_file.specs.declared.MoveFile.{MoveFile}
 
 -- a line of names, a pose that leaves everything in its place at time 0 and at time 1, a box from 1 2 3 to 4 5 6
@@ -32,34 +32,51 @@ abbrev floats : List ℕ → List Float
 floats ns = map (ofBits binary32) ns
 
 unfoldable computing : Unit {0}
-unfolding ascii split singleSpaced equal allValues fits valuesOf conforms MoveFile·read digitsOnly number digitValue
+unfolding ascii split singleSpaced equal allValues fits valuesOf conforms keepsLayout poseOf MoveFile·read MoveFile·poses digitsOnly number digitValue
 computing = tt
 
--- a file by its last two lines
+-- a file by its lines of poses; one by its last two lines
+abbrev posed : String → String
+posed poses = poseNames ++ poses ++ boundsNames ++ bounds
+
 abbrev file : String → String → String
 file names values = poseNames ++ start ++ end ++ names ++ values
 
-abbrev kept : MoveFile
-kept =
-    record {
-      start = floats (0 ∷ 0x3f800000 ∷ 0 ∷ 0 ∷ 0 ∷ 0 ∷ 0x3f800000 ∷ 0 ∷ 0 ∷ 0 ∷ 0 ∷ 0x3f800000 ∷ 0 ∷ []);
-      end = floats (0x3f800000 ∷ 0x3f800000 ∷ 0 ∷ 0 ∷ 0 ∷ 0 ∷ 0x3f800000 ∷ 0 ∷ 0 ∷ 0 ∷ 0 ∷ 0x3f800000 ∷ 0 ∷ []);
-      bounds = floats (0x3f800000 ∷ 0x40000000 ∷ 0x40400000 ∷ 0x40800000 ∷ 0x40a00000 ∷ 0x40c00000 ∷ []);
-      refusal = 0;
+-- what is said of so many poses and of the box from 1 2 3 to 4 5 6
+abbrev kept : ℕ → MoveFile
+kept n = record { count = n; bounds = floats (0x3f800000 ∷ 0x40000000 ∷ 0x40400000 ∷ 0x40800000 ∷ 0x40a00000 ∷ 0x40c00000 ∷ []); refusal = 0 }
+
+-- the identity at a time
+abbrev pose : ℕ → List Float
+pose t = floats (t ∷ 0x3f800000 ∷ 0 ∷ 0 ∷ 0 ∷ 0 ∷ 0x3f800000 ∷ 0 ∷ 0 ∷ 0 ∷ 0 ∷ 0x3f800000 ∷ 0 ∷ 0 ∷ 0 ∷ 0 ∷ 0x3f800000 ∷ [])
+
+abbrev said : String → MoveFile × List (List Float)
+said text = (MoveFile·read (ascii text), MoveFile·poses (ascii text))
+
+record Row : Type 0 where
+  text : String
+  file : MoveFile
+  poses : List (List Float)
+
+rows : List Row
+rows =
+    record { text = posed (start ++ end); file = kept 2; poses = pose 0 ∷ pose 0x3f800000 ∷ [] }
+    -- any number of poses
+    ∷ record { text = posed ""; file = kept 0; poses = [] }
+    ∷ record { text = posed end; file = kept 1; poses = pose 0x3f800000 ∷ [] }
+    ∷ record { text = posed (start ++ end ++ end); file = kept 3; poses = pose 0 ∷ pose 0x3f800000 ∷ pose 0x3f800000 ∷ [] }
+    -- digits of either case; several spaces between words
+    ∷ record { text = file boundsNames "3F800000 40000000 40400000 40800000 40A00000 40C00000\n"; file = kept 2; poses = pose 0 ∷ pose 0x3f800000 ∷ [] }
+    ∷ record {
+      text = file "x0   y0 z0  x1 y1    z1\n" "3f800000  40000000 40400000   40800000 40a00000 40c00000\n";
+      file = kept 2;
+      poses = pose 0 ∷ pose 0x3f800000 ∷ [];
     }
+    ∷ []
 
--- the layout allows digits of either case and several spaces between words
-file-read : MoveFile·read (ascii (file boundsNames bounds)) ≡ kept
-unfolding computing
-file-read = refl
-
-upper-case-read : MoveFile·read (ascii (file boundsNames "3F800000 40000000 40400000 40800000 40A00000 40C00000\n")) ≡ kept
-unfolding computing
-upper-case-read = refl
-
-spaces-read : MoveFile·read (ascii (file "x0   y0 z0  x1 y1    z1\n" "3f800000  40000000 40400000   40800000 40a00000 40c00000\n")) ≡ kept
-unfolding computing
-spaces-read = refl
+all-read : map (λ (row : Row). said (row .text)) rows ≡ map (λ (row : Row). (row .file, row .poses)) rows
+unfolding computing rows
+all-read = refl
 
 -- files that depart from it
 departing : List String
@@ -72,6 +89,10 @@ departing =
     ∷ file "" bounds
     ∷ file boundsNames ""
     ∷ file boundsNames (bounds ++ bounds)
+    -- a pose of twelve values, of fourteen; a pose behind the box's names
+    ∷ posed (start ++ "3f800000 3f800000 00000000 00000000 00000000 00000000 3f800000 00000000 00000000 00000000 00000000 3f800000\n")
+    ∷ posed (start ++ "3f800000 3f800000 00000000 00000000 00000000 00000000 3f800000 00000000 00000000 00000000 00000000 3f800000 00000000 00000000\n")
+    ∷ file boundsNames (end ++ bounds)
     -- a tab, a carriage return
     ∷ file boundsNames "3f800000\t40000000 40400000 40800000 40a00000 40c00000\n"
     ∷ file boundsNames "3f800000 40000000 40400000 40800000 40a00000 40c00000\r\n"
@@ -93,6 +114,6 @@ departing =
     ∷ file boundsNames "3f80000g 40000000 40400000 40800000 40a00000 40c00000\n"
     ∷ []
 
-all-depart : map (λ text. MoveFile·read (ascii text)) departing ≡ replicate 20 MoveFile·departs
+all-depart : map said departing ≡ replicate 23 (MoveFile·departs, [])
 unfolding computing departing
 all-depart = refl

@@ -4,6 +4,8 @@ pub mod Names
 pub mod Words
 pub mod Values
 pub mod ReadUpTo
+pub mod Room
 pub mod Lines
 pub mod Files
+pub mod Shapes
 pub mod Cases

@@ -1,21 +1,22 @@
--- The lines of a file by the places at which they begin: `after-fits`, `after-unfit` and `after-unended` say where the next line begins, `through-conforms` that a file
--- keeps a layout exactly where its lines lead to its end, and `lines-next` that each line is a piece of the file. Rests on `Pieces.antt`.
+-- The lines of a file by the places at which they begin: `after-fits`, `after-unfit` and `after-unended` say where the next line begins, `through-conforms`
+-- that a file keeps a layout exactly where its lines lead to its end, and `pieces-through` that these lines are the pieces of the file. Rests on
+-- `Pieces.antt`.
 use Prim.Native.Nat.{ℕ, suc, _+_, _-_, _≤_, _<_}
 use native.Mathlib.Nat.{eq-or-lt-of-le, add-sub-cancel-left}
 use native.Mathlib.Omega.{arith}
-use mathlib.Core.Path.{_≡_, refl, sym, _∙_}
+use mathlib.Core.Path.{_≡_, refl, sym, _∙_, ap}
 use mathlib.Core.Bool.{Bool, true, false, cond, _&&_, and-true, and-false}
-use mathlib.Core.List.{List, [], _∷_}
+use mathlib.Core.List.{List, [], _∷_, _++_}
 use mathlib.Core.Logic.{⊎-elim}
-use lib.Dec.{eqb, ltb, eqb·suc-zero}
-use lib.ListN.{length, getD, take, drop, drop-of-length-le, length-drop}
+use lib.Dec.{eqb, leb, ltb, eqb·suc-zero}
+use lib.ListN.{length, getD, take, drop, replicate, drop-of-length-le, length-drop}
 use lib.Seq.{drop-cons, drop-drop}
-use borrow.Author.Tests.{ltb-true, ltb-false, le-ltb, eq-eqb, ne-eqb}
+use borrow.Author.Tests.{ltb-true, ltb-false, leb-true, leb-false, le-ltb, eq-eqb, ne-eqb}
 use Rattle.hexadecimal.specs.Digit.{position}
 use Rattle.hexadecimal.proofs.Digits.{position-bound}
 use Rattle.motion_file.specs.Text.{lineFeed, split, equal}
 use Rattle.motion_file.specs.Layout.{Line, fits, conforms, maxBytes}
-use Rattle.motion_file.specs.Place.{lineLength, lineAt, pastEnd, afterLine}
+use Rattle.motion_file.specs.Place.{lineLength, lineAt, pastEnd, afterLine, through, linesThrough}
 use Rattle.motion_file.proofs.Pieces.{position-end, split-cut, split-whole, split-first}
 
 -- the text from a place on: a line and what stands behind its line feed, or one piece
@@ -89,10 +90,51 @@ unfolding conforms
 no-lines [] = refl
 no-lines (kind ∷ kinds) = refl
 
--- the place to which lines of these kinds lead
-unfoldable pub through : List Line → List ℕ → ℕ → ℕ
-through [] s at = at
-through (kind ∷ kinds) s at = through kinds s (afterLine kind s at)
+pub through-append : (kinds more : List Line) (s : List ℕ) (at : ℕ) → through (kinds ++ more) s at ≡ through more s (through kinds s at)
+unfolding through
+through-append [] more s at = refl
+through-append (kind ∷ kinds) more s at = through-append kinds more s (afterLine kind s at)
+
+pub lines-append : (kinds more : List Line) (s : List ℕ) (at : ℕ)
+    → linesThrough (kinds ++ more) s at ≡ linesThrough kinds s at ++ linesThrough more s (through kinds s at)
+unfolding through linesThrough
+lines-append [] more s at = refl
+lines-append (kind ∷ kinds) more s at = ap (λ (ls : List (List ℕ)). lineAt s at ∷ ls) (lines-append kinds more s (afterLine kind s at))
+
+pub lines-length : (kinds : List Line) (s : List ℕ) (at : ℕ) → length (linesThrough kinds s at) ≡ length kinds
+unfolding linesThrough
+lines-length [] s at = refl
+lines-length (kind ∷ kinds) s at = ap suc (lines-length kinds s (afterLine kind s at))
+
+-- several lines of one kind, as a loop leads through them: i of them are behind it
+module _ (kind : Line) (s : List ℕ) (count i at : ℕ) where
+  abbrev pub placeFrom : ℕ
+  placeFrom = through (replicate (count - i) kind) s at
+
+  abbrev pub linesFrom : List (List ℕ)
+  linesFrom = linesThrough (replicate (count - i) kind) s at
+
+  one-more : i < count → count - i ≡ suc (count - (i + 1))
+  one-more h = omega (arith, h)
+
+  pub place-next : i < count → placeFrom ≡ through (replicate (count - (i + 1)) kind) s (afterLine kind s at)
+  unfolding through
+  place-next h = rw (one-more h)
+
+  pub lines-from-next : i < count → linesFrom ≡ lineAt s at ∷ linesThrough (replicate (count - (i + 1)) kind) s (afterLine kind s at)
+  unfolding linesThrough
+  lines-from-next h = rw (one-more h)
+
+  none-left : count ≤ i → count - i ≡ 0
+  none-left h = omega (arith, h)
+
+  pub place-end : count ≤ i → placeFrom ≡ at
+  unfolding through
+  place-end h = rw (none-left h)
+
+  pub lines-from-end : count ≤ i → linesFrom ≡ []
+  unfolding linesThrough
+  lines-from-end h = rw (none-left h)
 
 module _ (s : List ℕ) (m : length s ≤ maxBytes) where
   through-past : (kinds : List Line) (at : ℕ) → length s < at → length s < through kinds s at
@@ -126,3 +168,20 @@ module _ (s : List ℕ) (m : length s ≤ maxBytes) where
           rw (d, lines-cut s at (ltb-true (at + lineLength s at) (length s) d), e) (sym (refused kinds pastEnd refl))
       go false q d e ih =
           rw (d, line-whole s at (ltb-false (at + lineLength s at) (length s) d), no-lines kinds, and-false) (sym (refused kinds pastEnd refl))
+
+  -- lines that lead to a place in the file begin in it
+  pub through-begins : (kinds : List Line) (at : ℕ) → through kinds s at ≤ length s → at ≤ length s
+  through-begins kinds at h = go (leb at (length s)) refl
+    where
+      go : (b : Bool) → leb at (length s) ≡ b → at ≤ length s
+      go true e = leb-true at (length s) e
+      go false e = absurd (omega (arith, h, through-past kinds at (leb-false at (length s) e)))
+
+  -- where they lead to a place in the file, they are its pieces up to there
+  pub pieces-through : (kinds : List Line) (at : ℕ) → through kinds s at ≤ length s
+      → split lineFeed (drop at s) ≡ linesThrough kinds s at ++ split lineFeed (drop (through kinds s at) s)
+  unfolding through linesThrough
+  pieces-through [] at h = refl
+  pieces-through (kind ∷ kinds) at h =
+      let t = stands kind s at m (through-begins kinds (afterLine kind s at) h) in
+      lines-next kind s at t ∙ ap (λ (ls : List (List ℕ)). lineAt s at ∷ ls) (pieces-through kinds (afterLine kind s at) h)

@@ -1,6 +1,8 @@
--- Where a separator stands and how it cuts a text: `position-here`, `position-next`, `position-end` by place, `split-cut` and `split-whole` by the first separator.
-use Prim.Native.Nat.{ℕ, suc, _≤_, _<_}
+-- Where a separator stands and how it cuts a text: `position-here`, `position-next`, `position-end` by place, `split-cut` and `split-whole` by the first
+-- separator; how many pieces it makes: `pieces-next`, `pieces-end`.
+use Prim.Native.Nat.{ℕ, suc, _+_, _≤_, _<_}
 use native.Mathlib.Nat.{not-suc-le-zero, eq-or-lt-of-le}
+use native.Mathlib.Numerals.{add-one}
 use native.Mathlib.Omega.{arith}
 use mathlib.Core.Path.{_≡_, refl, sym, ap}
 use mathlib.Core.Bool.{Bool, true, false, cond}
@@ -71,3 +73,21 @@ split-first b s = ⊎-elim whole cut (eq-or-lt-of-le (position-bound b s))
 
     cut : position b s < length s → (ps : List (List ℕ)) × (split b s ≡ take (position b s) s ∷ ps)
     cut l = (split b (drop (suc (position b s)) s), split-cut b s l)
+
+-- ---- how many pieces there are from a place on
+first-length : (b : ℕ) (ps : List (List ℕ)) → length (onFirst b ps) ≡ length ps
+first-length b [] = refl
+first-length b (p ∷ ps) = refl
+
+pub pieces-next : (b : ℕ) (s : List ℕ) (i : ℕ) → i < length s
+    → length (split b (drop i s)) ≡ cond (eqb b (getD s i 0)) 1 0 + length (split b (drop (i + 1) s))
+unfolding split
+pieces-next b s i h = rw (drop-cons s i 0 h, add-one i) (go (eqb b (getD s i 0)) (split b (drop (suc i) s)))
+  where
+    go : (t : Bool) (ps : List (List ℕ)) → length (cond t ([] ∷ ps) (onFirst (getD s i 0) ps)) ≡ cond t 1 0 + length ps
+    go true ps = omega arith
+    go false ps = omega (arith, first-length (getD s i 0) ps)
+
+pub pieces-end : (b : ℕ) (s : List ℕ) (i : ℕ) → length s ≤ i → length (split b (drop i s)) ≡ 1
+unfolding split
+pieces-end b s i h = rw (drop-of-length-le s h)

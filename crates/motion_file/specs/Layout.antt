@@ -1,12 +1,12 @@
--- The layout of a move file and what such a file says: `layout`, `conforms`, `MoveFile·read`. Document 01, "File and program": a line of names, then lines of
--- values in that order; values are eight hexadecimal digits of either case, the float's bits; one or more spaces stand between words, none before the first or
--- after the last; every line ends in a line feed; a file has at most 65,536 bytes. Whatever departs from it is refused with 11, and every number is then +0.
--- A NaN's bits all mean the one NaN. Rests on `Text.antt` and on the digits of `hexadecimal`.
-use Prim.Native.Nat.{ℕ}
+-- The layout of a move file and what such a file says: `layout`, `conforms`, `MoveFile·read`, `MoveFile·poses`. Document 01, "File and program": a line of
+-- names, then lines of values in that order; values are eight hexadecimal digits of either case, the float's bits; one or more spaces stand between words,
+-- none before the first or after the last; every line ends in a line feed; a file has at most 65,536 bytes. Whatever departs from it is refused with 11, and
+-- every number is then +0. A NaN's bits all mean the one NaN. Rests on `Text.antt` and on the digits of `hexadecimal`.
+use Prim.Native.Nat.{ℕ, _+_, _-_}
 use mathlib.Core.Bool.{Bool, true, false, cond, _&&_}
-use mathlib.Core.List.{List, [], _∷_, map}
+use mathlib.Core.List.{List, [], _∷_, _++_, map}
 use lib.Dec.{eqb, leb}
-use lib.ListN.{length, getD, replicate}
+use lib.ListN.{length, getD, take, drop, replicate}
 use lib.Ieee.{Float, binary32, ofBits}
 use Rattle.hexadecimal.specs.Word.{digitsOnly, number}
 use Rattle.motion_file.specs.Text.{ascii, lineFeed, space, split, singleSpaced, equal}
@@ -24,9 +24,9 @@ poseNames = ascii "time m00 m01 m02 m03 m10 m11 m12 m13 m20 m21 m22 m23"
 abbrev pub boundsNames : List ℕ
 boundsNames = ascii "x0 y0 z0 x1 y1 z1"
 
--- the lines of a move file: two poses, start and end, and a box
-abbrev pub layout : List Line
-layout = names poseNames ∷ values 13 ∷ values 13 ∷ names boundsNames ∷ values 6 ∷ []
+-- the lines of a move file with n poses, and a box; document 02, "Poses in a chain": "A file's pose lines, however many, are a chain."
+abbrev pub layout : ℕ → List Line
+layout n = names poseNames ∷ (replicate n (values 13) ++ (names boundsNames ∷ values 6 ∷ []))
 
 -- what stands between runs of spaces; a space before the first word or after the last makes an empty word, which is no name and no value
 abbrev pub words : List ℕ → List (List ℕ)
@@ -65,28 +65,52 @@ conforms (kind ∷ kinds) (piece ∷ pieces) = fits kind piece && conforms kinds
 abbrev pub maxBytes : ℕ
 maxBytes = 65536
 
+-- how many of the pieces into which line feeds cut a file are left for its poses: all but two lines of names, the box's values, and what follows the last
+-- line feed
+abbrev pub poseLines : List (List ℕ) → ℕ
+poseLines lines = length lines - 4
+
+unfoldable pub keepsLayout : List ℕ → Bool
+keepsLayout bytes =
+    let lines = split lineFeed bytes in
+    leb (length bytes) maxBytes && conforms (layout (poseLines lines)) lines
+
+-- no file has room for more poses (`read-count`)
+abbrev pub maxPoseLines : ℕ
+maxPoseLines = 559
+
 -- a file that departs from the layout
 abbrev pub MoveFile·departs : MoveFile
 MoveFile·departs =
     record {
-      start = replicate 13 (ofBits binary32 0);
-      end = replicate 13 (ofBits binary32 0);
+      count = 0;
       bounds = replicate 6 (ofBits binary32 0);
       refusal = 11;
     }
 
--- what the lines of a file that keeps the layout say: the second and third are the poses, the fifth is the box
+-- what the lines of a file that keeps the layout say: after the poses and a line of names comes the box
 abbrev pub MoveFile·contents : List (List ℕ) → MoveFile
 MoveFile·contents lines =
     record {
-      start = valuesOf (getD lines 1 []);
-      end = valuesOf (getD lines 2 []);
-      bounds = valuesOf (getD lines 4 []);
+      count = poseLines lines;
+      bounds = valuesOf (getD lines (poseLines lines + 2) []);
       refusal = 0;
     }
 
 -- what a file says
 unfoldable pub MoveFile·read : List ℕ → MoveFile
-MoveFile·read bytes =
+MoveFile·read bytes = cond (keepsLayout bytes) (MoveFile·contents (split lineFeed bytes)) MoveFile·departs
+
+-- "The bottom row is 0 0 0 1."
+abbrev pub bottomRow : List Float
+bottomRow = ofBits binary32 0 ∷ ofBits binary32 0 ∷ ofBits binary32 0 ∷ ofBits binary32 0x3f800000 ∷ []
+
+-- the pose of a line: its time and the four rows of its matrix, one after the other
+unfoldable pub poseOf : List ℕ → List Float
+poseOf line = valuesOf line ++ bottomRow
+
+-- a file's poses, those of the lines behind the first; none where it departs from the layout
+unfoldable pub MoveFile·poses : List ℕ → List (List Float)
+MoveFile·poses bytes =
     let lines = split lineFeed bytes in
-    cond (leb (length bytes) maxBytes && conforms layout lines) (MoveFile·contents lines) MoveFile·departs
+    cond (keepsLayout bytes) (map poseOf (take (poseLines lines) (drop 1 lines))) []

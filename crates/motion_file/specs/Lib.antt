@@ -1,3 +1,4 @@
 pub mod Text
 pub mod Layout
+pub mod Front
 pub mod Place

@@ -1,8 +1,9 @@
--- Lines by the place in a file at which they begin: `lineAt`, and `afterLine`, where the next one begins. Rests on `Layout.antt`.
+-- Lines by the place in a file at which they begin: `lineAt`, and `afterLine`, where the next one begins; `through`, where several lead, and `linesThrough`,
+-- those lines. Rests on `Layout.antt`.
 use Prim.Native.Nat.{ℕ, _+_, _≤_, _<_}
 use mathlib.Core.Path.{_≡_}
 use mathlib.Core.Bool.{cond, _&&_}
-use mathlib.Core.List.{List, _∷_}
+use mathlib.Core.List.{List, [], _∷_}
 use lib.Dec.{ltb}
 use lib.ListN.{length, take, drop, getD}
 use Rattle.hexadecimal.specs.Digit.{position}
@@ -24,6 +25,15 @@ pastEnd = maxBytes + 1
 unfoldable pub afterLine : Line → List ℕ → ℕ → ℕ
 afterLine kind s at =
     cond (ltb (at + lineLength s at) (length s) && fits kind (lineAt s at)) (at + lineLength s at + 1) pastEnd
+
+-- the place to which lines of these kinds lead
+unfoldable pub through : List Line → List ℕ → ℕ → ℕ
+through [] s at = at
+through (kind ∷ kinds) s at = through kinds s (afterLine kind s at)
+
+unfoldable pub linesThrough : List Line → List ℕ → ℕ → List (List ℕ)
+linesThrough [] s at = []
+linesThrough (kind ∷ kinds) s at = lineAt s at ∷ linesThrough kinds s (afterLine kind s at)
 
 -- the next place of a line after the byte at a place, a run of spaces being one
 pub record NextByte (line : List ℕ) (at next : ℕ) : Type 0 where

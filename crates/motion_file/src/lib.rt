@@ -1,51 +1,57 @@
-// Move files: the text that holds the two poses of a move and a box.
+// Move files: the text that holds the poses of a chain and a box.
 ghost use mathlib.Core.Path.{_≡_};
 ghost use mathlib.Core.Bool.{true, cond};
+ghost use mathlib.Core.List.{map};
 ghost use Prim.Native.Nat.{_+_, _≤_, _<_};
-ghost use lib.Dec.{ltb};
-ghost use lib.ListN.{length};
-ghost use Rattle.motion_file.specs.Layout.{names, values, fits, valuesOf, maxBytes, MoveFile·departs, MoveFile·read};
-ghost use Rattle.motion_file.specs.Place.{lineLength, lineAt, pastEnd, afterLine, NextByte};
+ghost use lib.Dec.{eqb, ltb};
+ghost use lib.ListN.{length, replicate};
+ghost use Rattle.motion_file.specs.Text.{lineFeed, split};
+ghost use Rattle.motion_file.specs.Layout.{names, values, fits, valuesOf, maxBytes, maxPoseLines, poseLines, poseOf, MoveFile·departs};
+ghost use Rattle.motion_file.specs.Layout.{MoveFile·poses, MoveFile·read};
+ghost use Rattle.motion_file.specs.Front.{front};
+ghost use Rattle.motion_file.specs.Place.{lineLength, lineAt, pastEnd, afterLine, through, linesThrough, NextByte};
 use hexadecimal::Word;
 
 // A place past the end of every file, where no line stands.
 const PAST_END: usize = 65537;
 
-// What a move file says: for each pose its time and the upper three rows of its matrix, row by row; for the box its least corner and its greatest.
-// `refusal` is 0, or 11 for a file that departs from the layout, and every other number is then +0.
+// What a move file says: how many poses it has, and its box's least corner and greatest. The poses themselves are put into a lent array.
+// `refusal` is 0, or 11 for a file that departs from the layout, and every other number is then 0.
 pub struct MoveFile {
-    pub start: [f32; 13],
-    pub end: [f32; 13],
+    pub count: usize,
     pub bounds: [f32; 6],
     pub refusal: u8,
 }
 
-// The two poses and the box that a file's bytes hold; refused with 11 where they depart from the layout. Accuracy: exact; every pattern of a NaN gives NaN.
-pub fn read(bytes: &[u8]) -> MoveFile
+// Puts the poses that a file's bytes hold into the front of `poses`, each its time and its matrix row by row, and gives their number and the box; refused
+// with 11, and `poses` kept as it is, where the bytes depart from the layout. Accuracy: exact; every pattern of a NaN gives NaN.
+pub fn read(bytes: &[u8], poses: &mut [[f32; 17]; 559]) -> MoveFile
     ensures value { λ r. ⌜ r ≡ MoveFile·read (now (bytes .entry)) ⌝ }
+    ensures left { λ _. ⌜ now (poses .exit) ≡ front (MoveFile·poses (now (bytes .entry))) (now (poses .entry)) ⌝ }
+    ensures count { λ r. ⌜ r .count ≤ maxPoseLines ⌝ }
 {
     if 65536 < bytes.len() {
         return departs();
     }
-    let mut start = [0.0f32; 13];
-    let mut end = [0.0f32; 13];
+    let mut pose = [0.0f32; 13];
     let mut bounds = [0.0f32; 6];
     // Each line begins where the one before it ends; behind a line that departs from the layout none stands.
-    let a = names_line(
+    let count = pose_lines(bytes);
+    let first = names_line(
         bytes,
         0,
         b"time m00 m01 m02 m03 m10 m11 m12 m13 m20 m21 m22 m23",
     );
-    let b = values_line(bytes, a, &mut start);
-    let c = values_line(bytes, b, &mut end);
-    let d = names_line(bytes, c, b"x0 y0 z0 x1 y1 z1");
-    let e = values_line(bytes, d, &mut bounds);
-    if e != bytes.len() {
+    let behind = after_values(bytes, first, count, &mut pose);
+    let values = names_line(bytes, behind, b"x0 y0 z0 x1 y1 z1");
+    let end = values_line(bytes, values, &mut bounds);
+    if end != bytes.len() {
         return departs();
     }
+    // Only now is anything put into the lent array.
+    *poses = with_poses(bytes, first, count, *poses);
     MoveFile {
-        start,
-        end,
+        count,
         bounds,
         refusal: 0,
     }
@@ -55,11 +61,75 @@ fn departs() -> MoveFile
     ensures { λ r. ⌜ r ≡ MoveFile·departs ⌝ }
 {
     MoveFile {
-        start: [0.0; 13],
-        end: [0.0; 13],
+        count: 0,
         bounds: [0.0; 6],
         refusal: 11,
     }
+}
+
+// How many lines of poses a file has, if it keeps the layout: all its lines but three.
+fn pose_lines(s: &[u8]) -> usize
+    ensures { λ r. ⌜ r ≡ poseLines (split lineFeed (now (s .entry))) ⌝ }
+{
+    let lines = line_feeds(s);
+    if lines < 3 { 0 } else { lines - 3 }
+}
+
+// How many line feeds there are.
+fn line_feeds(s: &[u8]) -> usize
+    ensures { λ r. ⌜ r + 1 ≡ length (split lineFeed (now (s .entry))) ⌝ }
+{
+    let mut feeds = 0;
+    let mut i = 0;
+    while i < s.len() {
+        feeds += is_line_feed(s[i]);
+        i += 1;
+    }
+    feeds
+}
+
+fn is_line_feed(b: u8) -> usize
+    ensures { λ r. ⌜ r ≡ cond (eqb lineFeed b) 1 0 ⌝ }
+{
+    if b == b'\n' { 1 } else { 0 }
+}
+
+// Where the line behind `count` lines of as many values as `scratch` has places begins, past the end where one of them is none.
+fn after_values(s: &[u8], at: usize, count: usize, scratch: &mut [f32]) -> usize
+    requires { ⌜ length (now s) ≤ maxBytes ⌝ }
+    requires { ⌜ 0 < length (now scratch) ⌝ }
+    ensures { λ r. ⌜ r ≡ through (replicate count (values (length (now (scratch .entry))))) (now (s .entry)) at ⌝ }
+{
+    let mut place = at;
+    let mut i = 0;
+    while i < count {
+        let next = values_line(s, place, scratch);
+        place = next;
+        i += 1;
+    }
+    place
+}
+
+// The array with the `count` poses whose lines begin at `at` in its front.
+fn with_poses(s: &[u8], at: usize, count: usize, poses: [[f32; 17]; 559]) -> [[f32; 17]; 559]
+    requires { ⌜ length (now s) ≤ maxBytes ⌝ }
+    requires { ⌜ count ≤ maxPoseLines ⌝ }
+    requires { ⌜ through (replicate count (values 13)) (now s) at ≤ length (now s) ⌝ }
+    ensures { λ r. ⌜ r ≡ front (map poseOf (linesThrough (replicate count (values 13)) (now (s .entry)) at)) poses ⌝ }
+{
+    let mut filled = poses;
+    let mut place = at;
+    let mut i = 0;
+    while i < count {
+        // The bottom row is 0 0 0 1.
+        let mut pose = [0.0f32; 17];
+        pose[16] = 1.0;
+        let next = values_line(s, place, &mut pose[..13]);
+        filled[i] = pose;
+        place = next;
+        i += 1;
+    }
+    filled
 }
 
 // Where the next line begins if the names `text` stand at `at`, and past the end otherwise.

@@ -1,12 +1,14 @@
--- What is kept of a move is the whole move: `from-rows-inverse`, and beside it the constants of its poses, `constants-inverse`.
+-- What is kept of a move is the whole move: `from-rows-inverse`, and beside it the constants of its poses, `constants-inverse`; so its point query is the move's, `transform-point-kept`.
 use mathlib.Core.Path.{_≡_, refl}
 use mathlib.Core.Bool.{Bool, true, false}
-use lib.Ieee.{eq, ofBits}
+use lib.Ieee.{Float, eq, ofBits}
 use Rattle.float32.specs.Operators.{one}
+use Rattle.bounds3.specs.declared.Point3f.{Point3f}
 use Rattle.pose_steps.specs.Pose.{PoseConstants·new}
 use Rattle.animated_transform.specs.declared.AnimatedTransform.{AnimatedTransform}
-use Rattle.motion_point.specs.TransformPoint.{AnimatedTransform·constants}
+use Rattle.motion_point.specs.TransformPoint.{AnimatedTransform·constants, AnimatedTransform·transformPoint}
 use Rattle.motion_rows.specs.Rows.{flag, constantsRow, fieldsRows, transformAt, derivativeAt, coefficientsAt, AnimatedTransform·toRows, AnimatedTransform·fromRows, PoseConstants·fromRows}
+use Rattle.motion_rows.specs.TransformPoint.{Rows·transformPoint}
 
 flag-eq : (b : Bool) → eq (flag b) one ≡ b
 unfolding eq ofBits
@@ -20,3 +22,7 @@ from-rows-inverse m = rw (flag-eq (m .«actually_animated»), flag-eq (m .«has_
 pub constants-inverse : (m : AnimatedTransform) → PoseConstants·fromRows (AnimatedTransform·toRows m) ≡ AnimatedTransform·constants m
 unfolding AnimatedTransform·toRows fieldsRows constantsRow PoseConstants·fromRows PoseConstants·new
 constants-inverse m = refl
+
+pub transform-point-kept : (m : AnimatedTransform) (time : Float) (p : Point3f) → Rows·transformPoint (AnimatedTransform·toRows m) time p ≡ AnimatedTransform·transformPoint m time p
+unfolding Rows·transformPoint AnimatedTransform·transformPoint
+transform-point-kept m time p = rw (from-rows-inverse m, constants-inverse m)

@@ -1,5 +1,5 @@
 -- The point query of a kept move, whatever its rows: `Rows·transformPoint`. Definitions only.
--- Of the rows of a built move it is `AnimatedTransform·transformPoint`, since the constants that they hold are the move's (`kept-point` of `api`).
+-- Of the rows of a built move it is `AnimatedTransform·transformPoint`, since the constants that they hold are the move's (`transform-point-kept`).
 use mathlib.Core.Bool.{not, _||_, cond}
 use lib.Ieee.{Float, isNan}
 use Rattle.matrix4x4.specs.Rows.{Rows}

@@ -15,6 +15,7 @@ use vector3::Vector3f;
 ghost use Prim.Native.Nat.{_+_, _<_};
 ghost use mathlib.Core.Path.{_≡_};
 ghost use Rattle.motion_point.specs.TransformPoint.{AnimatedTransform·movedPoint};
+ghost use Rattle.motion_rows.specs.TransformPoint.{Rows·transformPoint};
 ghost use Rattle.motion_rows.specs.Rows.{flag, constantsRow, fieldsRows, vectorAt, quaternionAt, matrixAt, transformAt, termAt, derivativeAt, coefficientsAt, AnimatedTransform·toRows, AnimatedTransformAnswer·left, AnimatedTransform·fromRows, PoseConstants·fromRows};
 
 fn flag(b: bool) -> f32
@@ -317,4 +318,14 @@ pub fn moved_point(rows: &[[f32; 4]; 44], time: f32, p: Point3f) -> PointAnswer
         (time - start[3]) / (end[3] - start[3]),
         p,
     )
+}
+
+// Where a point stands at a time of a kept move. Refused with 5 or 6. Accuracy: each operation but sine and cosine is correctly rounded.
+pub fn transform_point(rows: &[[f32; 4]; 44], time: f32, p: Point3f) -> PointAnswer
+    ensures value { λ r. ⌜ r ≡ Rows·transformPoint (now (rows .entry)) time p ⌝ }
+{
+    if (time != time) | !p.is_finite() {
+        return PointAnswer::Refused(6);
+    }
+    moved_point(rows, time, p)
 }

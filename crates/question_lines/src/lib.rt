@@ -3,7 +3,7 @@
 use hexadecimal::Word;
 ghost use mathlib.Core.Path.{_≡_};
 ghost use mathlib.Core.Bool.{cond};
-ghost use Prim.Native.Nat.{_+_, _≤_, _<_, max};
+ghost use Prim.Native.Nat.{_+_, _-_, _^_, _≤_, _<_, max};
 ghost use lib.Dec.{ltb};
 ghost use lib.ListN.{length, take};
 ghost use lib.Seq.{paste};
@@ -176,6 +176,13 @@ pub fn put_refused(refusal: u8, out: &mut [u8], at: usize) -> usize
     let word = put_text(b"refused", out, at);
     let end = put_decimal(refusal as u64, out, word);
     put_text(b"\n", out, end)
+}
+
+// A number as 32 bits hold it: itself, or the greatest that they hold. Accuracy: exact.
+pub fn saturated(n: u64) -> u32
+    ensures value { λ r. ⌜ r ≡ cond (ltb n (2 ^ 32)) n (2 ^ 32 - 1) ⌝ }
+{
+    if n < 4294967296 { n as u32 } else { u32::MAX }
 }
 
 // Reads once from standard input into `input` from `held` on, and gives how many bytes it then holds; what it held stays. No contract speaks

@@ -1,38 +1,49 @@
--- The numbers of the answer to a file: `file-numbered`. 11 is reading's (`read-refusals`), 1 to 5 but 2 are building's, since a file's bottom rows are right
--- (`new-affine`); depth 10 is below the greatest, so that the cover gives no 8.
+-- The numbers of the answer to a file: `file-numbered`. 11 is reading's (`read-refusals`); 1, 12, 3, 4 and 5 are building's, which has no 2, since a file's
+-- bottom rows are right (`chain-affine`); depth 10 is below the greatest, so that the cover gives no 8.
 use Prim.Native.Nat.{ℕ}
 use mathlib.Core.Path.{_≡_, refl, ap}
-use mathlib.Core.Bool.{Bool, true, false, not, cond}
+use mathlib.Core.Bool.{Bool, true, false, not, _||_, cond}
 use mathlib.Core.Logic.{_⊎_, inl, inr}
-use mathlib.Core.List.{List, [], _∷_}
-use lib.Dec.{eqb, ltb}
-use lib.Ieee.{Float, eq, ofBits}
+use mathlib.Core.List.{List, [], _∷_, map}
+use native.Mathlib.Omega.{arith}
+use lib.Dec.{T, eqb, ltb}
+use lib.Ieee.{lt}
+use lib.Ieee.Bits.{is-true}
+use lib.Ieee.Fits.{and-l, and-r}
+use lib.Ieee.Scale.{finite}
+use lib.ListN.{length}
 use Rattle.control_flow.proofs.Choice.{cond-keeps}
-use Rattle.matrix4x4.specs.IsAffine.{Matrix4x4·isAffine}
+use Rattle.float32.specs.Operators.{_⊖_}
 use Rattle.bounds3.specs.declared.Bounds3f.{Bounds3f}
 use Rattle.bounds3.specs.Finite.{Bounds3f·isFinite}
-use Rattle.bounds3.specs.List.{Bounds3f·ofList}
 use Rattle.transform.specs.declared.BoundsAnswer.{BoundsAnswer}
+use Rattle.transform.specs.declared.BoundsAnswer.the-variants as bounds
 use Rattle.transform.specs.Answer.{OneOf, BoundsAnswer·refusal}
-use Rattle.bounds_query.specs.Query.{Bounds3f·isOrdered, Bounds3f·refusal, maxDepth, coverRefusal}
+use Rattle.bounds_query.specs.Query.{Bounds3f·isOrdered, Bounds3f·refusal, BoundsAnswer·unionBounds, maxDepth, coverRefusal}
 use Rattle.pose_steps.specs.Promise.{SliceNumber}
-use Rattle.pose_pair.specs.Pose.{Pose·isAffine}
+use Rattle.pose_pair.specs.declared.Pose.{Pose}
+use Rattle.pose_pair.specs.Pose.{Pose·isFinite, Pose·isAffine, timesRefusal}
 use Rattle.animated_transform.specs.declared.AnimatedTransform.{AnimatedTransform}
+use Rattle.animated_transform.specs.declared.AnimatedTransformAnswer.{AnimatedTransformAnswer}
 use Rattle.animated_transform.specs.New.{AnimatedTransform·new}
 use Rattle.animated_transform.proofs.Numbers.{new-affine}
 use Rattle.motion_cover.specs.Cover.{AnimatedTransform·encloseMotion, AnimatedTransform·cover}
 use Rattle.motion_cover.specs.Answer.{BoundsAnswer·Numbered}
-use Rattle.motion_cover.proofs.NonZero.{bounds-numbered}
 use Rattle.motion_cover.proofs.Number.{motion-number}
+use Rattle.motion_chain.specs.Chain.{minPoses, maxPoses, neighbours, every, firstNumber, stage, Pose·number, Pair·number, chainStages, chainRefusal}
+use Rattle.motion_chain.specs.Chain.{Chain, ChainAnswer, built, refused, ChainAnswer·refusal, ChainAnswer·fromMoves, Chain·new, unionCovers, Chain·cover}
+use Rattle.motion_chain.specs.Built.{Each}
+use Rattle.chain_poses.specs.Poses.{Poses·ofLists}
 use Rattle.motion_file.specs.declared.MoveFile.{MoveFile}
-use Rattle.motion_file.specs.Layout.{MoveFile·departs, MoveFile·read}
+use Rattle.motion_file.specs.Layout.{MoveFile·departs, MoveFile·read, MoveFile·poses}
 use Rattle.motion_file.proofs.Files.{read-refusals}
-use Rattle.motion_answer.specs.Answer.{Pose·fromValues, coverDepth, MoveFile·move, MoveFile·cover}
-use Rattle.motion_answer.proofs.Contains.{file-nonzero}
-use Rattle.refusal_numbers.proofs.Building.{building-number}
+use Rattle.motion_answer.specs.Answer.{coverDepth, ChainAnswer·cover, MoveFile·chain, MoveFile·box, MoveFile·cover}
+use Rattle.motion_answer.proofs.Built.{poses-affine}
+use Rattle.motion_answer.proofs.Contains.{file-answered}
+use Rattle.refusal_numbers.proofs.Chain.{building-numbered}
 
 abbrev numbers : List ℕ
-numbers = 0 ∷ 1 ∷ 3 ∷ 4 ∷ 5 ∷ 6 ∷ 7 ∷ 10 ∷ 11 ∷ []
+numbers = 0 ∷ 1 ∷ 3 ∷ 4 ∷ 5 ∷ 6 ∷ 7 ∷ 10 ∷ 11 ∷ 12 ∷ []
 
 abbrev Number : ℕ → Type 0
 Number n = OneOf n numbers
@@ -44,26 +55,107 @@ read-number bytes = go (read-refusals bytes)
     go (inl e) = inl e
     go (inr e) = inr (inr (inr (inr (inr (inr (inr (inr (inl (ap (λ (f : MoveFile). f .refusal) e)))))))))
 
--- ---- the poses of a file
-values-affine : (values : List Float) → Pose·isAffine (Pose·fromValues values) ≡ true
-unfolding Pose·isAffine Matrix4x4·isAffine eq ofBits
-values-affine values = refl
+-- ---- a chain of poses whose bottom rows are right is not refused with 2
+abbrev Not2 : ℕ → Type 0
+Not2 n = n ≡ 2 → ⊥
 
-poses-number : (start end : List Float) → Number (AnimatedTransform·new (Pose·fromValues start) (Pose·fromValues end) .refusal)
-poses-number start end =
-    let s = Pose·fromValues start in
-    let e = Pose·fromValues end in
-    go (building-number s e) (new-affine s e (values-affine start) (values-affine end))
+chosen : (b : Bool) (m n : ℕ) → Not2 m → Not2 n → Not2 (cond b m n)
+chosen true m n h k = h
+chosen false m n h k = k
+
+zero-not : Not2 0
+zero-not e = absurd (omega (arith, e))
+
+first-not : (ns : List ℕ) → Each Not2 ns → Not2 (firstNumber ns)
+unfolding firstNumber
+first-not [] h = zero-not
+first-not (n ∷ ns) (h, hs) = chosen (eqb n 0) (firstNumber ns) n (first-not ns hs) h
+
+stage-not : {A : Type 0} (f : A → ℕ) (xs : List A) → Each (λ x. Not2 (f x)) xs → Not2 (stage f xs)
+stage-not {A} f xs h = first-not (map f xs) (each xs h)
   where
-    go : {n : ℕ} → OneOf n (0 ∷ 1 ∷ 2 ∷ 3 ∷ 4 ∷ 5 ∷ []) → (n ≡ 2 → ⊥) → Number n
-    go (inl e) h = inl e
-    go (inr (inl e)) h = inr (inl e)
-    go (inr (inr (inl e))) h = absurd (h e)
-    go (inr (inr (inr (inl e)))) h = inr (inr (inl e))
-    go (inr (inr (inr (inr (inl e))))) h = inr (inr (inr (inl e)))
-    go (inr (inr (inr (inr (inr (inl e)))))) h = inr (inr (inr (inr (inl e))))
+    each : (ys : List A) → Each (λ x. Not2 (f x)) ys → Each Not2 (map f ys)
+    each [] h = tt
+    each (y ∷ ys) (h, hs) = (h, each ys hs)
+
+all : {A : Type 0} {P : A → Type 0} (xs : List A) → ((x : A) → P x) → Each P xs
+all [] h = tt
+all (x ∷ xs) h = (h x, all xs h)
+
+affine-each : (poses : List Pose) → T (every Pose·isAffine poses) → Each (λ p. Pose·isAffine p ≡ true) poses
+unfolding every
+affine-each [] h = tt
+affine-each (p ∷ poses) h =
+    let rest = every Pose·isAffine poses in
+    (is-true (Pose·isAffine p) (and-l (Pose·isAffine p) rest h), affine-each poses (and-r (Pose·isAffine p) rest h))
+
+affine-not : (poses : List Pose) → Each (λ p. Pose·isAffine p ≡ true) poses → Each (λ p. Not2 (Pose·number 2 p)) poses
+unfolding Pose·number
+affine-not [] h = tt
+affine-not (p ∷ poses) (h, hs) = (rw h zero-not, affine-not poses hs)
+
+finite-not : (p : Pose) → Not2 (Pose·number 1 p)
+unfolding Pose·number
+finite-not p = chosen (Pose·isFinite p) 0 1 zero-not (λ e. absurd (omega (arith, e)))
+
+twelve-not : Not2 12
+twelve-not e = absurd (omega (arith, e))
+
+rise-not : (pair : Pose × Pose) → Not2 (Pair·number 12 pair)
+unfolding Pair·number
+rise-not (p, q) = chosen (lt (p .time) (q .time)) 0 12 zero-not twelve-not
+
+times-not : (pair : Pose × Pose) → Not2 (Pair·number 3 pair)
+unfolding Pair·number timesRefusal
+times-not (p, q) = chosen (lt (q .time) (p .time) || not (finite (q .time ⊖ p .time))) 3 0 (λ e. absurd (omega (arith, e))) zero-not
+
+checks-not : (poses : List Pose) → Each (λ p. Pose·isAffine p ≡ true) poses → Not2 (chainRefusal poses)
+unfolding chainRefusal
+checks-not poses h =
+    let pairs = neighbours poses in
+    let count = chosen (ltb (length poses) minPoses || ltb maxPoses (length poses)) 12 0 twelve-not zero-not in
+    let rise = stage-not (Pair·number 12) pairs (all pairs rise-not) in
+    let times = stage-not (Pair·number 3) pairs (all pairs times-not) in
+    let finite = stage-not (Pose·number 1) poses (all poses finite-not) in
+    let affine = stage-not (Pose·number 2) poses (affine-not poses h) in
+    first-not (chainStages poses) (finite, (affine, (count, (rise, (times, tt)))))
+
+moves-not : (poses : List Pose) → Each (λ p. Pose·isAffine p ≡ true) poses
+    → Each (λ a. Not2 (a .refusal)) (map (λ (p, q). AnimatedTransform·new p q) (neighbours poses))
+unfolding neighbours
+moves-not [] h = tt
+moves-not (p ∷ []) h = tt
+moves-not (p ∷ q ∷ poses) (h, (k, hs)) = (new-affine p q h k, moves-not (q ∷ poses) (k, hs))
+
+tested-not : (n : ℕ) (a : ChainAnswer) → Not2 n → Not2 (ChainAnswer·refusal a) → Not2 (ChainAnswer·refusal (cond (eqb n 0) a (refused n)))
+tested-not n a h k = go (eqb n 0)
+  where
+    go : (b : Bool) → Not2 (ChainAnswer·refusal (cond b a (refused n)))
+    go true = k
+    go false = h
+
+from-moves-not : (answers : List AnimatedTransformAnswer) → Each (λ a. Not2 (a .refusal)) answers → Not2 (ChainAnswer·refusal (ChainAnswer·fromMoves answers))
+unfolding ChainAnswer·fromMoves
+from-moves-not [] h = twelve-not
+from-moves-not (a ∷ answers) h = tested-not (stage (λ x. x .refusal) (a ∷ answers)) _ (stage-not (λ x. x .refusal) (a ∷ answers) h) zero-not
+
+chain-affine : (poses : List Pose) → T (every Pose·isAffine poses) → Not2 (ChainAnswer·refusal (Chain·new poses))
+unfolding Chain·new
+chain-affine poses h = let each = affine-each poses h in tested-not (chainRefusal poses) _ (checks-not poses each) (from-moves-not _ (moves-not poses each))
+
+building-number : {n : ℕ} → OneOf n (0 ∷ 1 ∷ 2 ∷ 3 ∷ 4 ∷ 5 ∷ 12 ∷ []) → Not2 n → Number n
+building-number (inl e) h = inl e
+building-number (inr (inl e)) h = inr (inl e)
+building-number (inr (inr (inl e))) h = absurd (h e)
+building-number (inr (inr (inr (inl e)))) h = inr (inr (inl e))
+building-number (inr (inr (inr (inr (inl e))))) h = inr (inr (inr (inl e)))
+building-number (inr (inr (inr (inr (inr (inl e)))))) h = inr (inr (inr (inr (inl e))))
+building-number (inr (inr (inr (inr (inr (inr (inl e))))))) h = inr (inr (inr (inr (inr (inr (inr (inr (inr (inl e)))))))))
 
 -- ---- the cover at depth 10
+abbrev CoverNumber : BoundsAnswer → Type 0
+CoverNumber r = Number (BoundsAnswer·refusal r)
+
 asked-number : (b : Bounds3f) → Number (coverRefusal b coverDepth)
 unfolding coverRefusal Bounds3f·refusal
 asked-number b = go (Bounds3f·isFinite b) (Bounds3f·isOrdered b)
@@ -78,21 +170,36 @@ slice-number (inl e) = inl e
 slice-number (inr (inl e)) = inr (inr (inr (inr (inl e))))
 slice-number (inr (inr e)) = inr (inr (inr (inr (inr (inr (inr (inl e)))))))
 
-cover-number : (m : AnimatedTransform) (b : Bounds3f) → Number (BoundsAnswer·refusal (AnimatedTransform·cover m b coverDepth))
+move-number : (m : AnimatedTransform) (b : Bounds3f) → CoverNumber (AnimatedTransform·cover m b coverDepth)
 unfolding AnimatedTransform·cover
-cover-number m b =
-    cond-keeps (λ (r : BoundsAnswer). Number (BoundsAnswer·refusal r)) (eqb (coverRefusal b coverDepth) 0) (AnimatedTransform·encloseMotion m b coverDepth) _
+move-number m b =
+    cond-keeps CoverNumber (eqb (coverRefusal b coverDepth) 0) (AnimatedTransform·encloseMotion m b coverDepth) _
     (slice-number (motion-number m b coverDepth)) (asked-number b)
 
-file-number : (bytes : List ℕ) → Number (BoundsAnswer·refusal (MoveFile·cover (MoveFile·read bytes)))
-unfolding MoveFile·cover MoveFile·move
-file-number bytes =
-    let file = MoveFile·read bytes in
-    let move = MoveFile·move file in
-    cond-keeps (λ (r : BoundsAnswer). Number (BoundsAnswer·refusal r)) (eqb (file .refusal) 0) _ _
-    (cond-keeps (λ (r : BoundsAnswer). Number (BoundsAnswer·refusal r)) (eqb (move .refusal) 0) _ _
-    (cover-number (move .value) (Bounds3f·ofList (file .bounds))) (poses-number (file .start) (file .end)))
-    (read-number bytes)
+union-number : (r s : BoundsAnswer) → CoverNumber r → CoverNumber s → CoverNumber (BoundsAnswer·unionBounds r s)
+unfolding BoundsAnswer·unionBounds
+union-number (bounds.Bounds a) (bounds.Bounds b) h k = inl refl
+union-number (bounds.Bounds a) (bounds.Refused n) h k = k
+union-number (bounds.Refused n) s h k = h
 
-pub file-numbered : (bytes : List ℕ) → BoundsAnswer·Numbered numbers (MoveFile·cover (MoveFile·read bytes))
-file-numbered bytes = bounds-numbered (MoveFile·cover (MoveFile·read bytes)) (file-nonzero (MoveFile·read bytes)) (file-number bytes)
+covers-number : (b : Bounds3f) (r : BoundsAnswer) (moves : List AnimatedTransform) → CoverNumber r → CoverNumber (unionCovers b coverDepth r moves)
+unfolding unionCovers
+covers-number b r [] h = h
+covers-number b r (m ∷ moves) h =
+    let s = AnimatedTransform·cover m b coverDepth in
+    covers-number b (BoundsAnswer·unionBounds r s) moves (union-number r s h (move-number m b))
+
+chain-number : (a : ChainAnswer) (b : Bounds3f) → Number (ChainAnswer·refusal a) → CoverNumber (ChainAnswer·cover a b)
+unfolding ChainAnswer·cover Chain·cover
+chain-number (built c) b h = covers-number b (AnimatedTransform·cover (c .first) b coverDepth) (c .rest) (move-number (c .first) b)
+chain-number (refused n) b h = h
+
+file-number : (bytes : List ℕ) → CoverNumber (MoveFile·cover bytes)
+unfolding MoveFile·cover MoveFile·chain
+file-number bytes =
+    let poses = Poses·ofLists (MoveFile·poses bytes) in
+    let building = building-number (building-numbered poses .number) (chain-affine poses (poses-affine bytes)) in
+    cond-keeps CoverNumber (eqb (MoveFile·read bytes .refusal) 0) _ _ (chain-number (Chain·new poses) (MoveFile·box bytes) building) (read-number bytes)
+
+pub file-numbered : (bytes : List ℕ) → BoundsAnswer·Numbered numbers (MoveFile·cover bytes)
+file-numbered bytes = record { number = file-number bytes; none = file-answered bytes }

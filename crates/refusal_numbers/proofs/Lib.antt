@@ -3,3 +3,5 @@ mod Building
 mod File
 pub mod Numbers
 pub mod Chain
+pub mod KeptChain
+pub mod EveryChain

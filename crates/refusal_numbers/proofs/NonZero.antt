@@ -1,18 +1,15 @@
--- No point query of rows and no motion box is refused with 0: `rows-point-nonzero`, `point-motion-nonzero`, `motion-nonzero`; of a point query it is in
--- `transform-point-numbered` of motion_point, of a cover `cover-nonzero` of motion_cover. A number is refused only after the test that it isn't 0, and a union
--- keeps one of its parts' numbers.
+-- No motion box is refused with 0: `point-motion-nonzero`, `motion-nonzero`; of a point query it is in `transform-point-numbered` of motion_point, of a cover
+-- `cover-nonzero` of motion_cover. A number is refused only after the test that it isn't 0, and a union keeps one of its parts' numbers.
 use Prim.Native.Nat.{ℕ}
-use mathlib.Core.Path.{_≡_}
-use mathlib.Core.Bool.{not, _||_}
+use mathlib.Core.Bool.{not}
 use mathlib.Core.List.{List}
 use native.Mathlib.Omega.{arith}
 use lib.ListN.{getD}
-use lib.Ieee.{Float, nan, isNan}
+use lib.Ieee.{Float, nan}
 use Rattle.bounds3.specs.declared.Point3f.{Point3f}
 use Rattle.bounds3.specs.declared.Bounds3f.{Bounds3f}
 use Rattle.bounds3.specs.Bounds3f.{Bounds3f·default, Bounds3f·corner}
 use Rattle.bounds3.specs.Finite.{Point3f·isFinite}
-use Rattle.matrix4x4.specs.Rows.{Rows}
 use Rattle.control_flow.proofs.Loop.{loop-keeps}
 use Rattle.control_flow.proofs.Choice.{cond-keeps}
 use Rattle.transform.specs.declared.Transform.{Transform}
@@ -26,17 +23,9 @@ use Rattle.axis_derivative.specs.declared.Derivative.{Derivative}
 use Rattle.pose_steps.specs.declared.PoseConstants.{PoseConstants}
 use Rattle.animated_transform.specs.declared.AnimatedTransform.{AnimatedTransform}
 use Rattle.motion_point.specs.TransformPoint.{AnimatedTransform·constants}
-use Rattle.motion_point.proofs.NonZero.{PointAnswer·NonZero, six-nonzero, transform-point-nonzero, moved-point-nonzero}
+use Rattle.motion_point.proofs.NonZero.{PointAnswer·NonZero, transform-point-nonzero, moved-point-nonzero}
 use Rattle.motion_bounds.specs.MotionBounds.{BoundsAnswer·fromEnds, allPlaces, axisZeros, pointAt, unionZero, unionZeros, unionAxis, pointBounds, unionCorner, unionCorners, boxBounds, boundPointMotion, motionBounds, AnimatedTransform·boundPointMotion, AnimatedTransform·motionBounds}
 use Rattle.motion_cover.proofs.NonZero.{BoundsAnswer·NonZero, tested-nonzero, union-nonzero}
-use Rattle.motion_rows.specs.Rows.{AnimatedTransform·fromRows, PoseConstants·fromRows}
-use Rattle.motion_rows.specs.TransformPoint.{Rows·transformPoint}
-
-pub rows-point-nonzero : (rows : Rows) (time : Float) (p : Point3f) → PointAnswer·NonZero (Rows·transformPoint rows time p)
-unfolding Rows·transformPoint
-rows-point-nonzero rows time p =
-    cond-keeps PointAnswer·NonZero (isNan time || not (Point3f·isFinite p)) (point.Refused 6) _ six-nonzero
-    (moved-point-nonzero (AnimatedTransform·fromRows rows) (PoseConstants·fromRows rows) time p)
 
 -- ---- boxes
 from-moved-nonzero : (a : PointAnswer) → PointAnswer·NonZero a → BoundsAnswer·NonZero (transform.BoundsAnswer·fromMoved a)

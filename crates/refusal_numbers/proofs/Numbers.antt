@@ -18,6 +18,7 @@ use Rattle.motion_point.proofs.Query.{moved-point-judged}
 use Rattle.motion_point.proofs.NonZero.{point-numbered, transform-point-numbered}
 use Rattle.motion_rows.specs.Rows.{AnimatedTransform·fromRows, PoseConstants·fromRows}
 use Rattle.motion_rows.specs.TransformPoint.{Rows·transformPoint}
+use Rattle.motion_rows.proofs.NonZero.{rows-point-nonzero}
 use Rattle.interpolation.specs.Promise.{InterpolationNumber}
 use Rattle.interpolation.proofs.Numbers.{interpolate-refusal, interpolate-refused}
 use Rattle.motion_bounds.specs.MotionBounds.{AnimatedTransform·boundPointMotion, AnimatedTransform·motionBounds}
@@ -26,7 +27,7 @@ use Rattle.motion_cover.proofs.NonZero.{bounds-numbered}
 use Rattle.motion_cover.proofs.Number.{cover-numbered}
 use Rattle.refusal_numbers.specs.Numbers.{EveryAnswer}
 use Rattle.refusal_numbers.proofs.Building.{building-number}
-use Rattle.refusal_numbers.proofs.NonZero.{rows-point-nonzero, point-motion-nonzero, motion-nonzero}
+use Rattle.refusal_numbers.proofs.NonZero.{point-motion-nonzero, motion-nonzero}
 use Rattle.refusal_numbers.proofs.File.{file-numbered}
 
 interpolate-number : {n : ℕ} → InterpolationNumber n → OneOf n (0 ∷ 4 ∷ 5 ∷ 6 ∷ [])

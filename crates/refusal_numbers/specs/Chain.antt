@@ -1,9 +1,10 @@
--- What is promised of every answer about a chain: which numbers building, the point query and the cover query give, 0 being none, and that an accepted cover's
--- corners are finite and in order. The statement of `every-chain-answer`.
+-- What is promised of every answer about a chain: which numbers building, the point query, also with a list of times, and the cover query give, 0 being none, and that an accepted
+-- cover's corners are finite and in order; and the same of a kept chain, whatever its rows. The statement of `every-chain-answer`.
 use Prim.Native.Nat.{ℕ}
 use mathlib.Core.Path.{_≡_}
 use mathlib.Core.List.{List, [], _∷_}
 use lib.Ieee.{Float}
+use Rattle.matrix4x4.specs.Rows.{Rows}
 use Rattle.bounds3.specs.declared.Point3f.{Point3f}
 use Rattle.bounds3.specs.declared.Bounds3f.{Bounds3f}
 use Rattle.pose_pair.specs.declared.Pose.{Pose}
@@ -12,15 +13,23 @@ use Rattle.motion_point.specs.Answer.{PointAnswer·Numbered}
 use Rattle.motion_cover.specs.Answer.{BoundsAnswer·Numbered, Proper}
 use Rattle.motion_chain.specs.Chain.{Chain, ChainAnswer, built, ChainAnswer·refusal, Chain·new, Chain·transformPoint, Chain·cover}
 use Rattle.motion_chain.specs.Built.{BuiltChain}
+use Rattle.motion_chain.specs.Times.{Chain·transformPoints}
+use Rattle.motion_chain.specs.TimesAnswer.{PointsAnswer·Numbered}
+use Rattle.chain_rows.specs.Kept.{Moves·transformPoint, Moves·transformPoints, Moves·cover}
 
 -- The number is one of those listed, and an answer whose number is 0 is a chain.
 pub record ChainAnswer·Numbered (numbers : List ℕ) (a : ChainAnswer) : Type 0 where
   pub number : OneOf (ChainAnswer·refusal a) numbers
   pub none : ChainAnswer·refusal a ≡ 0 → (c : Chain) × (a ≡ built c)
 
--- document 01's numbers, and document 02's 12 of building
+-- document 01's numbers, and document 02's: 12 of building, 13 of a list of times
 pub record EveryChainAnswer : Type 0 where
   pub building : (poses : List Pose) → ChainAnswer·Numbered (0 ∷ 1 ∷ 2 ∷ 3 ∷ 4 ∷ 5 ∷ 12 ∷ []) (Chain·new poses)
   pub point : (c : Chain) (time : Float) (p : Point3f) → PointAnswer·Numbered (0 ∷ 5 ∷ 6 ∷ []) (Chain·transformPoint c time p)
+  pub points : (c : Chain) (times : List Float) (p : Point3f) (places : ℕ) → PointsAnswer·Numbered (0 ∷ 5 ∷ 6 ∷ 13 ∷ []) (Chain·transformPoints c times p places)
   pub cover : (c : Chain) (b : Bounds3f) (depth : ℕ) → BoundsAnswer·Numbered (0 ∷ 5 ∷ 6 ∷ 7 ∷ 8 ∷ 10 ∷ []) (Chain·cover c b depth)
   pub proper : {c : Chain} → BuiltChain c → (b : Bounds3f) (depth : ℕ) → Proper (Chain·cover c b depth)
+  -- the same queries of a kept chain, whatever its rows: no moves are 12
+  pub rows-point : (rows : List Rows) (time : Float) (p : Point3f) → PointAnswer·Numbered (0 ∷ 5 ∷ 6 ∷ 12 ∷ []) (Moves·transformPoint rows time p)
+  pub rows-points : (rows : List Rows) (times : List Float) (p : Point3f) (places : ℕ) → PointsAnswer·Numbered (0 ∷ 5 ∷ 6 ∷ 12 ∷ 13 ∷ []) (Moves·transformPoints rows times p places)
+  pub rows-cover : (rows : List Rows) (b : Bounds3f) (depth : ℕ) → BoundsAnswer·Numbered (0 ∷ 5 ∷ 6 ∷ 7 ∷ 8 ∷ 10 ∷ 12 ∷ []) (Moves·cover rows b depth)

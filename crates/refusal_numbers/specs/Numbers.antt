@@ -1,6 +1,7 @@
--- Any move handed in, whatever numbers are in it, is built or refused by one of document 01's numbers, and so are every query and every file: `EveryAnswer`, on one page.
--- 0 is none: no refusal carries it, and after a refusal every other number is +0 and every yes or no is no. The structs, rows and arguments are all structs,
--- rows and arguments; the search of a motion box, the polar rounds and the slices end because their functions are proved to. The statement of `every-answer`.
+-- Any move handed in, whatever numbers are in it, is built or refused by one of document 01's numbers, and so are every query and, with document 02's 12,
+-- every file: `EveryAnswer`, on one page. 0 is none: no refusal carries it, and after a refusal every other number is +0 and every yes or no is no. The
+-- structs, rows and arguments are all structs, rows and arguments; the search of a motion box, the polar rounds and the slices end because their functions
+-- are proved to. The statement of `every-answer`.
 use Prim.Native.Nat.{ℕ}
 use mathlib.Core.Path.{_≡_}
 use mathlib.Core.List.{List, [], _∷_}
@@ -22,7 +23,6 @@ use Rattle.interpolation.specs.Interpolate.{AnimatedTransform·interpolate}
 use Rattle.motion_bounds.specs.MotionBounds.{AnimatedTransform·boundPointMotion, AnimatedTransform·motionBounds}
 use Rattle.motion_cover.specs.Cover.{AnimatedTransform·cover}
 use Rattle.motion_cover.specs.Answer.{BoundsAnswer·Numbered}
-use Rattle.motion_file.specs.Layout.{MoveFile·read}
 use Rattle.motion_answer.specs.Answer.{MoveFile·cover}
 
 -- ---- an answer and its number
@@ -47,5 +47,6 @@ pub record EveryAnswer : Type 0 where
   pub point-motion : (m : AnimatedTransform) (p : Point3f) → BoundsAnswer·Numbered (0 ∷ 5 ∷ 6 ∷ 9 ∷ []) (AnimatedTransform·boundPointMotion m p)
   pub motion : (m : AnimatedTransform) (b : Bounds3f) → BoundsAnswer·Numbered (0 ∷ 5 ∷ 6 ∷ 7 ∷ 9 ∷ []) (AnimatedTransform·motionBounds m b)
   pub cover : (m : AnimatedTransform) (b : Bounds3f) (depth : ℕ) → BoundsAnswer·Numbered (0 ∷ 5 ∷ 6 ∷ 7 ∷ 8 ∷ 10 ∷ []) (AnimatedTransform·cover m b depth)
-  -- a file, whatever its bytes: its bottom rows are 0 0 0 1, it is asked at depth 10 and searches for no zeros, so that 2, 8 and 9 are not among its numbers
-  pub file : (bytes : List ℕ) → BoundsAnswer·Numbered (0 ∷ 1 ∷ 3 ∷ 4 ∷ 5 ∷ 6 ∷ 7 ∷ 10 ∷ 11 ∷ []) (MoveFile·cover (MoveFile·read bytes))
+  -- a file, whatever its bytes: its poses are a chain, its bottom rows are 0 0 0 1, it is asked at depth 10 and searches for no zeros, so that 2, 8 and 9 are
+  -- not among its numbers
+  pub file : (bytes : List ℕ) → BoundsAnswer·Numbered (0 ∷ 1 ∷ 3 ∷ 4 ∷ 5 ∷ 6 ∷ 7 ∷ 10 ∷ 11 ∷ 12 ∷ []) (MoveFile·cover bytes)

@@ -1,21 +1,8 @@
-//! Reads questions from standard input, one a line, and writes an answer line for each.
+//! Answers document 01's questions.
 
-use oracle::protocol::Session;
-use std::io::{self, BufRead, BufWriter, Write};
+use oracle::lines::Session;
+use oracle::move_questions::Moves;
 
-fn main() -> io::Result<()> {
-    let mut session = Session::default();
-    let mut input = io::stdin().lock();
-    let mut output = BufWriter::new(io::stdout().lock());
-    let mut line = Vec::new();
-    while input.read_until(b'\n', &mut line)? > 0 {
-        if line.last() == Some(&b'\n') {
-            line.pop();
-        }
-        if let Some(answer) = session.answer(&line) {
-            writeln!(output, "{answer}")?;
-        }
-        line.clear();
-    }
-    output.flush()
+fn main() -> std::io::Result<()> {
+    Moves::default().run()
 }

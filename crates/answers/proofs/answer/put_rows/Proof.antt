@@ -5,10 +5,10 @@ use Rattle.answers.proofs.answer.put_rows.Statement.{statement}
 use Rattle.answers.proofs.answer.put_rows.Tie as tie
 
 abbrev Inv-loop : tie.InvT-loop
-Inv-loop kind rows out₀ at end₀ left₀ i₀ out end left i = i ≤ 35
+Inv-loop kind rows out₀ at end₀ left₀ i₀ out end left i = i ≤ 8
 
 abbrev μ-loop : tie.MeasureT-loop
-μ-loop kind rows out₀ at end₀ left₀ i₀ out end left i = 35 - i
+μ-loop kind rows out₀ at end₀ left₀ i₀ out end left i = 8 - i
 
 floats-of-requires : tie.Need-floats-of-requires Inv-loop μ-loop
 floats-of-requires c κs = search needs

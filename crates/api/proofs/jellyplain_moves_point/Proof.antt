@@ -1,0 +1,32 @@
+-- `jellyplain_moves_point` meets its contract: the point query of the chain in the rows, which is the chain's own where it was built (`kept-point`).
+use Rattle.bounds3.specs.List.{Point3f·ofList}
+use Rattle.motion_chain.specs.Chain.{Chain}
+use Rattle.chain_rows.proofs.Kept.{kept-point}
+use borrow.Author.Needs.{needs}
+use Rattle.api.proofs.jellyplain_moves_point.Statement.{statement}
+use Rattle.api.proofs.jellyplain_moves_point.Tie as tie
+
+point-requires : tie.Need-point-requires
+point-requires c κs = search needs
+
+transform-point-requires : tie.Need-transform-point-requires
+transform-point-requires c κs = search needs
+
+put-point-requires : tie.Need-put-point-requires
+put-point-requires c κs = search needs
+
+returns : tie.Need-returns
+returns c =
+    let a = c .before .before .before .before .args in
+    let asked = c .before .before .transform-point in
+    let point = c .before .before .before .point in (
+      rw (c .put-point .ensures .0, asked .ensures .0, point .ensures),
+      (
+        rw (c .put-point .ensures .1, asked .ensures .0, point .ensures),
+        λ (k : Chain). kept-point (a .moves .now) k (a .time) (Point3f·ofList (a .p .now)),
+      ),
+    )
+
+pub jellyplain-moves-point-spec : {M : Type 1} → statement M
+jellyplain-moves-point-spec =
+    tie.close (tie.spec point-requires transform-point-requires put-point-requires returns)

@@ -1,0 +1,33 @@
+-- `jellyplain_moves_points` meets its contract: the query with a list of times of the chain in the rows, which is the chain's own where it was built (`kept-points`).
+use lib.ListN.{length}
+use Rattle.bounds3.specs.List.{Point3f·ofList}
+use Rattle.motion_chain.specs.Chain.{Chain}
+use Rattle.chain_rows.proofs.Kept.{kept-points}
+use borrow.Author.Needs.{needs}
+use Rattle.api.proofs.jellyplain_moves_points.Statement.{statement}
+use Rattle.api.proofs.jellyplain_moves_points.Tie as tie
+
+point-requires : tie.Need-point-requires
+point-requires c κs = search needs
+
+transform-points-requires : tie.Need-transform-points-requires
+transform-points-requires c κs = search needs
+
+same-length : tie.Need-same-length
+same-length c = search needs
+
+returns : tie.Need-returns
+returns c =
+    let a = c .before .before .before .before .before .before .before .args in
+    let asked = c .before .before .transform-points in
+    let point = c .before .before .before .before .point in (
+      rw (asked .ensures .0, point .ensures),
+      (
+        rw (asked .ensures .1 .0, point .ensures),
+        λ (k : Chain). kept-points (a .moves .now) k (a .times .now) (Point3f·ofList (a .p .now)) (length (a .answers .now)),
+      ),
+    )
+
+pub jellyplain-moves-points-spec : {M : Type 1} → statement M
+jellyplain-moves-points-spec =
+    tie.close (tie.spec point-requires transform-points-requires same-length returns)

@@ -1,0 +1,24 @@
+-- What the library's functions over a kept chain answer, from the arrays that they are lent: the definitions of `chain_rows` at the points and boxes that the arrays hold; and the
+-- number of the layout in which all of it crosses. Definitions only.
+use Prim.Native.Nat.{ℕ}
+use mathlib.Core.List.{List}
+use lib.Ieee.{Float}
+use Rattle.matrix4x4.specs.Rows.{Rows}
+use Rattle.bounds3.specs.List.{Point3f·ofList, Bounds3f·ofList}
+use Rattle.transform.specs.declared.PointAnswer.{PointAnswer}
+use Rattle.transform.specs.declared.BoundsAnswer.{BoundsAnswer}
+use Rattle.motion_chain.specs.Times.{PointsAnswer}
+use Rattle.chain_rows.specs.Kept.{Moves·transformPoint, Moves·transformPoints, Moves·cover}
+
+-- A pose of 17 floats, a move of 44 rows, a chain of up to 31 moves.
+abbrev pub layoutNumber : ℕ
+layoutNumber = 1
+
+abbrev pub Moves·point : List Rows → Float → List Float → PointAnswer
+Moves·point rows time p = Moves·transformPoint rows time (Point3f·ofList p)
+
+abbrev pub Moves·points : List Rows → List Float → List Float → ℕ → PointsAnswer
+Moves·points rows times p places = Moves·transformPoints rows times (Point3f·ofList p) places
+
+abbrev pub Moves·coverOf : List Rows → List Float → ℕ → BoundsAnswer
+Moves·coverOf rows b depth = Moves·cover rows (Bounds3f·ofList b) depth

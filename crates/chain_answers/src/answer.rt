@@ -1,0 +1,110 @@
+// A question's answer: `ok` and values, the number of a refusal, or `error` for a line that is no question, or one about a slot
+// that keeps nothing of which it may be asked.
+use crate::chains;
+use crate::question::Question;
+use question_lines::put_text;
+
+// Answers a question.
+pub fn put_answer(
+    q: Question,
+    wholes: &[u64; 4],
+    x: &[f32; 900],
+    out: &mut [u8; 32768],
+    at: usize,
+    kept: &mut [[[[f32; 4]; 44]; 31]; 4],
+    poses: &mut [usize; 4],
+) -> usize {
+    let kind = q.kind;
+    let floats = q.floats;
+    if 3 < wholes[0] {
+        return put_error(out, at);
+    }
+    let slot = wholes[0] as usize;
+    match kind {
+        0 => chains::build_chain(slot, floats / 18, x, out, at, kept, poses),
+        1 => chains::build_lone(slot, x, out, at, kept, poses),
+        _ => put_asked(
+            kind,
+            wholes,
+            floats,
+            x,
+            chains::kept_moves(kept, slot, poses[slot], q.poses),
+            out,
+            at,
+        ),
+    }
+}
+
+// Answers a question about a kept chain.
+fn put_asked(
+    kind: usize,
+    wholes: &[u64; 4],
+    floats: usize,
+    x: &[f32; 900],
+    moves: &[[[f32; 4]; 44]],
+    out: &mut [u8; 32768],
+    at: usize,
+) -> usize {
+    if moves.len() == 0 {
+        return put_error(out, at);
+    }
+    let n = wholes[1];
+    match kind {
+        2 => chains::point(moves, x, out, at),
+        3 => chains::points(moves, n, floats, x, out, at),
+        4 => chains::cover(moves, n, x, out, at),
+        _ => put_asked_move(kind, n, x, moves, out, at),
+    }
+}
+
+// Answers a question about the move at a place of a kept chain.
+fn put_asked_move(
+    kind: usize,
+    place: u64,
+    x: &[f32; 900],
+    moves: &[[[f32; 4]; 44]],
+    out: &mut [u8; 32768],
+    at: usize,
+) -> usize {
+    if moves.len() as u64 <= place {
+        return put_error(out, at);
+    }
+    let i = place as usize;
+    match kind {
+        5 => chains::interpolate(&moves[i], x, out, at),
+        6 => chains::parts(&moves[i], out, at),
+        7 => chains::motion_bounds(&moves[i], x, out, at),
+        8 => chains::bound_point_motion(&moves[i], x, out, at),
+        _ => put_error(out, at),
+    }
+}
+
+pub fn put_error(out: &mut [u8; 32768], at: usize) -> usize {
+    put_text(b"error\n", out, at)
+}
+
+// The first floats of `values`, or the number of a refusal.
+pub fn put_values(
+    refusal: u8,
+    values: &[f32],
+    count: usize,
+    out: &mut [u8; 32768],
+    at: usize,
+) -> usize {
+    if refusal != 0 {
+        return question_lines::put_refused(refusal, out, at);
+    }
+    let ok = put_text(b"ok", out, at);
+    let end = question_lines::put_floats(values, count, out, ok);
+    put_text(b"\n", out, end)
+}
+
+// How many poses were built and kept, or the number of a refusal.
+pub fn put_count(refusal: u8, count: usize, out: &mut [u8; 32768], at: usize) -> usize {
+    if refusal != 0 {
+        return question_lines::put_refused(refusal, out, at);
+    }
+    let ok = put_text(b"ok", out, at);
+    let end = question_lines::put_decimal(count as u64, out, ok);
+    put_text(b"\n", out, end)
+}

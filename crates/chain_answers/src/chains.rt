@@ -1,0 +1,232 @@
+// Chains of poses, each kept in a slot as the library's callers keep it, 44 rows for each move, beside how many poses it was built from, 0 where none is kept
+// and 1 for a move built by itself; and the questions about them. A pose is 18 floats: its time, its matrix by rows, and a pad, which is left out.
+use crate::answer::put_count;
+use crate::answer::put_error;
+use crate::answer::put_values;
+use question_lines::put_text;
+ghost use Prim.Native.Nat.{_≤_, _<_};
+
+// Builds a chain and keeps it, or none where it is refused.
+pub fn build_chain(
+    slot: usize,
+    count: usize,
+    x: &[f32; 900],
+    out: &mut [u8; 32768],
+    at: usize,
+    kept: &mut [[[[f32; 4]; 44]; 31]; 4],
+    poses: &mut [usize; 4],
+) -> usize
+    requires { ⌜ slot < 4 ⌝ }
+{
+    // No line holds so many.
+    if 50 < count {
+        return put_error(out, at);
+    }
+    let mut given = [[0.0f32; 17]; 50];
+    put_poses(x, &mut given);
+    let refusal = api::jellyplain_build_moves(&given[0..count], &mut kept[slot]);
+    poses[slot] = kept_count(refusal, count);
+    put_count(refusal, count, out, at)
+}
+
+// Builds a move by itself and keeps it, or none where it is refused.
+pub fn build_lone(
+    slot: usize,
+    x: &[f32; 900],
+    out: &mut [u8; 32768],
+    at: usize,
+    kept: &mut [[[[f32; 4]; 44]; 31]; 4],
+    poses: &mut [usize; 4],
+) -> usize
+    requires { ⌜ slot < 4 ⌝ }
+{
+    let start = pose_at(x, 0);
+    let end = pose_at(x, 1);
+    let refusal = api::jellyplain_build(&start, &end, &mut kept[slot][0]);
+    poses[slot] = kept_count(refusal, 1);
+    put_count(refusal, 2, out, at)
+}
+
+fn kept_count(refusal: u8, count: usize) -> usize {
+    if refusal == 0 { count } else { 0 }
+}
+
+fn put_poses(x: &[f32; 900], poses: &mut [[f32; 17]]) {
+    let mut i = 0;
+    while i < poses.len() {
+        poses[i] = pose_at(x, i);
+        i += 1;
+    }
+}
+
+// The i-th pose, without its pad.
+fn pose_at(x: &[f32; 900], i: usize) -> [f32; 17] {
+    let mut pose = [0.0f32; 17];
+    if i < 50 {
+        for k in 0..17 {
+            pose[k] = x[18 * i + k];
+        }
+    }
+    pose
+}
+
+// The moves that a slot keeps, which were built from so many poses, and none where these are fewer than are asked for.
+pub fn kept_moves(
+    kept: &[[[[f32; 4]; 44]; 31]; 4],
+    slot: usize,
+    poses: usize,
+    fewest: usize,
+) -> &[[[f32; 4]; 44]]
+    requires { ⌜ slot < 4 ⌝ }
+{
+    first_moves(&kept[slot], moves_of(poses, fewest))
+}
+
+fn moves_of(poses: usize, fewest: usize) -> usize {
+    if poses < fewest {
+        return 0;
+    }
+    if poses < 2 { poses } else { poses - 1 }
+}
+
+fn first_moves(moves: &[[[f32; 4]; 44]], n: usize) -> &[[[f32; 4]; 44]] {
+    if moves.len() < n {
+        return &moves[..0];
+    }
+    &moves[0..n]
+}
+
+pub fn point(moves: &[[[f32; 4]; 44]], x: &[f32; 900], out: &mut [u8; 32768], at: usize) -> usize {
+    let p = [x[1], x[2], x[3]];
+    let mut moved = [0.0f32; 3];
+    let refusal = api::jellyplain_moves_point(moves, x[0], &p, &mut moved);
+    put_point(refusal, &moved, out, at)
+}
+
+// As many answers are lent as the question says, or more than the times of any line ask for.
+pub fn points(
+    moves: &[[[f32; 4]; 44]],
+    places: u64,
+    floats: usize,
+    x: &[f32; 900],
+    out: &mut [u8; 32768],
+    at: usize,
+) -> usize {
+    let p = point_at(x);
+    let mut answers = [0.0f32; 2700];
+    let size = places_lent(places);
+    let refusal = api::jellyplain_moves_points(
+        moves,
+        times_of(x, floats),
+        &p,
+        &mut answers[0..size],
+    );
+    put_points(refusal, &answers, size, out, at)
+}
+
+fn places_lent(places: u64) -> usize
+    ensures { λ r. ⌜ r ≤ 2700 ⌝ }
+{
+    if places < 2700 { places as usize } else { 2700 }
+}
+
+// The floats of a line behind a point.
+fn times_of(x: &[f32], floats: usize) -> &[f32] {
+    if floats < 3 {
+        return &x[..0];
+    }
+    if x.len() < floats {
+        return &x[..0];
+    }
+    &x[3..floats]
+}
+
+pub fn cover(
+    moves: &[[[f32; 4]; 44]],
+    depth: u64,
+    x: &[f32; 900],
+    out: &mut [u8; 32768],
+    at: usize,
+) -> usize {
+    let asked = bounds_at(x);
+    let mut b = [0.0f32; 6];
+    let refusal = api::jellyplain_moves_cover(
+        moves,
+        &asked,
+        question_lines::saturated(depth),
+        &mut b,
+    );
+    put_bounds(refusal, &b, out, at)
+}
+
+// Both halves of the transform at a time.
+pub fn interpolate(
+    motion: &[[f32; 4]; 44],
+    x: &[f32; 900],
+    out: &mut [u8; 32768],
+    at: usize,
+) -> usize {
+    let mut rows = [[0.0f32; 4]; 8];
+    let refusal = api::jellyplain_interpolate(motion, x[0], &mut rows);
+    let mut values = [0.0f32; 32];
+    for i in 0..32 {
+        values[i] = rows[i / 4][i % 4];
+    }
+    put_values(refusal, &values, 32, out, at)
+}
+
+pub fn parts(motion: &[[f32; 4]; 44], out: &mut [u8; 32768], at: usize) -> usize {
+    let ok = put_text(b"ok", out, at);
+    let end = motion_parts::put_parts(motion, out, ok);
+    put_text(b"\n", out, end)
+}
+
+pub fn motion_bounds(
+    motion: &[[f32; 4]; 44],
+    x: &[f32; 900],
+    out: &mut [u8; 32768],
+    at: usize,
+) -> usize {
+    let asked = bounds_at(x);
+    let mut b = [0.0f32; 6];
+    let refusal = api::jellyplain_motion_bounds(motion, &asked, &mut b);
+    put_bounds(refusal, &b, out, at)
+}
+
+pub fn bound_point_motion(
+    motion: &[[f32; 4]; 44],
+    x: &[f32; 900],
+    out: &mut [u8; 32768],
+    at: usize,
+) -> usize {
+    let p = point_at(x);
+    let mut b = [0.0f32; 6];
+    let refusal = api::jellyplain_bound_point_motion(motion, &p, &mut b);
+    put_bounds(refusal, &b, out, at)
+}
+
+fn put_point(refusal: u8, p: &[f32; 3], out: &mut [u8; 32768], at: usize) -> usize {
+    put_values(refusal, p, 3, out, at)
+}
+
+fn put_bounds(refusal: u8, b: &[f32; 6], out: &mut [u8; 32768], at: usize) -> usize {
+    put_values(refusal, b, 6, out, at)
+}
+
+fn put_points(
+    refusal: u8,
+    values: &[f32; 2700],
+    count: usize,
+    out: &mut [u8; 32768],
+    at: usize,
+) -> usize {
+    put_values(refusal, values, count, out, at)
+}
+
+fn point_at(x: &[f32; 900]) -> [f32; 3] {
+    [x[0], x[1], x[2]]
+}
+
+fn bounds_at(x: &[f32; 900]) -> [f32; 6] {
+    [x[0], x[1], x[2], x[3], x[4], x[5]]
+}

@@ -1,0 +1,81 @@
+// A chain built from lent poses, 17 floats each, into 31 lent blocks of 44 rows: the rows of its moves at the front, and behind them what stood there.
+// After a refusal all blocks are as they were.
+use animated_transform::AnimatedTransform;
+ghost use Prim.Native.Nat.{_+_, _-_, _<_, _≤_};
+ghost use mathlib.Core.Path.{_≡_};
+ghost use mathlib.Core.List.{map};
+ghost use lib.ListN.{length, set, take};
+ghost use Rattle.motion_chain.specs.Chain.{neighbours, stage, chainRefusal, Chain, built, ChainAnswer·refusal, Chain·new};
+ghost use Rattle.motion_chain.specs.Built.{Each};
+ghost use Rattle.chain_rows.specs.Theorem.{Moves·Holds};
+ghost use Rattle.chain_poses.specs.Poses.{Poses·ofLists, Poses·pairAt};
+ghost use Rattle.chain_build.specs.Build.{front, ChainAnswer·left};
+ghost use Rattle.chain_build.specs.Pairs.{Pair·refusal, Pair·rows, Pair·Built};
+
+// The move of the pair at a place, built and put into its block.
+fn put_pair(poses: &[[f32; 17]], i: usize, moves: &mut [[[f32; 4]; 44]; 31]) -> u8
+    requires { ⌜ i + 1 < length (now poses) ⌝ }
+    requires { ⌜ i < 31 ⌝ }
+    ensures refusal { λ r. ⌜ r ≡ Pair·refusal (Poses·pairAt (now (poses .entry)) i) ⌝ }
+    ensures left { λ r. ⌜ (r ≡ 0 → now (moves .exit) ≡ set (now (moves .entry)) i (Pair·rows (Poses·pairAt (now (poses .entry)) i))) ⌝ }
+    ensures built { λ r. ⌜ (r ≡ 0 → Pair·Built (Poses·pairAt (now (poses .entry)) i)) ⌝ }
+{
+    let start = lent_arrays::pose(&poses[i]);
+    let end = lent_arrays::pose(&poses[i + 1]);
+    motion_rows::put_motion(AnimatedTransform::new(start, end), &mut moves[i])
+}
+
+// The moves of all pairs, in rising order, up to the first that is refused.
+fn put_pairs(poses: &[[f32; 17]], moves: &mut [[[f32; 4]; 44]; 31]) -> u8
+    requires { ⌜ length (now poses) ≤ 32 ⌝ }
+    requires { ⌜ length (now moves) ≡ 31 ⌝ }
+    ensures refusal { λ r. ⌜ r ≡ stage Pair·refusal (neighbours (Poses·ofLists (now (poses .entry)))) ⌝ }
+    ensures left { λ r. ⌜ (r ≡ 0 → now (moves .exit) ≡ front (map Pair·rows (neighbours (Poses·ofLists (now (poses .entry))))) (now (moves .entry))) ⌝ }
+    ensures built { λ r. ⌜ (r ≡ 0 → Each Pair·Built (neighbours (Poses·ofLists (now (poses .entry))))) ⌝ }
+{
+    let n = poses.len();
+    let mut i = 1;
+    while i < n {
+        let refusal = put_pair(poses, i - 1, moves);
+        if refusal != 0 {
+            return refusal;
+        }
+        i = i + 1;
+    }
+    0
+}
+
+// A chain that has passed its checks. The work goes into a copy of the lent blocks, which takes their place once nothing is refused.
+fn build_passed(
+    poses: &[[f32; 17]],
+    copy: [[[f32; 4]; 44]; 31],
+    moves: &mut [[[f32; 4]; 44]; 31],
+) -> u8
+    requires { ⌜ chainRefusal (Poses·ofLists (now poses)) ≡ 0 ⌝ }
+    requires { ⌜ copy ≡ now moves ⌝ }
+    ensures refusal { λ r. ⌜ r ≡ ChainAnswer·refusal (Chain·new (Poses·ofLists (now (poses .entry)))) ⌝ }
+    ensures left { λ _. ⌜ now (moves .exit) ≡ ChainAnswer·left (Chain·new (Poses·ofLists (now (poses .entry)))) (now (moves .entry)) ⌝ }
+    ensures holds { λ _. ⌜ ((c : Chain) → Chain·new (Poses·ofLists (now (poses .entry))) ≡ built c → Moves·Holds (take (length (now (poses .entry)) - 1) (now (moves .exit))) c) ⌝ }
+{
+    let mut work = copy;
+    let refusal = put_pairs(poses, &mut work);
+    if refusal != 0 {
+        return refusal;
+    }
+    *moves = work;
+    0
+}
+
+// Builds the chain of the poses into the first blocks, one for each move. Refused with 1, 2, 12, 3, 4 or 5.
+// Accuracy: each operation but the arc cosine is correctly rounded.
+pub fn build(poses: &[[f32; 17]], moves: &mut [[[f32; 4]; 44]; 31]) -> u8
+    ensures refusal { λ r. ⌜ r ≡ ChainAnswer·refusal (Chain·new (Poses·ofLists (now (poses .entry)))) ⌝ }
+    ensures left { λ _. ⌜ now (moves .exit) ≡ ChainAnswer·left (Chain·new (Poses·ofLists (now (poses .entry)))) (now (moves .entry)) ⌝ }
+    ensures holds { λ _. ⌜ ((c : Chain) → Chain·new (Poses·ofLists (now (poses .entry))) ≡ built c → Moves·Holds (take (length (now (poses .entry)) - 1) (now (moves .exit))) c) ⌝ }
+{
+    let refusal = chain_poses::refusal(poses);
+    if refusal != 0 {
+        return refusal;
+    }
+    build_passed(poses, *moves, moves)
+}

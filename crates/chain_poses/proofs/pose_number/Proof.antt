@@ -1,0 +1,44 @@
+-- `pose_number` meets its contract.
+use borrow.Author.Needs.{needs}
+use borrow.Author.Tests.{eq-eqb, ne-eqb}
+use Rattle.motion_chain.specs.Chain.{Pose·number}
+use Rattle.chain_poses.proofs.pose_number.Statement.{statement}
+use Rattle.chain_poses.proofs.pose_number.Tie as tie
+
+is-finite-requires : tie.Need-is-finite-requires
+is-finite-requires c κs = search needs
+
+returns : tie.Need-returns
+unfolding Pose·number
+returns c = rw (eq-eqb _ 1 (c .before .before .if1 .taken), ← c .before .is-finite .ensures, c .if2 .taken)
+
+returns-2 : tie.Need-returns-2
+unfolding Pose·number
+returns-2 c = rw (eq-eqb _ 1 (c .before .before .if1 .taken), ← c .before .is-finite .ensures, c .if2 .left)
+
+is-affine-requires : tie.Need-is-affine-requires
+is-affine-requires c κs = search needs
+
+returns-3 : tie.Need-returns-3
+unfolding Pose·number
+returns-3 c = rw (ne-eqb _ 1 (c .before .before .before .if1 .left), eq-eqb _ 2 (c .before .before .if3 .taken), ← c .before .is-affine .ensures, c .if4 .taken)
+
+returns-4 : tie.Need-returns-4
+unfolding Pose·number
+returns-4 c = rw (ne-eqb _ 1 (c .before .before .before .if1 .left), eq-eqb _ 2 (c .before .before .if3 .taken), ← c .before .is-affine .ensures, c .if4 .left)
+
+returns-5 : tie.Need-returns-5
+unfolding Pose·number
+returns-5 c = rw (ne-eqb _ 1 (c .before .if1 .left), ne-eqb _ 2 (c .if3 .left))
+
+pub pose-number-spec : {M : Type 1} → statement M
+pose-number-spec =
+    tie.close
+    (tie.spec
+    is-finite-requires
+    returns
+    returns-2
+    is-affine-requires
+    returns-3
+    returns-4
+    returns-5)

@@ -1,0 +1,69 @@
+-- `refusal` meets its contract: the stages of the definition, in its order.
+use borrow.Author.Needs.{needs}
+use Rattle.motion_chain.specs.Chain.{neighbours, firstNumber, stage, Pair·number, chainRefusal}
+use Rattle.motion_chain.proofs.Built.{first-only}
+use Rattle.chain_poses.specs.Poses.{Poses·ofLists}
+use Rattle.chain_poses.proofs.Loops.{poses-length}
+use Rattle.chain_poses.proofs.refusal.Statement.{statement}
+use Rattle.chain_poses.proofs.refusal.Tie as tie
+
+pose-stage-requires : tie.Need-pose-stage-requires
+pose-stage-requires c κs = search needs
+
+pose-stage-requires-2 : tie.Need-pose-stage-requires-2
+pose-stage-requires-2 c κs = search needs
+
+count-number-requires : tie.Need-count-number-requires
+count-number-requires c κs = search needs
+
+pair-stage-requires : tie.Need-pair-stage-requires
+pair-stage-requires c κs = search needs
+
+pair-stage-requires-2 : tie.Need-pair-stage-requires-2
+pair-stage-requires-2 c κs = search needs
+
+first-refusal-requires : tie.Need-first-refusal-requires
+first-refusal-requires c κs = search needs
+
+first-refusal-requires-2 : tie.Need-first-refusal-requires-2
+first-refusal-requires-2 c κs = search needs
+
+first-refusal-requires-3 : tie.Need-first-refusal-requires-3
+first-refusal-requires-3 c κs = search needs
+
+first-refusal-requires-4 : tie.Need-first-refusal-requires-4
+first-refusal-requires-4 c κs = search needs
+
+returns : tie.Need-returns
+unfolding chainRefusal firstNumber
+returns c =
+    let times = c .before .before .before .before in
+    let a = times .before .before .before .before .before .args in
+    rw (
+      c .first-refusal4 .ensures,
+      c .before .first-refusal3 .ensures,
+      c .before .before .first-refusal2 .ensures,
+      c .before .before .before .first-refusal .ensures,
+      times .pair-stage2 .ensures,
+      times .before .pair-stage .ensures,
+      times .before .before .count-number .ensures,
+      times .before .before .before .pose-stage2 .ensures,
+      times .before .before .before .before .pose-stage .ensures,
+      poses-length (a .poses .now),
+      first-only (stage (Pair·number 3) (neighbours (Poses·ofLists (a .poses .now)))),
+    )
+
+pub refusal-spec : {M : Type 1} → statement M
+refusal-spec =
+    tie.close
+    (tie.spec
+    pose-stage-requires
+    pose-stage-requires-2
+    count-number-requires
+    pair-stage-requires
+    pair-stage-requires-2
+    first-refusal-requires
+    first-refusal-requires-2
+    first-refusal-requires-3
+    first-refusal-requires-4
+    returns)

@@ -1,0 +1,114 @@
+// The poses of a chain in a lent array, 17 floats each, and what building a chain asks of them before it computes any move. A stage asks one thing of every
+// pose, or of every neighbouring pair, before the next stage: 1 and 2 of every pose, 12 of the count and of every pair, 3 of every pair.
+use pose_pair::Pose;
+ghost use Prim.Native.Nat.{_+_, _<_};
+ghost use mathlib.Core.Path.{_≡_};
+ghost use mathlib.Core.Bool.{_||_, cond};
+ghost use mathlib.Core.List.{[]};
+ghost use lib.Dec.{ltb};
+ghost use lib.ListN.{length, getD};
+ghost use Rattle.animated_transform.specs.New.{firstRefusal};
+ghost use Rattle.lent_arrays.specs.Arrays.{Pose·ofList};
+ghost use Rattle.motion_chain.specs.Chain.{minPoses, maxPoses, neighbours, stage, Pose·number, Pair·number, chainRefusal};
+ghost use Rattle.chain_poses.specs.Poses.{Poses·ofLists, Poses·pairAt};
+
+fn pose_number(k: u8, p: Pose) -> u8
+    ensures value { λ r. ⌜ r ≡ Pose·number k p ⌝ }
+{
+    if k == 1 {
+        if p.is_finite() {
+            return 0;
+        }
+        return 1;
+    }
+    if k == 2 {
+        if p.is_affine() {
+            return 0;
+        }
+        return 2;
+    }
+    0
+}
+
+fn pose_number_at(k: u8, poses: &[[f32; 17]], i: usize) -> u8
+    requires { ⌜ i < length (now poses) ⌝ }
+    ensures value { λ r. ⌜ r ≡ Pose·number k (Pose·ofList (getD (now (poses .entry)) i [])) ⌝ }
+{
+    pose_number(k, lent_arrays::pose(&poses[i]))
+}
+
+fn pair_number_at(k: u8, poses: &[[f32; 17]], i: usize) -> u8
+    requires { ⌜ i + 1 < length (now poses) ⌝ }
+    ensures value { λ r. ⌜ r ≡ Pair·number k (Poses·pairAt (now (poses .entry)) i) ⌝ }
+{
+    let start = poses[i][0];
+    let end = poses[i + 1][0];
+    if k == 12 {
+        if start < end {
+            return 0;
+        }
+        return 12;
+    }
+    if k == 3 {
+        return pose_pair::times_refusal(start, end);
+    }
+    0
+}
+
+fn pose_stage(k: u8, poses: &[[f32; 17]]) -> u8
+    ensures value { λ r. ⌜ r ≡ stage (Pose·number k) (Poses·ofLists (now (poses .entry))) ⌝ }
+{
+    let n = poses.len();
+    let mut i = 0;
+    while i < n {
+        let number = pose_number_at(k, poses, i);
+        if number != 0 {
+            return number;
+        }
+        i = i + 1;
+    }
+    0
+}
+
+fn pair_stage(k: u8, poses: &[[f32; 17]]) -> u8
+    ensures value { λ r. ⌜ r ≡ stage (Pair·number k) (neighbours (Poses·ofLists (now (poses .entry)))) ⌝ }
+{
+    let n = poses.len();
+    let mut i = 1;
+    while i < n {
+        let number = pair_number_at(k, poses, i - 1);
+        if number != 0 {
+            return number;
+        }
+        i = i + 1;
+    }
+    0
+}
+
+// 12 for fewer than 2 poses or more than 32.
+fn count_number(n: usize) -> u8
+    ensures value { λ r. ⌜ r ≡ cond (ltb n minPoses || ltb maxPoses n) 12 0 ⌝ }
+{
+    if (n < 2) | (32 < n) { 12 } else { 0 }
+}
+
+fn first_refusal(a: u8, b: u8) -> u8
+    ensures value { λ r. ⌜ r ≡ firstRefusal a b ⌝ }
+{
+    if a == 0 { b } else { a }
+}
+
+// What building a chain asks of its poses before it computes any move: refused with 1, 2, 12 or 3, judged in this order; 0 for none. Accuracy: exact.
+pub fn refusal(poses: &[[f32; 17]]) -> u8
+    ensures value { λ r. ⌜ r ≡ chainRefusal (Poses·ofLists (now (poses .entry))) ⌝ }
+{
+    let finite = pose_stage(1, poses);
+    let affine = pose_stage(2, poses);
+    let count = count_number(poses.len());
+    let rise = pair_stage(12, poses);
+    let times = pair_stage(3, poses);
+    let pairs = first_refusal(rise, times);
+    let chain = first_refusal(count, pairs);
+    let later = first_refusal(affine, chain);
+    first_refusal(finite, later)
+}

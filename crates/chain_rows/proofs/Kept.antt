@@ -1,0 +1,67 @@
+-- What is kept of a chain is the whole chain, `chain-inverse`; so the queries of its rows are its own: `kept-point`, `kept-points`, `kept-cover`.
+use Prim.Native.Nat.{ℕ, zero, suc, _<_}
+use mathlib.Core.Path.{_≡_, refl, ap, _∙_}
+use mathlib.Core.Bool.{false, cond}
+use mathlib.Core.List.{List, [], _∷_, map}
+use native.Mathlib.Omega.{arith}
+use borrow.Author.Tests.{ne-eqb}
+use lib.Dec.{eqb}
+use lib.ListN.{length, getD}
+use lib.Ieee.{Float}
+use Rattle.matrix4x4.specs.Rows.{Rows}
+use Rattle.bounds3.specs.declared.Point3f.{Point3f}
+use Rattle.bounds3.specs.declared.Bounds3f.{Bounds3f}
+use Rattle.transform.specs.declared.PointAnswer.{PointAnswer}
+use Rattle.animated_transform.specs.declared.AnimatedTransform.{AnimatedTransform}
+use Rattle.motion_rows.specs.Rows.{AnimatedTransform·toRows, AnimatedTransform·fromRows}
+use Rattle.motion_rows.proofs.RoundTrip.{from-rows-inverse, transform-point-kept}
+use Rattle.motion_chain.specs.Chain.{Chain, Chain·moves, Chain·moveAt, Chain·transformPoint, Chain·cover}
+use Rattle.motion_chain.specs.MoveAt.{Chain·indexAt}
+use Rattle.motion_chain.specs.Times.{refused, listRefusal, pointsAt, Chain·transformPoints}
+use Rattle.motion_chain.proofs.MoveAt.{move-index}
+use Rattle.chain_rows.specs.Kept.{Chain·toRows, Moves·chain, Moves·transformPoint, Moves·transformPoints, Moves·cover}
+
+map-inverse : (moves : List AnimatedTransform) → map AnimatedTransform·fromRows (map AnimatedTransform·toRows moves) ≡ moves
+map-inverse [] = refl
+map-inverse (m ∷ moves) = rw (from-rows-inverse m, map-inverse moves)
+
+pub chain-inverse : (c : Chain) → Moves·chain (Chain·toRows c) ≡ c
+unfolding Moves·chain
+chain-inverse c = rw (from-rows-inverse (c .first), map-inverse (c .rest))
+
+not-empty : (c : Chain) → eqb (length (Chain·toRows c)) 0 ≡ false
+not-empty c = ne-eqb (length (Chain·toRows c)) 0 (λ e. absurd (omega (arith, e)))
+
+rows-at : (moves : List AnimatedTransform) (i : ℕ) (d : AnimatedTransform) → i < length moves
+    → getD (map AnimatedTransform·toRows moves) i [] ≡ AnimatedTransform·toRows (getD moves i d)
+rows-at [] i d h = absurd (omega (arith, h))
+rows-at (m ∷ moves) zero d h = refl
+rows-at (m ∷ moves) (suc i) d h = rows-at moves i d (omega (arith, h))
+
+-- The rows at the place of a time are those of the time's move.
+move-kept : (c : Chain) (time : Float) → getD (Chain·toRows c) (Chain·indexAt c time) [] ≡ AnimatedTransform·toRows (Chain·moveAt c time)
+move-kept c time = let h = move-index c in rw (h .move time) (rows-at (Chain·moves c) (Chain·indexAt c time) (c .first) (h .below time))
+
+pub kept-point : (rows : List Rows) (c : Chain) (time : Float) (p : Point3f) → rows ≡ Chain·toRows c
+    → Moves·transformPoint rows time p ≡ Chain·transformPoint c time p
+unfolding Moves·transformPoint Chain·transformPoint
+kept-point rows c time p e = rw (e, not-empty c, chain-inverse c, move-kept c time) (transform-point-kept (Chain·moveAt c time) time p)
+
+pub kept-points : (rows : List Rows) (c : Chain) (times : List Float) (p : Point3f) (places : ℕ) → rows ≡ Chain·toRows c
+    → Moves·transformPoints rows times p places ≡ Chain·transformPoints c times p places
+unfolding Moves·transformPoints Chain·transformPoints
+kept-points rows c times p places e =
+    let n = listRefusal times p places in
+    let asked : Float → PointAnswer = λ t. Moves·transformPoint rows t p in
+    let own : Float → PointAnswer = λ t. Chain·transformPoint c t p in
+    let same : asked ≡ own = λ i t. kept-point rows c t p e i in
+    rw (ap (λ (l : List Rows). eqb (length l) 0) e ∙ not-empty c) (ap (λ (f : Float → PointAnswer). cond (eqb n 0) (pointsAt f times) (refused n)) same)
+
+pub kept-cover : (rows : List Rows) (c : Chain) (b : Bounds3f) (depth : ℕ) → rows ≡ Chain·toRows c → Moves·cover rows b depth ≡ Chain·cover c b depth
+unfolding Moves·cover
+kept-cover rows c b depth e = rw (e, not-empty c, chain-inverse c)
+
+-- The clauses of a point query, from its value.
+pub point-clauses : (rows : List Rows) (time : Float) (p : Point3f) {r : PointAnswer} → r ≡ Moves·transformPoint rows time p
+    → (r ≡ Moves·transformPoint rows time p) × ((c : Chain) → rows ≡ Chain·toRows c → r ≡ Chain·transformPoint c time p)
+point-clauses rows time p e = (e, λ c k. e ∙ kept-point rows c time p k)

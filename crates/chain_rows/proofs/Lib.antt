@@ -1,0 +1,4 @@
+-- Laws of kept chains.
+pub mod Search
+pub mod Kept
+pub mod Contains

@@ -1,0 +1,58 @@
+-- `poses_cover` meets its contract: building's number chooses the case (proofs/Posed.antt). What was built is kept in the first moves, one fewer than poses.
+use native.Mathlib.Omega.{arith}
+use mathlib.Core.Path.{sym}
+use lib.Seq.{length-take-le}
+use borrow.Author.Needs.{needs}
+use Rattle.motion_chain.specs.Chain.{Chain·new}
+use Rattle.chain_poses.specs.Poses.{Poses·ofLists}
+use Rattle.motion_answer.proofs.Posed.{refused-cover, built-count, built-cover, moves-room}
+use Rattle.motion_answer.proofs.poses_cover.Statement.{statement}
+use Rattle.motion_answer.proofs.poses_cover.Tie as tie
+
+build-requires : tie.Need-build-requires
+build-requires c κs = search needs
+
+returns : tie.Need-returns
+returns c = refused-cover _ _ (c .before .build .ensures .0) (c .if1 .taken)
+
+sub-n : tie.Need-sub-n
+sub-n c =
+    let build = c .before .build in
+    omega (arith, built-count (c .before .before .before .args .poses .now) (build .ensures .0) (c .if1 .left) .0)
+
+array-share-prefix-moves : tie.Need-array-share-prefix-moves
+array-share-prefix-moves c =
+    let build = c .before .build in
+    let lists = c .before .before .before .args .poses .now in
+    let few = built-count lists (build .ensures .0) (c .if1 .left) in
+    omega (arith, few .1, moves-room (Chain·new (Poses·ofLists lists)) _ (build .ensures .1 .0))
+
+slice-aggregate-cover : tie.Need-slice-aggregate-cover
+slice-aggregate-cover c =
+    let build = c .before .before .build in
+    let lists = c .before .before .before .before .args .poses .now in
+    let few = built-count lists (build .ensures .0) (c .before .if1 .left) in
+    sym (length-take-le _ _ (omega (arith, few .1, moves-room (Chain·new (Poses·ofLists lists)) _ (build .ensures .1 .0))))
+
+cover-requires : tie.Need-cover-requires
+cover-requires c κs = search needs
+
+returns-2 : tie.Need-returns-2
+returns-2 c =
+    let a = c .before .before .before .before .before .args in
+    let build = c .before .before .before .build in
+    let none = c .before .before .if1 .left in
+    built-cover (a .poses .now) (build .ensures .0) none (a .b) (c .cover .result)
+    (λ chain s. c .cover .ensures .1 .0 chain (build .ensures .1 .1 chain s .same))
+
+pub poses-cover-spec : {M : Type 1} → statement M
+poses-cover-spec =
+    tie.close
+    (tie.spec
+    build-requires
+    returns
+    sub-n
+    array-share-prefix-moves
+    slice-aggregate-cover
+    cover-requires
+    returns-2)

@@ -1,0 +1,20 @@
+-- Building a chain and asking it, also as its caller keeps it, give documents 01's and 02's numbers alone, and an accepted cover's corners are finite and in order:
+-- `every-chain-answer`.
+use Rattle.motion_chain.proofs.Cover.{chain-cover-proper}
+use Rattle.motion_chain.proofs.Numbers.{chain-cover-numbered}
+use Rattle.motion_chain.proofs.Times.{chain-point-numbered, times-numbers}
+use Rattle.refusal_numbers.specs.Chain.{EveryChainAnswer}
+use Rattle.refusal_numbers.proofs.Chain.{building-numbered}
+use Rattle.refusal_numbers.proofs.KeptChain.{rows-point-numbered, rows-points-numbered, rows-cover-numbered}
+
+pub every-chain-answer : EveryChainAnswer
+every-chain-answer = record {
+  building = building-numbered;
+  point = chain-point-numbered;
+  points = λ c times p places. times-numbers c times p places .query;
+  cover = chain-cover-numbered;
+  proper = λ built b depth. chain-cover-proper b depth built;
+  rows-point = rows-point-numbered;
+  rows-points = rows-points-numbered;
+  rows-cover = rows-cover-numbered;
+}

@@ -1,0 +1,3 @@
+-- Laws of a stretch of times.
+pub mod Fill
+pub mod Pass

@@ -1,0 +1,221 @@
+//! Document 02's chains: 2 to 32 poses, each neighbouring pair a move of the original's. What is the chain's own (its checks, which move a time belongs to,
+//! lists of times, the union of covers) is written from document 02.
+
+use crate::core::geometry::point::Point3f;
+use crate::core::transform::Matrix4x4;
+use crate::cover;
+use crate::judged::{self, check_bottom_row, finite, finite_matrix, point_values, Judged, Move};
+use crate::refusal::*;
+
+pub const MOST_POSES: usize = 32;
+
+/// A value line: a pose at its time.
+#[derive(Debug, Clone, Copy)]
+pub struct Pose {
+    pub time: f32,
+    pub matrix: Matrix4x4,
+}
+
+/// A chain that was built: a move for each neighbouring pair of its poses.
+#[derive(Debug, Clone)]
+pub struct Chain {
+    pub poses: Vec<Pose>,
+    pub moves: Vec<Move>,
+}
+
+/// Each over the whole chain before the next: 1, 2, 12, 3.
+fn check(poses: &[Pose]) -> Judged<()> {
+    let is_finite = |pose: &Pose| finite(&[pose.time]).is_ok() && finite_matrix(&pose.matrix).is_ok();
+    if !poses.iter().all(is_finite) {
+        return Err(POSE_NOT_FINITE);
+    }
+    poses.iter().try_for_each(|pose| check_bottom_row(&pose.matrix))?;
+    let pairs = || poses.windows(2).map(|pair| (pair[0].time, pair[1].time));
+    if poses.len() < 2 || poses.len() > MOST_POSES || !pairs().all(|(start, end)| start < end) {
+        return Err(CHAIN);
+    }
+    if !pairs().all(|(start, end)| (end - start).is_finite()) {
+        return Err(TIMES);
+    }
+    Ok(())
+}
+
+fn build_move(start: &Pose, end: &Pose) -> Judged<Move> {
+    judged::build(start.time, &start.matrix, end.time, &end.matrix)
+}
+
+impl Chain {
+    /// The whole chain's checks, then its moves in rising order, each built by the original.
+    pub fn build(poses: &[Pose]) -> Judged<Chain> {
+        check(poses)?;
+        let moves: Judged<Vec<Move>> = poses.windows(2).map(|pair| build_move(&pair[0], &pair[1])).collect();
+        Ok(Chain { poses: poses.to_vec(), moves: moves? })
+    }
+
+    /// A move built by itself, with document 01's rule for its times.
+    pub fn lone(poses: &[Pose; 2]) -> Judged<Chain> {
+        Ok(Chain { poses: poses.to_vec(), moves: vec![build_move(&poses[0], &poses[1])?] })
+    }
+
+    /// The move that a time belongs to: the first that isn't over before it, else the last. Any, for a NaN, which each refuses.
+    fn move_at(&self, time: f32) -> &Move {
+        let moves = &self.moves;
+        moves.iter().find(|m| time <= m.fields.end_time).unwrap_or(&moves[moves.len() - 1])
+    }
+
+    pub fn transform_point(&self, time: f32, p: &Point3f) -> Judged<Point3f> {
+        self.move_at(time).transform_point(time, p)
+    }
+
+    /// A point at each time of a list that never falls, three places a time: 6 of the point and of every time, 13, then the first time's number that is refused.
+    /// A refusal leaves the answers as they came.
+    pub fn transform_points(&self, times: &[f32], p: &Point3f, answers: &mut [f32]) -> Judged<()> {
+        if finite(&point_values(p)).is_err() || times.iter().any(|time| time.is_nan()) {
+            return Err(QUERY);
+        }
+        if times.windows(2).any(|pair| pair[1] < pair[0]) || answers.len() != 3 * times.len() {
+            return Err(TIME_LIST);
+        }
+        let points: Judged<Vec<[f32; 3]>> = times.iter().map(|time| Ok(point_values(&self.transform_point(*time, p)?))).collect();
+        answers.copy_from_slice(points?.as_flattened());
+        Ok(())
+    }
+
+    /// 6, 7, 8, then the moves' covers in rising order, and their union.
+    pub fn cover(&self, b: &[f32; 6], depth: u64) -> Judged<[f32; 6]> {
+        let covers: Judged<Vec<[f32; 6]>> = self.moves.iter().map(|m| cover::cover(&m.fields, b, depth)).collect();
+        Ok(covers?.into_iter().reduce(cover::union).expect("a chain has a move"))
+    }
+}
+
+#[cfg(test)]
+mod tests {
+    use super::*;
+
+    fn shifted(time: f32, x: f32) -> Pose {
+        let mut matrix = Matrix4x4::default();
+        matrix.m[0][3] = x;
+        Pose { time, matrix }
+    }
+
+    fn turned(time: f32) -> Pose {
+        let mut pose = shifted(time, 0.0);
+        (pose.matrix.m[0], pose.matrix.m[1]) = ([0.0, -1.0, 0.0, 0.0], [1.0, 0.0, 0.0, 0.0]);
+        pose
+    }
+
+    fn number(poses: &[Pose]) -> Option<u8> {
+        Chain::build(poses).err()
+    }
+
+    fn chain() -> Chain {
+        Chain::build(&[shifted(0.0, 0.0), shifted(1.0, 1.0), shifted(2.0, 1.0), shifted(4.0, 3.0)]).unwrap()
+    }
+
+    fn x_at(chain: &Chain, time: f32) -> f32 {
+        chain.transform_point(time, &Point3f::new(0.0, 0.0, 0.0)).unwrap().x
+    }
+
+    #[test]
+    fn checks_in_order() {
+        let rising: Vec<Pose> = (0..33).map(|i| shifted(i as f32, 0.0)).collect();
+        assert_eq!(number(&rising[..32]), None);
+        for refused in [&rising[..], &rising[..1], &[], &[rising[0], rising[0]], &[rising[1], rising[0]], &[shifted(-0.0, 0.0), shifted(0.0, 0.0)]] {
+            assert_eq!(number(refused), Some(CHAIN));
+        }
+        let mut poses = rising.clone();
+        poses[32].matrix.m[3][0] = 1.0;
+        assert_eq!(number(&poses), Some(BOTTOM_ROW));
+        poses[20].time = f32::NAN;
+        assert_eq!(number(&poses), Some(POSE_NOT_FINITE));
+        // 12 before 3, also where the 3 is further left; 3 of the last pair before 4 of the first.
+        let far = [shifted(-3e38, 0.0), shifted(3e38, 0.0), shifted(3e38, 0.0)];
+        assert_eq!(number(&far), Some(CHAIN));
+        let mut singular = shifted(-4.0, 0.0);
+        singular.matrix.m[0][0] = 0.0;
+        assert_eq!(number(&[singular, shifted(-3e38, 0.0), shifted(3e38, 0.0)]), Some(CHAIN));
+        singular.time = f32::MIN;
+        assert_eq!(number(&[singular, shifted(-3e38, 0.0), shifted(3e38, 0.0)]), Some(TIMES));
+        assert_eq!(number(&[singular, shifted(0.0, 0.0)]), Some(ZERO_PIVOT));
+    }
+
+    #[test]
+    fn a_move_by_itself_keeps_its_rule() {
+        let equal = [shifted(1.0, 0.0), shifted(1.0, 2.0)];
+        assert_eq!(number(&equal), Some(CHAIN));
+        let lone = Chain::lone(&equal).unwrap();
+        assert_eq!(x_at(&lone, 1.0), 0.0);
+        assert_eq!(x_at(&lone, 1.0f32.next_up()), 2.0);
+        assert_eq!(Chain::lone(&[equal[1], shifted(0.0, 0.0)]).err(), Some(TIMES));
+    }
+
+    #[test]
+    fn times_of_the_whole_chain() {
+        let chain = chain();
+        let expected =
+            [(f32::NEG_INFINITY, 0.0), (-1.0, 0.0), (0.0, 0.0), (0.5, 0.5), (1.0, 1.0), (1.5, 1.0), (2.0, 1.0), (3.0, 2.0), (4.0, 3.0), (f32::INFINITY, 3.0)];
+        for (time, x) in expected {
+            assert_eq!(x_at(&chain, time), x, "at {time}");
+        }
+        assert_eq!(chain.transform_point(f32::NAN, &Point3f::new(0.0, 0.0, 0.0)).err(), Some(QUERY));
+    }
+
+    /// At an inner pose's time the earlier move answers by its stored end; the later move's own start is the same matrix, but for zeros.
+    #[test]
+    fn an_inner_time_is_the_earlier_moves() {
+        let chain = Chain::build(&[shifted(0.0, 0.0), turned(1.0), shifted(2.0, 5.0)]).unwrap();
+        let end = chain.transform_point(1.0, &Point3f::new(1.0, 2.0, 3.0)).unwrap();
+        assert_eq!(point_values(&end), [-2.0, 1.0, 3.0]);
+        assert!(std::ptr::eq(chain.move_at(1.0), &chain.moves[0]));
+        assert!(std::ptr::eq(chain.move_at(1.0f32.next_up()), &chain.moves[1]));
+    }
+
+    #[test]
+    fn lists_of_times() {
+        let (chain, p) = (chain(), Point3f::new(0.0, 0.0, 0.0));
+        let ask = |times: &[f32], places: usize| {
+            let mut answers = vec![7.0; places];
+            let number = chain.transform_points(times, &p, &mut answers).err();
+            (number, answers)
+        };
+        assert_eq!(ask(&[0.5, 0.5, 3.0], 9), (None, vec![0.5, 0.0, 0.0, 0.5, 0.0, 0.0, 2.0, 0.0, 0.0]));
+        assert_eq!(ask(&[], 0), (None, vec![]));
+        assert_eq!(ask(&[0.0, -0.0], 6).0, None);
+        assert_eq!(ask(&[], 1), (Some(TIME_LIST), vec![7.0]));
+        assert_eq!(ask(&[0.5, 0.25], 6), (Some(TIME_LIST), vec![7.0; 6]));
+        assert_eq!(ask(&[0.5, 0.75], 5), (Some(TIME_LIST), vec![7.0; 5]));
+        assert_eq!(ask(&[0.5, 0.25, f32::NAN], 2), (Some(QUERY), vec![7.0; 2]));
+        let far = Point3f::new(f32::INFINITY, 0.0, 0.0);
+        assert_eq!(chain.transform_points(&[], &far, &mut []), Err(QUERY));
+        // The second time is refused by 5; the first point is not left behind.
+        let mut answers = [7.0; 6];
+        assert_eq!(chain.transform_points(&[0.0, 4.0], &Point3f::new(f32::MAX, 0.0, 0.0), &mut answers), Ok(()));
+        let sheared = |time, x: f32| {
+            let mut pose = shifted(time, 0.0);
+            pose.matrix.m[0][1] = x;
+            pose
+        };
+        let growing = Chain::build(&[sheared(0.0, 0.0), sheared(1.0, 4.0)]).unwrap();
+        let mut answers = [7.0; 6];
+        assert_eq!(growing.transform_points(&[0.0, 1.0], &Point3f::new(0.0, f32::MAX, 0.0), &mut answers), Err(NOT_FINITE));
+        assert_eq!(answers, [7.0; 6]);
+    }
+
+    #[test]
+    fn covers_are_united() {
+        let there_and_back = Chain::build(&[shifted(0.0, 0.0), shifted(1.0, 1.0), shifted(2.0, 0.0), shifted(3.0, -1.0)]).unwrap();
+        assert_eq!(there_and_back.cover(&[0.0; 6], 1), Ok([-1.0, 0.0, 0.0, 1.0, 0.0, 0.0]));
+        let b = [0.0, 0.0, 0.0, 0.5, 0.0, 0.0];
+        assert_eq!(chain().cover(&b, 0), Err(SQUARED_LENGTH));
+        assert_eq!(chain().cover(&b, 13), Err(DEPTH));
+        assert_eq!(chain().cover(&[1.0, 0.0, 0.0, 0.5, 0.0, 0.0], 13), Err(CORNERS));
+        // The moves' own covers: each inside the union, and each end of it is one of theirs.
+        let chain = Chain::build(&[shifted(0.0, 0.0), turned(1.0), shifted(2.0, 5.0)]).unwrap();
+        let all = chain.cover(&b, 6).unwrap();
+        let covers: Vec<[f32; 6]> = chain.moves.iter().map(|m| cover::cover(&m.fields, &b, 6).unwrap()).collect();
+        for i in 0..6 {
+            let ends = covers.iter().map(|c| c[i]);
+            assert_eq!(all[i], if i < 3 { ends.fold(f32::INFINITY, f32::min) } else { ends.fold(f32::NEG_INFINITY, f32::max) });
+        }
+    }
+}

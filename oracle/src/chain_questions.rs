@@ -1,0 +1,287 @@
+//! Document 02's questions: those of the program `chain_answers`, about chains that are kept in slots.
+
+use crate::chain::{Chain, Pose};
+use crate::core::geometry::point::Point3f;
+use crate::judged::{bounds_values, point_values, Judged, Move};
+use crate::lines::{bounds, float, floats, matrix, matrix_floats, parts, read, whole, Answer, Session, Values};
+
+/// The words of a question behind its name.
+type Words<'a> = &'a [&'a [u8]];
+
+/// What answers a question.
+type Question = fn(&mut Slots, Words) -> Answer;
+
+/// Every question by its name.
+const QUESTIONS: &[(&str, Question)] = &[
+    ("chain", chain),
+    ("lone", lone),
+    ("cpoint", point),
+    ("ctimes", times),
+    ("ccover", cover),
+    ("cinterp", interp),
+    ("cparts", move_parts),
+    ("cmotion", motion),
+    ("cpmotion", point_motion),
+];
+
+const SLOTS: usize = 4;
+const LONGEST: usize = 8000;
+
+/// A chain, or a move built by itself, of which less can be asked.
+struct Kept {
+    chain: Chain,
+    is_lone: bool,
+}
+
+/// The program `chain_answers`.
+pub struct Slots {
+    kept: [Option<Kept>; SLOTS],
+    longest: usize,
+}
+
+impl Default for Slots {
+    fn default() -> Slots {
+        Slots { kept: [const { None }; SLOTS], longest: LONGEST }
+    }
+}
+
+impl Session for Slots {
+    fn longest(&self) -> usize {
+        self.longest
+    }
+
+    fn judged(&mut self, question: &[u8], words: &[&[u8]]) -> Answer {
+        let (_, answer) = QUESTIONS.iter().find(|(name, _)| name.as_bytes() == question)?;
+        answer(self, words)
+    }
+}
+
+impl Slots {
+    /// With lines of any length: a file may hold more poses than a line of the program's has room for.
+    pub fn any_length() -> Slots {
+        Slots { longest: usize::MAX, ..Slots::default() }
+    }
+
+    /// Empties a slot for a refusal, else fills it.
+    fn keep(&mut self, slot: usize, built: Judged<Chain>, is_lone: bool) -> Answer {
+        let answer = built.as_ref().map(|chain| Values::default().number(chain.poses.len())).map_err(|number| *number);
+        self.kept[slot] = built.ok().map(|chain| Kept { chain, is_lone });
+        Some(answer)
+    }
+
+    fn kept(&self, slot: usize) -> Option<&Kept> {
+        self.kept[slot].as_ref()
+    }
+
+    /// A chain or a move by itself.
+    fn any(&self, slot: usize) -> Option<&Chain> {
+        Some(&self.kept(slot)?.chain)
+    }
+
+    /// A chain; a move by itself is none.
+    fn chain(&self, slot: usize) -> Option<&Chain> {
+        self.kept(slot).filter(|kept| !kept.is_lone).map(|kept| &kept.chain)
+    }
+}
+
+/// The first word as a whole number, and the words behind it.
+fn first(words: Words) -> Option<(u64, Words)> {
+    let (word, rest) = words.split_first()?;
+    Some((whole(word)?, rest))
+}
+
+/// The first word as a slot's number, and the words behind it.
+fn slot(words: Words) -> Option<(usize, Words)> {
+    let (number, rest) = first(words)?;
+    let slot = usize::try_from(number).ok()?;
+    (slot < SLOTS).then_some((slot, rest))
+}
+
+/// A slot, and a kind of chain; for now `plain` alone is one.
+fn slot_and_kind(words: Words) -> Option<(usize, Words)> {
+    let (slot, words) = slot(words)?;
+    match words.split_first()? {
+        (&b"plain", rest) => Some((slot, rest)),
+        _ => None,
+    }
+}
+
+/// Floats to the end.
+fn list(words: Words) -> Option<Vec<f32>> {
+    words.iter().map(|word| float(word)).collect()
+}
+
+const POSE_FLOATS: usize = 18;
+
+/// Any number of poses: time, matrix and pad. The pad is read and, for now, has no meaning.
+fn poses(words: Words) -> Option<Vec<Pose>> {
+    let values = list(words)?;
+    let poses = values.chunks_exact(POSE_FLOATS);
+    poses.remainder().is_empty().then(|| poses.map(|pose| Pose { time: pose[0], matrix: matrix(&pose[1..17]) }).collect())
+}
+
+fn box_floats(b: Judged<[f32; 6]>) -> Judged<Values> {
+    b.map(|b| floats(&b))
+}
+
+/// A move of the chain in a slot, by its place.
+fn move_of<'a, 'w>(slots: &'a Slots, words: Words<'w>) -> Option<(&'a Move, Words<'w>)> {
+    let (slot, words) = slot(words)?;
+    let (place, words) = first(words)?;
+    Some((slots.any(slot)?.moves.get(usize::try_from(place).ok()?)?, words))
+}
+
+/// chain S KIND P*
+fn chain(slots: &mut Slots, words: Words) -> Answer {
+    let (slot, words) = slot_and_kind(words)?;
+    slots.keep(slot, Chain::build(&poses(words)?), false)
+}
+
+/// lone S KIND P P
+fn lone(slots: &mut Slots, words: Words) -> Answer {
+    let (slot, words) = slot_and_kind(words)?;
+    let poses: [Pose; 2] = poses(words)?.try_into().ok()?;
+    slots.keep(slot, Chain::lone(&poses), true)
+}
+
+/// cpoint S T X Y Z
+fn point(slots: &mut Slots, words: Words) -> Answer {
+    let (slot, words) = slot(words)?;
+    let [time, x, y, z] = read(words)?;
+    let moved = slots.any(slot)?.transform_point(time, &Point3f::new(x, y, z));
+    Some(moved.map(|p| floats(&point_values(&p))))
+}
+
+/// ctimes S PLACES X Y Z T*
+fn times(slots: &mut Slots, words: Words) -> Answer {
+    let (slot, words) = slot(words)?;
+    let (places, words) = first(words)?;
+    let values = list(words)?;
+    let (p, times) = values.split_at_checked(3)?;
+    let chain = slots.chain(slot)?;
+    // More places than a list of this length can ask for are as good as one too many.
+    let mut answers = vec![0.0; places.min(3 * times.len() as u64 + 1) as usize];
+    Some(chain.transform_points(times, &Point3f::new(p[0], p[1], p[2]), &mut answers).map(|()| floats(&answers)))
+}
+
+/// ccover S D BOX
+fn cover(slots: &mut Slots, words: Words) -> Answer {
+    let (slot, words) = slot(words)?;
+    let (depth, words) = first(words)?;
+    let b = read(words)?;
+    Some(box_floats(slots.any(slot)?.cover(&b, depth)))
+}
+
+/// cinterp S I T
+fn interp(slots: &mut Slots, words: Words) -> Answer {
+    let (m, words) = move_of(slots, words)?;
+    let [time] = read(words)?;
+    Some(m.interpolate(time).map(|t| matrix_floats(&t.m).floats(t.m_inv.m.as_flattened())))
+}
+
+/// cparts S I
+fn move_parts(slots: &mut Slots, words: Words) -> Answer {
+    let (m, words) = move_of(slots, words)?;
+    let [] = read(words)?;
+    Some(Ok(parts(m)))
+}
+
+/// cmotion S I BOX
+fn motion(slots: &mut Slots, words: Words) -> Answer {
+    let (m, words) = move_of(slots, words)?;
+    Some(box_floats(m.motion_bounds(&bounds(&read(words)?)).map(|b| bounds_values(&b))))
+}
+
+/// cpmotion S I X Y Z
+fn point_motion(slots: &mut Slots, words: Words) -> Answer {
+    let (m, words) = move_of(slots, words)?;
+    let [x, y, z] = read(words)?;
+    Some(box_floats(m.bound_point_motion(&Point3f::new(x, y, z)).map(|b| bounds_values(&b))))
+}
+
+#[cfg(test)]
+mod tests {
+    use super::*;
+
+    const ORIGIN: &str = "00000000 00000000 00000000";
+
+    /// The identity moved along x, at a time; both as bits. The pad is a NaN, which nothing looks at.
+    fn pose(time: &str, x: &str) -> String {
+        let row = |place: usize| ["3f800000 00000000 00000000", "00000000 3f800000 00000000", "00000000 00000000 3f800000"][place];
+        format!("{time} {} {x} {} 00000000 {} 00000000 {ORIGIN} 3f800000 7fc00000", row(0), row(1), row(2))
+    }
+
+    fn three_poses() -> String {
+        [pose("00000000", "00000000"), pose("3f800000", "3f800000"), pose("40000000", "00000000")].join(" ")
+    }
+
+    fn answers(questions: &[&str]) -> Vec<String> {
+        let mut slots = Slots::default();
+        questions.iter().filter_map(|question| slots.answer(question.as_bytes())).collect()
+    }
+
+    #[test]
+    fn slots_are_kept_and_emptied() {
+        let build = |slot: usize| format!("chain {slot} plain {}", three_poses());
+        let (first, second, none) = (build(0), build(3), "chain 0 plain".to_owned());
+        let ask = |slot: usize| format!("cpoint {slot} 3f000000 {ORIGIN}");
+        let half = "ok 3f000000 00000000 00000000";
+        let session = [&ask(0), &first, &second, &ask(0), &ask(3), &ask(1), "chain 0 plain 00000000", &ask(0), &none, &ask(0), &ask(3)];
+        assert_eq!(answers(&session), ["error", "ok 3", "ok 3", half, half, "error", "error", half, "refused 12", "error", half]);
+    }
+
+    #[test]
+    fn a_lone_move_has_no_list_of_times() {
+        let lone = format!("lone 1 plain {} {}", pose("3f800000", "00000000"), pose("3f800000", "3f800000"));
+        let session = [&lone, &format!("cpoint 1 40000000 {ORIGIN}"), &format!("ctimes 1 3 {ORIGIN} 40000000"), &format!("ccover 1 4 {ORIGIN} {ORIGIN}")];
+        let expected = ["ok 2", "ok 3f800000 00000000 00000000", "error", "ok 00000000 00000000 00000000 3f800000 00000000 00000000"];
+        assert_eq!(answers(&session.map(String::as_str)), expected);
+    }
+
+    #[test]
+    fn counts_of_words() {
+        let build = format!("chain 2 plain {}", three_poses());
+        let words = |question: &str| answers(&[&build, question])[1].split(' ').count();
+        assert_eq!(words("cparts 2 1"), 1 + 2 + 138);
+        assert_eq!(words("cinterp 2 1 3fc00000"), 1 + 32);
+        assert_eq!(words(&format!("cmotion 2 0 {ORIGIN} {ORIGIN}")), 1 + 6);
+        assert_eq!(words(&format!("cpmotion 2 0 {ORIGIN}")), 1 + 6);
+        assert_eq!(words(&format!("ccover 2 3 {ORIGIN} {ORIGIN}")), 1 + 6);
+        assert_eq!(words(&format!("ctimes 2 6 {ORIGIN} 3f000000 3f800000")), 1 + 6);
+        assert_eq!(words(&format!("ctimes 2 0 {ORIGIN}")), 1);
+        assert_eq!(answers(&[&build, &format!("ctimes 2 18446744073709551615 {ORIGIN}")])[1], "refused 13");
+    }
+
+    #[test]
+    fn malformed_lines() {
+        let build = format!("chain 0 plain {}", three_poses());
+        let rigid = format!("chain 0 rigid {}", three_poses());
+        let one_more = format!("{build} 00000000");
+        for line in [
+            "chain",
+            "chain 0",
+            "chain 4 plain",
+            "chain -1 plain",
+            "chain 0 Plain",
+            &rigid,
+            &one_more,
+            "lone 0 plain",
+            "cparts 0",
+            "cparts 0 2",
+            "cparts 0 0 0",
+            "cparts 4 0",
+            "cinterp 0 0",
+            "ctimes 0 0",
+            "ctimes 0 0 00000000 00000000",
+            "cpoint 0 00000000",
+            "ccover 0",
+            "sin 00000000",
+            "nothing",
+        ] {
+            assert_eq!(answers(&[&build, line]), ["ok 3", "error"], "{line:?}");
+        }
+        assert_eq!(answers(&[&build, &rigid, "cparts 0 0"])[2].split(' ').count(), 141);
+        assert_eq!(answers(&[&format!("chain {:08000} plain", 0)]), ["error"]);
+        assert_eq!(Slots::any_length().answer(format!("chain {:08000} plain", 0).as_bytes()).unwrap(), "refused 12");
+    }
+}

@@ -1,0 +1,90 @@
+//! Chains of poses: which move a time belongs to, lists of times, covers and refusals.
+
+use jellyplain::{Bounds, Chain, Matrix, Move, Pose, Refusal, IDENTITY};
+
+fn translation(x: f32) -> Matrix {
+    let mut m = IDENTITY;
+    m[0][3] = x;
+    m
+}
+
+fn quarter_turn() -> Matrix {
+    [[0.0, -1.0, 0.0, 2.0], [1.0, 0.0, 0.0, -1.0], [0.0, 0.0, 1.0, 0.5], [0.0, 0.0, 0.0, 1.0]]
+}
+
+fn at(time: f32, matrix: Matrix) -> Pose {
+    Pose { time, matrix }
+}
+
+/// Out by a quarter turn, a rest, and on by a shift.
+fn poses() -> [Pose; 4] {
+    [at(0.0, IDENTITY), at(2.0, quarter_turn()), at(3.0, quarter_turn()), at(5.0, translation(4.0))]
+}
+
+#[test]
+fn each_time_belongs_to_its_move() {
+    let (poses, p) = (poses(), [3.0, 0.5, -1.0]);
+    let chain = Chain::new(&poses).unwrap();
+    let moves: Vec<Move> = poses.windows(2).map(|pair| Move::new(&pair[0], &pair[1]).unwrap()).collect();
+    assert_eq!(chain.moves().len(), 3);
+    for (place, times) in [(0, [f32::NEG_INFINITY, -1.0, 1.25, 2.0]), (1, [2.0f32.next_up(), 2.25, 2.75, 3.0]), (2, [3.0f32.next_up(), 4.0, 5.0, f32::INFINITY])] {
+        for time in times {
+            assert_eq!(chain.point(time, p), moves[place].point(time, p));
+            assert_eq!(chain.moves().nth(place).unwrap().point(time, p), moves[place].point(time, p));
+        }
+    }
+    assert_eq!(chain.point(f32::NAN, p), Err(Refusal::Query));
+}
+
+#[test]
+fn lists_of_times() {
+    let chain = Chain::new(&poses()).unwrap();
+    let p = [3.0, 0.5, -1.0];
+    let times = [f32::NEG_INFINITY, 0.0, 0.0, 1.5, 2.0, 2.5, 3.0, 3.0, 4.5, 9.0];
+    let each: Vec<[f32; 3]> = times.iter().map(|&time| chain.point(time, p).unwrap()).collect();
+    assert_eq!(chain.points(&times, p), Ok(each));
+    assert_eq!(chain.points(&[], p), Ok(vec![]));
+    assert_eq!(chain.points(&[1.0, 0.5], p), Err(Refusal::TimeList));
+    assert_eq!(chain.points(&[1.0, f32::NAN, 0.5], p), Err(Refusal::Query));
+    assert_eq!(chain.points(&[], [f32::INFINITY, 0.0, 0.0]), Err(Refusal::Query));
+}
+
+#[test]
+fn moved_points_are_inside_the_cover() {
+    let chain = Chain::new(&poses()).unwrap();
+    let b = Bounds { p_min: [0.0, -0.5, 0.0], p_max: [12.0, 0.5, 0.25] };
+    for depth in [4, 8] {
+        let cover = chain.cover(&b, depth).unwrap();
+        for k in 0..1000 {
+            let part = |n: usize| (k * n % 997) as f32 / 996.0;
+            let p = [12.0 * part(7), part(31) - 0.5, 0.25 * part(101)];
+            assert!(cover.contains(chain.point(-0.5 + 6.0 * part(1), p).unwrap()));
+        }
+        for m in chain.moves() {
+            let inner = m.cover(&b, depth).unwrap();
+            assert!(cover.contains(inner.p_min) && cover.contains(inner.p_max));
+        }
+    }
+}
+
+#[test]
+fn refused_chains() {
+    let refused = |poses: &[Pose]| Chain::new(poses).err();
+    let mut infinite = IDENTITY;
+    infinite[1][1] = f32::INFINITY;
+    let mut bottom = IDENTITY;
+    bottom[3][0] = 1.0;
+    let many: Vec<Pose> = (0..33).map(|k| at(k as f32, IDENTITY)).collect();
+    assert!(Chain::new(&many[..32]).is_ok());
+    assert_eq!(refused(&[]), Some(Refusal::Chain));
+    assert_eq!(refused(&many[..1]), Some(Refusal::Chain));
+    assert_eq!(refused(&many), Some(Refusal::Chain));
+    assert_eq!(refused(&[at(0.0, IDENTITY), at(0.0, IDENTITY)]), Some(Refusal::Chain));
+    assert_eq!(refused(&[at(-0.0, IDENTITY), at(0.0, IDENTITY)]), Some(Refusal::Chain));
+    // 1 of any pose, then 2 of any, then 12, then 3 of a pair.
+    assert_eq!(refused(&[at(0.0, bottom), at(0.0, infinite)]), Some(Refusal::PoseNotFinite));
+    assert_eq!(refused(&[at(0.0, IDENTITY), at(0.0, bottom)]), Some(Refusal::BottomRow));
+    assert_eq!(refused(&[at(-3e38, IDENTITY), at(3e38, IDENTITY), at(3e38, IDENTITY)]), Some(Refusal::Chain));
+    assert_eq!(refused(&[at(0.0, [[0.0; 4], [0.0; 4], [0.0; 4], IDENTITY[3]]), at(-3e38, IDENTITY), at(3e38, IDENTITY)]), Some(Refusal::Chain));
+    assert_eq!(refused(&[at(-3.1e38, [[0.0; 4], [0.0; 4], [0.0; 4], IDENTITY[3]]), at(-3e38, IDENTITY), at(3e38, IDENTITY)]), Some(Refusal::Times));
+}
