@@ -4,7 +4,8 @@
     tools/angle_vectors.py              prints the questions: `sin A`, `cos A`, `acos C`, a float as eight hexadecimal digits
     tools/angle_vectors.py --answers    prints the expected line of each: `ok` and the float, a NaN as 7fc00000
 
-An implementation of document 01, "Angles", by exact fractions that shares nothing with the crates: it knows the document's sentences only.
+An implementation of document 01, "Angles", and document 02, "Far angles", by exact fractions that shares nothing with the crates: it knows the
+documents' sentences only.
 """
 import random
 import struct
@@ -74,7 +75,7 @@ def nearest(x):
 def sin(bits):
     a = value(bits)
     if a is None or abs(a) >= 2**24:
-        return 0
+        return NAN
     s = sin_units(floor(abs(a) * 2**28))
     return nearest(Fraction(-s if a < 0 else s, 2**30))
 
@@ -82,7 +83,7 @@ def sin(bits):
 def cos(bits):
     a = value(bits)
     if a is None or abs(a) >= 2**24:
-        return nearest(Fraction(1))
+        return NAN
     return nearest(Fraction(cos_units(floor(abs(a) * 2**28)), 2**30))
 
 

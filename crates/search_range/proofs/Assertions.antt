@@ -25,7 +25,7 @@ use Rattle.search_range.specs.Examined.{Examined}
 use Rattle.search_range.specs.Assertions.{rangeLimit, Interval·asserted}
 use Rattle.search_range.proofs.Examined.{examined-unit}
 
-abbrev halfTurn : Interval
+abbrev pub halfTurn : Interval
 halfTurn = record { low = positiveZero; high = halfTurnFloat }
 
 half-turn-finite : Finite halfTurn
@@ -46,10 +46,10 @@ scaled : Interval·mulEnclosure halfTurn unitInterval ≡ halfTurn
 unfolding Interval·mulEnclosure Interval·ofFour Interval·hull Interval·new minNum maxNum isNan mul round lt ofBits
 scaled = refl
 
-scale-half-turn : {a t : Float} → Contains halfTurn a → Contains unitInterval t → Contains halfTurn (a ⊗ t)
+pub scale-half-turn : {a t : Float} → Contains halfTurn a → Contains unitInterval t → Contains halfTurn (a ⊗ t)
 scale-half-turn {a} {t} h u = subst (λ (X : Interval). Contains X (a ⊗ t)) scaled (mul-contains half-turn-finite unit-finite h u)
 
-angles-subset : (f : MotionDerivative) {j : Interval} → Contains quarterInterval (f .theta) → Subset j unitInterval → Subset (MotionDerivative·angles f j) halfTurn
+pub angles-subset : (f : MotionDerivative) {j : Interval} → Contains quarterInterval (f .theta) → Subset j unitInterval → Subset (MotionDerivative·angles f j) halfTurn
 unfolding Interval·mul
 angles-subset f q s =
     let a = double-half-turn q in

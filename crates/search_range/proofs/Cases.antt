@@ -1,5 +1,5 @@
 -- Cases of the definitions, by computing: the limit's bits; for t - 1/2, the intervals of a search at depth 1, and those of the whole search for a constant; angles at which the
--- assertions hold, and at which each fails.
+-- assertions hold, and at which each fails; a run that meets a far angle and doesn't end in NaN, since its theta doesn't double.
 use mathlib.Core.Path.{_≡_, refl}
 use mathlib.Core.Bool.{true, false}
 use mathlib.Core.List.{[], _∷_}
@@ -7,11 +7,13 @@ use lib.Ieee.{Float, binary32, ofBits, neg}
 use Rattle.float32.specs.Operators.{positiveZero, one, two, four, half}
 use Rattle.interval.specs.Interval.{Interval·new}
 use Rattle.motion_derivative.specs.declared.MotionDerivative.{MotionDerivative}
-use Rattle.motion_derivative.specs.Derivative.{MotionDerivative·angles}
+use Rattle.trig.specs.SinCos.{near}
+use Rattle.motion_derivative.specs.Derivative.{MotionDerivative·angles, MotionDerivative·newton}
 use Rattle.zero_search.specs.Search.{Zeros·empty, unitInterval}
 use Rattle.zero_search.specs.Computing.{computing}
 use Rattle.search_range.specs.Examined.{searchIntervals, examinedIntervals}
 use Rattle.search_range.specs.Assertions.{rangeLimit, Interval·asserted}
+use Rattle.search_range.specs.Far.{valueAngle, slopeAngle}
 
 limit-bits : rangeLimit ≡ ofBits binary32 0x40c9126d
 unfolding computing
@@ -40,3 +42,22 @@ angles-beyond = refl
 angles-below : Interval·asserted (MotionDerivative·angles (line one positiveZero (neg one)) unitInterval) ≡ false
 unfolding computing
 angles-below = refl
+
+-- theta is 3e38, t is 1e-35: 2.0 * theta overflows, so that the value is NaN; the slope is 0, and the run ends at t.
+abbrev still : MotionDerivative
+still = line positiveZero positiveZero (ofBits binary32 0x7f61b1e6)
+
+abbrev tiny : Float
+tiny = ofBits binary32 0x0554ad2e
+
+value-angle-far : near (valueAngle still tiny) ≡ false
+unfolding computing
+value-angle-far = refl
+
+slope-angle-near : near (slopeAngle still tiny) ≡ true
+unfolding computing
+slope-angle-near = refl
+
+ends-at-t : MotionDerivative·newton still 4 tiny ≡ tiny
+unfolding computing
+ends-at-t = refl

@@ -34,7 +34,7 @@ sums-finite : Finite sums
 unfolding sums Interval·addEnclosure add round ofBits
 sums-finite = record { low = tt; high = tt }
 
-half-encloses : Encloses (Interval·point half) half
+pub half-encloses : Encloses (Interval·point half) half
 half-encloses = point-encloses half (unfold ofBits in tt)
 
 -- From 0 to 1 and 0 to 1, halved.
@@ -58,7 +58,7 @@ upper-unit s = new-subset (midpoint-unit s) (subset-high s)
 equal-unit : {i j : Interval} → j ≡ i → Subset i unitInterval → Subset j unitInterval
 equal-unit e s = subst (λ (X : Interval). Subset X unitInterval) (sym e) s
 
-cond-member : (b : Bool) (l : List Interval) (j : Interval) → List·Memᴰ j (cond b l []) → List·Memᴰ j l
+pub cond-member : (b : Bool) (l : List Interval) (j : Interval) → List·Memᴰ j (cond b l []) → List·Memᴰ j l
 cond-member true l j m = m
 cond-member false l j m = absurd (List·Memᴰ·not-nil m)
 
@@ -82,7 +82,7 @@ search-unit (suc d) false f i z s j m =
     ]
 
 -- The whole search begins with 0 to 1 itself.
-whole-unit : Subset search.unitInterval unitInterval
+pub whole-unit : Subset search.unitInterval unitInterval
 unfolding Interval·new minNum maxNum isNan lt le ofBits
 whole-unit = record { low = record { holds = tt }; proper = record { holds = tt }; high = record { holds = tt } }
 

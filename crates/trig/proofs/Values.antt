@@ -38,13 +38,18 @@ module _ (T : ℕ → ℕ) (a : Float) (h : near a ≡ true) (u : ℕ) (z : Floa
   unfolding cosOver
   cos-value Z = Z ∙ ap (λ (v : ℕ). nearestFloat (cosUnitsOver T v)) units ∙ taken (near a) (nearestFloat (cosUnitsOver T (angleUnits a))) farCos h
 
-pub sin-far : (T : ℕ → ℕ) (a : Float) → near a ≡ false → farSin ≡ sinOver T a
-unfolding sinOver
-sin-far T a h = left (near a) (nearestFloat (withSign (negative a) (sinUnitsOver T (angleUnits a)))) farSin h
+-- What the code gives where there is no number.
+none : div binary32 (ofBits binary32 0) (ofBits binary32 0) ≡ nan
+unfolding div ofBits
+none = refl
 
-pub cos-far : (T : ℕ → ℕ) (a : Float) → near a ≡ false → farCos ≡ cosOver T a
+pub sin-far : (T : ℕ → ℕ) (a : Float) → near a ≡ false → div binary32 (ofBits binary32 0) (ofBits binary32 0) ≡ sinOver T a
+unfolding sinOver
+sin-far T a h = none ∙ left (near a) (nearestFloat (withSign (negative a) (sinUnitsOver T (angleUnits a)))) farSin h
+
+pub cos-far : (T : ℕ → ℕ) (a : Float) → near a ≡ false → div binary32 (ofBits binary32 0) (ofBits binary32 0) ≡ cosOver T a
 unfolding cosOver
-cos-far T a h = left (near a) (nearestFloat (cosUnitsOver T (angleUnits a))) farCos h
+cos-far T a h = none ∙ left (near a) (nearestFloat (cosUnitsOver T (angleUnits a))) farCos h
 
 pub acos-value : (c : Float) (w u : ℕ) (z : Float) → inDomain c ≡ true → minus w (2 ^ 30) ≡ floorUnits c → u ≡ leastAngle (minus w (2 ^ 30)) → z ≡ round binary32 false u (2 ^ 28) → z ≡ acos c
 unfolding acos
@@ -55,6 +60,3 @@ acos-value c w u z h W U Z =
 pub acos-outside : (c : Float) → inDomain c ≡ false → div binary32 (ofBits binary32 0) (ofBits binary32 0) ≡ acos c
 unfolding acos
 acos-outside c h = none ∙ left (inDomain c) (round binary32 false (leastAngle (floorUnits c)) (2 ^ 28)) nan h
-  where
-    none : div binary32 (ofBits binary32 0) (ofBits binary32 0) ≡ nan
-    none = unfold div ofBits in refl

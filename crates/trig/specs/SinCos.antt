@@ -1,11 +1,10 @@
 -- Document 01's sine and cosine of a float, for every float: `sin` and `cos`; `sinOver` and `cosOver` over any entries in place of the table's.
--- What is said of far angles, those of 2 ^ 24 or more and those that are not finite, stands here alone.
+-- What is said of far angles, those "of size 2^24 or more, or not finite" (document 02), stands here alone.
 use Prim.Native.Nat.{ℕ}
 use mathlib.Core.Bool.{Bool, cond}
 use lib.IntN.{ℤ}
-use lib.Ieee.{Float, binary32, lt, ofBits}
+use lib.Ieee.{Float, nan, binary32, lt, ofBits}
 use Rattle.float32.specs.Abs.{abs}
-use Rattle.float32.specs.Operators.{one}
 use Rattle.float_bits.specs.Decode.{negative}
 use Rattle.trig.specs.Units.{angleUnits, sinUnitsOver, cosUnitsOver, sinUnits, cosUnits, nearestFloat, withSign}
 
@@ -13,12 +12,12 @@ use Rattle.trig.specs.Units.{angleUnits, sinUnitsOver, cosUnitsOver, sin
 abbrev pub near : Float → Bool
 near a = lt (abs a) (ofBits binary32 0x4b800000)
 
--- What the sine and the cosine of a far angle are: 0 and 1.
+-- document 02, Far angles: "sine and cosine now both give NaN instead of 0 and 1"
 abbrev pub farSin : Float
-farSin = ofBits binary32 0
+farSin = nan
 
 abbrev pub farCos : Float
-farCos = one
+farCos = nan
 
 -- The sine in units of |a|, by the rule S, negated for a negative a, as the nearest float.
 abbrev pub sinBy : (ℕ → ℤ) → Float → Float

@@ -98,8 +98,8 @@ fn units_sin_cos(table: &[u32; 2049], negative: bool, u: u64) -> SinCos
     }
 }
 
-// Document 01's sine and cosine, which is the sine a quarter turn on, over the entries of a table; of a far angle 0 and 1. Over the sine table they are those
-// of `sin_cos` (`sin-over-table`, `cos-over-table`). Accuracy: heuristic, the floats nearest to straight lines between the table's entries.
+// Document 01's sine and cosine, which is the sine a quarter turn on, over the entries of a table; of a far angle both are NaN. Over the sine table they are
+// those of `sin_cos` (`sin-over-table`, `cos-over-table`). Accuracy: heuristic, the floats nearest to straight lines between the table's entries.
 pub fn sin_cos_in(table: &[u32; 2049], a: f32) -> SinCos
     ensures value { λ r. ⌜ (r .sin ≡ sinOver (entry (now (table .entry))) a) × (r .cos ≡ cosOver (entry (now (table .entry))) a) ⌝ }
 {
@@ -107,7 +107,10 @@ pub fn sin_cos_in(table: &[u32; 2049], a: f32) -> SinCos
         let d = float_bits::integer_decode(a);
         return units_sin_cos(table, d.negative, angle_units(a));
     }
-    SinCos { sin: 0.0, cos: 1.0 }
+    SinCos {
+        sin: 0.0 / 0.0,
+        cos: 0.0 / 0.0,
+    }
 }
 
 // Document 01's sine and cosine. Accuracy: heuristic, likewise.

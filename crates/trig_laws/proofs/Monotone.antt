@@ -191,3 +191,13 @@ sin-unit a h = rw h (units-unit (negative a) (angleUnits a))
 pub cos-unit : (a : Float) → near a ≡ true → Bounds (neg one) one (cos a)
 unfolding cos cosUnits
 cos-unit a h = rw h (units-unit false (angleUnits a + quarterTurn))
+
+-- ---- a far angle has neither
+
+pub sin-far : (a : Float) → near a ≡ false → sin a ≡ nan
+unfolding sin
+sin-far a h = rw h
+
+pub cos-far : (a : Float) → near a ≡ false → cos a ≡ nan
+unfolding cos
+cos-far a h = rw h

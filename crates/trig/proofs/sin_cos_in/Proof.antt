@@ -1,4 +1,4 @@
--- Near, the calls in turn (`sin-value`, `cos-value`); far, what `farSin` and `farCos` say.
+-- Near, the calls in turn (`sin-value`, `cos-value`); far, 0 / 0 for both (`sin-far`, `cos-far`).
 use mathlib.Core.Bool.{true, false}
 use borrow.Author.Needs.{needs}
 use Rattle.sine_table.specs.QuarterSine.{entry}
