@@ -1,5 +1,5 @@
--- What far angles do to the zero search: a run of Newton's steps that meets one stores no zero, whatever the coefficients (`stores-none`), and with a built move's theta it
--- ends in NaN (`built-ends-in-nan`). No angle of a built move's poses or covers is far (`built-angles-near`).
+-- What far angles do to the zero search: a run of Newton's steps that meets one stores no zero, whatever the coefficients (`stores-none`), and with a built move's
+-- theta it ends in NaN (`built-ends-in-nan`). No angle of a built move's poses or covers is far (`built-angles-near`).
 -- A theta of 2^127 or more in size makes both angles of the first step far, since a midpoint is at least 2^-9; with a smaller one a run ends in NaN, or where
 -- it is, at a t of 2^127 or more in size, which lies outside the search's intervals.
 use mathlib.Core.Path.{_≡_, refl, sym, ap, subst, _∙_}
@@ -81,8 +81,13 @@ far-above : (x : Float) → ofBits binary32 0x4b800000 ≼ x → Far x
 unfolding lt abs ofBits
 far-above nan h = refl
 far-above (inf s) h = refl
-far-above (fin true m e) h = let l = to-fraction {x = fin false 1 (ℤ.pos 24)} {y = fin true m e} tt tt h in let d = down-pos e in absurd (omega (arith, l, d))
-far-above (fin false m e) h = let l = to-fraction {x = fin false 1 (ℤ.pos 24)} {y = fin false m e} tt tt h in le-ltb (m * up e * 1) (1 * 2 ^ 24 * down e) (omega (arith, l))
+far-above (fin true m e) h =
+    let l = to-fraction {x = fin false 1 (ℤ.pos 24)} {y = fin true m e} tt tt h in
+    let d = down-pos e in
+    absurd (omega (arith, l, d))
+far-above (fin false m e) h =
+    let l = to-fraction {x = fin false 1 (ℤ.pos 24)} {y = fin false m e} tt tt h in
+    le-ltb (m * up e * 1) (1 * 2 ^ 24 * down e) (omega (arith, l))
 
 abs-neg : (x : Float) → abs (neg x) ≡ abs x
 unfolding abs neg
@@ -182,7 +187,9 @@ large-times (fin r n d) (fin s m e) c h =
   where
     least : (r : Bool) → sliceEnd 8 1 ≼ fin r n d → down d ≤ 2 ^ 8 * (n * up d)
     least true h =
-        let l = to-fraction {x = fin false 1 (ℤ.negsuc 7)} {y = fin true n d} tt tt (unfold sliceEnd round in h) in let p = down-pos d in absurd (omega (arith, l, p))
+        let l = to-fraction {x = fin false 1 (ℤ.negsuc 7)} {y = fin true n d} tt tt (unfold sliceEnd round in h) in
+        let p = down-pos d in
+        absurd (omega (arith, l, p))
     least false h = let l = to-fraction {x = fin false 1 (ℤ.negsuc 7)} {y = fin false n d} tt tt (unfold sliceEnd round in h) in omega (arith, l)
 
     far : (D N E M : ℕ) → D ≤ 2 ^ 8 * N → 2 ^ 40 * E ≤ M → 2 ^ 24 * (D * E) ≤ N * M
@@ -240,9 +247,13 @@ large-refused {j} s u l z = go (nearInterval j u) (λ h. near-wide s u h)
     go false c = refl
 
 -- ---- a run that meets a far angle
-run-one-far : (f : MotionDerivative) (n : ℕ) (t u : Float) → MeetsFar f n t u → (MotionDerivative·newton f n t ≡ u) ⊎ (MotionDerivative·newton f n t ≡ nan)
+run-one-far : (f : MotionDerivative) (n : ℕ) (t u : Float) → MeetsFar f n t u
+    → (MotionDerivative·newton f n t ≡ u) ⊎ (MotionDerivative·newton f n t ≡ nan)
 run-one-far f (suc n) t u (MeetsFar.here h) = newton-one-far f n t h
-run-one-far f (suc n) t u (MeetsFar.further h r) = elim (run-one-far f n _ u r) [ inl e ↦ inl (further-newton f n t h ∙ e) | inr e ↦ inr (further-newton f n t h ∙ e) ]
+run-one-far f (suc n) t u (MeetsFar.further h r) = elim (run-one-far f n _ u r) [
+  | inl e ↦ inl (further-newton f n t h ∙ e)
+  | inr e ↦ inr (further-newton f n t h ∙ e)
+]
 
 pub stores-none : (f : MotionDerivative) → T (fits binary32 (f .theta)) → StoresNone f
 stores-none f fθ j u z x r = at-theta (lt (abs (f .theta)) (ofBits binary32 0x7f000000)) refl
@@ -312,7 +323,7 @@ module _ {m : AnimatedTransform} (b : Built m) where
         (dt-unit (m .«start_time») (m .«end_time») time (j .start-time) (j .start-binary32) (j .end-time) (j .end-binary32) (j .duration) after before));
     cover = λ D s. cover D s;
     search = λ f j e x.
-        let a = angles-subset f (subst (λ (t : Float). Contains (record { low = positiveZero; high = quarterTurnFloat }) t) (sym e) theta-bounds) (examined-unit f j x) in
+        let a = angles-subset f (subst (Contains (record { low = positiveZero; high = quarterTurnFloat })) (sym e) theta-bounds) (examined-unit f j x) in
         (half-near (subset-low a), half-near (subset-high a));
   }
     where
@@ -321,5 +332,6 @@ module _ {m : AnimatedTransform} (b : Built m) where
       cover D s =
           let l = scale-half-turn theta-half (subset-low s) in
           let h = scale-half-turn theta-half (subset-high s) in
-          let four : Subset (Interval·mulEnclosure (Interval·point (AnimatedTransform·constants m .theta)) D) halfTurn = unfold Interval·mulEnclosure in of-four-subset l l h h in
+          let X = Interval·mulEnclosure (Interval·point (AnimatedTransform·constants m .theta)) D in
+          let four : Subset X halfTurn = unfold Interval·mulEnclosure in of-four-subset l l h h in
           (half-near (subset-low four), half-near (subset-high four))

@@ -78,7 +78,9 @@ step-nan f t n h = rw (nan-not-zero, nan-div nan, sub-nan t) h
 pub newton-nan : (f : MotionDerivative) (n : ℕ) → MotionDerivative·newton f n nan ≡ nan
 newton-nan f zero = unfold MotionDerivative·newton in refl
 newton-nan f (suc n) =
-    newton-step f nan n nan nan (value-far f nan (rw (mul-nan (two ⊗ f .theta)) nan-far)) (slope-far f nan (rw (mul-nan two) (nan-times f))) ∙ step-nan f nan n (newton-nan f n)
+    let v = value-far f nan (rw (mul-nan (two ⊗ f .theta)) nan-far) in
+    let s = slope-far f nan (rw (mul-nan two) (nan-times f)) in
+    newton-step f nan n nan nan v s ∙ step-nan f nan n (newton-nan f n)
   where
     nan-times : (f : MotionDerivative) → Far (nan ⊗ f .theta)
     nan-times f = unfold mul in nan-far
@@ -91,7 +93,8 @@ pub newton-one-far : (f : MotionDerivative) (n : ℕ) (t : Float) → Far (value
 newton-one-far f n t h =
     let v = MotionDerivative·value f t in
     let s = MotionDerivative·slope f t in
-    elim (go (eq v positiveZero || eq s positiveZero) (v ⊘ s) (lost h)) [ inl e ↦ inl (newton-step f t n v s refl refl ∙ e) | inr e ↦ inr (newton-step f t n v s refl refl ∙ e) ]
+    let first = newton-step f t n v s refl refl in
+    elim (go (eq v positiveZero || eq s positiveZero) (v ⊘ s) (lost h)) [ inl e ↦ inl (first ∙ e) | inr e ↦ inr (first ∙ e) ]
   where
     lost : Far (valueAngle f t) ⊎ Far (slopeAngle f t) → MotionDerivative·value f t ⊘ MotionDerivative·slope f t ≡ nan
     lost (inl a) = rw (value-far f t a) (nan-div (MotionDerivative·slope f t))
