@@ -13,9 +13,10 @@ int main(void)
     const float boom[6] = {0, 0, 0, 0, 2, 0};
     const jellyplain_pose there_and_back[3] = {start, end, {2, {{1, 0, 0, 0}, {0, 1, 0, 0}, {0, 0, 1, 0}, {0, 0, 0, 1}}}};
     const float times[3] = {0.5f, 1, 1.5f};
+    const float mast_and_arm[2][6] = {{0, 0, 0, 0, 2, 0}, {-3, 2, 0, 3, 2, 0}};
     static jellyplain_chain chain;
     jellyplain_move move;
-    float moved[3], transform[2][4][4], bounds[6], points[9];
+    float moved[3], transform[2][4][4], bounds[6], points[9], covers[JELLYPLAIN_BOXES][6];
 
     if (jellyplain_layout() != JELLYPLAIN_LAYOUT) {
         printf("the archive has another layout\n");
@@ -38,6 +39,8 @@ int main(void)
         printf("there and back: x is %g, %g and %g\n", points[0], points[3], points[6]);
     if (jellyplain_chain_cover(&chain, boom, 10, bounds) == JELLYPLAIN_NONE)
         printf("reserved for both: %g %g %g to %g %g %g\n", bounds[0], bounds[1], bounds[2], bounds[3], bounds[4], bounds[5]);
+    if (jellyplain_chain_covers(&chain, mast_and_arm, 2, 10, covers, bounds) == JELLYPLAIN_NONE)
+        printf("a mast and an arm: x from %g to %g and from %g to %g\n", covers[0][0], covers[0][3], covers[1][0], covers[1][3]);
     printf("at depth 13: refused with %d\n", jellyplain_cover(&move, boom, 13, bounds));
     return 0;
 }

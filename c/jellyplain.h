@@ -2,8 +2,8 @@
  * caller, and asked many times. Their contracts are proved in crates/api, whose specs/ say what each returns and leaves for all arguments; this header itself is not checked
  * against them, nor are its inline functions, each of which makes one call.
  *
- * Each function answers a refusal number, 0 for none (the enum below). Where nothing is refused it writes the array that it is lent last, whole; after a refusal that array is
- * as it was. Any floats may be handed in. Pointers must be valid for the sizes that are written here and aligned for float, and the array that is written overlaps no other.
+ * Each function answers a refusal number, 0 for none (the enum below). Where nothing is refused it writes the array that it is lent last, whole (a set's query the last two);
+ * after a refusal that array is as it was. Any floats may be handed in. Pointers must be valid for the sizes that are written here and aligned for float, and the array that is written overlaps no other.
  * Nothing is kept between calls and nothing is allocated, so that calls from several threads need no lock.
  */
 #ifndef JELLYPLAIN_H
@@ -32,6 +32,9 @@ typedef struct {
 #define JELLYPLAIN_POSES 32
 #define JELLYPLAIN_MOVES 31
 
+/* The most boxes of a set. */
+#define JELLYPLAIN_BOXES 16
+
 /* A built chain: its first `count` moves, one fewer than its poses. Any of them may be asked by itself. Leave it as jellyplain_build_chain wrote it. */
 typedef struct {
     size_t count;
@@ -56,7 +59,8 @@ enum jellyplain_refusal {
     JELLYPLAIN_SQUARED_LENGTH = 10, /* a cover's slices are too wide for the rotation in them: ask with a greater depth */
     JELLYPLAIN_FILE = 11,           /* a move file departs from its layout: only the program `cover` reads files */
     JELLYPLAIN_CHAIN = 12,          /* a chain has fewer than 2 poses or more than 32, or its times don't rise strictly */
-    JELLYPLAIN_TIME_LIST = 13       /* a list of times falls, or the answers aren't three places a time */
+    JELLYPLAIN_TIME_LIST = 13,      /* a list of times falls, or the answers aren't three places a time */
+    JELLYPLAIN_SET = 14             /* a set has no box or more than 16 */
 };
 
 /* The move from one pose to another. Numbers 1 to 5. */
@@ -91,6 +95,11 @@ uint8_t jellyplain_moves_points(const jellyplain_move *moves, size_t count, cons
 /* A box that holds every point of the box b at every time but NaN, from 2^depth slices of each move. Numbers 5, 6, 7, 8 and 10, and 12 for no moves. */
 uint8_t jellyplain_moves_cover(const jellyplain_move *moves, size_t count, const float b[6], uint32_t depth, float bounds[6]);
 
+/* A box for each of 1 to 16 boxes that holds every point of it at every time but NaN, as jellyplain_moves_cover does, in order, the places behind them +0; and the union of them.
+ * It costs far less than that query for each box. Numbers 14, then 5, 6, 7, 8 and 10 of the first refused box, and 12 for no moves; `covers` and `all` stay after a refusal. */
+uint8_t jellyplain_moves_covers(const jellyplain_move *moves, size_t count, const float (*boxes)[6], size_t boxes_count, uint32_t depth, float covers[JELLYPLAIN_BOXES][6],
+                                float all[6]);
+
 static inline uint8_t jellyplain_build_chain(const jellyplain_pose *poses, size_t count, jellyplain_chain *chain)
 {
     uint8_t refusal = jellyplain_build_moves(poses, count, chain->moves);
@@ -112,6 +121,12 @@ static inline uint8_t jellyplain_chain_points(const jellyplain_chain *chain, con
 static inline uint8_t jellyplain_chain_cover(const jellyplain_chain *chain, const float b[6], uint32_t depth, float bounds[6])
 {
     return jellyplain_moves_cover(chain->moves, chain->count, b, depth, bounds);
+}
+
+static inline uint8_t jellyplain_chain_covers(const jellyplain_chain *chain, const float (*boxes)[6], size_t boxes_count, uint32_t depth, float covers[JELLYPLAIN_BOXES][6],
+                                              float all[6])
+{
+    return jellyplain_moves_covers(chain->moves, chain->count, boxes, boxes_count, depth, covers, all);
 }
 
 #ifdef __cplusplus

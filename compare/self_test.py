@@ -28,6 +28,7 @@ WORDS = {
     "motion": "motion pmotion zeros",
     "covers": "cover",
     "chains": "chain lone cpoint ctimes ccover cinterp cparts cmotion cpmotion",
+    "sets": "chain cset ccover",
 }
 
 
@@ -50,6 +51,24 @@ def float_bits(x):
     return struct.pack(">f", x).hex().encode()
 
 
+def float_of(word):
+    return struct.unpack(">f", bytes.fromhex(word.decode()))[0]
+
+
+def boxes_in(answer):
+    """The boxes of an answer, each six words: of a set the union comes first."""
+    words = answer.split()[1:]
+    return [words[i:i + 6] for i in range(0, len(words), 6)]
+
+
+def answer_of(boxes):
+    return b" ".join([b"ok"] + [word for box in boxes for word in box])
+
+
+def union(boxes):
+    return [(min if i < 3 else max)((box[i] for box in boxes), key=float_of) for i in range(6)]
+
+
 def changed(change, question, answer):
     values = question.decode(errors="replace").split(" ")
     word = values[0]
@@ -69,18 +88,30 @@ def changed(change, question, answer):
         return b"refused 5"
     if change == "list_unanswered" and word == "ctimes":
         return b"refused 5"
-    if change == "box_zeros" and word in ("motion", "pmotion", "cover", "bounds", "ccover", "cmotion", "cpmotion"):
+    if change == "box_zeros" and word in ("motion", "pmotion", "cover", "bounds", "ccover", "cset", "cmotion", "cpmotion"):
         return re.sub(rb"\b[08]0000000\b", lambda zero: b"80000000" if zero[0] == b"00000000" else b"00000000", answer)
     if change == "point_zero" and word in ("point", "cpoint") and b" 00000000" in answer:
         return answer.replace(b" 00000000", b" 80000000", 1) if first_time(change) else answer
     if change == "nan_bits":
         return answer.replace(b"7fc00000", b"ffc12345")
-    if word in ("cover", "ccover") and answer.startswith(b"ok"):
-        depth, corner = int(values[-7]), answer.split()[1:4]
+    if change == "many_boxes" and word == "cset" and answer == b"refused 14" and len(values) == 3 + 17 * 6:
+        return b"ok 00000000" if first_time(change) else answer
+    if word == "cset" and answer.startswith(b"ok"):
+        all_boxes, covers = boxes_in(answer)[0], boxes_in(answer)[1:]
+        if change == "union_short" and len(covers) > 1:
+            return answer_of([union(covers[:-1])] + covers)
+        if change == "first_for_all":
+            return answer_of([all_boxes] + [covers[0]] * len(covers))
+        if change == "last_missing" and len(covers) > 1:
+            return answer_of([all_boxes] + covers[:-1])
+    if word in ("cover", "ccover", "cset") and answer.startswith(b"ok"):
+        depth, boxes = int(values[1 if word == "cover" else 2]), boxes_in(answer)
         if change == "narrow":
-            return b" ".join([b"ok"] + corner + corner)
+            return answer_of([box[:3] * 2 for box in boxes])
         if change == "growing":
-            return b"ok ff7fffff ff7fffff ff7fffff 7f7fffff 7f7fffff " + float_bits(3.3e38 + 1e35 * depth)
+            return answer_of([[b"ff7fffff"] * 3 + [b"7f7fffff"] * 2 + [float_bits(3.3e38 + 1e35 * depth)]] * len(boxes))
+        if change == "growing_union" and word == "cset":
+            return answer_of([[b"ff7fffff"] * 3 + [b"7f7fffff"] * 2 + [float_bits(3.3e38 + 1e35 * depth)]] + boxes[1:])
         if change == "shallow" and depth > 2:
             return b"refused 10"
     return answer
@@ -99,6 +130,8 @@ def asked_otherwise(changes, asked, given):
         if "slots_kept" in changes and words[0] in (b"chain", b"lone") and answer.startswith(b"refused"):
             # Asked about in a slot that no question has.
             words[1] = b"4"
+        if "last_refused" in changes and words[0] == b"cset" and answer.startswith(b"refused"):
+            words[3:] = [word for i in range(len(words) - 6, 2, -6) for word in words[i:i + 6]]
         if "one_slot" in changes and len(words) > 1 and words[1] in (b"0", b"1", b"2", b"3"):
             words[1] = b"0"
         question = b" ".join(words)
@@ -111,7 +144,7 @@ def asked_otherwise(changes, asked, given):
     return stream, places
 
 
-CHAIN_CHANGES = {"slots_kept", "one_slot", "first_move_points", "first_move_covers"}
+CHAIN_CHANGES = {"slots_kept", "one_slot", "first_move_points", "first_move_covers", "last_refused"}
 
 
 def answers_to(questions, arguments=()):
@@ -169,7 +202,7 @@ def trial(title, kind, changes, different, shown=(), sides=None, cases=40):
     """`different` is how many differences are to be told; None for some. The changes are on some sides, or on the project's alone."""
     if len(sys.argv) > 1 and not set(kind.split(",")) & set(sys.argv[1:]):
         return None
-    is_of_chains = kind in ("chains", "files")
+    is_of_chains = kind in ("chains", "sets", "files")
     sides = sides or ("--chain-answers" if is_of_chains else "--answers",)
     with tempfile.TemporaryDirectory() as folder:
         command = [os.path.join(HERE, "run"), "--no-build", "--kinds", kind, "--moves", str(cases), "--chains", str(cases), "--files", str(cases), "--show", "100"]
@@ -225,6 +258,18 @@ def main():
         trial("the last points of lists elsewhere, on both sides", "chains", ["list_outside"], None, ["guarantee: a point leaves"], BOTH_OF_CHAINS),
         trial("covers of chains that grow with the depth, on both sides", "chains", ["growing"], None, ["a finer cover is wider"], BOTH_OF_CHAINS),
         trial("covers of chains refused above depth 2, on both sides", "chains", ["shallow"], None, ["a finer cover is refused"], BOTH_OF_CHAINS),
+        trial("sets as they are", "sets", [], 0, cases=200),
+        trial("17 boxes accepted", "sets", ["many_boxes"], 1, ["cset"]),
+        trial("another number of one set's refusal", "sets", ["refusal"], 1),
+        trial("the last refused box's number", "sets", ["last_refused"], None, ["cset"]),
+        trial("every zero of every box of sets with the other sign", "sets", ["box_zeros"], 0),
+        trial("sets without their last cover", "sets", ["last_missing"], None, ["cset"]),
+        trial("the union without its last box, on both sides", "sets", ["union_short"], None, ["guarantee: a point leaves"], BOTH_OF_CHAINS),
+        trial("one box's cover given to all, on both sides", "sets", ["first_for_all"], None, ["guarantee: a point leaves"], BOTH_OF_CHAINS),
+        trial("points of sets refused, on both sides", "sets", ["unanswered"], None, ["guarantee: a point of an accepted cover is not answered"], BOTH_OF_CHAINS),
+        trial("sets that grow with the depth, on both sides", "sets", ["growing"], None, ["a finer cover is wider"], BOTH_OF_CHAINS),
+        trial("unions alone that grow with the depth, on both sides", "sets", ["growing_union"], None, ["a finer cover is wider"], BOTH_OF_CHAINS),
+        trial("sets refused above depth 2, on both sides", "sets", ["shallow"], None, ["a finer cover is refused"], BOTH_OF_CHAINS),
         trial("files as they are", "files", ["file"], 0, cases=200),
         trial("a digit of one file's box and of one file's refusal", "files", ["wrong_file"], 2, ["cover, the program"], cases=200),
     ]

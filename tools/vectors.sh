@@ -1,10 +1,10 @@
 #!/usr/bin/env bash
 # Makes the fixed lists that the tests replay, questions in stdin and their expected answer lines in stdout: of crates/answers the groups below, in this order,
-# and of crates/chain_answers those of chains. Each group's expected values come from outside the libraries:
+# and of crates/chain_answers those of chains and sets. Each group's expected values come from outside the libraries:
 #   numbers                                        hardware float arithmetic   tools/number_vectors.rs
 #   angles                                         exact fractions             tools/angle_vectors.py
 #   matrices, boxes, zeros, moves, their queries   the original Rust, and for covers a second implementation beside it   oracle/ (which says where it looks for pbrt-rust's sources)
-#   chains                                         the same, move by move
+#   chains, sets of boxes                          the same, move by move and box by box
 set -eu
 cd "$(dirname "$0")/.."
 made=$(mktemp -d)
@@ -33,6 +33,9 @@ cat "$made/questions" >>"$made/stdin"
 "$made/oracle/release/answers" <"$made/questions" >>"$made/stdout"
 cp "$made/stdin" "$made/stdout" crates/answers/
 mkdir -p crates/chain_answers
-"$vectors" chains 150 1 >crates/chain_answers/stdin
+{
+    "$vectors" chains 150 1
+    "$vectors" sets 60 1
+} >crates/chain_answers/stdin
 "$made/oracle/release/chain_answers" <crates/chain_answers/stdin >crates/chain_answers/stdout
 wc -l crates/answers/stdin crates/answers/stdout crates/chain_answers/stdin crates/chain_answers/stdout

@@ -1,4 +1,4 @@
-//! A chain of 32 poses beside its own 31 moves: its cover beside theirs, and a list of times beside a query for each.
+//! A chain of 32 poses beside its own 31 moves: its cover beside theirs, a list of times beside a query for each, and a set of boxes beside a cover for each.
 
 use crate::inputs::{cases, Kind, Random};
 use crate::{compare, Bounds};
@@ -7,6 +7,7 @@ use std::hint::black_box;
 
 const POSES: usize = 32;
 const TIMES: usize = 10_000;
+const BOXES: usize = 16;
 
 /// Poses of moves that turn, one a second, such that the chain is built and its cover accepted.
 fn chain(random: &mut Random) -> (Vec<Pose>, Chain, Bounds) {
@@ -42,4 +43,31 @@ pub fn compare_chains(random: &mut Random) {
     let times: Vec<f32> = (0..TIMES).map(|k| last * k as f32 / (TIMES - 1) as f32).collect();
     let singles = || times.iter().for_each(|&time| asked(chain.point(black_box(time), p)));
     compare("10,000 times, beside 10,000 points", 100, TIMES, &mut || asked(chain.points(black_box(&times), p)), &mut || singles());
+    for count in [2, POSES] {
+        compare_sets(&poses[..count], &bounds);
+    }
+}
+
+/// The parts of a boom, cut across its length.
+fn parts(b: &Bounds) -> Vec<Bounds> {
+    let at = |i: usize| b.p_min[0] + (b.p_max[0] - b.p_min[0]) * i as f32 / BOXES as f32;
+    let part = |i: usize| {
+        let mut part = *b;
+        (part.p_min[0], part.p_max[0]) = (at(i), at(i + 1));
+        part
+    };
+    (0..BOXES).map(part).collect()
+}
+
+/// A set of 16 boxes beside 16 covers, over a chain of some poses. Both are the same boxes.
+fn compare_sets(poses: &[Pose], bounds: &Bounds) {
+    let chain = Chain::new(poses).expect("a part of a chain that is built is built");
+    let boxes = parts(bounds);
+    for (depth, rounds) in [(8, 40), (12, 10)] {
+        let each: Vec<Bounds> = boxes.iter().map(|b| chain.cover(b, depth).expect("a part of a box that is covered is covered")).collect();
+        assert_eq!(chain.covers(&boxes, depth).map(|covers| covers.each), Ok(each));
+        let name = format!("16 boxes of depth {depth}, {} moves", poses.len() - 1);
+        let singles = || boxes.iter().for_each(|b| asked(chain.cover(black_box(b), depth)));
+        compare(&name, rounds, 1, &mut || asked(chain.covers(black_box(&boxes), depth)), &mut || singles());
+    }
 }

@@ -46,9 +46,10 @@ impl<'a> Kept<'a> {
     fn place(question: &[u8]) -> usize {
         let mut words = words(question);
         match (words.next(), words.next()) {
-            (Some(b"chain" | b"lone" | b"cpoint" | b"ctimes" | b"ccover" | b"cinterp" | b"cparts" | b"cmotion" | b"cpmotion"), Some([slot @ b'0'..=b'3'])) => {
-                1 + usize::from(slot - b'0')
-            }
+            (
+                Some(b"chain" | b"lone" | b"cpoint" | b"ctimes" | b"ccover" | b"cset" | b"cinterp" | b"cparts" | b"cmotion" | b"cpmotion"),
+                Some([slot @ b'0'..=b'3']),
+            ) => 1 + usize::from(slot - b'0'),
             _ => 0,
         }
     }
@@ -78,14 +79,16 @@ pub fn float(word: &[u8]) -> Option<f32> {
     Some(f32::from_bits(bits))
 }
 
-/// Exactly N words, each a float.
-pub fn floats<'a, const N: usize>(words: impl Iterator<Item = &'a [u8]>) -> Option<[f32; N]> {
-    words.map(float).collect::<Option<Vec<f32>>>()?.try_into().ok()
+/// Any number of words, each N of them N floats.
+pub fn rows<'a, const N: usize>(words: impl Iterator<Item = &'a [u8]>) -> Option<Vec<[f32; N]>> {
+    let values = words.map(float).collect::<Option<Vec<f32>>>()?;
+    let (rows, rest) = values.as_chunks();
+    rest.is_empty().then(|| rows.to_vec())
 }
 
-/// The floats of `ok` and nothing but N floats.
-pub fn accepted<const N: usize>(answer: &[u8]) -> Option<[f32; N]> {
-    floats(words(answer.strip_prefix(b"ok ")?))
+/// The floats of `ok` and nothing but floats, each N a row.
+pub fn accepted<const N: usize>(answer: &[u8]) -> Option<Vec<[f32; N]>> {
+    rows(words(answer.strip_prefix(b"ok ")?))
 }
 
 pub fn write_float(line: &mut Vec<u8>, x: f32) {
@@ -106,7 +109,7 @@ pub fn same(is_box: bool, a: &[u8], b: &[u8]) -> bool {
     a == b || words(a).count() == words(b).count() && words(a).zip(words(b)).all(|(a, b)| same_word(is_box, a, b))
 }
 
-/// The questions whose answer is a box.
+/// The questions whose answer is a box, or boxes.
 pub fn answers_a_box(question: &[u8]) -> bool {
-    matches!(words(question).next(), Some(b"motion" | b"pmotion" | b"cover" | b"bounds" | b"ccover" | b"cmotion" | b"cpmotion"))
+    matches!(words(question).next(), Some(b"motion" | b"pmotion" | b"cover" | b"bounds" | b"ccover" | b"cset" | b"cmotion" | b"cpmotion"))
 }

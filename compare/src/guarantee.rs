@@ -1,12 +1,14 @@
 //! The guarantee, tested from outside: each point of the box, asked at any time, is answered, and lies inside the cover that was accepted, of a move or of
-//! a chain. And that a cover at a greater depth is accepted and lies inside it too.
+//! a chain; of a set of boxes inside its own box's cover and inside the union. And that a cover at a greater depth is accepted and lies inside it too.
 
-use crate::answer::{accepted, float, floats, lines, poses, questions, text, words, write_float, Kept};
+use crate::answer::{accepted, float, lines, poses, questions, rows, text, words, write_float, Kept};
 use crate::program::{run_both, Sides};
 use crate::random::Random;
 use crate::report::{Guarantee, Report};
 
-/// An accepted cover: the lines that ask and answer it, and their numbers.
+type Bounds = [f32; 6];
+
+/// An accepted cover, of a box or of a set: the lines that ask and answer it, and their numbers.
 struct Cover<'a> {
     built: &'a [u8],
     question: &'a [u8],
@@ -14,11 +16,22 @@ struct Cover<'a> {
     /// The poses' times.
     times: Vec<f32>,
     depth: u32,
-    asked: [f32; 6],
-    cover: [f32; 6],
+    boxes: Vec<Bounds>,
+    /// That of each box, and the union of these; of a box that is no set its cover again.
+    covers: Vec<Bounds>,
+    union: Bounds,
     /// The slot of a chain or of a move built by itself.
     slot: Option<char>,
     is_chain: bool,
+    is_set: bool,
+}
+
+/// The covers in an answer, and their union, which comes first in that of a set.
+fn covers_in(answer: &[u8], is_set: bool) -> Option<(Bounds, Vec<Bounds>)> {
+    let mut covers = accepted(answer)?;
+    let union = *covers.first()?;
+    covers.drain(..usize::from(is_set));
+    Some((union, covers))
 }
 
 /// How many borders of slices are asked at, and how many times between: more of them for a chain of many moves.
@@ -34,27 +47,31 @@ const COMMON_DEPTH: u32 = 9;
 const COMMON_SLICES: usize = 2048;
 
 fn accepted_covers<'a>(asked: &'a [u8], answers: &'a [u8]) -> Vec<Cover<'a>> {
-    let mut covers = Vec::new();
+    let mut all = Vec::new();
     let mut kept = Kept::default();
     for (question, answer) in questions(asked).zip(lines(answers)) {
         let built = kept.before(question);
         kept.note(question, answer);
         let mut values = words(question);
-        let slot = match values.next() {
+        let name = values.next();
+        let is_set = name == Some(b"cset");
+        let slot = match name {
             Some(b"cover") => None,
-            Some(b"ccover") => values.next().and_then(|slot| slot.first()).map(|slot| char::from(*slot)),
+            Some(b"ccover" | b"cset") => values.next().and_then(|slot| slot.first()).map(|slot| char::from(*slot)),
             _ => continue,
         };
-        let (Some(depth), Some(cover), Some(asked), Some(poses)) = (values.next(), accepted(answer), floats(values), poses(built)) else { continue };
+        let (Some(depth), Some((union, covers)), Some(boxes), Some(poses)) = (values.next(), covers_in(answer, is_set), rows(values), poses(built)) else {
+            continue;
+        };
         let Ok(depth) = text(depth).parse() else { continue };
         let Some(times) = poses.iter().map(|pose| float(pose[0])).collect::<Option<Vec<f32>>>() else { continue };
-        if times.len() < 2 {
-            // A cover of what was refused; the comparison tells.
+        if times.len() < 2 || boxes.len() != covers.len() {
+            // A cover of what was refused, or not one for each box; the comparison tells.
             continue;
         }
-        covers.push(Cover { built, question, answer, times, depth, asked, cover, slot, is_chain: built.starts_with(b"chain") });
+        all.push(Cover { built, question, answer, times, depth, boxes, covers, union, slot, is_chain: built.starts_with(b"chain"), is_set });
     }
-    covers
+    all
 }
 
 /// The first and the last, and others of chance where there are many.
@@ -96,7 +113,7 @@ enum Place {
 }
 use Place::*;
 
-fn point(cover: &Cover, place: Place, random: &mut Random) -> [f32; 3] {
+fn point(b: &Bounds, place: Place, random: &mut Random) -> [f32; 3] {
     let face = random.below(3) as usize;
     std::array::from_fn(|axis| {
         let (end, inside) = (random.pick(&[0.0, 1.0]), random.unit());
@@ -107,7 +124,7 @@ fn point(cover: &Cover, place: Place, random: &mut Random) -> [f32; 3] {
             Inside => inside,
             Mixed => random.pick(&[end, 0.5, inside]),
         };
-        let (low, high) = (cover.asked[axis], cover.asked[axis + 3]);
+        let (low, high) = (b[axis], b[axis + 3]);
         let x = (f64::from(low) + part * (f64::from(high) - f64::from(low))) as f32;
         x.max(low).min(high)
     })
@@ -127,33 +144,34 @@ fn ask(questions: &mut Vec<u8>, question: &str, values: &[&[f32]]) {
     questions.push(b'\n');
 }
 
-/// Asks at each time for a corner and for a point at another place, and of a chain for a point at all of the times.
-fn ask_points(questions: &mut Vec<u8>, cover: &Cover, random: &mut Random) {
+/// Asks at each time for a corner of a box and for a point at another place, and of a chain for a point at all of the times.
+fn ask_points(questions: &mut Vec<u8>, cover: &Cover, b: &Bounds, random: &mut Random) {
     let mut times = times(cover, random);
     for time in &times {
         for place in [Corner, random.pick(&[FaceCentre, Inside, Mixed])] {
-            ask(questions, &name(cover, "point"), &[&[*time], &point(cover, place, random)]);
+            ask(questions, &name(cover, "point"), &[&[*time], &point(b, place, random)]);
         }
     }
     if cover.is_chain {
         times.sort_by(f32::total_cmp);
         let places = 3 * times.len();
-        ask(questions, &format!("{} {places}", name(cover, "times")), &[&point(cover, Mixed, random), &times]);
+        ask(questions, &format!("{} {places}", name(cover, "times")), &[&point(b, Mixed, random), &times]);
     }
 }
 
 /// A greater depth: once in a while any, else one up to the common depth, or the next.
 fn greater_depth(cover: &Cover, random: &mut Random) -> Option<u32> {
-    let slices = COMMON_SLICES.checked_div(cover.times.len() - 1).map_or(0, usize::ilog2);
+    let slices = COMMON_SLICES.checked_div((cover.times.len() - 1) * cover.boxes.len()).map_or(0, |slices| slices.max(1).ilog2());
     let common = if cover.slot.is_some() { slices.min(COMMON_DEPTH) } else { COMMON_DEPTH };
     let most = if random.below(16) == 0 && cover.times.len() < 8 { MAX_DEPTH } else { common.max(cover.depth + 1) };
     (cover.depth < MAX_DEPTH).then(|| cover.depth + 1 + random.below(u64::from(most - cover.depth)) as u32)
 }
 
-/// Asks for the same box at a greater depth, where there is one.
+/// Asks for the same box, or the same set, at a greater depth, where there is one.
 fn ask_finer(questions: &mut Vec<u8>, cover: &Cover, random: &mut Random) {
     if let Some(depth) = greater_depth(cover, random) {
-        ask(questions, &format!("{} {depth}", name(cover, "cover")), &[&cover.asked]);
+        let question = name(cover, if cover.is_set { "set" } else { "cover" });
+        ask(questions, &format!("{question} {depth}"), &[cover.boxes.as_flattened()]);
     }
 }
 
@@ -163,18 +181,13 @@ fn told<'a>(cover: &Cover<'a>, question: &'a [u8], answer: &'a [u8]) -> [(&'stat
 }
 
 fn guarantee<'a>(cover: &Cover, report: &'a mut Report) -> &'a mut Guarantee {
-    if cover.slot.is_some() {
+    if cover.is_set {
+        &mut report.set_guarantee
+    } else if cover.slot.is_some() {
         &mut report.chain_guarantee
     } else {
         &mut report.guarantee
     }
-}
-
-/// The points of an answer, three floats each.
-fn answered(answer: &[u8]) -> Option<Vec<[f32; 3]>> {
-    let values: Vec<f32> = words(answer.strip_prefix(b"ok ")?).map(float).collect::<Option<_>>()?;
-    let points = values.chunks_exact(3);
-    points.remainder().is_empty().then(|| points.map(|p| [p[0], p[1], p[2]]).collect())
 }
 
 /// How many points a question asks for: `ctimes S PLACES ..` tells it.
@@ -186,18 +199,22 @@ fn points_asked(question: &[u8]) -> usize {
     }
 }
 
-fn check_points(cover: &Cover, question: &[u8], answer: &[u8], report: &mut Report) {
+fn is_inside(b: &Bounds, p: &[f32; 3]) -> bool {
+    (0..3).all(|axis| b[axis] <= p[axis] && p[axis] <= b[axis + 3])
+}
+
+/// Points of the box at a place.
+fn check_points(cover: &Cover, place: usize, question: &[u8], answer: &[u8], report: &mut Report) {
     let count = points_asked(question);
     guarantee(cover, report).points += count as u64;
-    let Some(points) = answered(answer).filter(|points| points.len() == count) else {
+    let Some(points) = accepted(answer).filter(|points| points.len() == count) else {
         guarantee(cover, report).refused += 1;
         report.found("guarantee: a point of an accepted cover is not answered", &told(cover, question, answer));
         return;
     };
-    let (low, high) = (&cover.cover[..3], &cover.cover[3..]);
-    let is_inside = |p: &[f32; 3]| (0..3).all(|axis| low[axis] <= p[axis] && p[axis] <= high[axis]);
-    let is_touching = |p: &[f32; 3]| is_inside(p) && (0..3).any(|axis| low[axis] == p[axis] || p[axis] == high[axis]);
-    let outside = points.iter().filter(|p| !is_inside(p)).count();
+    let own = &cover.covers[place];
+    let is_touching = |p: &[f32; 3]| is_inside(own, p) && (0..3).any(|axis| own[axis] == p[axis] || p[axis] == own[axis + 3]);
+    let outside = points.iter().filter(|p| !is_inside(own, p) || !is_inside(&cover.union, p)).count();
     if outside > 0 {
         report.found("guarantee: a point leaves its accepted cover", &told(cover, question, answer));
     }
@@ -208,12 +225,13 @@ fn check_points(cover: &Cover, question: &[u8], answer: &[u8], report: &mut Repo
 
 fn check_finer(cover: &Cover, question: &[u8], answer: &[u8], report: &mut Report) {
     guarantee(cover, report).finer += 1;
-    let Some(finer) = accepted::<6>(answer) else {
+    let Some((union, covers)) = covers_in(answer, cover.is_set).filter(|(_, covers)| covers.len() == cover.boxes.len()) else {
         guarantee(cover, report).finer_refused += 1;
         report.found("a finer cover is refused", &told(cover, question, answer));
         return;
     };
-    if !(0..3).all(|axis| cover.cover[axis] <= finer[axis] && finer[axis + 3] <= cover.cover[axis + 3]) {
+    let is_wider = |finer: &Bounds, first: &Bounds| !(0..3).all(|axis| first[axis] <= finer[axis] && finer[axis + 3] <= first[axis + 3]);
+    if is_wider(&union, &cover.union) || covers.iter().zip(&cover.covers).any(|(finer, first)| is_wider(finer, first)) {
         guarantee(cover, report).finer_wider += 1;
         report.found("a finer cover is wider", &told(cover, question, answer));
     }
@@ -225,35 +243,43 @@ fn row(question: &[u8]) -> &'static str {
         Some(b"cover") => "cover at a greater depth",
         Some(b"chain" | b"lone") => "chain of an accepted cover",
         Some(b"ccover") => "chain's cover at a greater depth",
+        Some(b"cset") => "set at a greater depth",
         Some(b"cpoint") => "point of a chain's accepted cover",
         Some(b"ctimes") => "list of times of a chain's accepted cover",
         _ => "point of an accepted cover",
     }
 }
 
-/// Tests every cover that the project accepted in its answers to a batch. The points and finer covers are compared with the oracle's too.
+/// Tests every cover that the project accepted in its answers to a batch, of a set that of every box. The points and finer covers are compared with the oracle's too.
 pub fn test(sides: &Sides, asked: &[u8], answers: &[u8], random: &mut Random, report: &mut Report) {
     let covers = accepted_covers(asked, answers);
     let mut text = Vec::new();
     let mut counts = Vec::new();
     for cover in &covers {
-        let before = text.len();
         text.extend_from_slice(cover.built);
         text.push(b'\n');
+        let before = text.len();
         ask_finer(&mut text, cover, random);
-        ask_points(&mut text, cover, random);
-        counts.push(lines(&text[before..]).count());
+        let finer = lines(&text[before..]).count();
+        let points = cover.boxes.iter().map(|b| {
+            let before = text.len();
+            ask_points(&mut text, cover, b, random);
+            lines(&text[before..]).count()
+        });
+        counts.push((finer, points.collect::<Vec<_>>()));
     }
     let runs = run_both(sides, &text);
     report.compare(&text, &runs, row);
     let mut pairs = questions(&text).zip(lines(&runs[0].output));
-    for (cover, count) in covers.iter().zip(counts) {
-        guarantee(cover, report).covers += 1;
+    for (cover, (finer, points)) in covers.iter().zip(counts) {
+        guarantee(cover, report).covers += cover.boxes.len() as u64;
         // The first answer is that of the question that builds.
-        for (question, answer) in pairs.by_ref().take(count).skip(1) {
-            match words(question).next() {
-                Some(b"cover" | b"ccover") => check_finer(cover, question, answer, report),
-                _ => check_points(cover, question, answer, report),
+        for (question, answer) in pairs.by_ref().take(1 + finer).skip(1) {
+            check_finer(cover, question, answer, report);
+        }
+        for (place, count) in points.into_iter().enumerate() {
+            for (question, answer) in pairs.by_ref().take(count) {
+                check_points(cover, place, question, answer, report);
             }
         }
     }

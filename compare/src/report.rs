@@ -66,6 +66,8 @@ pub struct Report {
     pub guarantee: Guarantee,
     /// That of chains.
     pub chain_guarantee: Guarantee,
+    /// That of sets of boxes: a cover for each box.
+    pub set_guarantee: Guarantee,
     rows: Vec<(&'static str, Count)>,
     found: Vec<String>,
 }
@@ -77,7 +79,7 @@ const MOST_FOUND: usize = 100;
 const NAMES: &[&str] = &[
     "move", "parts", "point", "interp", "motion", "pmotion", "cover", "zeros", "sin", "cos", "acos", "abs", "root", "least", "greatest", "lerp", "clamp", "whole",
     "inverse", "mul", "quat", "rotation", "dot", "normalize", "slerp", "decompose", "bounds",
-    "chain", "lone", "cpoint", "ctimes", "ccover", "cinterp", "cparts", "cmotion", "cpmotion",
+    "chain", "lone", "cpoint", "ctimes", "ccover", "cset", "cinterp", "cparts", "cmotion", "cpmotion",
 ];
 
 /// The question's first word; every line that starts otherwise is `another line`.
@@ -165,7 +167,8 @@ impl Report {
     }
 
     pub fn different(&self) -> u64 {
-        self.rows.iter().map(|(_, count)| count.different).sum::<u64>() + self.guarantee.different() + self.chain_guarantee.different()
+        let guarantees = [&self.guarantee, &self.chain_guarantee, &self.set_guarantee];
+        self.rows.iter().map(|(_, count)| count.different).sum::<u64>() + guarantees.iter().map(|g| g.different()).sum::<u64>()
     }
 
     pub fn answers(&self) -> u64 {
@@ -187,6 +190,7 @@ impl Report {
         }
         self.guarantee.add(&other.guarantee);
         self.chain_guarantee.add(&other.chain_guarantee);
+        self.set_guarantee.add(&other.set_guarantee);
         self.moves += other.moves;
         self.chains += other.chains;
     }
@@ -202,7 +206,8 @@ impl Report {
             let (answers, malformed, different) = (grouped(count.answers), grouped(count.malformed), grouped(count.different));
             writeln!(out, "| {name} | {answers} | {} | {malformed} | {different} |", numbers.join(", ")).unwrap();
         }
-        let tested: Vec<_> = [("moves", &self.guarantee), ("chains", &self.chain_guarantee)].into_iter().filter(|(_, g)| g.covers > 0).collect();
+        let all = [("moves", &self.guarantee), ("chains", &self.chain_guarantee), ("sets", &self.set_guarantee)];
+        let tested: Vec<_> = all.into_iter().filter(|(_, g)| g.covers > 0).collect();
         if !tested.is_empty() {
             out += "\n| of | accepted covers | points of them, at a time | on a face of the cover | not answered | outside |\n|---|---|---|---|---|---|\n";
             tested.iter().for_each(|(of, g)| out += &g.row(of));

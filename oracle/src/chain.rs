@@ -1,5 +1,5 @@
 //! Document 02's chains: 2 to 32 poses, each neighbouring pair a move of the original's. What is the chain's own (its checks, which move a time belongs to,
-//! lists of times, the union of covers) is written from document 02.
+//! lists of times, the union of covers, sets of boxes) is written from document 02.
 
 use crate::core::geometry::point::Point3f;
 use crate::core::transform::Matrix4x4;
@@ -8,6 +8,7 @@ use crate::judged::{self, check_bottom_row, finite, finite_matrix, point_values,
 use crate::refusal::*;
 
 pub const MOST_POSES: usize = 32;
+pub const MOST_BOXES: usize = 16;
 
 /// A value line: a pose at its time.
 #[derive(Debug, Clone, Copy)]
@@ -85,6 +86,16 @@ impl Chain {
     pub fn cover(&self, b: &[f32; 6], depth: u64) -> Judged<[f32; 6]> {
         let covers: Judged<Vec<[f32; 6]>> = self.moves.iter().map(|m| cover::cover(&m.fields, b, depth)).collect();
         Ok(covers?.into_iter().reduce(cover::union).expect("a chain has a move"))
+    }
+
+    /// 14, then each box's own cover, in order: the first refused one's number. The union of the covers comes first, and then they themselves.
+    pub fn covers(&self, boxes: &[[f32; 6]], depth: u64) -> Judged<([f32; 6], Vec<[f32; 6]>)> {
+        if boxes.len() > MOST_BOXES {
+            return Err(SET);
+        }
+        let covers: Vec<[f32; 6]> = boxes.iter().map(|b| self.cover(b, depth)).collect::<Judged<_>>()?;
+        let union = covers.iter().copied().reduce(cover::union).ok_or(SET)?;
+        Ok((union, covers))
     }
 }
 
@@ -217,5 +228,27 @@ mod tests {
             let ends = covers.iter().map(|c| c[i]);
             assert_eq!(all[i], if i < 3 { ends.fold(f32::INFINITY, f32::min) } else { ends.fold(f32::NEG_INFINITY, f32::max) });
         }
+    }
+
+    #[test]
+    fn sets_of_boxes() {
+        let chain = Chain::build(&[shifted(0.0, 0.0), turned(1.0), shifted(2.0, 5.0)]).unwrap();
+        let boxes: Vec<[f32; 6]> = (0..17).map(|i| [i as f32, 0.0, 0.0, i as f32 + 0.5, 1.0, 0.0]).collect();
+        assert_eq!(chain.covers(&[], 6).err(), Some(SET));
+        assert_eq!(chain.covers(&boxes, 13).err(), Some(SET));
+        let (union, covers) = chain.covers(&boxes[..16], 6).unwrap();
+        assert_eq!(covers, boxes[..16].iter().map(|b| chain.cover(b, 6).unwrap()).collect::<Vec<_>>());
+        assert_eq!(chain.covers(&boxes[..1], 6), Ok((covers[0], vec![covers[0]])));
+        for i in 0..6 {
+            let ends = covers.iter().map(|c| c[i]);
+            assert_eq!(union[i], if i < 3 { ends.fold(f32::INFINITY, f32::min) } else { ends.fold(f32::NEG_INFINITY, f32::max) });
+        }
+        // The first refused box: its 10 or 8 before the second's 6, its 7 before its own 8.
+        let (crossed, nan) = ([1.0, 0.0, 0.0, 0.0, 0.0, 0.0], [f32::NAN; 6]);
+        assert_eq!(chain.covers(&[boxes[0], crossed, nan], 6).err(), Some(CORNERS));
+        assert_eq!(chain.covers(&[boxes[0], nan, crossed], 6).err(), Some(QUERY));
+        assert_eq!(chain.covers(&[boxes[0], nan], 13).err(), Some(DEPTH));
+        assert_eq!(chain.covers(&[crossed, nan], 13).err(), Some(CORNERS));
+        assert_eq!(self::chain().covers(&[boxes[0], nan], 0).err(), Some(SQUARED_LENGTH));
     }
 }

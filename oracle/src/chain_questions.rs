@@ -18,6 +18,7 @@ const QUESTIONS: &[(&str, Question)] = &[
     ("cpoint", point),
     ("ctimes", times),
     ("ccover", cover),
+    ("cset", set),
     ("cinterp", interp),
     ("cparts", move_parts),
     ("cmotion", motion),
@@ -172,6 +173,19 @@ fn cover(slots: &mut Slots, words: Words) -> Answer {
     Some(box_floats(slots.any(slot)?.cover(&b, depth)))
 }
 
+/// cset S D BOX*
+fn set(slots: &mut Slots, words: Words) -> Answer {
+    let (slot, words) = slot(words)?;
+    let (depth, words) = first(words)?;
+    let values = list(words)?;
+    let (boxes, []) = values.as_chunks() else { return None };
+    let (union, covers) = match slots.chain(slot)?.covers(boxes, depth) {
+        Ok(answer) => answer,
+        Err(number) => return Some(Err(number)),
+    };
+    Some(Ok(floats(&union).floats(covers.as_flattened())))
+}
+
 /// cinterp S I T
 fn interp(slots: &mut Slots, words: Words) -> Answer {
     let (m, words) = move_of(slots, words)?;
@@ -231,10 +245,16 @@ mod tests {
     }
 
     #[test]
-    fn a_lone_move_has_no_list_of_times() {
+    fn a_lone_move_has_no_list_of_times_and_no_set() {
         let lone = format!("lone 1 plain {} {}", pose("3f800000", "00000000"), pose("3f800000", "3f800000"));
-        let session = [&lone, &format!("cpoint 1 40000000 {ORIGIN}"), &format!("ctimes 1 3 {ORIGIN} 40000000"), &format!("ccover 1 4 {ORIGIN} {ORIGIN}")];
-        let expected = ["ok 2", "ok 3f800000 00000000 00000000", "error", "ok 00000000 00000000 00000000 3f800000 00000000 00000000"];
+        let session = [
+            &lone,
+            &format!("cpoint 1 40000000 {ORIGIN}"),
+            &format!("ctimes 1 3 {ORIGIN} 40000000"),
+            &format!("cset 1 4 {ORIGIN} {ORIGIN}"),
+            &format!("ccover 1 4 {ORIGIN} {ORIGIN}"),
+        ];
+        let expected = ["ok 2", "ok 3f800000 00000000 00000000", "error", "error", "ok 00000000 00000000 00000000 3f800000 00000000 00000000"];
         assert_eq!(answers(&session.map(String::as_str)), expected);
     }
 
@@ -247,6 +267,8 @@ mod tests {
         assert_eq!(words(&format!("cmotion 2 0 {ORIGIN} {ORIGIN}")), 1 + 6);
         assert_eq!(words(&format!("cpmotion 2 0 {ORIGIN}")), 1 + 6);
         assert_eq!(words(&format!("ccover 2 3 {ORIGIN} {ORIGIN}")), 1 + 6);
+        assert_eq!(words(&format!("cset 2 3{}", format!(" {ORIGIN} {ORIGIN}").repeat(16))), 1 + 6 * 17);
+        assert_eq!(answers(&[&build, "cset 2 3"])[1], "refused 14");
         assert_eq!(words(&format!("ctimes 2 6 {ORIGIN} 3f000000 3f800000")), 1 + 6);
         assert_eq!(words(&format!("ctimes 2 0 {ORIGIN}")), 1);
         assert_eq!(answers(&[&build, &format!("ctimes 2 18446744073709551615 {ORIGIN}")])[1], "refused 13");
@@ -275,6 +297,9 @@ mod tests {
             "ctimes 0 0 00000000 00000000",
             "cpoint 0 00000000",
             "ccover 0",
+            "cset 0",
+            "cset 0 x",
+            "cset 0 4 00000000",
             "sin 00000000",
             "nothing",
         ] {

@@ -24,3 +24,5 @@ pub const SQUARED_LENGTH: u8 = 10;
 pub const CHAIN: u8 = 12;
 /// A list of times that falls, or answers that aren't three places a time.
 pub const TIME_LIST: u8 = 13;
+/// A set of no boxes, or of more than 16.
+pub const SET: u8 = 14;

@@ -133,6 +133,13 @@ impl Move {
     }
 }
 
+/// The answer to a set of boxes: a cover for each, in their order, and the union of them.
+#[derive(Clone, Debug, PartialEq)]
+pub struct Covers {
+    pub each: Vec<Bounds>,
+    pub union: Bounds,
+}
+
 /// A built chain: the moves between neighbouring poses. It is only made by [`Chain::new`], so that the guarantee of [`Chain::cover`] holds of every value of this type.
 #[derive(Clone, Debug)]
 pub struct Chain {
@@ -166,8 +173,7 @@ impl Chain {
     pub fn points(&self, times: &[f32], p: [f32; 3]) -> Result<Vec<[f32; 3]>, Refusal> {
         let mut points = vec![[0.0; 3]; times.len()];
         let (moves, answers) = (&self.moves, points.as_mut_ptr().cast::<f32>());
-        let number =
-            unsafe { library::jellyplain_moves_points(moves.as_ptr(), moves.len(), times.as_ptr(), times.len(), &p, answers, 3 * times.len()) };
+        let number = unsafe { library::jellyplain_moves_points(moves.as_ptr(), moves.len(), times.as_ptr(), times.len(), &p, answers, 3 * times.len()) };
         answered(number, points)
     }
 
@@ -177,5 +183,16 @@ impl Chain {
         let mut bounds = [0.0; 6];
         let number = unsafe { library::jellyplain_moves_cover(self.moves.as_ptr(), self.moves.len(), &b.to_array(), depth, &mut bounds) };
         answered(number, Bounds::from_array(bounds))
+    }
+
+    /// The covers of 1 to 16 boxes, each as [`Chain::cover`] gives it, and their union: no point of a box leaves that box's own cover at any time but NaN. It costs far less than a
+    /// cover for each. Refused with [`Refusal::Set`], then as [`Chain::cover`] of the first box in order that is refused.
+    pub fn covers(&self, boxes: &[Bounds], depth: u32) -> Result<Covers, Refusal> {
+        let asked: Vec<[f32; 6]> = boxes.iter().map(|b| b.to_array()).collect();
+        let (mut covers, mut union) = ([[0.0; 6]; library::BOXES], [0.0; 6]);
+        let number =
+            unsafe { library::jellyplain_moves_covers(self.moves.as_ptr(), self.moves.len(), asked.as_ptr(), asked.len(), depth, &mut covers, &mut union) };
+        let each = covers.into_iter().take(boxes.len()).map(Bounds::from_array).collect();
+        answered(number, Covers { each, union: Bounds::from_array(union) })
     }
 }

@@ -11,6 +11,9 @@ pub const EMPTY: Rows = [[0.0; 4]; 44];
 /// The most moves that a chain has.
 pub const MOVES: usize = 31;
 
+/// The most boxes of a set.
+pub const BOXES: usize = 16;
+
 extern "C" {
     pub fn jellyplain_build(start: &Pose, end: &Pose, motion: &mut Rows) -> u8;
     pub fn jellyplain_point(motion: &Rows, time: f32, p: &[f32; 3], moved: &mut [f32; 3]) -> u8;
@@ -31,6 +34,15 @@ extern "C" {
         places: usize,
     ) -> u8;
     pub fn jellyplain_moves_cover(moves: *const Rows, count: usize, b: &[f32; 6], depth: u32, out: &mut [f32; 6]) -> u8;
+    pub fn jellyplain_moves_covers(
+        moves: *const Rows,
+        count: usize,
+        boxes: *const [f32; 6],
+        boxes_count: usize,
+        depth: u32,
+        covers: &mut [[f32; 6]; BOXES],
+        union: &mut [f32; 6],
+    ) -> u8;
 }
 
 /// The layout in which poses, moves and chains cross to the archive.
@@ -98,6 +110,33 @@ mod tests {
         assert_eq!(unsafe { jellyplain_moves_cover(moves.as_ptr(), 0, &[0.0; 6], 10, &mut six) }, 12);
         assert_eq!(unsafe { jellyplain_moves_cover(moves.as_ptr(), 1, &[0.0; 6], 13, &mut six) }, 8);
         assert_eq!((three, six), ([7.0; 3], [7.0; 6]));
+    }
+
+    #[test]
+    fn sets_of_boxes_in_their_places() {
+        let moves = [built()];
+        let boxes = [[1.0f32, 0.0, 0.0, 1.5, 0.5, 0.0]; 17];
+        let (mut covers, mut union) = ([[7.0; 6]; BOXES], [7.0; 6]);
+        let mut ask = |moves_count: usize, boxes: &[[f32; 6]], depth: u32| {
+            let number = unsafe { jellyplain_moves_covers(moves.as_ptr(), moves_count, boxes.as_ptr(), boxes.len(), depth, &mut covers, &mut union) };
+            (number, covers, union)
+        };
+        let refused = |number: u8| (number, [[7.0; 6]; BOXES], [7.0; 6]);
+        assert_eq!(ask(0, &[], 13), refused(12));
+        assert_eq!(ask(1, &[], 13), refused(14));
+        assert_eq!(ask(1, &boxes, 13), refused(14));
+        assert_eq!(ask(1, &boxes[..16], 13), refused(8));
+        let mut last = boxes;
+        last[15] = [f32::NAN; 6];
+        assert_eq!(ask(1, &last[..16], 8), refused(6));
+        last[14][0] = 9.0;
+        assert_eq!(ask(1, &last[..16], 8), refused(7));
+        // Two places are written, and the others are +0.
+        let mut own = [7.0; 6];
+        assert_eq!(unsafe { jellyplain_moves_cover(moves.as_ptr(), 1, &boxes[0], 8, &mut own) }, 0);
+        let mut expected = [[0.0; 6]; BOXES];
+        (expected[0], expected[1]) = (own, own);
+        assert_eq!(ask(1, &boxes[..2], 8), (0, expected, own));
     }
 
     /// Rows that no building made are answered too: here a move at rest whose matrices are all zeros, so that a point's wp is zero.

@@ -30,19 +30,21 @@ pub enum Refusal {
     Chain = 12,
     /// A list of times falls.
     TimeList = 13,
+    /// A set has no box or more than 16.
+    Set = 14,
 }
 
 impl Refusal {
-    const ALL: [Refusal; 13] = {
+    const ALL: [Refusal; 14] = {
         use Refusal::*;
-        [PoseNotFinite, BottomRow, Times, ZeroPivot, NotFinite, Query, Corners, Depth, NinthZero, SquaredLength, File, Chain, TimeList]
+        [PoseNotFinite, BottomRow, Times, ZeroPivot, NotFinite, Query, Corners, Depth, NinthZero, SquaredLength, File, Chain, TimeList, Set]
     };
 
     pub fn number(self) -> u8 {
         self as u8
     }
 
-    /// The refusal of a number from 1 to 13.
+    /// The refusal of a number from 1 to 14.
     pub fn from_number(number: u8) -> Option<Refusal> {
         Refusal::ALL.into_iter().find(|refusal| refusal.number() == number)
     }
@@ -64,6 +66,7 @@ impl fmt::Display for Refusal {
             Refusal::File => "the file departs from its layout",
             Refusal::Chain => "a chain has 2 to 32 poses with times that rise strictly",
             Refusal::TimeList => "the list of times falls",
+            Refusal::Set => "a set has 1 to 16 boxes",
         };
         write!(f, "refused with {}: {reason}", self.number())
     }
@@ -77,7 +80,7 @@ mod tests {
 
     #[test]
     fn numbers() {
-        assert!((1..=13).all(|number| Refusal::from_number(number).unwrap().number() == number));
-        assert_eq!((Refusal::from_number(0), Refusal::from_number(14)), (None, None));
+        assert!((1..=14).all(|number| Refusal::from_number(number).unwrap().number() == number));
+        assert_eq!((Refusal::from_number(0), Refusal::from_number(15)), (None, None));
     }
 }

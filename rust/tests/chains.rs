@@ -1,6 +1,6 @@
-//! Chains of poses: which move a time belongs to, lists of times, covers and refusals.
+//! Chains of poses: which move a time belongs to, lists of times, covers, sets of boxes and refusals.
 
-use jellyplain::{Bounds, Chain, Matrix, Move, Pose, Refusal, IDENTITY};
+use jellyplain::{Bounds, Chain, Covers, Matrix, Move, Pose, Refusal, IDENTITY};
 
 fn translation(x: f32) -> Matrix {
     let mut m = IDENTITY;
@@ -27,7 +27,9 @@ fn each_time_belongs_to_its_move() {
     let chain = Chain::new(&poses).unwrap();
     let moves: Vec<Move> = poses.windows(2).map(|pair| Move::new(&pair[0], &pair[1]).unwrap()).collect();
     assert_eq!(chain.moves().len(), 3);
-    for (place, times) in [(0, [f32::NEG_INFINITY, -1.0, 1.25, 2.0]), (1, [2.0f32.next_up(), 2.25, 2.75, 3.0]), (2, [3.0f32.next_up(), 4.0, 5.0, f32::INFINITY])] {
+    for (place, times) in
+        [(0, [f32::NEG_INFINITY, -1.0, 1.25, 2.0]), (1, [2.0f32.next_up(), 2.25, 2.75, 3.0]), (2, [3.0f32.next_up(), 4.0, 5.0, f32::INFINITY])]
+    {
         for time in times {
             assert_eq!(chain.point(time, p), moves[place].point(time, p));
             assert_eq!(chain.moves().nth(place).unwrap().point(time, p), moves[place].point(time, p));
@@ -65,6 +67,62 @@ fn moved_points_are_inside_the_cover() {
             assert!(cover.contains(inner.p_min) && cover.contains(inner.p_max));
         }
     }
+}
+
+/// The union of two boxes, as pbrt takes it.
+fn union(a: Bounds, b: Bounds) -> Bounds {
+    let ends = |a: [f32; 3], b: [f32; 3], end: fn(f32, f32) -> f32| std::array::from_fn(|i| end(a[i], b[i]));
+    Bounds { p_min: ends(a.p_min, b.p_min, f32::min), p_max: ends(a.p_max, b.p_max, f32::max) }
+}
+
+/// Parts of a boom, one beside the other.
+fn parts(count: usize) -> Vec<Bounds> {
+    (0..count).map(|i| Bounds { p_min: [i as f32, -0.5, 0.0], p_max: [i as f32 + 1.0, 0.5, 0.25 * i as f32] }).collect()
+}
+
+#[test]
+fn each_cover_of_a_set_is_that_boxs_own() {
+    let chain = Chain::new(&poses()).unwrap();
+    for (count, depth) in [(1, 6), (2, 8), (7, 5), (16, 4)] {
+        let boxes = parts(count);
+        let each: Vec<Bounds> = boxes.iter().map(|b| chain.cover(b, depth).unwrap()).collect();
+        let union = each.iter().copied().reduce(union).unwrap();
+        assert_eq!(chain.covers(&boxes, depth), Ok(Covers { each, union }));
+    }
+}
+
+#[test]
+fn moved_points_are_inside_their_own_boxs_cover() {
+    let chain = Chain::new(&poses()).unwrap();
+    let boxes = parts(16);
+    let covers = chain.covers(&boxes, 6).unwrap();
+    for (b, cover) in boxes.iter().zip(&covers.each) {
+        for k in 0..200 {
+            let part = |n: usize| (k * n % 199) as f32 / 198.0;
+            let p = std::array::from_fn(|i| b.p_min[i] + part([7, 31, 101][i]) * (b.p_max[i] - b.p_min[i]));
+            let moved = chain.point(-0.5 + 6.0 * part(1), p).unwrap();
+            assert!(cover.contains(moved) && covers.union.contains(moved));
+        }
+    }
+}
+
+#[test]
+fn refused_sets() {
+    let chain = Chain::new(&poses()).unwrap();
+    let refused = |boxes: &[Bounds], depth: u32| chain.covers(boxes, depth).err();
+    assert_eq!(refused(&[], 6), Some(Refusal::Set));
+    assert_eq!(refused(&parts(17), 6), Some(Refusal::Set));
+    assert_eq!(refused(&parts(17), 13), Some(Refusal::Set));
+    assert_eq!(refused(&parts(16), 13), Some(Refusal::Depth));
+    // The first refused box gives the number: its 8 or 10 before a later one's 6 or 7.
+    let (crossed, nan) = (Bounds { p_min: [1.0; 3], p_max: [0.0; 3] }, Bounds { p_min: [f32::NAN; 3], p_max: [0.0; 3] });
+    let with = |bad: [Bounds; 2]| [parts(3), bad.to_vec(), parts(2)].concat();
+    assert_eq!(refused(&with([crossed, nan]), 6), Some(Refusal::Corners));
+    assert_eq!(refused(&with([nan, crossed]), 6), Some(Refusal::Query));
+    assert_eq!(refused(&with([nan, crossed]), 13), Some(Refusal::Depth));
+    assert_eq!(refused(&with([nan, crossed])[3..], 13), Some(Refusal::Query));
+    let shift = Chain::new(&[at(0.0, IDENTITY), at(1.0, translation(1.0))]).unwrap();
+    assert_eq!(shift.covers(&with([nan, crossed]), 0), Err(Refusal::SquaredLength));
 }
 
 #[test]

@@ -16,6 +16,9 @@ ghost use Rattle.chain_poses.specs.Poses.{Poses·ofLists};
 ghost use Rattle.chain_rows.specs.Kept.{Chain·toRows};
 ghost use Rattle.chain_rows.specs.Theorem.{Moves·Holds, KeptChainContainsMotion};
 ghost use Rattle.chain_build.specs.Build.{ChainAnswer·left};
+ghost use Rattle.box_set.specs.Set.{SetAnswer·refusal};
+ghost use Rattle.chain_covers.specs.Kept.{Moves·covers, SetAnswer·coversLeft, SetAnswer·unionLeft};
+ghost use Rattle.chain_covers.specs.Theorem.{KeptSetContainsMotion};
 ghost use Rattle.api.specs.Chains.{layoutNumber, Moves·point, Moves·points, Moves·coverOf};
 ghost use Rattle.api.specs.Answers.{Rows·new, Rows·point, Rows·interpolate, Rows·boundPointMotion, Rows·motionBounds, Rows·cover};
 ghost use Rattle.api.specs.Kept.{Rows·Holds, KeptCoverContainsMotion};
@@ -203,4 +206,22 @@ pub extern "C" fn jellyplain_moves_cover(
         chain_cover::cover(moves, lent_arrays::bounds(b), depth),
         bounds,
     )
+}
+
+// Boxes that hold 1 to 16 boxes at every time of a chain, each in a place of its own, and their union; unused places are +0. Refused with 14, then with 5, 6, 7, 8
+// or 10 of the first refused box in order, and with 12 where there are no moves. Accuracy: encloses.
+#[no_mangle]
+pub extern "C" fn jellyplain_moves_covers(
+    moves: &[[[f32; 4]; 44]],
+    boxes: &[[f32; 6]],
+    depth: u32,
+    covers: &mut [[f32; 6]; 16],
+    union: &mut [f32; 6],
+) -> u8
+    ensures refusal { λ r. ⌜ r ≡ SetAnswer·refusal (Moves·covers (now (moves .entry)) (now (boxes .entry)) depth) ⌝ }
+    ensures covers { λ _. ⌜ now (covers .exit) ≡ SetAnswer·coversLeft (Moves·covers (now (moves .entry)) (now (boxes .entry)) depth) (now (covers .entry)) ⌝ }
+    ensures union { λ _. ⌜ now (union .exit) ≡ SetAnswer·unionLeft (Moves·covers (now (moves .entry)) (now (boxes .entry)) depth) (now (union .entry)) ⌝ }
+    ensures contains_motion { λ r. ⌜ (r ≡ 0 → KeptSetContainsMotion (now (moves .entry)) (now (boxes .entry)) (now (covers .exit)) (now (union .exit))) ⌝ }
+{
+    chain_covers::covers(moves, boxes, depth, covers, union)
 }

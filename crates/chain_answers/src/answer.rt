@@ -53,6 +53,7 @@ fn put_asked(
         2 => chains::point(moves, x, out, at),
         3 => chains::points(moves, n, floats, x, out, at),
         4 => chains::cover(moves, n, x, out, at),
+        9 => chains::covers(moves, n, floats / 6, x, out, at),
         _ => put_asked_move(kind, n, x, moves, out, at),
     }
 }

@@ -148,7 +148,7 @@ pub fn cover(
     out: &mut [u8; 32768],
     at: usize,
 ) -> usize {
-    let asked = bounds_at(x);
+    let asked = bounds_at(x, 0);
     let mut b = [0.0f32; 6];
     let refusal = api::jellyplain_moves_cover(
         moves,
@@ -157,6 +157,41 @@ pub fn cover(
         &mut b,
     );
     put_bounds(refusal, &b, out, at)
+}
+
+// The union of the covers of as many boxes, and then the covers.
+pub fn covers(
+    moves: &[[[f32; 4]; 44]],
+    depth: u64,
+    count: usize,
+    x: &[f32; 900],
+    out: &mut [u8; 32768],
+    at: usize,
+) -> usize {
+    // No line holds so many.
+    if 150 < count {
+        return put_error(out, at);
+    }
+    let mut boxes = [[0.0f32; 6]; 150];
+    put_boxes(x, &mut boxes);
+    let mut covers = [[0.0f32; 6]; 16];
+    let mut union = [0.0f32; 6];
+    let refusal = api::jellyplain_moves_covers(
+        moves,
+        &boxes[0..count],
+        question_lines::saturated(depth),
+        &mut covers,
+        &mut union,
+    );
+    put_set(refusal, &union, &covers, count, out, at)
+}
+
+fn put_boxes(x: &[f32; 900], boxes: &mut [[f32; 6]]) {
+    let mut i = 0;
+    while i < boxes.len() {
+        boxes[i] = bounds_at(x, i);
+        i += 1;
+    }
 }
 
 // Both halves of the transform at a time.
@@ -187,7 +222,7 @@ pub fn motion_bounds(
     out: &mut [u8; 32768],
     at: usize,
 ) -> usize {
-    let asked = bounds_at(x);
+    let asked = bounds_at(x, 0);
     let mut b = [0.0f32; 6];
     let refusal = api::jellyplain_motion_bounds(motion, &asked, &mut b);
     put_bounds(refusal, &b, out, at)
@@ -213,6 +248,29 @@ fn put_bounds(refusal: u8, b: &[f32; 6], out: &mut [u8; 32768], at: usize) -> us
     put_values(refusal, b, 6, out, at)
 }
 
+// The union first, and then the covers.
+fn put_set(
+    refusal: u8,
+    union: &[f32; 6],
+    covers: &[[f32; 6]; 16],
+    count: usize,
+    out: &mut [u8; 32768],
+    at: usize,
+) -> usize {
+    if refusal != 0 {
+        return question_lines::put_refused(refusal, out, at);
+    }
+    let ok = put_text(b"ok", out, at);
+    let mut end = question_lines::put_floats(union, 6, out, ok);
+    for i in 0..16 {
+        if count <= i {
+            break;
+        }
+        end = question_lines::put_floats(&covers[i], 6, out, end);
+    }
+    put_text(b"\n", out, end)
+}
+
 fn put_points(
     refusal: u8,
     values: &[f32; 2700],
@@ -227,6 +285,11 @@ fn point_at(x: &[f32; 900]) -> [f32; 3] {
     [x[0], x[1], x[2]]
 }
 
-fn bounds_at(x: &[f32; 900]) -> [f32; 6] {
-    [x[0], x[1], x[2], x[3], x[4], x[5]]
+// The i-th box.
+fn bounds_at(x: &[f32; 900], i: usize) -> [f32; 6] {
+    if i < 150 {
+        let k = 6 * i;
+        return [x[k], x[k + 1], x[k + 2], x[k + 3], x[k + 4], x[k + 5]];
+    }
+    [0.0; 6]
 }

@@ -1,9 +1,9 @@
 -- The guarantee for a chain, `chain-contains`, and that its finer cover is never a wider one, `chain-cover-finer`. Each move's cover lies in the accepted cover of the chain
--- (`covers-within`), a time belongs to one of the moves (`each-move-at`), and of each move both are known.
+-- (`chain-within`), a time belongs to one of the moves (`each-move-at`), and of each move both are known.
 use Prim.Native.Nat.{ℕ, _+_}
 use mathlib.Core.Path.{_≡_, ap, subst}
 use mathlib.Core.Bool.{Bool, true, false, cond}
-use mathlib.Core.List.{List, [], _∷_}
+use mathlib.Core.List.{List, [], _∷_, map}
 use lib.Ieee.{Float, le}
 use Rattle.bounds3.specs.declared.Bounds3f.{Bounds3f}
 use Rattle.bounds3.specs.Inside.{Inside}
@@ -11,17 +11,16 @@ use Rattle.bounds3.proofs.Union.{subset-inside}
 use Rattle.transform.specs.declared.BoundsAnswer.{BoundsAnswer}
 use Rattle.transform.specs.declared.BoundsAnswer.the-variants.{Bounds}
 use Rattle.transform.specs.Answer.{PointAnswer·point, BoundsAnswer·refusal, BoundsAnswer·bounds}
-use Rattle.bounds_query.specs.Query.{BoundsAnswer·unionBounds}
-use Rattle.pose_steps.proofs.Box.{order-refl}
 use Rattle.animated_transform.specs.declared.AnimatedTransform.{AnimatedTransform}
 use Rattle.animated_transform.specs.Built.{Built}
 use Rattle.motion_point.specs.TransformPoint.{AnimatedTransform·transformPoint}
 use Rattle.motion_cover.specs.Cover.{AnimatedTransform·cover}
 use Rattle.motion_cover.specs.Answer.{Proper}
 use Rattle.motion_cover.proofs.Contains.{cover-contains}
-use Rattle.motion_cover.proofs.NonZero.{BoundsAnswer·NonZero, nonzero-box, union-nonzero, cover-nonzero}
-use Rattle.motion_cover.proofs.Proper.{box-order, union-proper, cover-proper}
-use Rattle.cover_depth.proofs.Finer.{BoxWithin, box-within, within-subset, union-within, parts-within, cover-box-finer}
+use Rattle.motion_cover.proofs.NonZero.{BoundsAnswer·NonZero, nonzero-box, cover-nonzero}
+use Rattle.motion_cover.proofs.Proper.{cover-proper}
+use Rattle.cover_depth.proofs.Finer.{BoxWithin, box-within, within-subset, cover-box-finer}
+use Rattle.bounds_answers.proofs.UnionAll.{each-map, each-unmap, each-of, union-all-proper, union-all-nonzero, union-all-within, union-all-parts}
 use Rattle.motion_chain.specs.Chain.{Chain, Chain·moves, moveFrom, Chain·moveAt, Chain·transformPoint, unionCovers, Chain·cover}
 use Rattle.motion_chain.specs.Built.{BuiltChain, Each}
 use Rattle.motion_chain.specs.Theorem.{ChainContainsMotion, ChainCoverFiner}
@@ -44,58 +43,36 @@ module _ (P : AnimatedTransform → Type 0) (time : Float) where
 
 -- ---- the covers of the moves, in an accepted union of them
 module _ (b : Bounds3f) (d : ℕ) where
-  covers-proper : (r : BoundsAnswer) (moves : List AnimatedTransform) → Proper r → Each Built moves → Proper (unionCovers b d r moves)
-  unfolding unionCovers
-  covers-proper r [] p h = p
-  covers-proper r (m ∷ moves) p (h, hs) =
-      covers-proper (BoundsAnswer·unionBounds r (AnimatedTransform·cover m b d)) moves (union-proper r (AnimatedTransform·cover m b d) p (cover-proper h b d)) hs
+  abbrev coverOf : AnimatedTransform → BoundsAnswer
+  coverOf m = AnimatedTransform·cover m b d
 
-  covers-within : (r : BoundsAnswer) (moves : List AnimatedTransform) (box : Bounds3f) → Proper r → Each Built moves → unionCovers b d r moves ≡ Bounds box
-      → BoxWithin r box × Each (λ m. BoxWithin (AnimatedTransform·cover m b d) box) moves
-  unfolding unionCovers
-  covers-within r [] box p h e = (record { box = box; accepted = e; subset = order-refl (box-order p e) }, tt)
-  covers-within r (m ∷ moves) box p (h, hs) e =
-      let s = AnimatedTransform·cover m b d in
-      let q = cover-proper h b d in
-      let (u, us) = covers-within (BoundsAnswer·unionBounds r s) moves box (union-proper r s p q) hs e in
-      let (v, w) = parts-within r s (u .box) p q (u .accepted) in
-      (within-subset v (u .subset), (within-subset w (u .subset), us))
-
-  union-covers-within : (r : BoundsAnswer) (moves : List AnimatedTransform) (box : Bounds3f) → BoxWithin r box
-      → Each (λ m. BoxWithin (AnimatedTransform·cover m b d) box) moves → BoxWithin (unionCovers b d r moves) box
-  unfolding unionCovers
-  union-covers-within r [] box w ws = w
-  union-covers-within r (m ∷ moves) box w (v, vs) =
-      union-covers-within (BoundsAnswer·unionBounds r (AnimatedTransform·cover m b d)) moves box (union-within r (AnimatedTransform·cover m b d) w v) vs
+  covers-proper : (moves : List AnimatedTransform) → Each Built moves → Each Proper (map coverOf moves)
+  covers-proper = each-map Proper coverOf (λ (m : AnimatedTransform) (h : Built m). cover-proper h b d)
 
   pub chain-cover-proper : {c : Chain} → BuiltChain c → Proper (Chain·cover c b d)
-  unfolding Chain·cover
+  unfolding Chain·cover unionCovers
   chain-cover-proper {c} built =
       let (h, hs) = built-moves built .each in
-      covers-proper (AnimatedTransform·cover (c .first) b d) (c .rest) (cover-proper h b d) hs
+      union-all-proper (coverOf (c .first)) (map coverOf (c .rest)) (cover-proper h b d) (covers-proper (c .rest) hs)
 
   chain-within : {c : Chain} → BuiltChain c → (box : Bounds3f) → Chain·cover c b d ≡ Bounds box
       → Each (λ m. BoxWithin (AnimatedTransform·cover m b d) box) (Chain·moves c)
-  unfolding Chain·cover
+  unfolding Chain·cover unionCovers
   chain-within {c} built box e =
       let (h, hs) = built-moves built .each in
-      let (w, ws) = covers-within (AnimatedTransform·cover (c .first) b d) (c .rest) box (cover-proper h b d) hs e in
-      (w, ws)
+      let (w, ws) = union-all-parts (coverOf (c .first)) (map coverOf (c .rest)) box (cover-proper h b d) (covers-proper (c .rest) hs) e in
+      (w, each-unmap (λ s. BoxWithin s box) coverOf (c .rest) ws)
 
 -- ---- a chain's cover whose number is 0 is a box
 module _ (b : Bounds3f) (d : ℕ) where
-  covers-nonzero : (r : BoundsAnswer) (moves : List AnimatedTransform) → BoundsAnswer·NonZero r → BoundsAnswer·NonZero (unionCovers b d r moves)
-  unfolding unionCovers
-  covers-nonzero r [] h = h
-  covers-nonzero r (m ∷ moves) h =
-      let s = AnimatedTransform·cover m b d in
-      covers-nonzero (BoundsAnswer·unionBounds r s) moves (union-nonzero r s h (cover-nonzero m b d))
+  pub chain-cover-nonzero : (c : Chain) → BoundsAnswer·NonZero (Chain·cover c b d)
+  unfolding Chain·cover unionCovers
+  chain-cover-nonzero c =
+      union-all-nonzero (coverOf b d (c .first)) (map (coverOf b d) (c .rest)) (cover-nonzero (c .first) b d)
+      (each-map {P = λ (m : AnimatedTransform). Unit {0}} BoundsAnswer·NonZero (coverOf b d) (λ m _. cover-nonzero m b d) (c .rest) (each-of (λ m. tt) (c .rest)))
 
   pub chain-cover-answered : (c : Chain) → BoundsAnswer·refusal (Chain·cover c b d) ≡ 0 → Chain·cover c b d ≡ Bounds (BoundsAnswer·bounds (Chain·cover c b d))
-  chain-cover-answered c = nonzero-box (Chain·cover c b d) nonzero
-    where
-      nonzero : BoundsAnswer·NonZero (Chain·cover c b d)
-      nonzero = unfold Chain·cover in covers-nonzero (AnimatedTransform·cover (c .first) b d) (c .rest) (cover-nonzero (c .first) b d)
+  chain-cover-answered c = nonzero-box (Chain·cover c b d) (chain-cover-nonzero c)
 
 -- ---- the guarantee
 pub chain-contains : (c : Chain) (b : Bounds3f) (d : ℕ) → ChainContainsMotion c b (Chain·cover c b d)
@@ -124,4 +101,6 @@ chain-cover-finer c b d n built l e =
     finer (m ∷ moves) (h, hs) (w, ws) = (within-subset (cover-box-finer h b d n (w .box) l (w .accepted)) (w .subset), finer moves hs ws)
 
     go : Each (λ m. BoxWithin (AnimatedTransform·cover m b (d + n)) box) (Chain·moves c) → BoxWithin (Chain·cover c b (d + n)) box
-    go (w, ws) = unfold Chain·cover in union-covers-within b (d + n) (AnimatedTransform·cover (c .first) b (d + n)) (c .rest) box w ws
+    go (w, ws) =
+        unfold Chain·cover unionCovers in union-all-within box (coverOf b (d + n) (c .first)) (map (coverOf b (d + n)) (c .rest)) w
+        (each-map (λ s. BoxWithin s box) (coverOf b (d + n)) (λ m (v : BoxWithin (AnimatedTransform·cover m b (d + n)) box). v) (c .rest) ws)

@@ -6,6 +6,7 @@ use mathlib.Core.List.{List, [], _∷_}
 use lib.Dec.{T}
 use lib.ListN.{length}
 use lib.Ieee.{Float, binary32, fits, lt}
+pub use Rattle.bounds_answers.specs.UnionAll.{Each}
 use Rattle.pose_pair.specs.declared.Pose.{Pose}
 use Rattle.animated_transform.specs.declared.AnimatedTransform.{AnimatedTransform}
 use Rattle.animated_transform.specs.New.{work, AnimatedTransform·new}
@@ -17,11 +18,6 @@ pub record BuiltChain (c : Chain) : Type 0 where
   pub poses : List Pose
   pub times-binary32 : T (every (λ p. fits binary32 (p .time)) poses)
   pub accepted : Chain·new poses ≡ built c
-
--- P holds of every item.
-abbrev pub Each : {A : Type 0} → (A → Type 0) → List A → Type 0
-Each P [] = Unit {0}
-Each P (x ∷ xs) = P x × Each P xs
 
 -- Each move's times rise strictly, the first starts at the given time, and every other at the end time of the one before it.
 abbrev pub Contiguous : Float → List AnimatedTransform → Type 0

@@ -10,7 +10,7 @@ use Rattle.bounds3.specs.declared.Point3f.{Point3f}
 use Rattle.bounds3.specs.declared.Bounds3f.{Bounds3f}
 use Rattle.transform.specs.declared.PointAnswer.{PointAnswer}
 use Rattle.transform.specs.declared.BoundsAnswer.{BoundsAnswer}
-use Rattle.bounds_query.specs.Query.{BoundsAnswer·unionBounds}
+use Rattle.bounds_answers.specs.UnionAll.{BoundsAnswer·unionAll}
 use Rattle.pose_pair.specs.declared.Pose.{Pose}
 use Rattle.pose_pair.specs.Pose.{Pose·isFinite, Pose·isAffine, timesRefusal}
 use Rattle.animated_transform.specs.declared.AnimatedTransform.{AnimatedTransform}
@@ -130,8 +130,7 @@ Chain·transformPoint c time p = AnimatedTransform·transformPoint (Chain·moveA
 
 -- r and then the covers of the moves, in rising order; the first refusal stands.
 unfoldable pub unionCovers : Bounds3f → ℕ → BoundsAnswer → List AnimatedTransform → BoundsAnswer
-unionCovers b depth r [] = r
-unionCovers b depth r (m ∷ moves) = unionCovers b depth (BoundsAnswer·unionBounds r (AnimatedTransform·cover m b depth)) moves
+unionCovers b depth r moves = BoundsAnswer·unionAll r (map (λ m. AnimatedTransform·cover m b depth) moves)
 
 -- "The cover is the union of the moves' covers"
 unfoldable pub Chain·cover : Chain → Bounds3f → ℕ → BoundsAnswer

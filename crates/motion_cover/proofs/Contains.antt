@@ -1,12 +1,12 @@
 -- The guarantee, `cover-contains`: an accepted cover of a built move holds every point of the box at every time but NaN.
 -- A stored transform over the box holds what that transform moves (`stored-contains`), and a piece of the move what every pose of its dt moves (`piece-contains`), since the
 -- interval steps enclose the float steps; dt lies in some slice, and a union holds what its parts hold.
-use Prim.Native.Nat.{ℕ, zero, suc, _<_, _^_}
+use Prim.Native.Nat.{ℕ, zero, suc, _<_, _≤_, _^_}
 use mathlib.Core.Path.{_≡_, refl, sym, ap, subst, _∙_}
 use mathlib.Core.Bool.{Bool, true, false, not, cond}
 use native.Mathlib.Omega.{arith}
 use lib.Dec.{T, eqb, ltb}
-use borrow.Author.Tests.{eqb-true, eqb-false}
+use borrow.Author.Tests.{eqb-true, eqb-false, ltb-false}
 use lib.Ieee.{Float, isNan, le, lt}
 use lib.Ieee.Bits.{is-true, is-false}
 use Rattle.rounding.specs.Order.{_≼_, Number}
@@ -243,6 +243,15 @@ cover-box b d = go (eqb (Bounds3f·refusal b) 0) (eqb-true (Bounds3f·refusal b)
     go : (c : Bool) → (c ≡ true → Bounds3f·refusal b ≡ 0) → cond c (cond (ltb maxDepth d) 8 0) (Bounds3f·refusal b) ≡ 0 → Bounds3f·refusal b ≡ 0
     go true f e = f refl
     go false f e = e
+
+pub cover-depth : (b : Bounds3f) (d : ℕ) → coverRefusal b d ≡ 0 → d ≤ maxDepth
+unfolding coverRefusal
+cover-depth b d = go (eqb (Bounds3f·refusal b) 0) (ltb maxDepth d) (eqb-false (Bounds3f·refusal b) 0) (ltb-false maxDepth d)
+  where
+    go : (s t : Bool) → (s ≡ false → Bounds3f·refusal b ≡ 0 → ⊥) → (t ≡ false → d ≤ maxDepth) → cond s (cond t 8 0) (Bounds3f·refusal b) ≡ 0 → d ≤ maxDepth
+    go true true f g e = absurd (eqb-false 8 0 refl e)
+    go true false f g e = g refl
+    go false t f g e = absurd (f refl e)
 
 -- Of a point of the box the query answers what its work gives.
 pub query-accepted : (m : AnimatedTransform) (b : Bounds3f) (d : ℕ) (box : Bounds3f) (time : Float) (p : Point3f)

@@ -31,8 +31,8 @@ struct Border {
     angle: EndAngle,
 }
 
-// A box as three intervals, and back. Accuracy: exact.
-fn intervals(b: Bounds3f) -> IntervalVector
+// A box as three intervals. Accuracy: exact.
+pub fn intervals(b: Bounds3f) -> IntervalVector
     ensures value { λ r. ⌜ r ≡ Bounds3f·intervals b ⌝ }
 {
     let l = b.p_min;
@@ -52,6 +52,7 @@ fn intervals(b: Bounds3f) -> IntervalVector
     IntervalVector { x, y, z }
 }
 
+// And back. Accuracy: exact.
 fn bounds(w: IntervalVector) -> Bounds3f
     ensures value { λ r. ⌜ r ≡ IntervalVector·bounds w ⌝ }
 {
@@ -68,7 +69,8 @@ fn bounds(w: IntervalVector) -> Bounds3f
     Bounds3f { p_min, p_max }
 }
 
-fn from_enclosure(j: JudgedVector) -> BoundsAnswer
+// Three intervals as a box, or the number that was met on the way. Accuracy: exact.
+pub fn from_enclosure(j: JudgedVector) -> BoundsAnswer
     ensures value { λ r. ⌜ r ≡ BoundsAnswer·fromEnclosure j ⌝ }
 {
     if j.refusal == 0 {

@@ -3,6 +3,8 @@
 use Rattle.motion_chain.proofs.Cover.{chain-cover-proper}
 use Rattle.motion_chain.proofs.Numbers.{chain-cover-numbered}
 use Rattle.motion_chain.proofs.Times.{chain-point-numbered, times-numbers}
+use Rattle.box_set.proofs.Contains.{chain-set-numbered}
+use Rattle.chain_covers.proofs.Number.{kept-set-numbered}
 use Rattle.refusal_numbers.specs.Chain.{EveryChainAnswer}
 use Rattle.refusal_numbers.proofs.Chain.{building-numbered}
 use Rattle.refusal_numbers.proofs.KeptChain.{rows-point-numbered, rows-points-numbered, rows-cover-numbered}
@@ -14,7 +16,9 @@ every-chain-answer = record {
   points = λ c times p places. times-numbers c times p places .query;
   cover = chain-cover-numbered;
   proper = λ built b depth. chain-cover-proper b depth built;
+  set = chain-set-numbered;
   rows-point = rows-point-numbered;
   rows-points = rows-points-numbered;
   rows-cover = rows-cover-numbered;
+  rows-set = kept-set-numbered;
 }

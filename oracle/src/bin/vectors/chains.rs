@@ -3,19 +3,19 @@
 use super::*;
 use oracle::chain;
 
-const SLOTS: usize = 4;
+pub const SLOTS: usize = 4;
 /// More poses than this don't go into a line.
 const MOST_POSES: usize = 49;
 
 /// A pose with its time and pad.
 #[derive(Clone, Copy)]
-struct Pose {
+pub struct Pose {
     time: f32,
     matrix: [f32; 16],
     pad: f32,
 }
 
-type Chain = Vec<Pose>;
+pub type Chain = Vec<Pose>;
 
 /// A chain's poses at the given times, with pads of zero.
 fn at_times(times: &[f32], matrices: &[[f32; 16]]) -> Chain {
@@ -27,13 +27,13 @@ fn at_whole_times(matrices: &[[f32; 16]]) -> Chain {
     at_times(&times, matrices)
 }
 
-fn of_move(m: &Move) -> Chain {
+pub fn of_move(m: &Move) -> Chain {
     at_times(&m.times, &m.poses)
 }
 
 impl<W: Write> Questions<W> {
     /// The question that hands in poses. Tells whether they are built, so that there is something to ask of them.
-    fn ask_poses(&mut self, question: &str, slot: usize, poses: &[Pose]) -> bool {
+    pub fn ask_poses(&mut self, question: &str, slot: usize, poses: &[Pose]) -> bool {
         let values: Vec<f32> = poses.iter().flat_map(|p| [&[p.time], p.matrix.as_slice(), &[p.pad]].concat()).collect();
         self.ask(&format!("{question} {slot} plain"), &[&values]);
         let poses: Vec<chain::Pose> = poses.iter().map(|p| chain::Pose { time: p.time, matrix: Matrix4x4::from_row_slice(&p.matrix) }).collect();
@@ -43,7 +43,7 @@ impl<W: Write> Questions<W> {
         }
     }
 
-    fn ask_chain(&mut self, slot: usize, poses: &[Pose]) -> bool {
+    pub fn ask_chain(&mut self, slot: usize, poses: &[Pose]) -> bool {
         self.ask_poses("chain", slot, poses)
     }
 
@@ -52,7 +52,7 @@ impl<W: Write> Questions<W> {
     }
 
     /// Where a list may be cut.
-    fn new_case(&mut self) {
+    pub fn new_case(&mut self) {
         self.line("#");
     }
 }
@@ -69,7 +69,7 @@ fn ask_each<W: Write>(q: &mut Questions<W>, slot: usize) {
 }
 
 /// There and back along x, a turn with a shift, a rest, and a turn on the spot.
-fn swing_of_six() -> Chain {
+pub fn swing_of_six() -> Chain {
     let [_, turned] = quarter_turn().poses;
     let on_the_spot = [0., -1., 0., 0., 1., 0., 0., 0., 0., 0., 1., 0., 0., 0., 0., 1.];
     let mut chain = at_whole_times(&[IDENTITY, translated(1., 0., 0.), IDENTITY, turned, turned, on_the_spot]);
@@ -523,7 +523,7 @@ impl Random {
         }
     }
 
-    fn chain(&mut self) -> Chain {
+    pub fn chain(&mut self) -> Chain {
         let count = self.pose_count();
         let matrices = if self.one_in(4) { self.any_poses(count) } else { self.swing(count) };
         let mut chain = at_times(&self.rising_times(count), &matrices);
@@ -601,7 +601,7 @@ impl Random {
     }
 
     /// Less deep for more moves, since each move is cut.
-    fn depth(&mut self, moves: usize) -> usize {
+    pub fn depth(&mut self, moves: usize) -> usize {
         let most = match moves {
             0..=2 => 8,
             3..=8 => 6,

@@ -3,6 +3,7 @@
 //! every machine makes the same, but for the bits of a NaN.
 
 mod chains;
+mod sets;
 
 use oracle::core::geometry::point::Point3f;
 use oracle::core::transform::fields::find_zeros;
@@ -540,8 +541,8 @@ impl Random {
     }
 }
 
-/// The kinds of question: the last is `chain_answers`' own, the others are `answers`'.
-const KINDS: &[&str] = &["numbers", "angles", "matrices", "bounds", "moves", "motion", "covers", "boxes", "chains"];
+/// The kinds of question: from `chains` on they are `chain_answers`', the others `answers`'.
+const KINDS: &[&str] = &["numbers", "angles", "matrices", "bounds", "moves", "motion", "covers", "boxes", "chains", "sets"];
 
 /// A box that a matrix carries: turned about, mirrored, carried to infinity, with wp of zero and a bottom row that isn't 0 0 0 1.
 fn fixed_boxes<W: Write>(q: &mut Questions<W>) {
@@ -1129,6 +1130,7 @@ fn main() {
         "covers" => (fixed_covers, random_cover),
         "boxes" => (fixed_boxes, random_box),
         "chains" => (chains::fixed, chains::random),
+        "sets" => (sets::fixed, sets::random),
         _ => usage(),
     };
     // Each kind has numbers of its own, whatever the seed. A kind more leaves those of the others as they are.

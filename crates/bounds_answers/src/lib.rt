@@ -1,0 +1,1 @@
+// Laws only: the union of a list of answers.

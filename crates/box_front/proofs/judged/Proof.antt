@@ -1,0 +1,75 @@
+-- `judged` meets its contract. The invariant: the boxes before k pass.
+use Prim.Native.Nat.{_-_, _≤_}
+use mathlib.Core.Path.{_≡_, refl, sym, ap, subst, _∙_}
+use native.Mathlib.Omega.{arith}
+use borrow.Author.Needs.{needs}
+use lib.ListN.{length}
+use Rattle.bounds_query.specs.Query.{coverRefusal}
+use Rattle.box_front.proofs.Passed.{Passed, passed-first, passed-next, passed-refused, passed-last}
+use Rattle.box_front.proofs.judged.Statement.{statement}
+use Rattle.box_front.proofs.judged.Tie as tie
+
+abbrev Inv-loop : tie.InvT-loop
+Inv-loop boxes depth n k₀ k = (n ≡ length boxes) × ((k ≤ n) × Passed boxes depth k)
+
+abbrev μ-loop : tie.MeasureT-loop
+μ-loop boxes depth n k₀ k = n - k
+
+loop-holds : tie.Need-loop-holds Inv-loop μ-loop
+loop-holds c = (refl, (search needs, passed-first _ _))
+
+mul-bounds : tie.Need-mul-bounds Inv-loop μ-loop
+mul-bounds c = search needs
+
+shared-slice-element-bounds : tie.Need-shared-slice-element-bounds Inv-loop μ-loop
+shared-slice-element-bounds c = search needs
+
+bounds-requires : tie.Need-bounds-requires Inv-loop μ-loop
+bounds-requires c κs = search needs
+
+cover-refusal-requires : tie.Need-cover-refusal-requires Inv-loop μ-loop
+cover-refusal-requires c κs = search needs
+
+returns : tie.Need-returns Inv-loop μ-loop
+returns c =
+    let l = c .before .before .before .before .before .loop in
+    let a = c .before .before .before .before .before .before .args in
+    passed-refused (a .boxes .now) (a .depth) (l .inv .1 .1) (omega (arith, l .inv .0, c .before .before .before .before .loop-test .taken))
+    (c .before .cover-refusal .ensures ∙ ap (λ b. coverRefusal b (a .depth)) (c .before .before .bounds .ensures)) (c .if1 .taken)
+
+add-k : tie.Need-add-k Inv-loop μ-loop
+add-k c = search needs
+
+loop-less : tie.Need-loop-less Inv-loop μ-loop
+loop-less c = search needs
+
+loop-again : tie.Need-loop-again Inv-loop μ-loop
+loop-again c =
+    let l = c .before .before .before .before .before .loop in
+    let a = c .before .before .before .before .before .before .args in
+    let e = sym (c .before .cover-refusal .ensures ∙ ap (λ b. coverRefusal b (a .depth)) (c .before .before .bounds .ensures)) ∙ c .if1 .left in
+    (l .inv .0, (omega (arith, c .before .before .before .before .loop-test .taken), passed-next (a .boxes .now) (a .depth) (l .inv .1 .1) e))
+
+returns-2 : tie.Need-returns-2 Inv-loop μ-loop
+returns-2 c =
+    let l = c .before .loop in
+    let a = c .before .before .args in
+    let e : l .k ≡ length (a .boxes .now) = omega (arith, l .inv .0, l .inv .1 .0, c .loop-test .left) in
+    passed-last (a .boxes .now) (a .depth) (subst (Passed (a .boxes .now) (a .depth)) e (l .inv .1 .1)) refl
+
+pub judged-spec : {M : Type 1} → statement M
+judged-spec =
+    tie.close
+    (tie.spec
+    Inv-loop
+    μ-loop
+    loop-holds
+    mul-bounds
+    shared-slice-element-bounds
+    bounds-requires
+    cover-refusal-requires
+    returns
+    add-k
+    loop-less
+    loop-again
+    returns-2)

@@ -1,0 +1,64 @@
+-- `take_box` meets its contract: the box that is moved, by itself or joined to what stands in the place.
+use mathlib.Core.Path.{ap, _∙_}
+use Rattle.transform.specs.declared.BoundsAnswer.the-variants.{Bounds}
+use Rattle.bounds_query.specs.Query.{BoundsAnswer·unionBounds}
+use Rattle.motion_piece.specs.Piece.{JudgedMatrix·encloseBounds}
+use Rattle.box_front.proofs.Taken.{put-first, put-joined}
+use borrow.Author.Needs.{needs}
+use Rattle.box_front.proofs.take_box.Statement.{statement}
+use Rattle.box_front.proofs.take_box.Tie as tie
+
+mul-bounds : tie.Need-mul-bounds
+mul-bounds c = search needs
+
+shared-slice-element-bounds : tie.Need-shared-slice-element-bounds
+shared-slice-element-bounds c = search needs
+
+bounds-requires : tie.Need-bounds-requires
+bounds-requires c κs = search needs
+
+box-enclosure-requires : tie.Need-box-enclosure-requires
+box-enclosure-requires c κs = search needs
+
+put-bounds-requires : tie.Need-put-bounds-requires
+put-bounds-requires c κs = search needs
+
+returns : tie.Need-returns
+returns c =
+    let moved = c .before .before .before in
+    let a = moved .before .before .before .args in
+    let e = moved .box-enclosure .ensures ∙ ap (JudgedMatrix·encloseBounds (a .pose)) (moved .before .bounds .ensures) in
+    put-first (a .first) _ _ _ _ _ (c .before .before .if1 .taken) e (c .put-bounds .ensures .0) (c .put-bounds .ensures .1)
+
+bounds-requires-2 : tie.Need-bounds-requires-2
+bounds-requires-2 c κs = search needs
+
+union-bounds-requires : tie.Need-union-bounds-requires
+union-bounds-requires c κs = search needs
+
+put-bounds-requires-2 : tie.Need-put-bounds-requires-2
+put-bounds-requires-2 c κs = search needs
+
+returns-2 : tie.Need-returns-2
+returns-2 c =
+    let moved = c .before .before .before .before .before .before in
+    let a = moved .before .before .before .args in
+    let e = moved .box-enclosure .ensures ∙ ap (JudgedMatrix·encloseBounds (a .pose)) (moved .before .bounds .ensures) in
+    let old = c .before .before .before .bounds2 .ensures in
+    let u = c .before .before .union-bounds .ensures ∙ ap (λ x. BoundsAnswer·unionBounds (Bounds x) (moved .box-enclosure .result)) old in
+    put-joined (a .first) _ _ _ _ _ _ (c .before .before .before .before .before .if1 .left) e u (c .put-bounds2 .ensures .0) (c .put-bounds2 .ensures .1)
+
+pub take-box-spec : {M : Type 1} → statement M
+take-box-spec =
+    tie.close
+    (tie.spec
+    mul-bounds
+    shared-slice-element-bounds
+    bounds-requires
+    box-enclosure-requires
+    put-bounds-requires
+    returns
+    bounds-requires-2
+    union-bounds-requires
+    put-bounds-requires-2
+    returns-2)

@@ -1,0 +1,84 @@
+-- `take_pose` meets its contract. The invariant: the pose is taken over the boxes before i.
+use Prim.Native.Nat.{_-_, _≤_}
+use mathlib.Core.Path.{_≡_, refl, sym, ap, subst, _∙_}
+use native.Mathlib.Omega.{arith}
+use borrow.Author.Needs.{needs}
+use lib.ListN.{length, set}
+use Rattle.box_front.specs.Front.{placeCount}
+use Rattle.box_front.proofs.Taken.{Taking, taking-first, taking-next, taking-refused, taking-last}
+use Rattle.box_front.proofs.take_pose.Statement.{statement}
+use Rattle.box_front.proofs.take_pose.Tie as tie
+
+abbrev Inv-loop : tie.InvT-loop
+Inv-loop first pose boxes front places₀ n i₀ places i =
+    (n ≡ front .count) × ((i ≤ n) × (length places₀ ≡ placeCount → Taking first pose boxes places₀ places i))
+
+abbrev μ-loop : tie.MeasureT-loop
+μ-loop first pose boxes front places₀ n i₀ places i = n - i
+
+returns : tie.Need-returns Inv-loop μ-loop
+returns c = λ h _ _. absurd (omega (arith, h, c .if1 .taken))
+
+returns-2 : tie.Need-returns-2 Inv-loop μ-loop
+returns-2 c = λ _ h _. absurd (omega (arith, h, c .if2 .taken))
+
+loop-holds : tie.Need-loop-holds Inv-loop μ-loop
+loop-holds c = (refl, (search needs, λ _. taking-first _ _ _ _))
+
+mul-take-box : tie.Need-mul-take-box Inv-loop μ-loop
+mul-take-box c = search needs
+
+index-1-take-box : tie.Need-index-1-take-box Inv-loop μ-loop
+index-1-take-box c = search needs
+
+take-box-requires : tie.Need-take-box-requires Inv-loop μ-loop
+take-box-requires c κs = search needs
+
+returns-3 : tie.Need-returns-3 Inv-loop μ-loop
+returns-3 c =
+    let l = c .before .before .before .before .loop in
+    let a = c .before .before .before .before .before .before .before .args in
+    λ _ _ h. taking-refused (a .first) (a .pose) (a .boxes .now) (l .inv .1 .1 h) (omega (arith, l .inv .0, c .before .before .before .loop-test .taken))
+    (c .before .take-box .ensures .0) (c .if3 .taken) (ap (set (l .places) (l .i)) (c .before .take-box .ensures .1))
+
+add-i : tie.Need-add-i Inv-loop μ-loop
+add-i c = search needs
+
+loop-less : tie.Need-loop-less Inv-loop μ-loop
+loop-less c = search needs
+
+loop-again : tie.Need-loop-again Inv-loop μ-loop
+loop-again c =
+    let l = c .before .before .before .before .loop in
+    let a = c .before .before .before .before .before .before .before .args in
+    let t = c .before .before .before .loop-test .taken in
+    let size = c .before .before .before .before .before .if2 .left in
+    let taken = c .before .take-box .ensures in
+    let written = ap (set (l .places) (l .i)) (taken .1) in
+    let none = sym (taken .0) ∙ c .if3 .left in
+    (l .inv .0, (omega (arith, t), λ h. taking-next (a .first) (a .pose) (a .boxes .now) (l .inv .1 .1 h) (omega (arith, t, h, size)) none written))
+
+returns-4 : tie.Need-returns-4 Inv-loop μ-loop
+returns-4 c =
+    let l = c .before .loop in
+    let a = c .before .before .before .before .args in
+    let e : l .i ≡ a .front .count = omega (arith, l .inv .0, l .inv .1 .0, c .loop-test .left) in
+    λ _ _ h. taking-last (a .first) (a .pose) (a .boxes .now) (subst (Taking (a .first) (a .pose) (a .boxes .now) _ _) e (l .inv .1 .1 h))
+
+pub take-pose-spec : {M : Type 1} → statement M
+take-pose-spec =
+    tie.close
+    (tie.spec
+    Inv-loop
+    μ-loop
+    returns
+    returns-2
+    loop-holds
+    mul-take-box
+    index-1-take-box
+    take-box-requires
+    returns-3
+    add-i
+    loop-less
+    loop-again
+    returns-4)

@@ -1,0 +1,1 @@
+// Laws only: the covers of a set of boxes and their union.

@@ -1,0 +1,127 @@
+-- The four clauses of the set query from what is answered: `no-moves`, `no-boxes`, `many-boxes`, `box-refused`, `all-accepted`. The guarantee is the chain's own, since the rows of a
+-- chain are asked as the chain is (`kept-set`).
+use Prim.Native.Nat.{ℕ, _-_, _≤_, _<_}
+use mathlib.Core.Path.{_≡_, refl, sym, ap, subst, _∙_}
+use mathlib.Core.Bool.{Bool, true, false, cond}
+use mathlib.Core.List.{List, [], _∷_, _++_, map}
+use native.Mathlib.Omega.{arith}
+use borrow.Author.Tests.{eq-eqb, ne-eqb, lt-ltb, le-ltb}
+use lib.Dec.{eqb, ltb}
+use lib.ListN.{length, take, drop, replicate, length-map, take-append-drop}
+use lib.Seq.{take-at}
+use lib.Ieee.{Float}
+use Rattle.matrix4x4.specs.Rows.{Rows, positiveZero}
+use Rattle.bounds3.specs.declared.Point3f.{Point3f}
+use Rattle.bounds3.specs.declared.Bounds3f.{Bounds3f}
+use Rattle.bounds3.specs.List.{Bounds3f·list, Bounds3f·ofList}
+use Rattle.transform.specs.declared.PointAnswer.{PointAnswer}
+use Rattle.transform.specs.declared.BoundsAnswer.{BoundsAnswer}
+use Rattle.transform.specs.Answer.{BoundsAnswer·bounds}
+use Rattle.motion_cover.proofs.NonZero.{BoundsAnswer·NonZero}
+use Rattle.motion_chain.specs.Chain.{Chain, Chain·transformPoint, Chain·cover}
+use Rattle.motion_chain.proofs.Cover.{chain-cover-nonzero}
+use Rattle.chain_rows.specs.Kept.{Chain·toRows, Moves·chain, Moves·transformPoint}
+use Rattle.chain_rows.specs.Theorem.{Moves·Holds}
+use Rattle.chain_rows.proofs.Kept.{chain-inverse, kept-point}
+use Rattle.box_set.specs.Set.{maxBoxes, SetAnswer, covered, refused, SetAnswer·refusal, SetAnswer·covers, SetAnswer·union, SetAnswer·of, Boxes·covers, Chain·covers}
+use Rattle.box_set.specs.Theorem.{SetContains}
+use Rattle.box_set.proofs.Contains.{chain-set-contains}
+use Rattle.box_front.specs.declared.Front.{Front}
+use Rattle.box_front.specs.Front.{boxAt}
+use Rattle.motion_fronts.specs.Worked.{Worked}
+use Rattle.chain_covers.specs.Kept.{Moves·covers, SetAnswer·coversLeft, SetAnswer·unionLeft}
+use Rattle.chain_covers.specs.Theorem.{KeptSetContainsMotion}
+use Rattle.chain_covers.specs.Union.{unionPlaces}
+use Rattle.chain_covers.proofs.Places.{zeros, SetAccepted, places-accepted, places-refused}
+
+-- ---- what the clauses say
+abbrev pub Clauses : List Rows → List (List Float) → ℕ → ℕ → List (List Float) → List (List Float) → List Float → List Float → Type 0
+Clauses rows boxes depth r covers covers' union union' =
+    (r ≡ SetAnswer·refusal (Moves·covers rows boxes depth))
+    × ((covers' ≡ SetAnswer·coversLeft (Moves·covers rows boxes depth) covers)
+    × ((union' ≡ SetAnswer·unionLeft (Moves·covers rows boxes depth) union)
+    × (r ≡ 0 → KeptSetContainsMotion rows boxes covers' union')))
+
+module _ (rows : List Rows) (boxes : List (List Float)) (depth : ℕ) (covers : List (List Float)) (union : List Float) where
+  -- ---- the guarantee
+  pub kept-set : (c : Chain) → rows ≡ Chain·toRows c → (length rows ≡ 0 → ⊥) → Moves·covers rows boxes depth ≡ Chain·covers c (map Bounds3f·ofList boxes) depth
+  unfolding Moves·covers
+  kept-set c e n = rw (ne-eqb (length rows) 0 n, e, chain-inverse c)
+
+  set-contains : (length rows ≡ 0 → ⊥) → SetAnswer·refusal (Moves·covers rows boxes depth) ≡ 0 → (cs : List (List Float)) (u : List Float)
+      → map Bounds3f·ofList (take (length boxes) cs) ≡ SetAnswer·covers (Moves·covers rows boxes depth)
+      → Bounds3f·ofList u ≡ SetAnswer·union (Moves·covers rows boxes depth)
+      → KeptSetContainsMotion rows boxes cs u
+  set-contains n z cs u e f c time h nan =
+      let asked : Point3f → PointAnswer = λ p. Moves·transformPoint rows time p in
+      let own : Point3f → PointAnswer = λ p. Chain·transformPoint c time p in
+      let same : asked ≡ own = λ i p. kept-point rows c time p (h .same) i in
+      let k = kept-set c (h .same) n in
+      let contains = chain-set-contains c (map Bounds3f·ofList boxes) depth time (h .built) (ap SetAnswer·refusal (sym k) ∙ z) nan in
+      rw (same, e, f, k) contains
+
+  -- ---- refusals
+  pub refused-clauses : (n : ℕ) → (n ≡ 0 → ⊥) → Moves·covers rows boxes depth ≡ refused n → Clauses rows boxes depth n covers covers union union
+  refused-clauses n h e = rw e (refl, (refl, (refl, λ z. absurd (h z))))
+
+  pub no-moves : length rows ≡ 0 → Clauses rows boxes depth 12 covers covers union union
+  no-moves e = refused-clauses 12 (λ z. absurd (omega (arith, z))) (go e)
+    where
+      go : length rows ≡ 0 → Moves·covers rows boxes depth ≡ refused 12
+      go f = unfold Moves·covers in rw (eq-eqb (length rows) 0 f)
+
+  pub no-boxes : (length rows ≡ 0 → ⊥) → length boxes ≡ 0 → Clauses rows boxes depth 14 covers covers union union
+  no-boxes n e = refused-clauses 14 (λ z. absurd (omega (arith, z))) (go boxes e)
+    where
+      go : (bs : List (List Float)) → length bs ≡ 0 → Moves·covers rows bs depth ≡ refused 14
+      go [] f = unfold Moves·covers Boxes·covers SetAnswer·of in rw (ne-eqb (length rows) 0 n)
+      go (b ∷ bs) f = absurd (omega (arith, f))
+
+  pub many-boxes : (length rows ≡ 0 → ⊥) → maxBoxes < length boxes → Clauses rows boxes depth 14 covers covers union union
+  many-boxes n l = refused-clauses 14 (λ z. absurd (omega (arith, z))) go
+    where
+      go : Moves·covers rows boxes depth ≡ refused 14
+      go = unfold Moves·covers Boxes·covers in rw (ne-eqb (length rows) 0 n, length-map boxes Bounds3f·ofList, lt-ltb maxBoxes (length boxes) l)
+
+  abbrev chainCover : Bounds3f → BoundsAnswer
+  chainCover b = Chain·cover (Moves·chain rows) b depth
+
+  moves-covers : (length rows ≡ 0 → ⊥) → Moves·covers rows boxes depth ≡ Boxes·covers chainCover (map Bounds3f·ofList boxes)
+  unfolding Moves·covers
+  moves-covers n = rw (ne-eqb (length rows) 0 n)
+
+  -- ---- the work
+  module _ {places : List (List Float)} {front : Front} (n : length rows ≡ 0 → ⊥) (l : length boxes ≤ maxBoxes)
+      (w : Worked chainCover boxes (zeros maxBoxes) places front) where
+    pub box-refused : front .count < length boxes → Clauses rows boxes depth (front .refusal) covers covers union union
+    box-refused h =
+        let nonzero : (b : Bounds3f) → BoundsAnswer·NonZero (chainCover b) = λ b. chain-cover-nonzero b depth (Moves·chain rows) in
+        let number = subst BoundsAnswer·NonZero (w .reached .stopped h) (nonzero (boxAt boxes (front .count))) in
+        refused-clauses (front .refusal) number (moves-covers n ∙ places-refused chainCover nonzero (w .reached) l h)
+
+    pub all-accepted : (length boxes ≡ 0 → ⊥) → length boxes ≤ front .count → (u : Bounds3f) → u ≡ unionPlaces places (length boxes)
+        → Clauses rows boxes depth 0 covers places union (Bounds3f·list u)
+    all-accepted some h u e =
+        let a = places-accepted chainCover w some l h in
+        let boxes' = map Bounds3f·ofList boxes in
+        let own : List Bounds3f = map (λ b. BoundsAnswer·bounds (chainCover b)) boxes' in
+        let answer : Moves·covers rows boxes depth ≡ covered own (unionPlaces places (length boxes)) = moves-covers n ∙ a .answer in
+        let size : length own ≡ length boxes = length-map boxes' (λ b. BoundsAnswer·bounds (chainCover b)) ∙ length-map boxes Bounds3f·ofList in
+        let left : map Bounds3f·list own ++ zeros (maxBoxes - length own) ≡ places =
+        rw (size, a .covers, ← a .behind) (take-append-drop (length boxes) places) in
+        let back : map Bounds3f·ofList (take (length boxes) places) ≡ own = rw (← a .covers) (round-trip own) in
+        let own-covers = back ∙ ap SetAnswer·covers (sym answer) in
+        let own-union = e ∙ ap SetAnswer·union (sym answer) in (
+          ap SetAnswer·refusal (sym answer),
+          (
+            sym left ∙ ap (λ (s : SetAnswer). SetAnswer·coversLeft s covers) (sym answer),
+            (
+              ap Bounds3f·list e ∙ ap (λ (s : SetAnswer). SetAnswer·unionLeft s union) (sym answer),
+              λ z. set-contains n (ap SetAnswer·refusal answer) places (Bounds3f·list u) own-covers own-union,
+            ),
+          ),
+        )
+      where
+        round-trip : (bs : List Bounds3f) → map Bounds3f·ofList (map Bounds3f·list bs) ≡ bs
+        round-trip [] = refl
+        round-trip (b ∷ bs) = ap (λ (xs : List Bounds3f). b ∷ xs) (round-trip bs)

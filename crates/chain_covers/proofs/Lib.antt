@@ -1,0 +1,4 @@
+pub mod Union
+pub mod Places
+pub mod Clauses
+pub mod Number

@@ -1,0 +1,3 @@
+pub mod Kept
+pub mod Theorem
+pub mod Union

@@ -1,0 +1,71 @@
+-- `join_boxes` meets its contract. The invariant: the boxes before i are joined.
+use Prim.Native.Nat.{_-_, _≤_}
+use mathlib.Core.Path.{_≡_, ap, subst}
+use native.Mathlib.Omega.{arith}
+use borrow.Author.Needs.{needs}
+use lib.ListN.{length, set}
+use Rattle.box_front.specs.Front.{placeCount}
+use Rattle.chain_fronts.specs.Joined.{Joined}
+use Rattle.chain_fronts.proofs.Joined.{joined-first, joined-next}
+use Rattle.chain_fronts.proofs.join_boxes.Statement.{statement}
+use Rattle.chain_fronts.proofs.join_boxes.Tie as tie
+
+abbrev Inv-loop : tie.InvT-loop
+Inv-loop count moved places₀ i₀ places i = (i ≤ count) × (length places₀ ≡ placeCount → Joined moved places₀ places i)
+
+abbrev μ-loop : tie.MeasureT-loop
+μ-loop count moved places₀ i₀ places i = count - i
+
+loop-holds : tie.Need-loop-holds Inv-loop μ-loop
+loop-holds c = (search needs, λ _. joined-first _ _)
+
+mul-join-box : tie.Need-mul-join-box Inv-loop μ-loop
+mul-join-box c = search needs
+
+index-1-join-box : tie.Need-index-1-join-box Inv-loop μ-loop
+index-1-join-box c = search needs
+
+mul-join-box-2 : tie.Need-mul-join-box-2 Inv-loop μ-loop
+mul-join-box-2 c = search needs
+
+index-1-join-box-2 : tie.Need-index-1-join-box-2 Inv-loop μ-loop
+index-1-join-box-2 c = search needs
+
+join-box-requires : tie.Need-join-box-requires Inv-loop μ-loop
+join-box-requires c κs = search needs
+
+add-i : tie.Need-add-i Inv-loop μ-loop
+add-i c = search needs
+
+loop-less : tie.Need-loop-less Inv-loop μ-loop
+loop-less c = search needs
+
+loop-again : tie.Need-loop-again Inv-loop μ-loop
+loop-again c =
+    let l = c .before .before .before .before in
+    let t = c .before .before .before .loop-test .taken in
+    let h = l .before .pre in
+    (omega (arith, t), λ e. joined-next _ (l .loop .inv .1 e) (omega (arith, t, h, e)) (ap (set (l .loop .places) (l .loop .i)) (c .join-box .ensures)))
+
+returns : tie.Need-returns Inv-loop μ-loop
+returns c =
+    let l = c .before .loop in
+    let a = c .before .before .args in
+    λ e. subst (Joined _ _ _) (omega (arith, l .inv .0, c .loop-test .left)) (l .inv .1 e)
+
+pub join-boxes-spec : {M : Type 1} → statement M
+join-boxes-spec =
+    tie.close
+    (tie.spec
+    Inv-loop
+    μ-loop
+    loop-holds
+    mul-join-box
+    index-1-join-box
+    mul-join-box-2
+    index-1-join-box-2
+    join-box-requires
+    add-i
+    loop-less
+    loop-again
+    returns)

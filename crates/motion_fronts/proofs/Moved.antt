@@ -1,0 +1,113 @@
+-- What is answered of a box once its tests, the start transform, the end transform and the slices are joined is its cover: `moved-stored`, `moved-slices`. The steps of
+-- the code: `judged-front`, `start-worked`, `end-worked`.
+use Prim.Native.Nat.{ℕ, _^_, _≤_, _<_}
+use mathlib.Core.Path.{_≡_, refl, ap, subst, _∙_}
+use mathlib.Core.Bool.{Bool, true, false, cond}
+use mathlib.Core.List.{List}
+use native.Mathlib.Omega.{arith}
+use borrow.Author.Tests.{eq-eqb, ne-eqb}
+use lib.Dec.{eqb}
+use lib.ListN.{length}
+use lib.Ieee.{Float}
+use Rattle.bounds3.specs.declared.Bounds3f.{Bounds3f}
+use Rattle.transform.specs.declared.BoundsAnswer.{BoundsAnswer}
+use Rattle.transform.specs.declared.BoundsAnswer.the-variants.{Bounds, Refused}
+use Rattle.bounds_query.specs.Query.{BoundsAnswer·unionBounds, maxDepth, coverRefusal}
+use Rattle.animated_transform.specs.declared.AnimatedTransform.{AnimatedTransform}
+use Rattle.motion_point.specs.TransformPoint.{AnimatedTransform·constants}
+use Rattle.motion_cover.specs.Cover.{Transform·encloseBounds, AnimatedTransform·encloseEnds, unionSlices, AnimatedTransform·encloseMotion, AnimatedTransform·cover}
+use Rattle.motion_cover.proofs.Contains.{cover-depth, motion-stored, motion-slices}
+use Rattle.motion_cover.proofs.Slices.{refused-first}
+use Rattle.pose_steps.specs.declared.JudgedMatrix.{JudgedMatrix}
+use Rattle.motion_piece.specs.Piece.{JudgedMatrix·encloseBounds, JudgedMatrix·stored}
+use Rattle.motion_piece.proofs.Piece.{stored-composition}
+use Rattle.box_front.specs.declared.Front.{Front}
+use Rattle.box_front.specs.Front.{placeCount, boxAt, Judged, Takes}
+use Rattle.motion_fronts.specs.Worked.{FrontOf, Worked}
+use Rattle.motion_fronts.proofs.Front.{joined, take-worked}
+
+-- What the tests of a box leave of it.
+abbrev pub tested : ℕ → Bounds3f → BoundsAnswer
+tested d b = cond (eqb (coverRefusal b d) 0) (Bounds b) (Refused (coverRefusal b d))
+
+-- ---- the tests
+pub judged-front : {boxes : List (List Float)} {d : ℕ} {front : Front} (places : List (List Float)) → Judged boxes d front
+    → FrontOf true (tested d) boxes places front
+judged-front {boxes} {d} {front} places j =
+    record {
+      count = j .count;
+      held = λ i h. record { box = boxAt boxes i; accepted = rw (j .passed i h); kept = λ e. absurd (true-false e) };
+      stopped = λ h. let (e, n) = j .refused h in rw (e, ne-eqb (front .refusal) 0 n);
+    }
+  where
+    true-false : true ≡ false → ⊥
+    true-false e = omega (arith, ap (λ (b : Bool). cond {A = ℕ} b 1 0) e)
+
+pub judged-depth : {boxes : List (List Float)} {d : ℕ} {front : Front} → Judged boxes d front → (front .count ≡ 0 → ⊥) → d ≤ maxDepth
+judged-depth {boxes} {d} {front} j h = cover-depth (boxAt boxes 0) d (j .passed 0 (omega (arith, h)))
+
+-- No box passes its tests: there is nothing to work.
+pub none-passed : {boxes : List (List Float)} {d : ℕ} {front : Front} (m : AnimatedTransform) (places : List (List Float))
+    → Judged boxes d front → front .count ≡ 0 → Worked (λ b. AnimatedTransform·cover m b d) boxes places places front
+unfolding AnimatedTransform·cover
+none-passed {boxes} {d} {front} m places j z =
+    record {
+      size = refl;
+      behind = λ i h. refl;
+      reached = record {
+        count = j .count;
+        held = λ i h. absurd (omega (arith, h, z));
+        stopped = λ h. let (e, n) = j .refused h in rw (e, ne-eqb (front .refusal) 0 n);
+      };
+    }
+
+-- ---- the move
+module _ (m : AnimatedTransform) (d : ℕ) (b : Bounds3f) where
+  abbrev start : BoundsAnswer
+  start = JudgedMatrix·encloseBounds (JudgedMatrix·stored (m .«start_transform»)) b
+
+  abbrev end : BoundsAnswer
+  end = JudgedMatrix·encloseBounds (JudgedMatrix·stored (m .«end_transform»)) b
+
+  pub moved-stored : m .«actually_animated» ≡ false → joined true (tested d b) start ≡ AnimatedTransform·cover m b d
+  unfolding AnimatedTransform·cover
+  moved-stored s = rw (motion-stored m b d s, stored-composition (m .«start_transform») b) (go (eqb (coverRefusal b d) 0))
+    where
+      go : (t : Bool) → joined true (cond t (Bounds b) (Refused (coverRefusal b d))) start ≡ cond t start (Refused (coverRefusal b d))
+      go true = refl
+      go false = refl
+
+  pub moved-slices : m .«actually_animated» ≡ true
+      → unionSlices m (AnimatedTransform·constants m) b d (joined false (joined true (tested d b) start) end) (2 ^ d) ≡ AnimatedTransform·cover m b d
+  unfolding AnimatedTransform·cover AnimatedTransform·encloseEnds
+  moved-slices s =
+      rw (motion-slices m b d s, stored-composition (m .«start_transform») b, stored-composition (m .«end_transform») b) (go (eqb (coverRefusal b d) 0))
+    where
+      slices : BoundsAnswer → BoundsAnswer
+      slices r = unionSlices m (AnimatedTransform·constants m) b d r (2 ^ d)
+
+      go : (t : Bool) → slices (joined false (joined true (cond t (Bounds b) (Refused (coverRefusal b d))) start) end)
+          ≡ cond t (slices (BoundsAnswer·unionBounds start end)) (Refused (coverRefusal b d))
+      go true = refl
+      go false = unfold BoundsAnswer·unionBounds in refused-first m (AnimatedTransform·constants m) b d (coverRefusal b d) (2 ^ d)
+
+-- ---- the steps of the code, each by the clause of its call
+module _ (m : AnimatedTransform) (d : ℕ) {boxes : List (List Float)} (count : length boxes ≤ placeCount) where
+  pub start-worked : {front to : Front} {places new : List (List Float)} {pose : JudgedMatrix} → Judged boxes d front → length places ≡ placeCount
+      → pose ≡ JudgedMatrix·stored (m .«start_transform»)
+      → Takes true pose boxes places new front to
+      → Worked (λ b. joined true (tested d b) (start m d b)) boxes places new to
+  start-worked {front} {to} {places} {new} {pose} j h e t =
+      let c = j .count in
+      subst (λ (x : JudgedMatrix). Worked (λ b. joined true (tested d b) (JudgedMatrix·encloseBounds x b)) boxes places new to) e
+      (take-worked (judged-front places j) (t c (omega (arith, c, count)) h) refl (λ i l. refl))
+
+  pub end-worked : {f : Bounds3f → BoundsAnswer} {from to : Front} {first old new : List (List Float)} {pose : JudgedMatrix}
+      → Worked f boxes first old from → length first ≡ placeCount
+      → pose ≡ JudgedMatrix·stored (m .«end_transform»)
+      → Takes false pose boxes old new from to
+      → Worked (λ b. joined false (f b) (end m d b)) boxes first new to
+  end-worked {f} {from} {to} {first} {old} {new} {pose} w h e t =
+      let c = w .reached .count in
+      subst (λ (x : JudgedMatrix). Worked (λ b. joined false (f b) (JudgedMatrix·encloseBounds x b)) boxes first new to) e
+      (take-worked (w .reached) (t c (omega (arith, c, count)) (w .size ∙ h)) (w .size) (w .behind))

@@ -1,0 +1,54 @@
+-- The loop over the slices of dt: after k of them each box in front holds the union with the first k (`Sliced`); `sliced-first`, `sliced-next`, `sliced-last`.
+use Prim.Native.Nat.{ℕ, _+_, _^_, _≤_}
+use mathlib.Core.Path.{_≡_, refl, subst, _∙_}
+use mathlib.Core.Bool.{false}
+use mathlib.Core.List.{List}
+use native.Mathlib.Numerals.{add-one}
+use native.Mathlib.Omega.{arith}
+use lib.ListN.{length}
+use lib.Ieee.{Float}
+use Rattle.bounds3.specs.declared.Bounds3f.{Bounds3f}
+use Rattle.transform.specs.declared.BoundsAnswer.{BoundsAnswer}
+use Rattle.bounds_query.specs.Query.{BoundsAnswer·unionBounds}
+use Rattle.unit_interval.specs.Unit.{slice}
+use Rattle.pose_steps.specs.declared.PoseConstants.{PoseConstants}
+use Rattle.pose_steps.specs.declared.JudgedMatrix.{JudgedMatrix}
+use Rattle.pose_steps.specs.Enclose.{Pose·encloseMatrix}
+use Rattle.animated_transform.specs.declared.AnimatedTransform.{AnimatedTransform}
+use Rattle.motion_point.specs.TransformPoint.{AnimatedTransform·constants}
+use Rattle.motion_cover.specs.Cover.{unionSlices}
+use Rattle.motion_piece.specs.Piece.{JudgedMatrix·encloseBounds}
+use Rattle.motion_piece.proofs.Piece.{piece-composition}
+use Rattle.box_front.specs.declared.Front.{Front}
+use Rattle.box_front.specs.Front.{placeCount, Takes}
+use Rattle.motion_fronts.specs.Worked.{Worked, Continues}
+use Rattle.motion_fronts.proofs.Front.{worked-same, take-worked}
+
+module _ (m : AnimatedTransform) (a : PoseConstants) (boxes : List (List Float)) (d : ℕ) (from : Front) (old : List (List Float)) where
+  pub record Sliced (k : ℕ) (new : List (List Float)) (to : Front) : Type 0 where
+    pub worked : Continues (λ answer b. unionSlices m a b d (answer b) k) boxes old new from to
+
+  pub sliced-first : Sliced 0 old from
+  unfolding unionSlices
+  sliced-first = record { worked = λ answer h f. record { size = refl; behind = λ i l. refl; reached = f } }
+
+  pub sliced-next : {k : ℕ} {new next : List (List Float)} {to then : Front} {pose : JudgedMatrix} → Sliced k new to → length boxes ≤ placeCount
+      → pose ≡ Pose·encloseMatrix a (m .s0) (m .s1) (slice d k)
+      → Takes false pose boxes new next to then → Sliced (k + 1) next then
+  sliced-next {k} {new} {next} {to} {then} {pose} s l e t = record { worked = λ answer h f. go answer h (s .worked answer h f) }
+    where
+      one-more : (answer : Bounds3f → BoundsAnswer) (b : Bounds3f)
+          → BoundsAnswer·unionBounds (unionSlices m a b d (answer b) k) (JudgedMatrix·encloseBounds pose b) ≡ unionSlices m a b d (answer b) (k + 1)
+      one-more answer b = unfold unionSlices in rw (add-one, e, piece-composition m a (slice d k) b)
+
+      go : (answer : Bounds3f → BoundsAnswer) → length old ≡ placeCount → Worked (λ b. unionSlices m a b d (answer b) k) boxes old new to
+          → Worked (λ b. unionSlices m a b d (answer b) (k + 1)) boxes old next then
+      go answer h w =
+          let c = w .reached .count in
+          worked-same (one-more answer) (take-worked (w .reached) (t c (omega (arith, c, l)) (w .size ∙ h)) (w .size) (w .behind))
+
+  pub sliced-last : {k : ℕ} {new : List (List Float)} {to : Front} → Sliced k new to → k ≡ 2 ^ d → a ≡ AnimatedTransform·constants m
+      → Continues (λ answer b. unionSlices m (AnimatedTransform·constants m) b d (answer b) (2 ^ d)) boxes old new from to
+  sliced-last {new = new} {to = to} s e f answer h g =
+      subst (λ (x : PoseConstants). Worked (λ b. unionSlices m x b d (answer b) (2 ^ d)) boxes old new to) f
+      (subst (λ (j : ℕ). Worked (λ b. unionSlices m a b d (answer b) j) boxes old new to) e (s .worked answer h g))

@@ -1,0 +1,81 @@
+-- `take_slices` meets its contract. The invariant: the first k slices are taken over the boxes in front.
+use Prim.Native.Nat.{_-_, _≤_}
+use mathlib.Core.Path.{ap, _∙_}
+use native.Mathlib.Omega.{arith}
+use lib.Pow.{pow-lt}
+use borrow.Author.Needs.{needs}
+use Rattle.bounds_query.specs.Query.{maxDepth}
+use Rattle.pose_steps.specs.Enclose.{Pose·encloseMatrix}
+use Rattle.motion_cover.proofs.Slices.{slice-count}
+use Rattle.motion_fronts.proofs.Sliced.{Sliced, sliced-first, sliced-next, sliced-last}
+use Rattle.motion_fronts.proofs.take_slices.Statement.{statement}
+use Rattle.motion_fronts.proofs.take_slices.Tie as tie
+
+abbrev Inv-loop : tie.InvT-loop
+Inv-loop m boxes d places₀ a slices reached₀ k₀ places reached k = (k ≤ slices) × Sliced m a boxes d reached₀ places₀ k places reached
+
+abbrev μ-loop : tie.MeasureT-loop
+μ-loop m boxes d places₀ a slices reached₀ k₀ places reached k = slices - k
+
+constants-requires : tie.Need-constants-requires Inv-loop μ-loop
+constants-requires c κs = search needs
+
+shl-slices : tie.Need-shl-slices Inv-loop μ-loop
+shl-slices c = let h = c .before .pre in omega (arith, h)
+
+loop-holds : tie.Need-loop-holds Inv-loop μ-loop
+loop-holds c = (omega arith, sliced-first _ _ _ _ _ _)
+
+slice-requires : tie.Need-slice-requires Inv-loop μ-loop
+slice-requires c κs =
+    let d = c .before .before .before .args .d in
+    let h : d ≤ maxDepth = c .before .before .before .pre .0 in
+    (h, omega (arith, slice-count d h, c .loop-test .taken))
+
+pose-enclosure-requires : tie.Need-pose-enclosure-requires Inv-loop μ-loop
+pose-enclosure-requires c κs = search needs
+
+take-pose-requires : tie.Need-take-pose-requires Inv-loop μ-loop
+take-pose-requires c κs = search needs
+
+add-k : tie.Need-add-k Inv-loop μ-loop
+add-k c =
+    let d = c .before .before .before .before .before .before .before .args .d in
+    let h : d ≤ maxDepth = c .before .before .before .before .before .before .before .pre .0 in
+    omega (arith, slice-count d h, pow-lt {i = d} {j = 13} (omega (arith, h)), c .before .before .before .before .loop-test .taken)
+
+loop-less : tie.Need-loop-less Inv-loop μ-loop
+loop-less c = search needs
+
+loop-again : tie.Need-loop-again Inv-loop μ-loop
+loop-again c =
+    let l = c .before .before .before .before .before in
+    let a = l .before .before .args in
+    let t = c .before .before .before .before .loop-test .taken in
+    let slice = c .before .before .before .slice .ensures in
+    let e = c .before .before .pose-enclosure .ensures ∙ ap (Pose·encloseMatrix (l .before .constants .result) (a .m .s0) (a .m .s1)) slice in
+    (omega (arith, t), sliced-next _ _ _ _ _ _ (l .loop .inv .1) (l .before .before .pre .1) e (c .take-pose .ensures))
+
+returns : tie.Need-returns Inv-loop μ-loop
+returns c =
+    let l = c .before .loop in
+    let a = c .before .before .before .args in
+    let h : a .d ≤ maxDepth = c .before .before .before .pre .0 in
+    sliced-last _ _ _ _ _ _ (l .inv .1) (omega (arith, slice-count (a .d) h, l .inv .0, c .loop-test .left)) (c .before .before .constants .ensures)
+
+pub take-slices-spec : {M : Type 1} → statement M
+take-slices-spec =
+    tie.close
+    (tie.spec
+    Inv-loop
+    μ-loop
+    constants-requires
+    shl-slices
+    loop-holds
+    slice-requires
+    pose-enclosure-requires
+    take-pose-requires
+    add-k
+    loop-less
+    loop-again
+    returns)

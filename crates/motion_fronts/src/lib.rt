@@ -1,0 +1,82 @@
+// The covers of many boxes over one move: each pose is enclosed once and taken over all boxes in front.
+use animated_transform::AnimatedTransform;
+use box_front::Front;
+use interval::Interval;
+ghost use Prim.Native.Nat.{_^_, _≤_};
+ghost use mathlib.Core.Path.{_≡_};
+ghost use lib.ListN.{length};
+ghost use Rattle.bounds_query.specs.Query.{maxDepth};
+ghost use Rattle.unit_interval.specs.Unit.{slice};
+ghost use Rattle.motion_point.specs.TransformPoint.{AnimatedTransform·constants};
+ghost use Rattle.motion_cover.specs.Cover.{unionSlices, AnimatedTransform·cover};
+ghost use Rattle.box_front.specs.Front.{placeCount};
+ghost use Rattle.motion_fronts.specs.Worked.{Works, Continues};
+
+const PLACE_COUNT: usize = 16;
+
+// The slice k of dt at the depth d. Accuracy: correctly rounded.
+fn slice(d: u32, k: u64) -> Interval
+    requires { ⌜ d ≤ maxDepth ⌝ }
+    requires { ⌜ k ≤ 2 ^ d ⌝ }
+    ensures value { λ r. ⌜ r ≡ slice d k ⌝ }
+{
+    Interval {
+        low: float_bits::from_fixed(k, d),
+        high: float_bits::from_fixed(k + 1, d),
+    }
+}
+
+// The 2^d slices of dt, in rising order, over the boxes in front. Accuracy: encloses.
+fn take_slices(
+    m: AnimatedTransform,
+    boxes: &[[f32; 6]],
+    d: u32,
+    front: Front,
+    places: &mut [[f32; 6]; 16],
+) -> Front
+    requires { ⌜ d ≤ maxDepth ⌝ }
+    requires { ⌜ length (now boxes) ≤ placeCount ⌝ }
+    ensures worked { λ r. ⌜ Continues (λ answer b. unionSlices m (AnimatedTransform·constants m) b d (answer b) (2 ^ d)) (now (boxes .entry)) (now (places .entry)) (now (places .exit)) front r ⌝ }
+{
+    let a = motion_point::constants(m);
+    let slices = 1u64 << d;
+    let mut reached = front;
+    let mut k = 0u64;
+    while k < slices {
+        let pose = motion_piece::pose_enclosure(a, m.s0, m.s1, slice(d, k));
+        let next = box_front::take_pose(false, pose, boxes, reached, places);
+        reached = next;
+        k += 1;
+    }
+    reached
+}
+
+// The cover of each box, in order, up to the first that is refused: its number is in the front. Nothing is worked where there are more boxes than places.
+// Accuracy: encloses.
+pub fn covers(
+    m: AnimatedTransform,
+    boxes: &[[f32; 6]],
+    depth: u32,
+    places: &mut [[f32; 6]; 16],
+) -> Front
+    ensures worked { λ r. ⌜ Works (λ b. AnimatedTransform·cover m b depth) (now (boxes .entry)) (now (places .entry)) (now (places .exit)) r ⌝ }
+{
+    if boxes.len() > PLACE_COUNT {
+        return Front {
+            count: 0,
+            refusal: 0,
+        };
+    }
+    let front = box_front::judged(boxes, depth);
+    if front.count == 0 {
+        return front;
+    }
+    let start = motion_piece::stored_enclosure(m.start_transform);
+    let started = box_front::take_pose(true, start, boxes, front, places);
+    if !m.actually_animated {
+        return started;
+    }
+    let end = motion_piece::stored_enclosure(m.end_transform);
+    let ended = box_front::take_pose(false, end, boxes, started, places);
+    take_slices(m, boxes, depth, ended, places)
+}

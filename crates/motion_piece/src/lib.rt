@@ -1,0 +1,55 @@
+// A piece of a cover in two steps: the poses over any interval of dt as one judged matrix, and the box that such a matrix moves a box to. Many boxes then share
+// the first step. Nothing is asked of dt or of the constants: what isn't finite is refused.
+use bounds3::Bounds3f;
+use interval::Interval;
+use matrix4x4::Matrix4x4;
+use pose_steps::JudgedMatrix;
+use pose_steps::JudgedQuaternion;
+use pose_steps::PoseConstants;
+use transform::BoundsAnswer;
+use transform::Transform;
+ghost use mathlib.Core.Path.{_≡_};
+ghost use Rattle.pose_steps.specs.Enclose.{Pose·encloseSlerp, Pose·encloseMatrix};
+ghost use Rattle.motion_piece.specs.Piece.{JudgedMatrix·encloseBounds, JudgedMatrix·stored};
+
+// The rotation over an interval of dt, with m the refusal number met before; refused with 5 or 10. Accuracy: encloses, for an angle from 0 to a quarter turn and
+// dt from 0 to 1.
+pub fn slerp_enclosure(m: u8, a: PoseConstants, dt: Interval) -> JudgedQuaternion
+    ensures value { λ r. ⌜ r ≡ Pose·encloseSlerp m a dt ⌝ }
+{
+    if a.cos_theta > 0.9995 {
+        pose_slerp::slerp_near_enclosure(m, a.r0, a.r1, dt)
+    } else {
+        pose_slerp::slerp_far_enclosure(m, a, dt)
+    }
+}
+
+// The pose's matrix over an interval of dt; refused with 5 or 10. Accuracy: encloses, for an angle from 0 to a quarter turn and dt from 0 to 1.
+pub fn pose_enclosure(a: PoseConstants, s0: Matrix4x4, s1: Matrix4x4, dt: Interval) -> JudgedMatrix
+    ensures value { λ r. ⌜ r ≡ Pose·encloseMatrix a s0 s1 dt ⌝ }
+{
+    let trans = pose_parts::translation_enclosure(0, a.t0, a.t1, dt);
+    let rotate = slerp_enclosure(trans.refusal, a, dt);
+    pose::composition_enclosure(trans.vector, rotate, s0, s1, dt)
+}
+
+// A stored transform's matrix, with equal ends. Accuracy: exact.
+pub fn stored_enclosure(t: Transform) -> JudgedMatrix
+    ensures value { λ r. ⌜ r ≡ JudgedMatrix·stored t ⌝ }
+{
+    JudgedMatrix {
+        matrix: pose_point::matrix_point(t.m),
+        refusal: 0,
+    }
+}
+
+// The box that a judged matrix moves a box to; refused with the matrix's number, or with 5. Accuracy: encloses.
+pub fn box_enclosure(pose: JudgedMatrix, b: Bounds3f) -> BoundsAnswer
+    ensures value { λ r. ⌜ r ≡ JudgedMatrix·encloseBounds pose b ⌝ }
+{
+    motion_cover::from_enclosure(pose_point::transform_point_enclosure(
+        pose.refusal,
+        pose.matrix,
+        motion_cover::intervals(b),
+    ))
+}
