@@ -23,10 +23,11 @@ fn stretch_end(times: &[f32], from: usize, end: f32) -> usize
     let n = times.len();
     let mut i = from;
     while i < n {
+        let next = i + 1;
         if !(times[i] <= end) {
             return i;
         }
-        i = i + 1;
+        i = next;
     }
     i
 }

@@ -61,9 +61,10 @@ fn fill_stretch(motion: &[[f32; 4]; 44], times: &[f32], p: Point3f, answers: &mu
     let n = times.len();
     let mut i = 0;
     while i < n {
+        let next = i + 1;
         let q = point_of(motion_rows::transform_point(motion, times[i], p));
         put_three(answers, 3 * i, q);
-        i = i + 1;
+        i = next;
     }
 }
 

@@ -20,6 +20,9 @@ abbrev μ-loop : tie.MeasureT-loop
 loop-holds : tie.Need-loop-holds Inv-loop μ-loop
 loop-holds c = (refl, (omega arith, (search needs, refl)))
 
+add-next : tie.Need-add-next Inv-loop μ-loop
+add-next c = search needs
+
 mul-if1 : tie.Need-mul-if1 Inv-loop μ-loop
 mul-if1 c = search needs
 
@@ -32,9 +35,6 @@ returns c =
     let a = c .before .before .before .before .args in
     let h = c .before .before .loop-test .taken in
     (sym (count-here (a .end) (a .times .now) (l .i) h (not-true (le (getD (a .times .now) (l .i) nan) (a .end)) (c .if1 .taken))) ∙ l .inv .1 .1 .1, (omega (arith, h), l .inv .1 .0))
-
-add-i : tie.Need-add-i Inv-loop μ-loop
-add-i c = search needs
 
 loop-less : tie.Need-loop-less Inv-loop μ-loop
 loop-less c = search needs
@@ -59,10 +59,10 @@ stretch-end-spec =
     Inv-loop
     μ-loop
     loop-holds
+    add-next
     mul-if1
     shared-slice-read-if1
     returns
-    add-i
     loop-less
     loop-again
     returns-2)

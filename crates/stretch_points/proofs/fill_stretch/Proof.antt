@@ -26,6 +26,9 @@ abbrev μ-loop : tie.MeasureT-loop
 loop-holds : tie.Need-loop-holds Inv-loop μ-loop
 loop-holds c = (refl, (omega arith, (c .before .before .pre, refl)))
 
+add-next : tie.Need-add-next Inv-loop μ-loop
+add-next c = search needs
+
 mul-transform-point : tie.Need-mul-transform-point Inv-loop μ-loop
 mul-transform-point c = search needs
 
@@ -43,9 +46,6 @@ mul-put-three c = search needs
 
 put-three-requires : tie.Need-put-three-requires Inv-loop μ-loop
 put-three-requires c κs = search needs
-
-add-i : tie.Need-add-i Inv-loop μ-loop
-add-i c = search needs
 
 loop-less : tie.Need-loop-less Inv-loop μ-loop
 loop-less c = search needs
@@ -87,13 +87,13 @@ fill-stretch-spec =
     Inv-loop
     μ-loop
     loop-holds
+    add-next
     mul-transform-point
     shared-slice-read-transform-point
     transform-point-requires
     point-of-requires
     mul-put-three
     put-three-requires
-    add-i
     loop-less
     loop-again
     same-length
