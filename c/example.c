@@ -17,6 +17,7 @@ int main(void)
     static jellyplain_chain chain;
     jellyplain_move move;
     float moved[3], transform[2][4][4], bounds[6], points[9], covers[JELLYPLAIN_BOXES][6];
+    uint32_t examined[3];
 
     if (jellyplain_layout() != JELLYPLAIN_LAYOUT) {
         printf("the archive has another layout\n");
@@ -32,6 +33,8 @@ int main(void)
         printf("the origin at 0.5: %g %g %g\n", moved[0], moved[1], moved[2]);
     if (jellyplain_interpolate(&move, 0.5f, transform) == JELLYPLAIN_NONE)
         printf("its inverse takes back by %g\n", transform[1][0][3]);
+    if (jellyplain_bound_point_motion(&move, origin, bounds, examined) == JELLYPLAIN_NONE)
+        printf("its motion box: x from %g to %g, %u interval examined on x\n", bounds[0], bounds[3], (unsigned)examined[0]);
     if (jellyplain_cover(&move, boom, 10, bounds) == JELLYPLAIN_NONE)
         printf("reserved: %g %g %g to %g %g %g\n", bounds[0], bounds[1], bounds[2], bounds[3], bounds[4], bounds[5]);
     if (jellyplain_build_chain(there_and_back, 3, &chain) == JELLYPLAIN_NONE

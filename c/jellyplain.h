@@ -2,8 +2,9 @@
  * caller, and asked many times. Their contracts are proved in crates/api, whose specs/ say what each returns and leaves for all arguments; this header itself is not checked
  * against them, nor are its inline functions, each of which makes one call.
  *
- * Each function answers a refusal number, 0 for none (the enum below). Where nothing is refused it writes the array that it is lent last, whole (a set's query the last two);
- * after a refusal that array is as it was. Any floats may be handed in. Pointers must be valid for the sizes that are written here and aligned for float, and the array that is written overlaps no other.
+ * Each function answers a refusal number, 0 for none (the enum below). Where nothing is refused it writes what it is lent for its answer, the arguments that are not const, whole;
+ * after a refusal that is as it was. Any floats may be handed in. Pointers must be valid for the sizes that are written here and aligned for what they point to, and what is
+ * written overlaps nothing else.
  * Nothing is kept between calls and nothing is allocated, so that calls from several threads need no lock.
  */
 #ifndef JELLYPLAIN_H
@@ -72,11 +73,13 @@ uint8_t jellyplain_point(const jellyplain_move *motion, float time, const float 
 /* The transform at a time: its matrix, and then its inverse. Numbers 4, 5 and 6. */
 uint8_t jellyplain_interpolate(const jellyplain_move *motion, float time, float transform[2][4][4]);
 
-/* pbrt's motion box of a point: x0 y0 z0 x1 y1 z1, least corner and greatest corner. It is no cover. Numbers 5, 6 and 9. */
-uint8_t jellyplain_bound_point_motion(const jellyplain_move *motion, const float p[3], float bounds[6]);
+/* pbrt's motion box of a point: x0 y0 z0 x1 y1 z1, least corner and greatest corner. It is no cover. What it cost: how many intervals its search examined on x, y and z, at
+ * most 511 each, and 0 where the poses are equal. Numbers 5, 6 and 9. */
+uint8_t jellyplain_bound_point_motion(const jellyplain_move *motion, const float p[3], float bounds[6], uint32_t examined[3]);
 
-/* pbrt's motion box of the box b. It is no cover. Numbers 5, 6, 7 and 9. */
-uint8_t jellyplain_motion_bounds(const jellyplain_move *motion, const float b[6], float bounds[6]);
+/* pbrt's motion box of the box b. It is no cover. The counts are the sums over its eight corners, and 0 for a move without rotation, which needs no search.
+ * Numbers 5, 6, 7 and 9. */
+uint8_t jellyplain_motion_bounds(const jellyplain_move *motion, const float b[6], float bounds[6], uint32_t examined[3]);
 
 /* A box that holds every point of the box b at every time but NaN, from 2^depth slices of the move. Numbers 5, 6, 7, 8 and 10. */
 uint8_t jellyplain_cover(const jellyplain_move *motion, const float b[6], uint32_t depth, float bounds[6]);

@@ -50,6 +50,11 @@ const EDITS: &[(&str, Change, &str)] = &[
         "the range assertions are noted instead of ending the program, since `zeros` is asked of any coefficients",
     ),
     (TRANSFORM, Replace("assert!(self.high <= 2.0001 * PI);", "crate::log::range(self.high <= 2.0001 * PI);", 2), "likewise"),
+    (
+        TRANSFORM,
+        Replace("    type I = Interval;\n", "    type I = Interval;\n    crate::log::examined();\n", 1),
+        "`interval_find_zeros` notes each of its calls, so each interval that it examines",
+    ),
     // Parts that need modules which are missing here and are not ported.
     (TRANSFORM, Replace("use crate::core::geometry::ray::*;\n", "", 1), "rays are not ported"),
     (TRANSFORM, Replace("use crate::core::interaction::SurfaceInteraction;\n", "", 1), "surface interactions are not ported"),

@@ -121,7 +121,8 @@ impl Case {
         let (Ok(port), Ok(original)) = (self.port.motion_bounds(&self.bounds), self.original.motion_bounds(&original_bounds(&self.bounds))) else {
             return false;
         };
-        assert_eq!(array(&port), judged::bounds_values(&original), "the motion box of {:?}", self.bounds);
+        assert_eq!(array(&port.bounds), judged::bounds_values(&original.bounds), "the motion box of {:?}", self.bounds);
+        assert_eq!(port.examined, original.examined, "the intervals examined for {:?}", self.bounds);
         let (Ok(port), Ok(second)) = (self.port.cover(&self.bounds, 8), cover(&self.original.fields, &array(&self.bounds), 8)) else { return false };
         assert_eq!(array(&port), second, "the cover of {:?}", self.bounds);
         true

@@ -2,8 +2,8 @@
 
 use crate::chain::{Chain, Pose};
 use crate::core::geometry::point::Point3f;
-use crate::judged::{bounds_values, point_values, Judged, Move};
-use crate::lines::{bounds, float, floats, matrix, matrix_floats, parts, read, whole, Answer, Session, Values};
+use crate::judged::{point_values, Judged, Move};
+use crate::lines::{bounds, counted, float, floats, matrix, matrix_floats, parts, read, whole, Answer, Session, Values};
 
 /// The words of a question behind its name.
 type Words<'a> = &'a [&'a [u8]];
@@ -203,14 +203,14 @@ fn move_parts(slots: &mut Slots, words: Words) -> Answer {
 /// cmotion S I BOX
 fn motion(slots: &mut Slots, words: Words) -> Answer {
     let (m, words) = move_of(slots, words)?;
-    Some(box_floats(m.motion_bounds(&bounds(&read(words)?)).map(|b| bounds_values(&b))))
+    Some(m.motion_bounds(&bounds(&read(words)?)).map(|motion| counted(&motion)))
 }
 
 /// cpmotion S I X Y Z
 fn point_motion(slots: &mut Slots, words: Words) -> Answer {
     let (m, words) = move_of(slots, words)?;
     let [x, y, z] = read(words)?;
-    Some(box_floats(m.bound_point_motion(&Point3f::new(x, y, z)).map(|b| bounds_values(&b))))
+    Some(m.bound_point_motion(&Point3f::new(x, y, z)).map(|motion| counted(&motion)))
 }
 
 #[cfg(test)]
@@ -264,8 +264,8 @@ mod tests {
         let words = |question: &str| answers(&[&build, question])[1].split(' ').count();
         assert_eq!(words("cparts 2 1"), 1 + 2 + 138);
         assert_eq!(words("cinterp 2 1 3fc00000"), 1 + 32);
-        assert_eq!(words(&format!("cmotion 2 0 {ORIGIN} {ORIGIN}")), 1 + 6);
-        assert_eq!(words(&format!("cpmotion 2 0 {ORIGIN}")), 1 + 6);
+        assert_eq!(words(&format!("cmotion 2 0 {ORIGIN} {ORIGIN}")), 1 + 6 + 3);
+        assert_eq!(words(&format!("cpmotion 2 0 {ORIGIN}")), 1 + 6 + 3);
         assert_eq!(words(&format!("ccover 2 3 {ORIGIN} {ORIGIN}")), 1 + 6);
         assert_eq!(words(&format!("cset 2 3{}", format!(" {ORIGIN} {ORIGIN}").repeat(16))), 1 + 6 * 17);
         assert_eq!(answers(&[&build, "cset 2 3"])[1], "refused 14");

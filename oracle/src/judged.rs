@@ -22,6 +22,13 @@ pub struct Move {
     pub fields: Fields,
 }
 
+/// A motion box, and how many intervals were examined for it on each axis.
+#[derive(Debug, Clone, Copy)]
+pub struct MotionBounds {
+    pub bounds: Bounds3f,
+    pub examined: [u32; 3],
+}
+
 pub fn point_values(p: &Point3f) -> [f32; 3] {
     [p.x, p.y, p.z]
 }
@@ -294,8 +301,10 @@ impl Move {
     }
 
     /// The moved points in the original's order, each judged as it is met; a ninth zero as its axis is searched.
-    fn point_motion(&self, p: &Point3f) -> Judged<Bounds3f> {
+    /// The original's own run must examine as many intervals.
+    fn point_motion(&self, p: &Point3f) -> Judged<MotionBounds> {
         let f = &self.fields;
+        let mut examined = [0; 3];
         let start = f.start.transform_point(p);
         finite(&point_values(&start))?;
         let mut ours = Bounds3f::from_point(&start);
@@ -305,18 +314,23 @@ impl Move {
             ours = ours.union_point(&end);
             let theta = angles::acos(clamp(f.r[0].dot(&f.r[1]), -1.0, 1.0));
             for axis in 0..3 {
-                for zero in zeros(self.original.terms(axis, p), theta)?.1 {
+                log::take_examined();
+                let (_, zeros) = zeros(self.original.terms(axis, p), theta)?;
+                examined[axis] = log::take_examined();
+                for zero in zeros {
                     ours = ours.union_point(&self.moved(lerp(zero, f.start_time, f.end_time), p)?);
                 }
             }
         }
+        log::take_examined();
         let original = self.original.bound_point_motion(p);
+        assert_eq!(log::take_examined(), examined.iter().sum::<u32>(), "the intervals examined for {p:?}");
         assert_eq!(ours, original, "the motion of {p:?}");
         assert!(!log::take_out_of_range(), "a range assertion fails for {p:?} of {f:?}");
-        Ok(original)
+        Ok(MotionBounds { bounds: original, examined })
     }
 
-    pub fn bound_point_motion(&self, p: &Point3f) -> Judged<Bounds3f> {
+    pub fn bound_point_motion(&self, p: &Point3f) -> Judged<MotionBounds> {
         if finite(&point_values(p)).is_err() {
             return Err(QUERY);
         }
@@ -324,15 +338,20 @@ impl Move {
         self.point_motion(p)
     }
 
-    pub fn motion_bounds(&self, b: &Bounds3f) -> Judged<Bounds3f> {
+    pub fn motion_bounds(&self, b: &Bounds3f) -> Judged<MotionBounds> {
         check_bounds(b)?;
         log::take_out_of_range();
         let f = &self.fields;
         let mut ours = Bounds3f::default();
+        let mut examined = [0; 3];
         for i in 0..8 {
             let corner = b.corner(i);
             ours = ours.union_bounds(&if f.has_rotation && f.actually_animated {
-                self.point_motion(&corner)?
+                let motion = self.point_motion(&corner)?;
+                for axis in 0..3 {
+                    examined[axis] += motion.examined[axis];
+                }
+                motion.bounds
             } else {
                 let ends = [&f.start, &f.end].map(|pose| pose.transform_point(&corner));
                 finite(&point_values(&ends[0]))?;
@@ -344,9 +363,11 @@ impl Move {
                 }
             });
         }
+        log::take_examined();
         let original = self.original.motion_bounds(b);
+        assert_eq!(log::take_examined(), examined.iter().sum::<u32>(), "the intervals examined for {b:?}");
         assert_eq!(ours, original, "the motion of {b:?}");
-        Ok(original)
+        Ok(MotionBounds { bounds: original, examined })
     }
 }
 

@@ -6,7 +6,7 @@ use crate::core::geometry::point::Point3f;
 use crate::core::geometry::vector::Vector3f;
 use crate::core::quaternion::Quaternion;
 use crate::core::transform::Matrix4x4;
-use crate::judged::{quaternion_values, vector_values, Judged, Move};
+use crate::judged::{bounds_values, quaternion_values, vector_values, Judged, MotionBounds, Move};
 use std::fmt::Write as _;
 use std::io::{self, BufRead, BufWriter, Write};
 
@@ -114,6 +114,11 @@ pub fn bounds(values: &[f32; 6]) -> Bounds3f {
 
 pub fn matrix_floats(m: &Matrix4x4) -> Values {
     floats(m.m.as_flattened())
+}
+
+/// A motion box, and its three counts behind it.
+pub fn counted(motion: &MotionBounds) -> Values {
+    motion.examined.iter().fold(floats(&bounds_values(&motion.bounds)), |values, n| values.number(*n as usize))
 }
 
 pub fn quaternion_floats(q: &Quaternion) -> Values {

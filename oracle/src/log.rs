@@ -1,4 +1,5 @@
-//! What the original says beside its results: `error!` is silent; a zero pivot and a range assertion that does not hold are noted for the caller.
+//! What the original says beside its results: `error!` is silent; a zero pivot, a range assertion that does not hold and how many intervals a search examines are
+//! noted for the caller.
 
 use std::cell::Cell;
 
@@ -12,6 +13,7 @@ pub(crate) use error;
 thread_local! {
     static ZERO_PIVOT: Cell<bool> = const { Cell::new(false) };
     static OUT_OF_RANGE: Cell<bool> = const { Cell::new(false) };
+    static EXAMINED: Cell<u32> = const { Cell::new(0) };
 }
 
 /// Called by the original where it finds a zero pivot.
@@ -28,6 +30,12 @@ pub fn range(holds: bool) {
     }
 }
 
+/// Called by the original's `interval_find_zeros` as it begins.
+#[inline(always)]
+pub fn examined() {
+    EXAMINED.set(EXAMINED.get() + 1);
+}
+
 /// Whether a zero pivot was met since the last call.
 pub fn take_zero_pivot() -> bool {
     ZERO_PIVOT.replace(false)
@@ -36,4 +44,9 @@ pub fn take_zero_pivot() -> bool {
 /// Whether a range assertion failed since the last call.
 pub fn take_out_of_range() -> bool {
     OUT_OF_RANGE.replace(false)
+}
+
+/// How many intervals were examined since the last call.
+pub fn take_examined() -> u32 {
+    EXAMINED.replace(0)
 }

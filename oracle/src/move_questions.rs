@@ -6,7 +6,7 @@ use crate::core::pbrt::{clamp, lerp};
 use crate::core::quaternion::slerp;
 use crate::core::transform::{Matrix4x4, Transform};
 use crate::judged::{self, bounds_values, point_values, quaternion_values, vector_values, Move};
-use crate::lines::{bounds, floats, matrix, matrix_floats, parts, quaternion, quaternion_floats, read, whole, Answer, Session, Values};
+use crate::lines::{bounds, counted, floats, matrix, matrix_floats, parts, quaternion, quaternion_floats, read, whole, Answer, Session, Values};
 use crate::num::Float;
 use crate::{angles, cover};
 
@@ -62,12 +62,12 @@ impl Session for Moves {
             }
             b"motion" => {
                 let moved = self.kept.as_ref()?.motion_bounds(&bounds(&read(words)?));
-                Some(moved.map(|b| floats(&bounds_values(&b))))
+                Some(moved.map(|motion| counted(&motion)))
             }
             b"pmotion" => {
                 let [x, y, z] = read(words)?;
                 let moved = self.kept.as_ref()?.bound_point_motion(&Point3f::new(x, y, z));
-                Some(moved.map(|b| floats(&bounds_values(&b))))
+                Some(moved.map(|motion| counted(&motion)))
             }
             b"cover" => {
                 let (depth, words) = words.split_first()?;
@@ -230,6 +230,7 @@ mod tests {
             &format!("cover 1 {ORIGIN} {ORIGIN}"),
             &format!("cover 13 {ORIGIN} {ORIGIN}"),
             &format!("motion {ORIGIN} {ORIGIN}"),
+            &format!("pmotion {ORIGIN}"),
             &format!("move 00000000 {IDENTITY} bf800000 {SHIFTED}"),
             &point("3f000000"),
         ];
@@ -242,7 +243,8 @@ mod tests {
             "refused 10",
             "ok 00000000 00000000 00000000 3f800000 00000000 00000000",
             "refused 8",
-            "ok 00000000 00000000 00000000 3f800000 00000000 00000000",
+            "ok 00000000 00000000 00000000 3f800000 00000000 00000000 0 0 0",
+            "ok 00000000 00000000 00000000 3f800000 00000000 00000000 1 1 1",
             "refused 3",
             "error",
         ];
@@ -255,7 +257,7 @@ mod tests {
         let words = |question: &str| answers(&[&build, question])[1].split(' ').count();
         assert_eq!(words("parts"), 1 + 2 + 138);
         assert_eq!(words("interp 3f000000"), 1 + 32);
-        assert_eq!(words(&format!("pmotion {ORIGIN}")), 1 + 6);
+        assert_eq!(words(&format!("pmotion {ORIGIN}")), 1 + 6 + 3);
         assert_eq!(words("zeros 00000000 3f800000 00000000 00000000 00000000 3f800000"), 1 + 1 + 8);
         assert_eq!(words(&format!("decompose {SHIFTED}")), 1 + 3 + 4 + 16);
         assert_eq!(words(&format!("inverse {SHIFTED}")), 1 + 16);

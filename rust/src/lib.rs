@@ -63,6 +63,13 @@ impl Bounds {
     }
 }
 
+/// A motion box, and how many intervals the zero search examined for it on x, y and z: what it cost. A point has at most 511 on an axis, a box the sum over its corners.
+#[derive(Clone, Copy, Debug, PartialEq)]
+pub struct MotionBounds {
+    pub bounds: Bounds,
+    pub examined: [u32; 3],
+}
+
 /// A matrix and its inverse, the two halves of pbrt's `Transform`.
 #[derive(Clone, Copy, Debug, PartialEq)]
 pub struct Transform {
@@ -110,17 +117,17 @@ impl Move {
 
     /// pbrt's motion box of a point: where the two poses take it, and where it is at the times that the zero search found. It is no cover.
     /// Refused with [`Refusal::Query`], [`Refusal::NotFinite`] and [`Refusal::NinthZero`].
-    pub fn bound_point_motion(&self, p: [f32; 3]) -> Result<Bounds, Refusal> {
-        let mut bounds = [0.0; 6];
-        let number = unsafe { library::jellyplain_bound_point_motion(&self.rows, &p, &mut bounds) };
-        answered(number, Bounds::from_array(bounds))
+    pub fn bound_point_motion(&self, p: [f32; 3]) -> Result<MotionBounds, Refusal> {
+        let (mut bounds, mut examined) = ([0.0; 6], [0; 3]);
+        let number = unsafe { library::jellyplain_bound_point_motion(&self.rows, &p, &mut bounds, &mut examined) };
+        answered(number, MotionBounds { bounds: Bounds::from_array(bounds), examined })
     }
 
     /// pbrt's motion box of a box. It is no cover. Refused as that of a point, and with [`Refusal::Corners`].
-    pub fn motion_bounds(&self, b: &Bounds) -> Result<Bounds, Refusal> {
-        let mut bounds = [0.0; 6];
-        let number = unsafe { library::jellyplain_motion_bounds(&self.rows, &b.to_array(), &mut bounds) };
-        answered(number, Bounds::from_array(bounds))
+    pub fn motion_bounds(&self, b: &Bounds) -> Result<MotionBounds, Refusal> {
+        let (mut bounds, mut examined) = ([0.0; 6], [0; 3]);
+        let number = unsafe { library::jellyplain_motion_bounds(&self.rows, &b.to_array(), &mut bounds, &mut examined) };
+        answered(number, MotionBounds { bounds: Bounds::from_array(bounds), examined })
     }
 
     /// A box that holds every point of `b` at every time but NaN: [`Move::point`] answers a point inside it. It is worked from 2^depth slices of the move, `depth` from 0 to 12;

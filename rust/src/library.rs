@@ -18,8 +18,8 @@ extern "C" {
     pub fn jellyplain_build(start: &Pose, end: &Pose, motion: &mut Rows) -> u8;
     pub fn jellyplain_point(motion: &Rows, time: f32, p: &[f32; 3], moved: &mut [f32; 3]) -> u8;
     pub fn jellyplain_interpolate(motion: &Rows, time: f32, transform: &mut [[f32; 4]; 8]) -> u8;
-    pub fn jellyplain_bound_point_motion(motion: &Rows, p: &[f32; 3], out: &mut [f32; 6]) -> u8;
-    pub fn jellyplain_motion_bounds(motion: &Rows, b: &[f32; 6], out: &mut [f32; 6]) -> u8;
+    pub fn jellyplain_bound_point_motion(motion: &Rows, p: &[f32; 3], out: &mut [f32; 6], examined: &mut [u32; 3]) -> u8;
+    pub fn jellyplain_motion_bounds(motion: &Rows, b: &[f32; 6], out: &mut [f32; 6], examined: &mut [u32; 3]) -> u8;
     pub fn jellyplain_cover(motion: &Rows, b: &[f32; 6], depth: u32, out: &mut [f32; 6]) -> u8;
     pub fn jellyplain_layout() -> u32;
     pub fn jellyplain_build_moves(poses: *const Pose, count: usize, moves: &mut [Rows; MOVES]) -> u8;
@@ -76,15 +76,16 @@ mod tests {
         assert_eq!(unsafe { jellyplain_build(&Pose { time: 0.0, matrix: flat }, &Pose { time: 1.0, matrix: IDENTITY }, &mut kept) }, 4);
         assert_eq!(kept, rows);
 
-        let (origin, mut three, mut six, mut eight) = ([0.0; 3], [7.0; 3], [7.0; 6], [[7.0; 4]; 8]);
+        let (origin, mut three, mut six, mut eight, mut counts) = ([0.0; 3], [7.0; 3], [7.0; 6], [[7.0; 4]; 8], [7; 3]);
         assert_eq!(unsafe { jellyplain_point(&rows, f32::NAN, &origin, &mut three) }, 6);
         assert_eq!(three, [7.0; 3]);
         assert_eq!(unsafe { jellyplain_interpolate(&rows, f32::NAN, &mut eight) }, 6);
         assert_eq!(eight, [[7.0; 4]; 8]);
-        assert_eq!(unsafe { jellyplain_bound_point_motion(&rows, &[f32::INFINITY, 0.0, 0.0], &mut six) }, 6);
-        assert_eq!(unsafe { jellyplain_motion_bounds(&rows, &[1.0, 0.0, 0.0, 0.0, 0.0, 0.0], &mut six) }, 7);
+        assert_eq!(unsafe { jellyplain_bound_point_motion(&rows, &[f32::INFINITY, 0.0, 0.0], &mut six, &mut counts) }, 6);
+        assert_eq!(unsafe { jellyplain_motion_bounds(&rows, &[1.0, 0.0, 0.0, 0.0, 0.0, 0.0], &mut six, &mut counts) }, 7);
         assert_eq!(unsafe { jellyplain_cover(&rows, &[0.0; 6], 0, &mut six) }, 10);
         assert_eq!(six, [7.0; 6]);
+        assert_eq!(counts, [7; 3]);
     }
 
     #[test]

@@ -104,12 +104,32 @@ fn moved_points_are_inside_the_cover() {
 fn motion_boxes_hold_the_ends() {
     let m = quarter_turn();
     let b = Bounds { p_min: [0.0, -0.5, 0.0], p_max: [12.0, 0.5, 0.25] };
-    let motion = m.motion_bounds(&b).unwrap();
+    let motion = m.motion_bounds(&b).unwrap().bounds;
     for time in [3.0, 7.0] {
         assert!(motion.contains(m.point(time, b.p_min).unwrap()) && motion.contains(m.point(time, b.p_max).unwrap()));
     }
-    let corner = m.bound_point_motion(b.p_max).unwrap();
+    let corner = m.bound_point_motion(b.p_max).unwrap().bounds;
     assert!(motion.contains(corner.p_min) && motion.contains(corner.p_max));
+}
+
+/// A box's counts are the sums over its corners; without a search there are none.
+#[test]
+fn examined_intervals() {
+    let m = quarter_turn();
+    let b = Bounds { p_min: [0.0, -0.5, 0.0], p_max: [12.0, 0.5, 0.25] };
+    let mut sums = [0; 3];
+    for i in 0..8 {
+        let corner = [0, 1, 2].map(|axis| if i >> axis & 1 == 0 { b.p_min[axis] } else { b.p_max[axis] });
+        let examined = m.bound_point_motion(corner).unwrap().examined;
+        sums = [0, 1, 2].map(|axis| sums[axis] + examined[axis]);
+    }
+    assert!(sums.iter().all(|n| (8..=8 * 511).contains(n)));
+    assert_eq!(m.motion_bounds(&b).unwrap().examined, sums);
+    // A move without rotation: its box is that of its poses, but a point is searched, and each axis drops 0 to 1 at once.
+    assert_eq!(a().motion_bounds(&b).unwrap().examined, [0; 3]);
+    assert_eq!(a().bound_point_motion(b.p_max).unwrap().examined, [1; 3]);
+    let still = built(0.0, IDENTITY, 1.0, IDENTITY).unwrap();
+    assert_eq!(still.bound_point_motion(b.p_max).unwrap().examined, [0; 3]);
 }
 
 #[test]

@@ -1,5 +1,5 @@
-// A question's answer: for one question a whole number, then rows of floats, or the number of a refusal.
-// The rows of an answer are lent; the last of them starts with the whole number, as the float that has its bits.
+// A question's answer: for one question a whole number, then rows of floats, behind a motion box its three counts; or the number of a refusal.
+// The rows of an answer are lent; the last of them starts with the whole numbers, each as the float that has its bits.
 use crate::matrices;
 use crate::moves;
 use crate::question::Question;
@@ -110,7 +110,8 @@ fn put_line(
 fn put_values(kind: usize, rows: &[[f32; 4]; 9], out: &mut [u8; 16384], at: usize) -> usize {
     let ok = put_text(b"ok", out, at);
     let start = put_whole(kind, rows[8][0], out, ok);
-    let end = put_rows(kind, rows, out, start);
+    let values = put_rows(kind, rows, out, start);
+    let end = put_counts(kind, rows[8], out, values);
     put_text(b"\n", out, end)
 }
 
@@ -120,6 +121,16 @@ fn put_whole(kind: usize, x: f32, out: &mut [u8; 16384], at: usize) -> usize {
         return at;
     }
     put_decimal(bits_of_float(x) as u64, out, at)
+}
+
+// `motion` and `pmotion` have three whole numbers behind their box.
+fn put_counts(kind: usize, row: [f32; 4], out: &mut [u8; 16384], at: usize) -> usize {
+    if (kind != 24) & (kind != 25) {
+        return at;
+    }
+    let x = put_decimal(bits_of_float(row[0]) as u64, out, at);
+    let y = put_decimal(bits_of_float(row[1]) as u64, out, x);
+    put_decimal(bits_of_float(row[2]) as u64, out, y)
 }
 
 fn put_rows(kind: usize, rows: &[[f32; 4]; 9], out: &mut [u8; 16384], at: usize) -> usize {

@@ -55,7 +55,7 @@ fn decompose(x: &[f32; 34], rows: &mut [[f32; 4]; 9]) -> u8 {
 }
 
 fn zeros(x: &[f32; 34], rows: &mut [[f32; 4]; 9]) -> u8 {
-    let z = zero_search::interval_find_zeros(x[0], x[1], x[2], x[3], x[4], x[5]);
+    let z = zero_search::interval_find_zeros(x[0], x[1], x[2], x[3], x[4], x[5]).zeros;
     let places = z.zeros;
     put_zeros(places, rows);
     rows[8] = [float_of_bits((z.count % 10) as u32), 0.0, 0.0, 0.0];

@@ -1,5 +1,5 @@
 // Questions about a move: move T0 M0 T1 M1 builds one and keeps it for the questions after it, each of which is an error where none is kept:
-// parts, point T X Y Z, interp T (both halves of the transform), motion BOX, pmotion X Y Z (`bound_point_motion`), cover D BOX, with a depth D.
+// parts, point T X Y Z, interp T (both halves of the transform), motion BOX, pmotion X Y Z (`bound_point_motion`), each with three counts behind its box, cover D BOX, with a depth D.
 // `parts` asks whether it is animated and whether it rotates, for start and end t, r, S and the inverse, then c1 to c5, each on the axes
 // x y z, each kc kx ky kz.
 // A move is kept as the library's callers keep it, in 44 rows (`motion_rows`).
@@ -7,6 +7,7 @@ use crate::matrices::bounds_at;
 use crate::matrices::point_at;
 use crate::matrices::put_bounds;
 use crate::matrices::row_at;
+use hexadecimal::float_of_bits;
 use question_lines::put_text;
 
 // What stands first in the last row where no move is kept: a kept move has 0 or 1 there.
@@ -111,17 +112,31 @@ fn interpolate(x: &[f32; 34], motion: &[[f32; 4]; 44], rows: &mut [[f32; 4]; 9])
 fn motion_bounds(x: &[f32; 34], motion: &[[f32; 4]; 44], rows: &mut [[f32; 4]; 9]) -> u8 {
     let asked = bounds_at(x, 0);
     let mut b = [0.0f32; 6];
-    let refusal = api::jellyplain_motion_bounds(motion, &asked, &mut b);
+    let mut examined = [0u32; 3];
+    let refusal = api::jellyplain_motion_bounds(motion, &asked, &mut b, &mut examined);
     put_bounds(b, rows);
+    rows[8] = counts(examined);
     refusal
 }
 
 fn bound_point_motion(x: &[f32; 34], motion: &[[f32; 4]; 44], rows: &mut [[f32; 4]; 9]) -> u8 {
     let p = point_at(x, 0);
     let mut b = [0.0f32; 6];
-    let refusal = api::jellyplain_bound_point_motion(motion, &p, &mut b);
+    let mut examined = [0u32; 3];
+    let refusal = api::jellyplain_bound_point_motion(motion, &p, &mut b, &mut examined);
     put_bounds(b, rows);
+    rows[8] = counts(examined);
     refusal
+}
+
+// How many intervals were examined on each axis, as whole numbers.
+fn counts(n: [u32; 3]) -> [f32; 4] {
+    [
+        float_of_bits(n[0]),
+        float_of_bits(n[1]),
+        float_of_bits(n[2]),
+        0.0,
+    ]
 }
 
 fn cover(x: &[f32; 34], depth: u32, motion: &[[f32; 4]; 44], rows: &mut [[f32; 4]; 9]) -> u8 {

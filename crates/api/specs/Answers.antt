@@ -12,7 +12,8 @@ use Rattle.transform.specs.declared.BoundsAnswer.{BoundsAnswer}
 use Rattle.animated_transform.specs.declared.AnimatedTransformAnswer.{AnimatedTransformAnswer}
 use Rattle.animated_transform.specs.New.{AnimatedTransform·new}
 use Rattle.interpolation.specs.Interpolate.{AnimatedTransform·interpolate}
-use Rattle.motion_bounds.specs.MotionBounds.{AnimatedTransform·boundPointMotion, AnimatedTransform·motionBounds}
+use Rattle.motion_bounds.specs.declared.MotionBoundsAnswer.{MotionBoundsAnswer}
+use Rattle.motion_bounds.specs.Answer.{AnimatedTransform·boundPointMotion, AnimatedTransform·motionBounds}
 use Rattle.motion_cover.specs.Cover.{AnimatedTransform·cover}
 use Rattle.lent_arrays.specs.Arrays.{Pose·ofList}
 use Rattle.motion_rows.specs.Rows.{AnimatedTransform·fromRows}
@@ -27,10 +28,10 @@ Rows·point rows time p = Rows·transformPoint rows time (Point3f·ofList p)
 abbrev pub Rows·interpolate : Rows → Float → TransformAnswer
 Rows·interpolate rows time = AnimatedTransform·interpolate (AnimatedTransform·fromRows rows) time
 
-abbrev pub Rows·boundPointMotion : Rows → List Float → BoundsAnswer
+abbrev pub Rows·boundPointMotion : Rows → List Float → MotionBoundsAnswer
 Rows·boundPointMotion rows p = AnimatedTransform·boundPointMotion (AnimatedTransform·fromRows rows) (Point3f·ofList p)
 
-abbrev pub Rows·motionBounds : Rows → List Float → BoundsAnswer
+abbrev pub Rows·motionBounds : Rows → List Float → MotionBoundsAnswer
 Rows·motionBounds rows b = AnimatedTransform·motionBounds (AnimatedTransform·fromRows rows) (Bounds3f·ofList b)
 
 abbrev pub Rows·cover : Rows → List Float → ℕ → BoundsAnswer

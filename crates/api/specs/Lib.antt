@@ -1,3 +1,4 @@
 pub mod Answers
+pub mod Examined
 pub mod Kept
 pub mod Chains

@@ -1,13 +1,15 @@
 // The library that Rust and C link: a move is built once, kept by its caller as 44 rows of four floats, and asked many times; a chain is kept as the rows of
-// its moves, one block for each. Each function returns the number of a refusal, 0 for none. Where nothing is refused it writes the array that it is lent last;
-// after a refusal that array is as it was. Any floats may be handed in, and any rows may be asked, but the guarantee is for rows that building has written.
+// its moves, one block for each. Each function returns the number of a refusal, 0 for none. Where nothing is refused it writes what it is lent for its answer;
+// after a refusal that is as it was. Any floats may be handed in, and any rows may be asked, but the guarantee is for rows that building has written.
 use animated_transform::AnimatedTransform;
+use motion_bounds::MotionBoundsAnswer;
 ghost use Prim.Native.Nat.{_-_};
 ghost use mathlib.Core.Path.{_≡_};
 ghost use lib.ListN.{length, take};
 ghost use Rattle.bounds3.specs.List.{Point3f·ofList, Bounds3f·ofList};
 ghost use Rattle.transform.specs.Answer.{PointAnswer·refusal, BoundsAnswer·refusal};
 ghost use Rattle.motion_point.specs.TransformPoint.{AnimatedTransform·transformPoint};
+ghost use Rattle.motion_bounds.specs.Answer.{MotionBoundsAnswer·refusal};
 ghost use Rattle.lent_arrays.specs.Arrays.{PointAnswer·left, TransformAnswer·left, BoundsAnswer·left};
 ghost use Rattle.motion_rows.specs.Rows.{AnimatedTransform·toRows, AnimatedTransformAnswer·left};
 ghost use Rattle.motion_chain.specs.Chain.{Chain, built, ChainAnswer·refusal, Chain·new, Chain·transformPoint};
@@ -21,7 +23,28 @@ ghost use Rattle.chain_covers.specs.Kept.{Moves·covers, SetAnswer·coversLeft,
 ghost use Rattle.chain_covers.specs.Theorem.{KeptSetContainsMotion};
 ghost use Rattle.api.specs.Chains.{layoutNumber, Moves·point, Moves·points, Moves·coverOf};
 ghost use Rattle.api.specs.Answers.{Rows·new, Rows·point, Rows·interpolate, Rows·boundPointMotion, Rows·motionBounds, Rows·cover};
+ghost use Rattle.api.specs.Examined.{MotionBoundsAnswer·left, MotionBoundsAnswer·examinedLeft};
 ghost use Rattle.api.specs.Kept.{Rows·Holds, KeptCoverContainsMotion};
+
+// Puts a motion box and its counts into two lent arrays, or after a refusal nothing, and gives the refusal's number, 0 for none.
+fn put_motion_bounds(
+    answer: MotionBoundsAnswer,
+    bounds: &mut [f32; 6],
+    examined: &mut [u32; 3],
+) -> u8
+    ensures refusal { λ r. ⌜ r ≡ MotionBoundsAnswer·refusal answer ⌝ }
+    ensures left { λ _. ⌜ now (bounds .exit) ≡ MotionBoundsAnswer·left answer (now (bounds .entry)) ⌝ }
+    ensures examined { λ _. ⌜ now (examined .exit) ≡ MotionBoundsAnswer·examinedLeft answer (now (examined .entry)) ⌝ }
+{
+    match answer {
+        MotionBoundsAnswer::Bounds(b, e) => {
+            *bounds = lent_arrays::bounds_values(b);
+            *examined = [e.x, e.y, e.z];
+            0
+        }
+        MotionBoundsAnswer::Refused(n) => n,
+    }
+}
 
 // Builds a move from two poses, each 17 floats: a time and a matrix row by row. Refused with 1 to 5.
 // Accuracy: each operation but the arc cosine is correctly rounded.
@@ -76,35 +99,41 @@ pub extern "C" fn jellyplain_interpolate(
     )
 }
 
-// pbrt's motion box of a point: no cover. Refused with 5, 6 or 9. Accuracy: heuristic.
+// pbrt's motion box of a point: no cover; how many intervals its search examined on x, y and z, each at most 511. Refused with 5, 6 or 9. Accuracy: heuristic.
 #[no_mangle]
 pub extern "C" fn jellyplain_bound_point_motion(
     motion: &[[f32; 4]; 44],
     p: &[f32; 3],
     bounds: &mut [f32; 6],
+    examined: &mut [u32; 3],
 ) -> u8
-    ensures refusal { λ r. ⌜ r ≡ BoundsAnswer·refusal (Rows·boundPointMotion (now (motion .entry)) (now (p .entry))) ⌝ }
-    ensures left { λ _. ⌜ now (bounds .exit) ≡ BoundsAnswer·left (Rows·boundPointMotion (now (motion .entry)) (now (p .entry))) (now (bounds .entry)) ⌝ }
+    ensures refusal { λ r. ⌜ r ≡ MotionBoundsAnswer·refusal (Rows·boundPointMotion (now (motion .entry)) (now (p .entry))) ⌝ }
+    ensures left { λ _. ⌜ now (bounds .exit) ≡ MotionBoundsAnswer·left (Rows·boundPointMotion (now (motion .entry)) (now (p .entry))) (now (bounds .entry)) ⌝ }
+    ensures examined { λ _. ⌜ now (examined .exit) ≡ MotionBoundsAnswer·examinedLeft (Rows·boundPointMotion (now (motion .entry)) (now (p .entry))) (now (examined .entry)) ⌝ }
 {
-    lent_arrays::put_bounds(
+    put_motion_bounds(
         motion_bounds::bound_point_motion(motion_rows::from_rows(motion), lent_arrays::point(p)),
         bounds,
+        examined,
     )
 }
 
-// pbrt's motion box of the box b: no cover. Refused with 5, 6, 7 or 9. Accuracy: heuristic.
+// pbrt's motion box of the box b: no cover; how many intervals were examined on x, y and z, over its eight corners. Refused with 5, 6, 7 or 9. Accuracy: heuristic.
 #[no_mangle]
 pub extern "C" fn jellyplain_motion_bounds(
     motion: &[[f32; 4]; 44],
     b: &[f32; 6],
     bounds: &mut [f32; 6],
+    examined: &mut [u32; 3],
 ) -> u8
-    ensures refusal { λ r. ⌜ r ≡ BoundsAnswer·refusal (Rows·motionBounds (now (motion .entry)) (now (b .entry))) ⌝ }
-    ensures left { λ _. ⌜ now (bounds .exit) ≡ BoundsAnswer·left (Rows·motionBounds (now (motion .entry)) (now (b .entry))) (now (bounds .entry)) ⌝ }
+    ensures refusal { λ r. ⌜ r ≡ MotionBoundsAnswer·refusal (Rows·motionBounds (now (motion .entry)) (now (b .entry))) ⌝ }
+    ensures left { λ _. ⌜ now (bounds .exit) ≡ MotionBoundsAnswer·left (Rows·motionBounds (now (motion .entry)) (now (b .entry))) (now (bounds .entry)) ⌝ }
+    ensures examined { λ _. ⌜ now (examined .exit) ≡ MotionBoundsAnswer·examinedLeft (Rows·motionBounds (now (motion .entry)) (now (b .entry))) (now (examined .entry)) ⌝ }
 {
-    lent_arrays::put_bounds(
+    put_motion_bounds(
         motion_bounds::motion_bounds(motion_rows::from_rows(motion), lent_arrays::bounds(b)),
         bounds,
+        examined,
     )
 }
 

@@ -224,8 +224,9 @@ pub fn motion_bounds(
 ) -> usize {
     let asked = bounds_at(x, 0);
     let mut b = [0.0f32; 6];
-    let refusal = api::jellyplain_motion_bounds(motion, &asked, &mut b);
-    put_bounds(refusal, &b, out, at)
+    let mut examined = [0u32; 3];
+    let refusal = api::jellyplain_motion_bounds(motion, &asked, &mut b, &mut examined);
+    put_counted(refusal, &b, examined, out, at)
 }
 
 pub fn bound_point_motion(
@@ -236,12 +237,39 @@ pub fn bound_point_motion(
 ) -> usize {
     let p = point_at(x);
     let mut b = [0.0f32; 6];
-    let refusal = api::jellyplain_bound_point_motion(motion, &p, &mut b);
-    put_bounds(refusal, &b, out, at)
+    let mut examined = [0u32; 3];
+    let refusal = api::jellyplain_bound_point_motion(motion, &p, &mut b, &mut examined);
+    put_counted(refusal, &b, examined, out, at)
 }
 
 fn put_point(refusal: u8, p: &[f32; 3], out: &mut [u8; 32768], at: usize) -> usize {
     put_values(refusal, p, 3, out, at)
+}
+
+// A motion box, and its three counts behind it.
+fn put_counted(
+    refusal: u8,
+    b: &[f32; 6],
+    examined: [u32; 3],
+    out: &mut [u8; 32768],
+    at: usize,
+) -> usize {
+    if refusal != 0 {
+        return question_lines::put_refused(refusal, out, at);
+    }
+    let ok = put_text(b"ok", out, at);
+    let values = question_lines::put_floats(b, 6, out, ok);
+    let end = put_examined(examined, out, values);
+    put_text(b"\n", out, end)
+}
+
+fn put_examined(n: [u32; 3], out: &mut [u8; 32768], at: usize) -> usize {
+    let x = n[0] as u64;
+    let y = n[1] as u64;
+    let z = n[2] as u64;
+    let after_x = question_lines::put_decimal(x, out, at);
+    let after_y = question_lines::put_decimal(y, out, after_x);
+    question_lines::put_decimal(z, out, after_y)
 }
 
 fn put_bounds(refusal: u8, b: &[f32; 6], out: &mut [u8; 32768], at: usize) -> usize {

@@ -1,7 +1,4 @@
--- Laws and cases of motion boxes.
-pub mod Ends
+-- Laws of motion boxes that their code rests on.
 pub mod Unused
-pub mod Numbers
-pub mod StartTime
-pub mod Book
-pub mod Cases
+pub mod Searched
+mod Counts

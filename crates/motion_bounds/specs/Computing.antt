@@ -4,8 +4,10 @@ use Rattle.control_flow.specs.Loop.{loop}
 use Rattle.bounds_query.specs.Computing as query
 use Rattle.zero_search.specs.Computing as zeros
 use Rattle.motion_point.specs.Computing as motion
-use Rattle.motion_bounds.specs.MotionBounds.{DerivativeTerm·eval, BoundsAnswer·fromEnds, axisZeros, pointAt, unionZero, unionZeros, unionAxis, pointBounds, unionCorner, unionCorners, boxBounds, boundPointMotion, motionBounds}
+use Rattle.motion_bounds.specs.MotionBounds.{DerivativeTerm·eval, BoundsAnswer·fromEnds, axisSearch, pointAt, unionZero, unionZeros, unionAxis, pointBounds, unionCorner, unionCorners, boxBounds, boundPointMotion, motionBounds}
+use Rattle.motion_bounds.specs.Examined.{pointExamined, cornersExamined, boxExamined}
+use Rattle.motion_bounds.specs.Answer.{BoundsAnswer·counted}
 
 unfoldable pub computing : Unit {0}
-unfolding lerp loop query.computing zeros.computing motion.computing DerivativeTerm·eval BoundsAnswer·fromEnds axisZeros pointAt unionZero unionZeros unionAxis pointBounds unionCorner unionCorners boxBounds boundPointMotion motionBounds
+unfolding lerp loop query.computing zeros.computing motion.computing DerivativeTerm·eval BoundsAnswer·fromEnds axisSearch pointAt unionZero unionZeros unionAxis pointBounds unionCorner unionCorners boxBounds boundPointMotion motionBounds pointExamined cornersExamined boxExamined BoundsAnswer·counted
 computing = tt

@@ -1,5 +1,6 @@
 -- Definitions of motion boxes.
 pub mod MotionBounds
+pub mod Examined
 pub mod Answer
-pub mod Book
+pub mod Steps
 pub mod Computing

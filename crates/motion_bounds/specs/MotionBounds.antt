@@ -24,6 +24,7 @@ use Rattle.bounds_query.specs.Query.{Bounds3f·refusal, BoundsAnswer·unionBoun
 use Rattle.axis_derivative.specs.declared.DerivativeTerm.{DerivativeTerm}
 use Rattle.axis_derivative.specs.declared.Derivative.{Derivative}
 use Rattle.zero_search.specs.declared.Zeros.{Zeros}
+use Rattle.zero_search.specs.declared.Search.{Search}
 use Rattle.zero_search.specs.Search.{intervalFindZeros}
 use Rattle.pose_steps.specs.declared.PoseConstants.{PoseConstants}
 use Rattle.animated_transform.specs.declared.AnimatedTransform.{AnimatedTransform}
@@ -47,9 +48,9 @@ allPlaces z = 8
 abbrev pub storedPlaces : Zeros → ℕ
 storedPlaces z = z .count
 
--- the zeros of an axis's derivative at a point, theta being acos(clamp(r[0].dot(r[1]), -1.0, 1.0))
-unfoldable pub axisZeros : PoseConstants → Point3f → Derivative → Zeros
-axisZeros a p d =
+-- the search along an axis at a point, theta being acos(clamp(r[0].dot(r[1]), -1.0, 1.0))
+unfoldable pub axisSearch : PoseConstants → Point3f → Derivative → Search
+axisSearch a p d =
     intervalFindZeros (DerivativeTerm·eval (d .c1) p) (DerivativeTerm·eval (d .c2) p) (DerivativeTerm·eval (d .c3) p) (DerivativeTerm·eval (d .c4) p)
     (DerivativeTerm·eval (d .c5) p) (a .theta)
 
@@ -71,7 +72,7 @@ module _ (places : Zeros → ℕ) (m : AnimatedTransform) (a : PoseConstants) wh
   unfoldable pub unionAxis : Point3f → Derivative → BoundsAnswer → BoundsAnswer
   unionAxis p d (Refused n) = Refused n
   unionAxis p d (Bounds b) =
-      let z = axisZeros a p d in
+      let z = axisSearch a p d .zeros in
       cond (eqb (z .refusal) 0) (unionZeros m a p (z .zeros) (places z) (Bounds b)) (Refused (z .refusal))
 
   -- the work of `bound_point_motion`
@@ -107,10 +108,3 @@ module _ (places : Zeros → ℕ) (m : AnimatedTransform) where
   -- document 01, Refusals: 6 and 7 of the box, in this order
   unfoldable pub motionBounds : Bounds3f → BoundsAnswer
   motionBounds b = let n = Bounds3f·refusal b in cond (eqb n 0) (boxBounds b) (Refused n)
-
--- `bound_point_motion` and `motion_bounds` of 000
-abbrev pub AnimatedTransform·boundPointMotion : AnimatedTransform → Point3f → BoundsAnswer
-AnimatedTransform·boundPointMotion = boundPointMotion allPlaces
-
-abbrev pub AnimatedTransform·motionBounds : AnimatedTransform → Bounds3f → BoundsAnswer
-AnimatedTransform·motionBounds = motionBounds allPlaces

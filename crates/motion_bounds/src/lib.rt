@@ -1,5 +1,6 @@
 // The motion box: pbrt's `bound_point_motion` and `motion_bounds`. It holds where the two poses take a point, and where the move takes it at the times that the
 // zero search found, so that it isn't a cover of the motion. What is asked of the arguments (6, 7) stands apart from what is met on the way (5, 9).
+// Each box comes with how many intervals its search examined.
 use animated_transform::AnimatedTransform;
 use axis_derivative::Derivative;
 use axis_derivative::DerivativeTerm;
@@ -8,10 +9,58 @@ use bounds3::Point3f;
 use pose_steps::PoseConstants;
 use transform::BoundsAnswer;
 use transform::PointAnswer;
+use zero_search::Search;
 use zero_search::Zeros;
 ghost use mathlib.Core.Path.{_≡_};
+ghost use Prim.Native.Nat.{_+_, _<_};
 ghost use Rattle.zero_search.specs.Stored.{Stored};
-ghost use Rattle.motion_bounds.specs.MotionBounds.{DerivativeTerm·eval, BoundsAnswer·fromEnds, pointAt, unionZero, unionZeros, allPlaces, axisZeros, unionAxis, pointBounds, unionCorner, unionCorners, boxBounds, AnimatedTransform·boundPointMotion, AnimatedTransform·motionBounds};
+ghost use Rattle.motion_bounds.specs.MotionBounds.{DerivativeTerm·eval, BoundsAnswer·fromEnds, pointAt, unionZero, unionZeros, allPlaces, axisSearch, unionAxis, pointBounds, unionCorners, boxBounds};
+ghost use Rattle.motion_bounds.specs.Examined.{Examined·AtMost, Examined·add, pointExamined, cornersExamined, boxExamined};
+ghost use Rattle.motion_bounds.specs.Answer.{BoundsAnswer·counted, AnimatedTransform·boundPointMotion, AnimatedTransform·motionBounds};
+ghost use Rattle.motion_bounds.specs.Steps.{axisBounds, unionAxes, axesExamined};
+
+// How many intervals the zero search examined on each axis.
+pub struct Examined {
+    pub x: u32,
+    pub y: u32,
+    pub z: u32,
+}
+
+// A motion box and what its search cost, or the number of a refusal, which carries no counts.
+pub enum MotionBoundsAnswer {
+    Bounds(Bounds3f, Examined),
+    Refused(u8),
+}
+
+// The box with one axis's points, and how many intervals were examined for them.
+struct AxisBounds {
+    bounds: BoundsAnswer,
+    examined: u32,
+}
+
+const NONE_EXAMINED: Examined = Examined { x: 0, y: 0, z: 0 };
+
+// The counts of up to seven corners and of one more.
+fn add(e: Examined, f: Examined) -> Examined
+    requires { ⌜ Examined·AtMost 3577 e × Examined·AtMost 511 f ⌝ }
+    ensures value { λ r. ⌜ r ≡ Examined·add e f ⌝ }
+{
+    Examined {
+        x: e.x + f.x,
+        y: e.y + f.y,
+        z: e.z + f.z,
+    }
+}
+
+// A box with its counts; a refusal carries none.
+fn counted(r: BoundsAnswer, e: Examined) -> MotionBoundsAnswer
+    ensures value { λ s. ⌜ s ≡ BoundsAnswer·counted r e ⌝ }
+{
+    match r {
+        BoundsAnswer::Bounds(b) => MotionBoundsAnswer::Bounds(b, e),
+        BoundsAnswer::Refused(n) => MotionBoundsAnswer::Refused(n),
+    }
+}
 
 // kc + kx * x + ky * y + kz * z. Accuracy: each operation is correctly rounded.
 fn eval(k: DerivativeTerm, p: Point3f) -> f32
@@ -85,9 +134,9 @@ fn union_zeros(
     s
 }
 
-// Where the derivative of a point's motion along one axis may vanish. The five terms at the point may overflow: the search goes on.
-fn axis_zeros(a: PoseConstants, p: Point3f, d: Derivative) -> Zeros
-    ensures value { λ r. ⌜ r ≡ axisZeros a p d ⌝ }
+// The search for where the derivative of a point's motion along one axis may vanish. The five terms at the point may overflow: the search goes on.
+fn axis_search(a: PoseConstants, p: Point3f, d: Derivative) -> Search
+    ensures value { λ r. ⌜ r ≡ axisSearch a p d ⌝ }
 {
     zero_search::interval_find_zeros(
         eval(d.c1, p),
@@ -99,64 +148,105 @@ fn axis_zeros(a: PoseConstants, p: Point3f, d: Derivative) -> Zeros
     )
 }
 
-// The box with the points at one axis's zeros; a ninth zero is met before any of them.
+// The box with the points at one axis's zeros; a ninth zero is met before any of them. After a refusal nothing is examined.
 fn union_axis(
     m: AnimatedTransform,
     a: PoseConstants,
     p: Point3f,
     d: Derivative,
     r: BoundsAnswer,
-) -> BoundsAnswer
-    ensures value { λ s. ⌜ s ≡ unionAxis allPlaces m a p d r ⌝ }
+) -> AxisBounds
+    ensures value { λ s. ⌜ s ≡ axisBounds m a p d r ⌝ }
 {
     match r {
         BoundsAnswer::Bounds(_) => {
-            let found = axis_zeros(a, p, d);
-            if found.refusal != 0 {
-                return BoundsAnswer::Refused(found.refusal);
+            let found = axis_search(a, p, d);
+            let zeros = found.zeros;
+            let examined = found.examined;
+            if zeros.refusal != 0 {
+                let bounds = BoundsAnswer::Refused(zeros.refusal);
+                return AxisBounds { bounds, examined };
             }
-            union_zeros(m, a, p, found, r)
+            let bounds = union_zeros(m, a, p, zeros, r);
+            AxisBounds { bounds, examined }
         }
-        BoundsAnswer::Refused(_) => r,
+        BoundsAnswer::Refused(_) => AxisBounds {
+            bounds: r,
+            examined: 0,
+        },
     }
+}
+
+// The box with the points at the zeros of the three axes, in turn.
+fn union_axes(
+    m: AnimatedTransform,
+    a: PoseConstants,
+    p: Point3f,
+    ends: BoundsAnswer,
+) -> MotionBoundsAnswer
+    ensures value { λ r. ⌜ r ≡ BoundsAnswer·counted (unionAxes m a p ends) (axesExamined m a p) ⌝ }
+{
+    let c = m.coefficients;
+    let along_x = union_axis(m, a, p, c.x, ends);
+    let after_x = along_x.bounds;
+    let along_y = union_axis(m, a, p, c.y, after_x);
+    let after_y = along_y.bounds;
+    let along_z = union_axis(m, a, p, c.z, after_y);
+    let after_z = along_z.bounds;
+    let examined = Examined {
+        x: along_x.examined,
+        y: along_y.examined,
+        z: along_z.examined,
+    };
+    counted(after_z, examined)
 }
 
 // `bound_point_motion` of a finite point, with the move's constants at hand. Accuracy: heuristic.
-fn point_bounds(m: AnimatedTransform, a: PoseConstants, p: Point3f) -> BoundsAnswer
-    ensures value { λ r. ⌜ r ≡ pointBounds allPlaces m a p ⌝ }
+fn point_bounds(m: AnimatedTransform, a: PoseConstants, p: Point3f) -> MotionBoundsAnswer
+    ensures value { λ r. ⌜ r ≡ BoundsAnswer·counted (pointBounds allPlaces m a p) (pointExamined m a p) ⌝ }
 {
     let start = m.start_transform.transform_point(p);
     if !m.actually_animated {
-        return transform::from_moved(start);
+        return counted(transform::from_moved(start), NONE_EXAMINED);
     }
-    let ends = from_ends(start, m.end_transform.transform_point(p));
-    let c = m.coefficients;
-    let x = union_axis(m, a, p, c.x, ends);
-    let y = union_axis(m, a, p, c.y, x);
-    union_axis(m, a, p, c.z, y)
+    union_axes(
+        m,
+        a,
+        p,
+        from_ends(start, m.end_transform.transform_point(p)),
+    )
 }
 
-// The box with one corner's motion; after a refusal nothing is computed.
+// The box with one corner's motion, which adds to the counts; after a refusal nothing is computed.
 fn union_corner(
     m: AnimatedTransform,
     a: PoseConstants,
     b: Bounds3f,
     c: usize,
-    r: BoundsAnswer,
-) -> BoundsAnswer
-    ensures value { λ s. ⌜ s ≡ unionCorner allPlaces m a b c r ⌝ }
+    r: MotionBoundsAnswer,
+) -> MotionBoundsAnswer
+    requires { ⌜ (c < 8) × (r ≡ BoundsAnswer·counted (unionCorners allPlaces m a b c) (cornersExamined m a b c)) ⌝ }
+    ensures value { λ s. ⌜ s ≡ BoundsAnswer·counted (unionCorners allPlaces m a b (c + 1)) (cornersExamined m a b (c + 1)) ⌝ }
 {
     match r {
-        BoundsAnswer::Bounds(_) => bounds_query::union_bounds(r, point_bounds(m, a, b.corner(c))),
-        BoundsAnswer::Refused(_) => r,
+        MotionBoundsAnswer::Bounds(joined, e) => {
+            let s = point_bounds(m, a, b.corner(c));
+            match s {
+                MotionBoundsAnswer::Bounds(corner, f) => {
+                    MotionBoundsAnswer::Bounds(joined.union_bounds(corner), add(e, f))
+                }
+                MotionBoundsAnswer::Refused(_) => s,
+            }
+        }
+        MotionBoundsAnswer::Refused(_) => r,
     }
 }
 
 // The motion of the eight corners.
-fn union_corners(m: AnimatedTransform, a: PoseConstants, b: Bounds3f) -> BoundsAnswer
-    ensures value { λ r. ⌜ r ≡ unionCorners allPlaces m a b 8 ⌝ }
+fn union_corners(m: AnimatedTransform, a: PoseConstants, b: Bounds3f) -> MotionBoundsAnswer
+    ensures value { λ r. ⌜ r ≡ BoundsAnswer·counted (unionCorners allPlaces m a b 8) (cornersExamined m a b 8) ⌝ }
 {
-    let mut r = BoundsAnswer::Bounds(Bounds3f::default());
+    let mut r = MotionBoundsAnswer::Bounds(Bounds3f::default(), NONE_EXAMINED);
     for c in 0..8 {
         r = union_corner(m, a, b, c, r);
     }
@@ -164,38 +254,40 @@ fn union_corners(m: AnimatedTransform, a: PoseConstants, b: Bounds3f) -> BoundsA
 }
 
 // `motion_bounds` of a box that isn't refused. Accuracy: heuristic.
-fn box_bounds(m: AnimatedTransform, b: Bounds3f) -> BoundsAnswer
-    ensures value { λ r. ⌜ r ≡ boxBounds allPlaces m b ⌝ }
+fn box_bounds(m: AnimatedTransform, b: Bounds3f) -> MotionBoundsAnswer
+    ensures value { λ r. ⌜ r ≡ BoundsAnswer·counted (boxBounds allPlaces m b) (boxExamined m b) ⌝ }
 {
     let start = m.start_transform.transform_bounds(b);
     if !m.actually_animated {
-        return start;
+        return counted(start, NONE_EXAMINED);
     }
     if !m.has_rotation {
-        return bounds_query::union_bounds(start, m.end_transform.transform_bounds(b));
+        let ends = bounds_query::union_bounds(start, m.end_transform.transform_bounds(b));
+        return counted(ends, NONE_EXAMINED);
     }
     union_corners(m, motion_point::constants(m), b)
 }
 
-// pbrt's `bound_point_motion`: the motion box of a point. Refused with 6 for a coordinate that isn't finite; then with 5 for a moved point that isn't and with
-// 9 for a ninth zero of an axis, whichever is met first: pbrt goes on in the first two cases and panics in the last. Accuracy: heuristic.
-pub fn bound_point_motion(m: AnimatedTransform, p: Point3f) -> BoundsAnswer
+// pbrt's `bound_point_motion`: the motion box of a point, with at most 511 intervals examined on each axis. Refused with 6 for a coordinate that isn't finite;
+// then with 5 for a moved point that isn't and with 9 for a ninth zero of an axis, whichever is met first: pbrt goes on in the first two cases and panics in the
+// last. Accuracy: heuristic.
+pub fn bound_point_motion(m: AnimatedTransform, p: Point3f) -> MotionBoundsAnswer
     ensures value { λ r. ⌜ r ≡ AnimatedTransform·boundPointMotion m p ⌝ }
 {
     if !p.is_finite() {
-        return BoundsAnswer::Refused(6);
+        return MotionBoundsAnswer::Refused(6);
     }
     point_bounds(m, motion_point::constants(m), p)
 }
 
-// pbrt's `motion_bounds`: the union of the two poses' boxes without rotation, and with it that of the corners' motion boxes. Refused with 6 and 7 for a box
-// with a coordinate that isn't finite or with a least corner above its greatest; then as each corner is. Accuracy: heuristic.
-pub fn motion_bounds(m: AnimatedTransform, b: Bounds3f) -> BoundsAnswer
+// pbrt's `motion_bounds`: the union of the two poses' boxes without rotation, and with it that of the corners' motion boxes, whose counts are added. Refused with
+// 6 and 7 for a box with a coordinate that isn't finite or with a least corner above its greatest; then as each corner is. Accuracy: heuristic.
+pub fn motion_bounds(m: AnimatedTransform, b: Bounds3f) -> MotionBoundsAnswer
     ensures value { λ r. ⌜ r ≡ AnimatedTransform·motionBounds m b ⌝ }
 {
     let n = bounds_query::refusal(b);
     if n != 0 {
-        return BoundsAnswer::Refused(n);
+        return MotionBoundsAnswer::Refused(n);
     }
     box_bounds(m, b)
 }

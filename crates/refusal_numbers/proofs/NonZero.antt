@@ -1,6 +1,7 @@
 -- No motion box is refused with 0: `point-motion-nonzero`, `motion-nonzero`; of a point query it is in `transform-point-numbered` of motion_point, of a cover
 -- `cover-nonzero` of motion_cover. A number is refused only after the test that it isn't 0, and a union keeps one of its parts' numbers.
 use Prim.Native.Nat.{ℕ}
+use mathlib.Core.Path.{_≡_, refl}
 use mathlib.Core.Bool.{not}
 use mathlib.Core.List.{List}
 use native.Mathlib.Omega.{arith}
@@ -18,14 +19,18 @@ use Rattle.transform.specs.declared.PointAnswer.the-variants as point
 use Rattle.transform.specs.declared.BoundsAnswer.{BoundsAnswer}
 use Rattle.transform.specs.declared.BoundsAnswer.the-variants as bounds
 use Rattle.transform.specs.TransformBounds as transform
+use Rattle.transform.specs.Answer.{OneOf}
 use Rattle.bounds_query.specs.Query.{Bounds3f·refusal}
 use Rattle.axis_derivative.specs.declared.Derivative.{Derivative}
 use Rattle.pose_steps.specs.declared.PoseConstants.{PoseConstants}
 use Rattle.animated_transform.specs.declared.AnimatedTransform.{AnimatedTransform}
 use Rattle.motion_point.specs.TransformPoint.{AnimatedTransform·constants}
 use Rattle.motion_point.proofs.NonZero.{PointAnswer·NonZero, transform-point-nonzero, moved-point-nonzero}
-use Rattle.motion_bounds.specs.MotionBounds.{BoundsAnswer·fromEnds, allPlaces, axisZeros, pointAt, unionZero, unionZeros, unionAxis, pointBounds, unionCorner, unionCorners, boxBounds, boundPointMotion, motionBounds, AnimatedTransform·boundPointMotion, AnimatedTransform·motionBounds}
+use Rattle.motion_bounds.specs.MotionBounds.{BoundsAnswer·fromEnds, allPlaces, axisSearch, pointAt, unionZero, unionZeros, unionAxis, pointBounds, unionCorner, unionCorners, boxBounds, boundPointMotion, motionBounds}
+use Rattle.motion_bounds.specs.declared.Examined.{Examined}
+use Rattle.motion_bounds.specs.Answer.{MotionBoundsAnswer·refusal, BoundsAnswer·counted}
 use Rattle.motion_cover.proofs.NonZero.{BoundsAnswer·NonZero, tested-nonzero, union-nonzero}
+use Rattle.refusal_numbers.specs.Numbers.{MotionBoundsAnswer·Numbered}
 
 -- ---- boxes
 from-moved-nonzero : (a : PointAnswer) → PointAnswer·NonZero a → BoundsAnswer·NonZero (transform.BoundsAnswer·fromMoved a)
@@ -67,7 +72,7 @@ zeros-nonzero m a p zeros n = loop-keeps (λ _. BoundsAnswer·NonZero) (λ k. un
 axis-nonzero : (m : AnimatedTransform) (a : PoseConstants) (p : Point3f) (d : Derivative) (r : BoundsAnswer) → BoundsAnswer·NonZero r → BoundsAnswer·NonZero (unionAxis allPlaces m a p d r)
 unfolding unionAxis
 axis-nonzero m a p d (bounds.Refused n) h = h
-axis-nonzero m a p d (bounds.Bounds b) h = let z = axisZeros a p d in tested-nonzero (z .refusal) _ (zeros-nonzero m a p (z .zeros) 8 (bounds.Bounds b) tt)
+axis-nonzero m a p d (bounds.Bounds b) h = let z = axisSearch a p d .zeros in tested-nonzero (z .refusal) _ (zeros-nonzero m a p (z .zeros) 8 (bounds.Bounds b) tt)
 
 point-bounds-nonzero : (m : AnimatedTransform) (a : PoseConstants) (p : Point3f) → BoundsAnswer·NonZero (pointBounds allPlaces m a p)
 unfolding pointBounds
@@ -91,10 +96,17 @@ box-bounds-nonzero m b =
     cond-keeps BoundsAnswer·NonZero (not (m .«actually_animated»)) _ _ start
     (cond-keeps BoundsAnswer·NonZero (not (m .«has_rotation»)) _ _ (union-nonzero _ _ start (transform-bounds-nonzero (m .«end_transform») b)) (corners-nonzero m (AnimatedTransform·constants m) b 8))
 
-pub point-motion-nonzero : (m : AnimatedTransform) (p : Point3f) → BoundsAnswer·NonZero (AnimatedTransform·boundPointMotion m p)
+pub point-motion-nonzero : (m : AnimatedTransform) (p : Point3f) → BoundsAnswer·NonZero (boundPointMotion allPlaces m p)
 unfolding boundPointMotion
 point-motion-nonzero m p = cond-keeps BoundsAnswer·NonZero (not (Point3f·isFinite p)) (bounds.Refused 6) _ (λ e. absurd (omega (arith, e))) (point-bounds-nonzero m (AnimatedTransform·constants m) p)
 
-pub motion-nonzero : (m : AnimatedTransform) (b : Bounds3f) → BoundsAnswer·NonZero (AnimatedTransform·motionBounds m b)
+pub motion-nonzero : (m : AnimatedTransform) (b : Bounds3f) → BoundsAnswer·NonZero (motionBounds allPlaces m b)
 unfolding motionBounds
 motion-nonzero m b = tested-nonzero (Bounds3f·refusal b) _ (box-bounds-nonzero m b)
+
+-- ---- with its counts
+pub counted-numbered : {numbers : List ℕ} (r : BoundsAnswer) (e : Examined) → BoundsAnswer·NonZero r → OneOf (MotionBoundsAnswer·refusal (BoundsAnswer·counted r e)) numbers
+    → MotionBoundsAnswer·Numbered numbers (BoundsAnswer·counted r e)
+unfolding BoundsAnswer·counted
+counted-numbered (bounds.Bounds b) e h k = record { number = k; none = λ z. refl }
+counted-numbered (bounds.Refused n) e h k = record { number = k; none = λ z. absurd (h z) }

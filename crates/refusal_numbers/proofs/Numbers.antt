@@ -21,13 +21,11 @@ use Rattle.motion_rows.specs.TransformPoint.{Rows·transformPoint}
 use Rattle.motion_rows.proofs.NonZero.{rows-point-nonzero}
 use Rattle.interpolation.specs.Promise.{InterpolationNumber}
 use Rattle.interpolation.proofs.Numbers.{interpolate-refusal, interpolate-refused}
-use Rattle.motion_bounds.specs.MotionBounds.{AnimatedTransform·boundPointMotion, AnimatedTransform·motionBounds}
-use Rattle.motion_bounds.proofs.Numbers.{bound-point-motion-numbers, motion-bounds-numbers}
-use Rattle.motion_cover.proofs.NonZero.{bounds-numbered}
+use Rattle.motion_bounds_laws.proofs.Numbers.{bound-point-motion-numbers, motion-bounds-numbers}
 use Rattle.motion_cover.proofs.Number.{cover-numbered}
 use Rattle.refusal_numbers.specs.Numbers.{EveryAnswer}
 use Rattle.refusal_numbers.proofs.Building.{building-number}
-use Rattle.refusal_numbers.proofs.NonZero.{point-motion-nonzero, motion-nonzero}
+use Rattle.refusal_numbers.proofs.NonZero.{counted-numbered, point-motion-nonzero, motion-nonzero}
 use Rattle.refusal_numbers.proofs.File.{file-numbered}
 
 interpolate-number : {n : ℕ} → InterpolationNumber n → OneOf n (0 ∷ 4 ∷ 5 ∷ 6 ∷ [])
@@ -53,8 +51,8 @@ every-answer = record {
   point = transform-point-numbered;
   rows-point = λ rows time p. point-numbered (Rows·transformPoint rows time p) (rows-point-nonzero rows time p) (rows-point-number rows time p);
   interpolate = λ m time. record { number = interpolate-number (interpolate-refusal m time); refused = interpolate-refused m time };
-  point-motion = λ m p. bounds-numbered (AnimatedTransform·boundPointMotion m p) (point-motion-nonzero m p) (bound-point-motion-numbers m p .number);
-  motion = λ m b. bounds-numbered (AnimatedTransform·motionBounds m b) (motion-nonzero m b) (motion-bounds-numbers m b .number);
+  point-motion = λ m p. counted-numbered _ _ (point-motion-nonzero m p) (bound-point-motion-numbers m p .number);
+  motion = λ m b. counted-numbered _ _ (motion-nonzero m b) (motion-bounds-numbers m b .number);
   cover = cover-numbered;
   file = file-numbered;
 }

@@ -20,7 +20,10 @@ use Rattle.motion_point.specs.TransformPoint.{AnimatedTransform·transformPoint
 use Rattle.motion_point.specs.Answer.{PointAnswer·Numbered}
 use Rattle.motion_rows.specs.TransformPoint.{Rows·transformPoint}
 use Rattle.interpolation.specs.Interpolate.{AnimatedTransform·interpolate}
-use Rattle.motion_bounds.specs.MotionBounds.{AnimatedTransform·boundPointMotion, AnimatedTransform·motionBounds}
+use Rattle.motion_bounds.specs.declared.MotionBoundsAnswer.{MotionBoundsAnswer}
+use Rattle.motion_bounds.specs.declared.MotionBoundsAnswer.the-variants.{Bounds}
+use Rattle.motion_bounds.specs.Answer.{MotionBoundsAnswer·refusal, MotionBoundsAnswer·bounds, MotionBoundsAnswer·examined}
+use Rattle.motion_bounds.specs.Answer.{AnimatedTransform·boundPointMotion, AnimatedTransform·motionBounds}
 use Rattle.motion_cover.specs.Cover.{AnimatedTransform·cover}
 use Rattle.motion_cover.specs.Answer.{BoundsAnswer·Numbered}
 use Rattle.motion_answer.specs.Answer.{MoveFile·cover}
@@ -28,6 +31,12 @@ use Rattle.motion_answer.specs.Answer.{MoveFile·cover}
 -- ---- an answer and its number
 -- Of a point it is `PointAnswer·Numbered` of motion_point, of a box `BoundsAnswer·Numbered` of motion_cover: the number is one of those listed, and an answer
 -- whose number is 0 is a moved point, or a box.
+-- Of a motion box likewise: its number is one of those listed, and where it is 0 there is a box with its counts. (After a refusal the box is +0 and the counts are 0,
+-- by `MotionBoundsAnswer·bounds` and `MotionBoundsAnswer·examined`.)
+pub record MotionBoundsAnswer·Numbered (numbers : List ℕ) (a : MotionBoundsAnswer) : Type 0 where
+  pub number : OneOf (MotionBoundsAnswer·refusal a) numbers
+  pub none : MotionBoundsAnswer·refusal a ≡ 0 → a ≡ Bounds (MotionBoundsAnswer·bounds a) (MotionBoundsAnswer·examined a)
+
 -- Of a struct with its number beside it: an answer whose number is not 0 is the refused one with that number, +0 and no throughout.
 pub record TransformAnswer·Numbered (numbers : List ℕ) (a : TransformAnswer) : Type 0 where
   pub number : OneOf (a .refusal) numbers
@@ -44,8 +53,8 @@ pub record EveryAnswer : Type 0 where
   -- the same query of a kept move, whatever its rows
   pub rows-point : (rows : Rows) (time : Float) (p : Point3f) → PointAnswer·Numbered (0 ∷ 5 ∷ 6 ∷ []) (Rows·transformPoint rows time p)
   pub interpolate : (m : AnimatedTransform) (time : Float) → TransformAnswer·Numbered (0 ∷ 4 ∷ 5 ∷ 6 ∷ []) (AnimatedTransform·interpolate m time)
-  pub point-motion : (m : AnimatedTransform) (p : Point3f) → BoundsAnswer·Numbered (0 ∷ 5 ∷ 6 ∷ 9 ∷ []) (AnimatedTransform·boundPointMotion m p)
-  pub motion : (m : AnimatedTransform) (b : Bounds3f) → BoundsAnswer·Numbered (0 ∷ 5 ∷ 6 ∷ 7 ∷ 9 ∷ []) (AnimatedTransform·motionBounds m b)
+  pub point-motion : (m : AnimatedTransform) (p : Point3f) → MotionBoundsAnswer·Numbered (0 ∷ 5 ∷ 6 ∷ 9 ∷ []) (AnimatedTransform·boundPointMotion m p)
+  pub motion : (m : AnimatedTransform) (b : Bounds3f) → MotionBoundsAnswer·Numbered (0 ∷ 5 ∷ 6 ∷ 7 ∷ 9 ∷ []) (AnimatedTransform·motionBounds m b)
   pub cover : (m : AnimatedTransform) (b : Bounds3f) (depth : ℕ) → BoundsAnswer·Numbered (0 ∷ 5 ∷ 6 ∷ 7 ∷ 8 ∷ 10 ∷ []) (AnimatedTransform·cover m b depth)
   -- a file, whatever its bytes: its poses are a chain, its bottom rows are 0 0 0 1, it is asked at depth 10 and searches for no zeros, so that 2, 8 and 9 are
   -- not among its numbers

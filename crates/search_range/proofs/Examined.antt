@@ -22,8 +22,9 @@ use Rattle.pose_steps.proofs.Angle.{unit-finite}
 use Rattle.motion_derivative.specs.declared.MotionDerivative.{MotionDerivative}
 use Rattle.motion_derivative.specs.Derivative.{MotionDerivative·excludesZero}
 use Rattle.zero_search.specs.declared.Zeros.{Zeros}
+use Rattle.zero_search.specs.declared.Search.{Search}
 use Rattle.zero_search.specs.Search as search
-use Rattle.zero_search.specs.Search.{midpoint, lowerHalf, upperHalf, Search, findZeros, examined, searchDepth, Zeros·empty}
+use Rattle.zero_search.specs.Search.{midpoint, lowerHalf, upperHalf, findZeros, intervalFindZeros, searchDepth, Zeros·empty}
 use Rattle.search_range.specs.Examined.{searchIntervals, examinedIntervals, Examined}
 
 -- ---- the halves of an interval in 0 to 1
@@ -118,8 +119,8 @@ searchIntervals-count (suc d) false f i z =
     halved false l u x y below above = omega (arith, length-append l [], below)
 
 pub examinedIntervals-count : (c1 c2 c3 c4 c5 theta : Float)
-    → length (examinedIntervals (record { c1 = c1; c2 = c2; c3 = c3; c4 = c4; c5 = c5; theta = theta })) ≡ examined c1 c2 c3 c4 c5 theta
-unfolding examinedIntervals examined
+    → length (examinedIntervals (record { c1 = c1; c2 = c2; c3 = c3; c4 = c4; c5 = c5; theta = theta })) ≡ intervalFindZeros c1 c2 c3 c4 c5 theta .examined
+unfolding examinedIntervals intervalFindZeros
 examinedIntervals-count c1 c2 c3 c4 c5 theta =
     let f : MotionDerivative = record { c1 = c1; c2 = c2; c3 = c3; c4 = c4; c5 = c5; theta = theta } in
     searchIntervals-count searchDepth (MotionDerivative·excludesZero f search.unitInterval) f search.unitInterval (Zeros·empty 0)

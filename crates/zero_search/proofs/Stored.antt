@@ -108,7 +108,7 @@ search-stored (suc d) false f i z h =
     either-search (λ s. Stored (s .zeros)) (eqb (findZeros d f (lowerHalf i) z .zeros .refusal) 0) _ _
     (search-stored d (MotionDerivative·excludesZero f (upperHalf i)) f (upperHalf i) _ lower) lower
 
-pub intervalFindZeros-stored : (c1 c2 c3 c4 c5 theta : Float) → Stored (intervalFindZeros c1 c2 c3 c4 c5 theta)
+pub intervalFindZeros-stored : (c1 c2 c3 c4 c5 theta : Float) → Stored (intervalFindZeros c1 c2 c3 c4 c5 theta .zeros)
 unfolding intervalFindZeros
 intervalFindZeros-stored c1 c2 c3 c4 c5 theta =
     let f : MotionDerivative = record { c1 = c1; c2 = c2; c3 = c3; c4 = c4; c5 = c5; theta = theta } in

@@ -2,8 +2,8 @@
 use Rattle.interval.specs.Computing as interval
 use Rattle.motion_derivative.specs.Derivative.{affine, MotionDerivative·rangeAt, MotionDerivative·excludesZeroAt, MotionDerivative·excludesZero}
 use Rattle.motion_derivative.specs.Derivative.{MotionDerivative·valueAt, MotionDerivative·value, MotionDerivative·slopeAt, MotionDerivative·slope, MotionDerivative·newton}
-use Rattle.zero_search.specs.Search.{Zeros·store, Zeros·accept, search, intervalFindZeros, examined}
+use Rattle.zero_search.specs.Search.{Zeros·store, Zeros·accept, search, intervalFindZeros}
 
 unfoldable pub computing : Unit {0}
-unfolding interval.computing affine MotionDerivative·rangeAt MotionDerivative·excludesZeroAt MotionDerivative·excludesZero MotionDerivative·valueAt MotionDerivative·value MotionDerivative·slopeAt MotionDerivative·slope MotionDerivative·newton Zeros·store Zeros·accept search intervalFindZeros examined
+unfolding interval.computing affine MotionDerivative·rangeAt MotionDerivative·excludesZeroAt MotionDerivative·excludesZero MotionDerivative·valueAt MotionDerivative·value MotionDerivative·slopeAt MotionDerivative·slope MotionDerivative·newton Zeros·store Zeros·accept search intervalFindZeros
 computing = tt

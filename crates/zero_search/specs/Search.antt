@@ -1,5 +1,5 @@
 -- 000's `interval_find_zeros` by value: the zeros found, in an array of eight with a count, and the refusal 9 where a ninth would be stored, at which
--- the search ends; with them how many intervals it examined. `intervalFindZeros` and `examined` are the two of the search from 0 to 1 at depth 8.
+-- the search ends; with them how many intervals it examined. `intervalFindZeros` is the search from 0 to 1 at depth 8.
 -- Definitions only.
 use Prim.Native.Nat.{ℕ, zero, suc, _+_}
 use mathlib.Core.Bool.{Bool, true, false, cond, _&&_}
@@ -12,6 +12,7 @@ use Rattle.interval.specs.declared.Interval.{Interval}
 use Rattle.interval.specs.Interval.{Interval·new}
 use Rattle.motion_derivative.specs.declared.MotionDerivative.{MotionDerivative}
 use Rattle.zero_search.specs.declared.Zeros.{Zeros}
+use Rattle.zero_search.specs.declared.Search.{Search}
 use Rattle.motion_derivative.specs.Derivative.{MotionDerivative·excludesZero, MotionDerivative·newton}
 
 -- (i.low + i.high) * 0.5
@@ -56,13 +57,9 @@ lowerHalf i = Interval·new (i .low) (midpoint i)
 abbrev pub upperHalf : Interval → Interval
 upperHalf i = Interval·new (midpoint i) (i .high)
 
--- The zeros found, those handed in first, and how many intervals were examined: each once, also one that the range test leaves out and one that is
--- halved no further.
-pub record Search : Type 0 where
-  pub zeros : Zeros
-  pub examined : ℕ
-
 -- The body of 000's interval_find_zeros at a depth; whether the range test leaves the interval out is an argument, to match on.
+-- The zeros found, those handed in first, and how many intervals were examined: each once, document 02's "roots included", also one that is halved no further,
+-- and "an interval dropped by its range counts as one".
 unfoldable pub search : ℕ → Bool → MotionDerivative → Interval → Zeros → Search
 search zero true f i z = record { zeros = z; examined = 1 }
 search (suc d) true f i z = record { zeros = z; examined = 1 }
@@ -84,14 +81,9 @@ searchDepth = 8
 abbrev pub unitInterval : Interval
 unitInterval = Interval·new positiveZero one
 
--- interval_find_zeros from 0 to 1 at depth 8, as bound_point_motion calls it
 abbrev pub unitSearch : MotionDerivative → Search
 unitSearch f = findZeros searchDepth f unitInterval (Zeros·empty 0)
 
--- its zeros
-unfoldable pub intervalFindZeros : Float → Float → Float → Float → Float → Float → Zeros
-intervalFindZeros c1 c2 c3 c4 c5 theta = unitSearch (record { c1 = c1; c2 = c2; c3 = c3; c4 = c4; c5 = c5; theta = theta }) .zeros
-
--- how many intervals it examines
-unfoldable pub examined : Float → Float → Float → Float → Float → Float → ℕ
-examined c1 c2 c3 c4 c5 theta = unitSearch (record { c1 = c1; c2 = c2; c3 = c3; c4 = c4; c5 = c5; theta = theta }) .examined
+-- interval_find_zeros from 0 to 1 at depth 8, as bound_point_motion calls it
+unfoldable pub intervalFindZeros : Float → Float → Float → Float → Float → Float → Search
+intervalFindZeros c1 c2 c3 c4 c5 theta = unitSearch (record { c1 = c1; c2 = c2; c3 = c3; c4 = c4; c5 = c5; theta = theta })

@@ -1,6 +1,7 @@
 // The zero search of pbrt's motion box: where the derivative of a coordinate's motion may vanish, from 0 to 1. It names the table of sines once and lends it
 // to all that asks for a sine.
 ghost use mathlib.Core.Path.{_≡_};
+ghost use Prim.Native.Nat.{_≤_};
 ghost use Rattle.sine_table.specs.Table.{sineTable};
 ghost use Rattle.interval.specs.Interval.{Interval·new};
 ghost use Rattle.motion_derivative.specs.Derivative.{MotionDerivative·excludesZero, MotionDerivative·newton};
@@ -25,6 +26,12 @@ pub struct Zeros {
     pub zeros: [f32; 8],
     pub count: usize,
     pub refusal: u8,
+}
+
+// What a search finds, and how many intervals it examines: each once, also one that the range test leaves out.
+pub struct Search {
+    pub zeros: Zeros,
+    pub examined: u32,
 }
 
 // The sine and the cosine of the angles at the ends of an interval; both halves share those at its midpoint.
@@ -157,7 +164,7 @@ fn excludes_zero(f: MotionDerivative, i: Interval, ends: EndAngles) -> bool
     f.excludes_zero(i)
 }
 
-// The zeros of f in an interval, after those found before; the interval is halved as often as depth says.
+// The zeros of f in an interval, after those found before; the interval is halved as often as depth says. With them how many intervals were examined.
 fn find_zeros(
     table: &[u32; 2049],
     f: MotionDerivative,
@@ -165,37 +172,47 @@ fn find_zeros(
     ends: EndAngles,
     depth: u32,
     found: Zeros,
-) -> Zeros
-    requires { ⌜ now table ≡ sineTable ⌝ ∗ ⌜ AnglesAt f i ends ⌝ }
-    ensures value { λ r. ⌜ r ≡ findZeros depth f i found .zeros ⌝ }
+) -> Search
+    requires { ⌜ now table ≡ sineTable ⌝ ∗ ⌜ AnglesAt f i ends × (depth ≤ 8) ⌝ }
+    ensures value { λ r. ⌜ r ≡ findZeros depth f i found ⌝ }
 {
     if excludes_zero(f, i, ends) {
-        return found;
+        return Search {
+            zeros: found,
+            examined: 1,
+        };
     }
     let mid = midpoint(i);
     if depth == 0 {
-        return found.accept(i, newton(table, f, mid));
+        let zeros = found.accept(i, newton(table, f, mid));
+        return Search { zeros, examined: 1 };
     }
     let middle = end_at(table, f, mid);
     let below = end_angles(table, f, i.low, ends.low, mid, middle);
     let lower = find_zeros(table, f, Interval::new(i.low, mid), below, depth - 1, found);
-    if lower.refusal != 0 {
-        return lower;
+    let zeros = lower.zeros;
+    if zeros.refusal != 0 {
+        let examined = 1 + lower.examined;
+        return Search { zeros, examined };
     }
     let above = end_angles(table, f, mid, middle, i.high, ends.high);
-    find_zeros(
+    let upper = find_zeros(
         table,
         f,
         Interval::new(mid, i.high),
         above,
         depth - 1,
-        lower,
-    )
+        zeros,
+    );
+    let zeros = upper.zeros;
+    let upper_examined = upper.examined;
+    let examined = 1 + lower.examined + upper_examined;
+    Search { zeros, examined }
 }
 
 // The search from 0 to 1.
-fn unit_zeros(f: MotionDerivative) -> Zeros
-    ensures value { λ r. ⌜ r ≡ unitSearch f .zeros ⌝ }
+fn unit_search(f: MotionDerivative) -> Search
+    ensures value { λ r. ⌜ r ≡ unitSearch f ⌝ }
 {
     let table = sine_table::table();
     let i = Interval::new(0.0, 1.0);
@@ -205,8 +222,9 @@ fn unit_zeros(f: MotionDerivative) -> Zeros
     find_zeros(&table, f, i, ends, DEPTH, Zeros::empty(0))
 }
 
-// pbrt's `interval_find_zeros` from the interval 0 to 1 at depth 8; refused with 9 where a ninth zero would be stored. Accuracy: heuristic.
-pub fn interval_find_zeros(c1: f32, c2: f32, c3: f32, c4: f32, c5: f32, theta: f32) -> Zeros
+// pbrt's `interval_find_zeros` from the interval 0 to 1 at depth 8, with how many intervals it examined, at most 511; refused with 9 where a ninth zero would be
+// stored. Accuracy: heuristic.
+pub fn interval_find_zeros(c1: f32, c2: f32, c3: f32, c4: f32, c5: f32, theta: f32) -> Search
     ensures value { λ r. ⌜ r ≡ intervalFindZeros c1 c2 c3 c4 c5 theta ⌝ }
 {
     let f = MotionDerivative {
@@ -217,5 +235,5 @@ pub fn interval_find_zeros(c1: f32, c2: f32, c3: f32, c4: f32, c5: f32, theta: f
         c5,
         theta,
     };
-    unit_zeros(f)
+    unit_search(f)
 }

@@ -12,11 +12,19 @@ point-requires c κs = search needs
 bound-point-motion-requires : tie.Need-bound-point-motion-requires
 bound-point-motion-requires c κs = search needs
 
-put-bounds-requires : tie.Need-put-bounds-requires
-put-bounds-requires c κs = search needs
+put-motion-bounds-requires : tie.Need-put-motion-bounds-requires
+put-motion-bounds-requires c κs = search needs
 
 returns : tie.Need-returns
-returns c = (rw (c .put-bounds .ensures .0, c .before .before .bound-point-motion .ensures, c .before .before .before .point .ensures, c .before .before .before .before .from-rows .ensures), rw (c .put-bounds .ensures .1, c .before .before .bound-point-motion .ensures, c .before .before .before .point .ensures, c .before .before .before .before .from-rows .ensures))
+returns c =
+    let answer = c .before .before .before in
+    let asked = answer .before in
+    let worked = answer .bound-point-motion .ensures in
+    let given = asked .point .ensures in
+    let rows = asked .before .from-rows .ensures in (
+      rw (c .put-motion-bounds .ensures .0, worked, given, rows),
+      (rw (c .put-motion-bounds .ensures .1 .0, worked, given, rows), rw (c .put-motion-bounds .ensures .1 .1, worked, given, rows)),
+    )
 
 pub jellyplain-bound-point-motion-spec : {M : Type 1} → statement M
 jellyplain-bound-point-motion-spec =
@@ -25,5 +33,5 @@ jellyplain-bound-point-motion-spec =
     from-rows-requires
     point-requires
     bound-point-motion-requires
-    put-bounds-requires
+    put-motion-bounds-requires
     returns)

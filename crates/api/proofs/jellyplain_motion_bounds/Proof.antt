@@ -12,11 +12,19 @@ bounds-requires c κs = search needs
 motion-bounds-requires : tie.Need-motion-bounds-requires
 motion-bounds-requires c κs = search needs
 
-put-bounds-requires : tie.Need-put-bounds-requires
-put-bounds-requires c κs = search needs
+put-motion-bounds-requires : tie.Need-put-motion-bounds-requires
+put-motion-bounds-requires c κs = search needs
 
 returns : tie.Need-returns
-returns c = (rw (c .put-bounds .ensures .0, c .before .before .motion-bounds .ensures, c .before .before .before .bounds .ensures, c .before .before .before .before .from-rows .ensures), rw (c .put-bounds .ensures .1, c .before .before .motion-bounds .ensures, c .before .before .before .bounds .ensures, c .before .before .before .before .from-rows .ensures))
+returns c =
+    let answer = c .before .before .before in
+    let asked = answer .before in
+    let worked = answer .motion-bounds .ensures in
+    let given = asked .bounds .ensures in
+    let rows = asked .before .from-rows .ensures in (
+      rw (c .put-motion-bounds .ensures .0, worked, given, rows),
+      (rw (c .put-motion-bounds .ensures .1 .0, worked, given, rows), rw (c .put-motion-bounds .ensures .1 .1, worked, given, rows)),
+    )
 
 pub jellyplain-motion-bounds-spec : {M : Type 1} → statement M
 jellyplain-motion-bounds-spec =
@@ -25,5 +33,5 @@ jellyplain-motion-bounds-spec =
     from-rows-requires
     bounds-requires
     motion-bounds-requires
-    put-bounds-requires
+    put-motion-bounds-requires
     returns)

@@ -10,9 +10,6 @@ enum-known-start c = search needs
 enum-known-end : tie.Need-enum-known-end
 enum-known-end c = search needs
 
-from-points-requires : tie.Need-from-points-requires
-from-points-requires c κs = search needs
-
 enum-known-end-2 : tie.Need-enum-known-end-2
 enum-known-end-2 c = search needs
 
@@ -37,7 +34,7 @@ from-ends-spec =
     (tie.spec
     enum-known-start
     enum-known-end
-    from-points-requires
+    (λ c κs. tt)
     enum-known-end-2
     enum-known-start-2
     returns

@@ -1,7 +1,7 @@
 -- `union_axis` meets its contract: each arm is its case of the definition, and the search's number chooses in the first.
 use borrow.Author.Tests.{eq-eqb, ne-eqb}
 use Rattle.motion_bounds.specs.MotionBounds.{unionAxis}
-use Rattle.motion_bounds.proofs.Numbers.{axis-zeros-stored}
+use Rattle.motion_bounds.proofs.Searched.{axis-zeros-stored}
 use borrow.Author.Needs.{needs}
 use Rattle.motion_bounds.proofs.union_axis.Statement.{statement}
 use Rattle.motion_bounds.proofs.union_axis.Tie as tie
@@ -9,15 +9,13 @@ use Rattle.motion_bounds.proofs.union_axis.Tie as tie
 enum-told : tie.Need-enum-told
 enum-told c = search needs
 
-axis-zeros-requires : tie.Need-axis-zeros-requires
-axis-zeros-requires c κs = search needs
-
 returns : tie.Need-returns
 unfolding unionAxis
-returns c = rw (c .before .before .before .enum-told .given .1, ← c .before .before .axis-zeros .ensures, ne-eqb _ _ (c .if1 .taken))
+returns c =
+    rw (c .before .before .before .before .enum-told .given .1, ← c .before .before .before .axis-search .ensures, ne-eqb _ _ (c .if1 .taken))
 
 union-zeros-requires : tie.Need-union-zeros-requires
-union-zeros-requires c κs = rw (c .before .before .axis-zeros .ensures) (axis-zeros-stored _ _ _)
+union-zeros-requires c κs = rw (c .before .before .before .axis-search .ensures) (axis-zeros-stored _ _ _)
 
 enum-told-2 : tie.Need-enum-told-2
 enum-told-2 c = search needs
@@ -25,8 +23,8 @@ enum-told-2 c = search needs
 returns-2 : tie.Need-returns-2
 unfolding unionAxis
 returns-2 c =
-    let told = c .before .before .before .before .enum-told .given .1 in
-    rw (told, ← c .before .before .before .axis-zeros .ensures, eq-eqb _ _ (c .before .if1 .left), c .union-zeros .ensures, told)
+    let told = c .before .before .before .before .before .enum-told .given .1 in
+    rw (told, ← c .before .before .before .before .axis-search .ensures, eq-eqb _ _ (c .before .if1 .left), c .union-zeros .ensures, told)
 
 returns-3 : tie.Need-returns-3
 unfolding unionAxis
@@ -37,7 +35,7 @@ union-axis-spec =
     tie.close
     (tie.spec
     enum-told
-    axis-zeros-requires
+    (λ c κs. tt)
     returns
     union-zeros-requires
     enum-told-2

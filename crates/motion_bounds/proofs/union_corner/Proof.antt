@@ -1,41 +1,90 @@
--- `union_corner` meets its contract: after a refusal the union is that refusal, whatever the corner's motion is.
-use Rattle.bounds_query.specs.Query.{BoundsAnswer·unionBounds}
-use Rattle.motion_bounds.specs.MotionBounds.{unionCorner}
+-- `union_corner` meets its contract: each arm is its case of the union of two answers, and that is the next corner's (`next-corner`).
+use Rattle.motion_bounds.specs.Steps.{MotionBoundsAnswer·unionBounds}
+use Rattle.motion_bounds.proofs.Counts.{counted-few, next-corner}
+use Rattle.motion_bounds.proofs.Searched.{few-below, point-examined, corners-examined}
+use Prim.Native.Nat.{_*_, _≤_}
+use native.Mathlib.Omega.{arith}
 use borrow.Author.Needs.{needs}
 use Rattle.motion_bounds.proofs.union_corner.Statement.{statement}
 use Rattle.motion_bounds.proofs.union_corner.Tie as tie
 
+enum-known-r : tie.Need-enum-known-r
+enum-known-r c = search needs
+
+enum-known-s : tie.Need-enum-known-s
+enum-known-s c = search needs
+
+add-requires : tie.Need-add-requires
+add-requires c κs =
+    let corner = c .before .before in
+    let joined = corner .before .before .before .before .before in
+    let start = joined .before .before in
+    let a = start .args in
+    let below : 511 * a .c ≤ 3577 = omega (arith, start .pre .0) in (
+      counted-few _ (start .pre .1) (joined .r .given .1) (few-below below (corners-examined (a .m) (a .a) (a .b) (a .c))),
+      counted-few _ (corner .before .before .point-bounds .ensures) (corner .s .given .1) (point-examined (a .m) (a .a) _),
+    )
+
 enum-told : tie.Need-enum-told
 enum-told c = search needs
-
-corner-requires : tie.Need-corner-requires
-corner-requires c κs = search needs
-
-point-bounds-requires : tie.Need-point-bounds-requires
-point-bounds-requires c κs = search needs
-
-union-bounds-requires : tie.Need-union-bounds-requires
-union-bounds-requires c κs = search needs
 
 enum-told-2 : tie.Need-enum-told-2
 enum-told-2 c = search needs
 
 returns : tie.Need-returns
-unfolding unionCorner
-returns c = rw (c .union-bounds .ensures, c .before .point-bounds .ensures, c .before .before .corner .ensures)
+unfolding MotionBoundsAnswer·unionBounds
+returns c =
+    let met = c .before .before .before in
+    let moved = met .before .before in
+    let joined = moved .before .before .before in
+    let start = joined .before .before in
+    let a = start .args in
+    rw (
+      next-corner (a .m) (a .a) (a .b) (a .c),
+      ← start .pre .1,
+      ← moved .before .corner .ensures,
+      ← moved .point-bounds .ensures,
+      joined .r .given .1,
+      met .s .given .1,
+      c .before .union-bounds .ensures,
+      c .add .ensures,
+    )
 
 returns-2 : tie.Need-returns-2
-unfolding unionCorner BoundsAnswer·unionBounds
-returns-2 c = rw (c .enum-told2 .given .1)
+unfolding MotionBoundsAnswer·unionBounds
+returns-2 c =
+    let moved = c .before .before in
+    let joined = moved .before .before .before in
+    let start = joined .before .before in
+    let a = start .args in
+    rw (
+      next-corner (a .m) (a .a) (a .b) (a .c),
+      ← start .pre .1,
+      ← moved .before .corner .ensures,
+      ← moved .point-bounds .ensures,
+      joined .r .given .1,
+      c .enum-told .given .1,
+    )
+
+returns-3 : tie.Need-returns-3
+unfolding MotionBoundsAnswer·unionBounds
+returns-3 c =
+    let start = c .before .before in
+    let a = start .args in
+    rw (next-corner (a .m) (a .a) (a .b) (a .c), ← start .pre .1, c .enum-told2 .given .1)
 
 pub union-corner-spec : {M : Type 1} → statement M
 union-corner-spec =
     tie.close
     (tie.spec
+    enum-known-r
+    (λ c κs. tt)
+    (λ c κs. tt)
+    enum-known-s
+    (λ c κs. tt)
+    add-requires
     enum-told
-    corner-requires
-    point-bounds-requires
-    union-bounds-requires
     enum-told-2
     returns
-    returns-2)
+    returns-2
+    returns-3)

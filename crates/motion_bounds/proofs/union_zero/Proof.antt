@@ -8,14 +8,8 @@ use Rattle.motion_bounds.proofs.union_zero.Tie as tie
 enum-known-r : tie.Need-enum-known-r
 enum-known-r c = search needs
 
-point-at-requires : tie.Need-point-at-requires
-point-at-requires c κs = search needs
-
 enum-known-q : tie.Need-enum-known-q
 enum-known-q c = search needs
-
-union-point-requires : tie.Need-union-point-requires
-union-point-requires c κs = search needs
 
 enum-known-q-2 : tie.Need-enum-known-q-2
 enum-known-q-2 c = search needs
@@ -40,9 +34,9 @@ union-zero-spec =
     tie.close
     (tie.spec
     enum-known-r
-    point-at-requires
+    (λ c κs. tt)
     enum-known-q
-    union-point-requires
+    (λ c κs. tt)
     enum-known-q-2
     enum-told
     returns

@@ -28,9 +28,6 @@ mul-union-zero c = search needs
 array-read-union-zero : tie.Need-array-read-union-zero Inv-loop μ-loop
 array-read-union-zero c = search needs
 
-union-zero-requires : tie.Need-union-zero-requires Inv-loop μ-loop
-union-zero-requires c κs = search needs
-
 add-k : tie.Need-add-k Inv-loop μ-loop
 add-k c = search needs
 
@@ -39,9 +36,6 @@ loop-less c = search needs
 
 loop-again : tie.Need-loop-again Inv-loop μ-loop
 loop-again c = (search needs, loop-next _ _ _ _ _ (c .before .before .loop .inv .1) (c .union-zero .ensures))
-
-union-zero-requires-2 : tie.Need-union-zero-requires-2 Inv-loop μ-loop
-union-zero-requires-2 c κs = search needs
 
 returns : tie.Need-returns Inv-loop μ-loop
 unfolding unionZeros
@@ -65,10 +59,10 @@ union-zeros-spec =
     loop-holds
     mul-union-zero
     array-read-union-zero
-    union-zero-requires
+    (λ c κs. tt)
     add-k
     loop-less
     loop-again
-    union-zero-requires-2
+    (λ c κs. tt)
     returns
     returns-2)

@@ -1,8 +1,9 @@
--- `find_zeros` meets its contract, by the clauses of `search`; the depth falls.
+-- `find_zeros` meets its contract, by the clauses of `search`; the depth falls. The counts add up to no more than 1023 (`few-examined`).
 use mathlib.Core.Path.{sym}
 use native.Mathlib.Omega.{arith}
 use Rattle.zero_search.proofs.Clauses.{search-excluded, search-newton, search-ends, search-halves}
-use Prim.Native.Nat.{ℕ, _<_}
+use Rattle.zero_search.proofs.Examined.{few-examined}
+use Prim.Native.Nat.{ℕ, _<_, _≤_}
 use borrow.Fn.Kinds.{In, Out}
 use borrow.Fn.PlainCycle.{Measures, is, falls, and}
 use Rattle.zero_search.proofs.find_zeros.Reads as find-zeros
@@ -67,10 +68,13 @@ calls t = (
 )
 
 excludes-zero-requires : (t : ℕ) → find-zeros-lts.Need-excludes-zero-requires (calls t) (find-zeros-at t) find-zeros.Post
-excludes-zero-requires t c κs = c .pre .1 .1
+excludes-zero-requires t c κs = c .pre .1 .1 .0
 
 returns : (t : ℕ) → find-zeros-lts.Need-returns (calls t) (find-zeros-at t) find-zeros.Post
-returns t c = let a = c .before .before .args in cc (search-excluded (a .depth) (a .f) (a .i) (a .found))
+returns t c =
+    let range = c .before in
+    let a = range .before .args in
+    rw (sym (range .excludes-zero .ensures), c .if1 .taken) (sym (search-excluded (a .depth) (a .f) (a .i) (a .found)))
 
 newton-requires : (t : ℕ) → find-zeros-lts.Need-newton-requires (calls t) (find-zeros-at t) find-zeros.Post
 newton-requires t c κs = c .before .before .before .before .pre .1 .0
@@ -96,7 +100,7 @@ end-at-requires t c κs = c .before .before .before .before .pre .1 .0
 end-angles-requires : (t : ℕ) → find-zeros-lts.Need-end-angles-requires (calls t) (find-zeros-at t) find-zeros.Post
 end-angles-requires t c κs =
     let pre = c .before .before .before .before .before .pre .1 in
-    (pre .0, (pre .1 .0, c .end-at .ensures))
+    (pre .0, (pre .1 .0 .0, c .end-at .ensures))
 
 sub-find-zeros : (t : ℕ) → find-zeros-lts.Need-sub-find-zeros (calls t) (find-zeros-at t) find-zeros.Post
 sub-find-zeros t c = omega arith
@@ -104,47 +108,75 @@ sub-find-zeros t c = omega arith
 find-zeros-requires : (t : ℕ) → find-zeros-lts.Need-find-zeros-requires (calls t) (find-zeros-at t) find-zeros.Post
 find-zeros-requires t c κs =
     let start = c .before .before .before .before .before .before .before in
-    (omega arith, (start .pre .1 .0, rw (c .new .ensures) (c .before .end-angles .ensures)))
+    (omega arith, (start .pre .1 .0, (rw (c .new .ensures) (c .before .end-angles .ensures), omega (arith, start .pre .1 .1 .1))))
+
+add-examined : (t : ℕ) → find-zeros-lts.Need-add-examined (calls t) (find-zeros-at t) find-zeros.Post
+add-examined t c =
+    let lower = c .before .before .before .before in
+    let start = lower .before .before .before .before .before .before .before .before in
+    let few : lower .find-zeros .result .examined ≤ 511 = rw (lower .find-zeros .ensures) (few-examined _ (omega (arith, start .pre .1 .1 .1)) _ _ _) in
+    omega (arith, few)
 
 returns-3 : (t : ℕ) → find-zeros-lts.Need-returns-3 (calls t) (find-zeros-at t) find-zeros.Post
 returns-3 t c =
-    let lower = c .before .before in
+    let lower = c .before .before .before .before in
     let half = lower .before in
     let split = half .before .before .before in
     let mid = split .before in
-    let a = mid .before .before .before .args in
-    cc (search-ends (a .depth) (a .f) (a .i) (a .found) (lower .find-zeros .result) (split .if2 .left)
-    (rw (half .new .ensures, mid .midpoint .ensures) at (lower .find-zeros .ensures)) (c .if3 .taken))
+    let range = mid .before .before in
+    let a = range .before .args in
+    let found = rw (half .new .ensures, mid .midpoint .ensures) at (lower .find-zeros .ensures) in
+    rw (sym (range .excludes-zero .ensures), mid .before .if1 .left)
+    (sym (search-ends (a .depth) (a .f) (a .i) (a .found) (lower .find-zeros .result) (split .if2 .left) found (c .before .if3 .taken)))
 
 end-angles-requires-2 : (t : ℕ) → find-zeros-lts.Need-end-angles-requires-2 (calls t) (find-zeros-at t) find-zeros.Post
 end-angles-requires-2 t c κs =
-    let middle = c .before .before .before .before .before in
+    let middle = c .before .before .before .before .before .before in
     let pre = middle .before .before .before .before .before .pre .1 in
-    (pre .0, (middle .end-at .ensures, pre .1 .1))
+    (pre .0, (middle .end-at .ensures, pre .1 .0 .1))
 
 sub-find-zeros-2 : (t : ℕ) → find-zeros-lts.Need-sub-find-zeros-2 (calls t) (find-zeros-at t) find-zeros.Post
 sub-find-zeros-2 t c = omega arith
 
 find-zeros-requires-2 : (t : ℕ) → find-zeros-lts.Need-find-zeros-requires-2 (calls t) (find-zeros-at t) find-zeros.Post
 find-zeros-requires-2 t c κs =
-    let split = c .before .before .before .before .before .before .before .before in
+    let split = c .before .before .before .before .before .before .before .before .before in
     let pre = split .before .before .before .before .pre in
-    (omega (arith, split .if2 .left, pre .0), (pre .1 .0, rw (c .new2 .ensures) (c .before .end-angles2 .ensures)))
+    (omega (arith, split .if2 .left, pre .0), (pre .1 .0, (rw (c .new2 .ensures) (c .before .end-angles2 .ensures), omega (arith, pre .1 .1 .1))))
+
+add-examined-2 : (t : ℕ) → find-zeros-lts.Need-add-examined-2 (calls t) (find-zeros-at t) find-zeros.Post
+add-examined-2 t c =
+    let lower = c .before .before .before .before .before .before .before .before in
+    let start = lower .before .before .before .before .before .before .before .before in
+    let few : lower .find-zeros .result .examined ≤ 511 = rw (lower .find-zeros .ensures) (few-examined _ (omega (arith, start .pre .1 .1 .1)) _ _ _) in
+    omega (arith, few)
+
+add-examined-3 : (t : ℕ) → find-zeros-lts.Need-add-examined-3 (calls t) (find-zeros-at t) find-zeros.Post
+add-examined-3 t c =
+    let upper = c .before .before in
+    let lower = upper .before .before .before .before .before .before in
+    let start = lower .before .before .before .before .before .before .before .before in
+    let shallow = start .pre .1 .1 .1 in
+    let few : lower .find-zeros .result .examined ≤ 511 = rw (lower .find-zeros .ensures) (few-examined _ (omega (arith, shallow)) _ _ _) in
+    let few-2 : upper .find-zeros2 .result .examined ≤ 511 = rw (upper .find-zeros2 .ensures) (few-examined _ (omega (arith, shallow)) _ _ _) in
+    omega (arith, few, few-2)
 
 returns-4 : (t : ℕ) → find-zeros-lts.Need-returns-4 (calls t) (find-zeros-at t) find-zeros.Post
 returns-4 t c =
-    let above = c .before in
+    let upper = c .before .before in
+    let above = upper .before in
     let left = above .before .before in
-    let lower = left .before .before in
+    let lower = left .before .before .before in
     let below = lower .before in
     let split = below .before .before .before in
     let mid = split .before in
-    let a = mid .before .before .before .args in
-    cc (
-      search-halves (a .depth) (a .f) (a .i) (a .found) (lower .find-zeros .result) (split .if2 .left)
-          (rw (below .new .ensures, mid .midpoint .ensures) at (lower .find-zeros .ensures)) (left .if3 .left),
-      rw (above .new2 .ensures, mid .midpoint .ensures) at (c .find-zeros2 .ensures),
-    )
+    let range = mid .before .before in
+    let a = range .before .args in
+    let found = rw (below .new .ensures, mid .midpoint .ensures) at (lower .find-zeros .ensures) in
+    let found-2 = rw (above .new2 .ensures, mid .midpoint .ensures) at (upper .find-zeros2 .ensures) in
+    rw (sym (range .excludes-zero .ensures), mid .before .if1 .left)
+    (sym
+    (search-halves (a .depth) (a .f) (a .i) (a .found) (lower .find-zeros .result) (upper .find-zeros2 .result) (split .if2 .left) found (left .if3 .left) found-2))
 
 pub +find-zeros-spec : {M : Type 1} → statement M
 +find-zeros-spec = close μ-find-zeros λ t. find-zeros-lts.spec (calls t)
@@ -161,9 +193,12 @@ pub +find-zeros-spec : {M : Type 1} → statement M
     (λ c κs. tt)
     (sub-find-zeros t)
     (find-zeros-requires t)
+    (add-examined t)
     (returns-3 t)
     (end-angles-requires-2 t)
     (λ c κs. tt)
     (sub-find-zeros-2 t)
     (find-zeros-requires-2 t)
+    (add-examined-2 t)
+    (add-examined-3 t)
     (returns-4 t)

@@ -1,8 +1,9 @@
--- The numbers that a motion box gives are 5, 6, 7 and 9, those of a point's motion 5, 6 and 9, and what isn't refused is finite: `motion-bounds-numbers`,
--- `bound-point-motion-numbers`, for all structs and arguments. Rests on `moved-point-judged` and on what a search's refusal can be, `intervalFindZeros-stored`.
+-- The numbers that a motion box gives are 5, 6, 7 and 9, those of a point's motion 5, 6 and 9, what isn't refused is finite, and the counts are at most 511 for a point and
+-- 4,088 for a box: `motion-bounds-numbers`, `bound-point-motion-numbers`, for all structs and arguments. Rests on `moved-point-judged`, on what a search's refusal can be,
+-- `axis-zeros-stored`, and on `point-examined`.
 use Prim.Native.Nat.{ℕ}
 use mathlib.Core.Path.{_≡_, refl}
-use mathlib.Core.Bool.{not}
+use mathlib.Core.Bool.{not, _||_}
 use mathlib.Core.Logic.{_⊎_, inl, inr}
 use mathlib.Core.List.{List, [], _∷_}
 use lib.Dec.{T, eqb}
@@ -24,15 +25,17 @@ use Rattle.transform.specs.TransformBounds.{BoundsAnswer·fromMoved, BoundsAnsw
 use Rattle.transform.proofs.Judged.{transform-point-judged, transform-bounds-judged}
 use Rattle.bounds_query.specs.Query.{Bounds3f·isOrdered, Bounds3f·refusal, BoundsAnswer·unionBounds}
 use Rattle.axis_derivative.specs.declared.Derivative.{Derivative}
-use Rattle.zero_search.specs.Stored.{Stored}
-use Rattle.zero_search.proofs.Stored.{intervalFindZeros-stored}
 use Rattle.pose_steps.specs.declared.PoseConstants.{PoseConstants}
 use Rattle.animated_transform.specs.declared.AnimatedTransform.{AnimatedTransform}
 use Rattle.motion_point.specs.TransformPoint.{AnimatedTransform·constants}
 use Rattle.motion_point.proofs.Query.{moved-point-judged}
-use Rattle.motion_bounds.specs.MotionBounds.{axisZeros, pointAt, unionZero, unionZeros, allPlaces, unionAxis, pointBounds, unionCorner, unionCorners, boxBounds, boundPointMotion, motionBounds, AnimatedTransform·boundPointMotion, AnimatedTransform·motionBounds}
-use Rattle.motion_bounds.proofs.Ends.{from-ends-union}
-use Rattle.motion_bounds.specs.Answer.{BoundsAnswer·Answered}
+use Rattle.motion_bounds.specs.MotionBounds.{axisSearch, pointAt, unionZero, unionZeros, allPlaces, unionAxis, pointBounds, unionCorner, unionCorners, boxBounds, boundPointMotion, motionBounds}
+use Rattle.motion_bounds.specs.declared.Examined.{Examined}
+use Rattle.motion_bounds.specs.Examined.{Examined·AtMost, pointExamined, boxExamined}
+use Rattle.motion_bounds.specs.Answer.{BoundsAnswer·counted, AnimatedTransform·boundPointMotion, AnimatedTransform·motionBounds}
+use Rattle.motion_bounds.proofs.Searched.{axis-zeros-stored, none-examined, point-examined, corners-examined}
+use Rattle.motion_bounds_laws.proofs.Ends.{from-ends-union}
+use Rattle.motion_bounds_laws.specs.Answer.{BoundsAnswer·Answered, MotionBoundsAnswer·Answered}
 
 -- the numbers that the work can meet
 abbrev Worked : BoundsAnswer → Type 0
@@ -73,10 +76,6 @@ union-worked (Bounds a) (Refused n) w v = v
 union-worked (Refused n) s w v = w
 
 -- ---- a point's motion
-pub axis-zeros-stored : (a : PoseConstants) (p : Point3f) (d : Derivative) → Stored (axisZeros a p d)
-unfolding axisZeros
-axis-zeros-stored a p d = intervalFindZeros-stored _ _ _ _ _ _
-
 module _ (m : AnimatedTransform) (a : PoseConstants) (p : Point3f) where
   zeros-worked : (zeros : List Float) (n : ℕ) (r : BoundsAnswer) → Worked r → Worked (unionZeros m a p zeros n r)
   unfolding unionZeros unionZero pointAt
@@ -87,7 +86,7 @@ module _ (m : AnimatedTransform) (a : PoseConstants) (p : Point3f) where
   unfolding unionAxis
   axis-worked d (Refused n) w = w
   axis-worked d (Bounds b) w =
-      let z = axisZeros a p d in
+      let z = axisSearch a p d .zeros in
       cond-keeps Worked (eqb (z .refusal) 0) _ _ (zeros-worked (z .zeros) 8 (Bounds b) w) (refused-answered (z .refusal) (nine (axis-zeros-stored a p d .refusal)))
     where
       nine : {n k : ℕ} → (n ≡ 0) ⊎ ((n ≡ 9) × (k ≡ 0)) → OneOf n (0 ∷ 5 ∷ 9 ∷ [])
@@ -123,9 +122,9 @@ box-worked m b =
     (cond-keeps Worked (not (m .«has_rotation»)) _ _ (union-worked _ _ start end) (corners-worked m (AnimatedTransform·constants m) b 8))
 
 -- ---- the queries
-pub bound-point-motion-numbers : (m : AnimatedTransform) (p : Point3f) → BoundsAnswer·Answered (0 ∷ 5 ∷ 6 ∷ 9 ∷ []) (AnimatedTransform·boundPointMotion m p)
+point-motion-answered : (m : AnimatedTransform) (p : Point3f) → BoundsAnswer·Answered (0 ∷ 5 ∷ 6 ∷ 9 ∷ []) (boundPointMotion allPlaces m p)
 unfolding boundPointMotion
-bound-point-motion-numbers m p =
+point-motion-answered m p =
     let w = point-worked m (AnimatedTransform·constants m) p in
     cond-keeps (BoundsAnswer·Answered (0 ∷ 5 ∷ 6 ∷ 9 ∷ [])) (not (Point3f·isFinite p)) _ _ (refused-answered 6 (inr (inr (inl refl)))) (record { number = widen (w .number); values = w .values })
   where
@@ -134,9 +133,9 @@ bound-point-motion-numbers m p =
     widen (inr (inl e)) = inr (inl e)
     widen (inr (inr i)) = inr (inr (inr i))
 
-pub motion-bounds-numbers : (m : AnimatedTransform) (b : Bounds3f) → BoundsAnswer·Answered (0 ∷ 5 ∷ 6 ∷ 7 ∷ 9 ∷ []) (AnimatedTransform·motionBounds m b)
+motion-answered : (m : AnimatedTransform) (b : Bounds3f) → BoundsAnswer·Answered (0 ∷ 5 ∷ 6 ∷ 7 ∷ 9 ∷ []) (motionBounds allPlaces m b)
 unfolding motionBounds
-motion-bounds-numbers m b =
+motion-answered m b =
     let w = box-worked m b in
     cond-keeps (BoundsAnswer·Answered (0 ∷ 5 ∷ 6 ∷ 7 ∷ 9 ∷ [])) (eqb (Bounds3f·refusal b) 0) _ _ (record { number = widen (w .number); values = w .values })
     (refused-answered (Bounds3f·refusal b) asked)
@@ -149,3 +148,20 @@ motion-bounds-numbers m b =
     asked : OneOf (Bounds3f·refusal b) (0 ∷ 5 ∷ 6 ∷ 7 ∷ 9 ∷ [])
     asked = unfold Bounds3f·refusal in cond-keeps (λ (n : ℕ). OneOf n (0 ∷ 5 ∷ 6 ∷ 7 ∷ 9 ∷ [])) (not (Bounds3f·isFinite b)) _ _ (inr (inr (inl refl)))
         (cond-keeps (λ (n : ℕ). OneOf n (0 ∷ 5 ∷ 6 ∷ 7 ∷ 9 ∷ [])) (not (Bounds3f·isOrdered b)) _ _ (inr (inr (inr (inl refl)))) (inl refl))
+
+-- ---- with their counts
+counted-answered : {numbers : List ℕ} {most : ℕ} (r : BoundsAnswer) (e : Examined) → BoundsAnswer·Answered numbers r → Examined·AtMost most e
+    → MotionBoundsAnswer·Answered numbers most (BoundsAnswer·counted r e)
+unfolding BoundsAnswer·counted
+counted-answered (Bounds b) e a l = record { number = a .number; values = a .values; counts = l }
+counted-answered (Refused n) e a l = record { number = a .number; values = a .values; counts = none-examined _ }
+
+pub bound-point-motion-numbers : (m : AnimatedTransform) (p : Point3f) → MotionBoundsAnswer·Answered (0 ∷ 5 ∷ 6 ∷ 9 ∷ []) 511 (AnimatedTransform·boundPointMotion m p)
+bound-point-motion-numbers m p = counted-answered _ _ (point-motion-answered m p) (point-examined m (AnimatedTransform·constants m) p)
+
+box-examined : (m : AnimatedTransform) (b : Bounds3f) → Examined·AtMost 4088 (boxExamined m b)
+unfolding boxExamined
+box-examined m b = cond-keeps (Examined·AtMost 4088) (not (m .«actually_animated») || not (m .«has_rotation»)) _ _ (none-examined 4088) (corners-examined m (AnimatedTransform·constants m) b 8)
+
+pub motion-bounds-numbers : (m : AnimatedTransform) (b : Bounds3f) → MotionBoundsAnswer·Answered (0 ∷ 5 ∷ 6 ∷ 7 ∷ 9 ∷ []) 4088 (AnimatedTransform·motionBounds m b)
+motion-bounds-numbers m b = counted-answered _ _ (motion-answered m b) (box-examined m b)

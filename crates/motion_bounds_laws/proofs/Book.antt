@@ -38,11 +38,15 @@ use Rattle.animated_transform.specs.declared.AnimatedTransform.{AnimatedTransfo
 use Rattle.animated_transform.specs.Built.{Built}
 use Rattle.motion_point.specs.TransformPoint.{AnimatedTransform·constants}
 use Rattle.motion_point.proofs.Query.{moved-point-judged}
-use Rattle.motion_bounds.specs.MotionBounds.{BoundsAnswer·fromEnds, axisZeros, pointAt, unionZero, unionZeros, allPlaces, storedPlaces, unionAxis, pointBounds, unionCorner, unionCorners, boxBounds, boundPointMotion, motionBounds, AnimatedTransform·boundPointMotion, AnimatedTransform·motionBounds}
-use Rattle.motion_bounds.specs.Book.{BoundsAnswer·Same, same-box, same-refusal, Book·boundPointMotion, Book·motionBounds}
-use Rattle.motion_bounds.proofs.Ends.{from-ends-union}
-use Rattle.motion_bounds.proofs.Numbers.{axis-zeros-stored, default-finite}
-use Rattle.motion_bounds.proofs.StartTime.{point-at-start}
+use Rattle.motion_bounds.specs.MotionBounds.{BoundsAnswer·fromEnds, axisSearch, pointAt, unionZero, unionZeros, allPlaces, storedPlaces, unionAxis, pointBounds, unionCorner, unionCorners, boxBounds, boundPointMotion, motionBounds}
+use Rattle.motion_bounds.specs.declared.Examined.{Examined}
+use Rattle.motion_bounds.specs.Examined.{pointExamined, boxExamined}
+use Rattle.motion_bounds.specs.Answer.{BoundsAnswer·counted, MotionBoundsAnswer·uncounted, AnimatedTransform·boundPointMotion, AnimatedTransform·motionBounds}
+use Rattle.motion_bounds.proofs.Searched.{axis-zeros-stored}
+use Rattle.motion_bounds_laws.specs.Book.{BoundsAnswer·Same, same-box, same-refusal, Book·boundPointMotion, Book·motionBounds}
+use Rattle.motion_bounds_laws.proofs.Ends.{from-ends-union}
+use Rattle.motion_bounds_laws.proofs.Numbers.{default-finite}
+use Rattle.motion_bounds_laws.proofs.StartTime.{point-at-start}
 
 -- ---- boxes of points
 own-axis : (v : Float) → T (finite v) → v ≼ v
@@ -114,10 +118,10 @@ module _ {m : AnimatedTransform} (built : Built m) (a : PoseConstants) (p o : Po
   axis-same : (d : Derivative) {r s : BoundsAnswer} → Holding o r s → Holding o (unionAxis allPlaces m a p d r) (unionAxis storedPlaces m a p d s)
   unfolding unionAxis
   axis-same d (refusals n) = refusals n
-  axis-same d (boxes {x} {y} i s t) = go (eqb (axisZeros a p d .refusal) 0)
+  axis-same d (boxes {x} {y} i s t) = go (eqb (axisSearch a p d .zeros .refusal) 0)
     where
       z : Zeros
-      z = axisZeros a p d
+      z = axisSearch a p d .zeros
 
       go : (e : Bool)
           → Holding o (cond e (unionZeros m a p (z .zeros) 8 (Bounds x)) (Refused (z .refusal))) (cond e (unionZeros m a p (z .zeros) (z .count) (Bounds y)) (Refused (z .refusal)))
@@ -177,10 +181,21 @@ module _ {m : AnimatedTransform} (built : Built m) (b : Bounds3f) where
       cond-same (not (m .«actually_animated»)) start (cond-same (not (m .«has_rotation»)) (union-same start end) (corners-same (AnimatedTransform·constants m) 8))
 
 -- ---- the queries
-pub bound-point-motion-book : {m : AnimatedTransform} → Built m → (p : Point3f) → BoundsAnswer·Same (AnimatedTransform·boundPointMotion m p) (Book·boundPointMotion m p)
-unfolding boundPointMotion
-bound-point-motion-book {m} built p = cond-same (not (Point3f·isFinite p)) (same-refusal 6) (point-bounds-book built (AnimatedTransform·constants m) p)
+uncounted : (r : BoundsAnswer) (e : Examined) → MotionBoundsAnswer·uncounted (BoundsAnswer·counted r e) ≡ r
+unfolding BoundsAnswer·counted
+uncounted (Bounds b) e = refl
+uncounted (Refused n) e = refl
 
-pub motion-bounds-book : {m : AnimatedTransform} → Built m → (b : Bounds3f) → BoundsAnswer·Same (AnimatedTransform·motionBounds m b) (Book·motionBounds m b)
+pub bound-point-motion-book : {m : AnimatedTransform} → Built m → (p : Point3f)
+    → BoundsAnswer·Same (MotionBoundsAnswer·uncounted (AnimatedTransform·boundPointMotion m p)) (Book·boundPointMotion m p)
+unfolding boundPointMotion
+bound-point-motion-book {m} built p =
+    rw (uncounted (boundPointMotion allPlaces m p) (pointExamined m (AnimatedTransform·constants m) p))
+    (cond-same (not (Point3f·isFinite p)) (same-refusal 6) (point-bounds-book built (AnimatedTransform·constants m) p))
+
+pub motion-bounds-book : {m : AnimatedTransform} → Built m → (b : Bounds3f)
+    → BoundsAnswer·Same (MotionBoundsAnswer·uncounted (AnimatedTransform·motionBounds m b)) (Book·motionBounds m b)
 unfolding motionBounds
-motion-bounds-book {m} built b = cond-same (eqb (Bounds3f·refusal b) 0) (box-bounds-book built b) (same-refusal (Bounds3f·refusal b))
+motion-bounds-book {m} built b =
+    rw (uncounted (motionBounds allPlaces m b) (boxExamined m b))
+    (cond-same (eqb (Bounds3f·refusal b) 0) (box-bounds-book built b) (same-refusal (Bounds3f·refusal b)))

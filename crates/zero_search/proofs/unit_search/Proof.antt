@@ -1,7 +1,8 @@
--- `unit_zeros` meets its contract: the search from 0 to 1 with nothing found yet, over the table that `table` gives.
+-- `unit_search` meets its contract: the search from 0 to 1 with nothing found yet, over the table that `table` gives.
+use native.Mathlib.Omega.{arith}
 use borrow.Author.Needs.{needs}
-use Rattle.zero_search.proofs.unit_zeros.Statement.{statement}
-use Rattle.zero_search.proofs.unit_zeros.Tie as tie
+use Rattle.zero_search.proofs.unit_search.Statement.{statement}
+use Rattle.zero_search.proofs.unit_search.Tie as tie
 
 end-at-requires : tie.Need-end-at-requires
 end-at-requires c κs = search needs
@@ -14,7 +15,7 @@ find-zeros-requires c κs =
     let high = c .before .before in
     let low = high .before .before in
     let table = low .before .before .before in
-    (table .table .ensures .0, (low .end-at .ensures, high .end-at2 .ensures))
+    (table .table .ensures .0, ((low .end-at .ensures, high .end-at2 .ensures), omega arith))
 
 returns : tie.Need-returns
 returns c =
@@ -22,6 +23,6 @@ returns c =
     let low = empty .before .before .before .before in
     rw (c .find-zeros .ensures, empty .empty .ensures, low .before .before .new .ensures)
 
-pub unit-zeros-spec : {M : Type 1} → statement M
-unit-zeros-spec =
+pub unit-search-spec : {M : Type 1} → statement M
+unit-search-spec =
     tie.close (tie.spec (λ c κs. tt) (λ c κs. tt) end-at-requires end-at-requires-2 (λ c κs. tt) find-zeros-requires returns)

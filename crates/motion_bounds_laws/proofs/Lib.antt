@@ -1,0 +1,5 @@
+pub mod Ends
+pub mod Numbers
+pub mod StartTime
+pub mod Book
+mod Cases
