@@ -19,13 +19,14 @@ use Rattle.motion_cover.proofs.Contains.{cover-contains}
 use Rattle.bounds3.specs.List.{Bounds3f·list, Bounds3f·ofList}
 use Rattle.lent_arrays.specs.Arrays.{BoundsAnswer·left}
 use Rattle.motion_rows.specs.Rows.{AnimatedTransform·toRows, AnimatedTransform·fromRows, AnimatedTransformAnswer·left}
+use Rattle.motion_rows.specs.Holds.{Rows·Holds}
 use Rattle.motion_rows.specs.TransformPoint.{Rows·transformPoint}
 use Rattle.motion_rows.proofs.RoundTrip.{from-rows-inverse, transform-point-kept}
 use Rattle.chain_rows.specs.Theorem.{KeptChainContainsMotion}
 use Rattle.chain_rows.proofs.Contains as chain
 use Rattle.api.specs.Answers.{Rows·cover}
 use Rattle.api.specs.Chains.{Moves·coverOf}
-use Rattle.api.specs.Kept.{Rows·Holds, KeptCoverContainsMotion}
+use Rattle.api.specs.Kept.{KeptCoverContainsMotion}
 
 -- Of what building gives for two poses: its number, what it leaves, and that this holds the move where the number is 0.
 pub build-clauses : (s e : Pose) (a : AnimatedTransformAnswer) (r : ℕ) (rows old : Rows)

@@ -1,5 +1,4 @@
--- A built move that its caller keeps, `Rows·Holds`, and the guarantee of its cover in what crosses the boundary, `KeptCoverContainsMotion`. Definitions only.
-use mathlib.Core.Path.{_≡_}
+-- The guarantee of a kept move's cover in what crosses the boundary, `KeptCoverContainsMotion`. Definitions only.
 use mathlib.Core.Bool.{not}
 use mathlib.Core.List.{List}
 use lib.Dec.{T}
@@ -8,16 +7,10 @@ use Rattle.matrix4x4.specs.Rows.{Rows}
 use Rattle.bounds3.specs.declared.Point3f.{Point3f}
 use Rattle.bounds3.specs.Inside.{Inside}
 use Rattle.animated_transform.specs.declared.AnimatedTransform.{AnimatedTransform}
-use Rattle.animated_transform.specs.Built.{Built}
 use Rattle.motion_cover.specs.Theorem.{MovedInside}
 use Rattle.bounds3.specs.List.{Bounds3f·ofList}
-use Rattle.motion_rows.specs.Rows.{AnimatedTransform·toRows}
+use Rattle.motion_rows.specs.Holds.{Rows·Holds}
 use Rattle.motion_rows.specs.TransformPoint.{Rows·transformPoint}
-
--- The rows are those of a built move.
-pub record Rows·Holds (rows : Rows) (m : AnimatedTransform) : Type 0 where
-  pub built : Built m
-  pub same : rows ≡ AnimatedTransform·toRows m
 
 -- Where the rows hold a built move: every point of the box b, asked at any time but NaN of the same rows, is answered and is inside the box `cover`. A box is
 -- six floats.

@@ -5,13 +5,16 @@ use animated_transform::AnimatedTransform;
 use motion_bounds::MotionBoundsAnswer;
 ghost use Prim.Native.Nat.{_-_};
 ghost use mathlib.Core.Path.{_≡_};
+ghost use mathlib.Core.List.{[], _∷_};
 ghost use lib.ListN.{length, take};
 ghost use Rattle.bounds3.specs.List.{Point3f·ofList, Bounds3f·ofList};
 ghost use Rattle.transform.specs.Answer.{PointAnswer·refusal, BoundsAnswer·refusal};
 ghost use Rattle.motion_point.specs.TransformPoint.{AnimatedTransform·transformPoint};
 ghost use Rattle.motion_bounds.specs.Answer.{MotionBoundsAnswer·refusal};
 ghost use Rattle.lent_arrays.specs.Arrays.{PointAnswer·left, TransformAnswer·left, BoundsAnswer·left};
+ghost use Rattle.matrix4x4.specs.Rows.{Rows};
 ghost use Rattle.motion_rows.specs.Rows.{AnimatedTransform·toRows, AnimatedTransformAnswer·left};
+ghost use Rattle.motion_rows.specs.Holds.{Rows·Holds};
 ghost use Rattle.motion_chain.specs.Chain.{Chain, built, ChainAnswer·refusal, Chain·new, Chain·transformPoint};
 ghost use Rattle.motion_chain.specs.Times.{PointsAnswer·refusal, PointsAnswer·left, Chain·transformPoints};
 ghost use Rattle.chain_poses.specs.Poses.{Poses·ofLists};
@@ -24,7 +27,7 @@ ghost use Rattle.chain_covers.specs.Theorem.{KeptSetContainsMotion};
 ghost use Rattle.api.specs.Chains.{layoutNumber, Moves·point, Moves·points, Moves·coverOf};
 ghost use Rattle.api.specs.Answers.{Rows·new, Rows·point, Rows·interpolate, Rows·boundPointMotion, Rows·motionBounds, Rows·cover};
 ghost use Rattle.api.specs.Examined.{MotionBoundsAnswer·left, MotionBoundsAnswer·examinedLeft};
-ghost use Rattle.api.specs.Kept.{Rows·Holds, KeptCoverContainsMotion};
+ghost use Rattle.api.specs.Kept.{KeptCoverContainsMotion};
 
 // Puts a motion box and its counts into two lent arrays, or after a refusal nothing, and gives the refusal's number, 0 for none.
 fn put_motion_bounds(
@@ -195,6 +198,7 @@ pub extern "C" fn jellyplain_moves_point(
     ensures refusal { λ r. ⌜ r ≡ PointAnswer·refusal (Moves·point (now (moves .entry)) time (now (p .entry))) ⌝ }
     ensures left { λ _. ⌜ now (moved .exit) ≡ PointAnswer·left (Moves·point (now (moves .entry)) time (now (p .entry))) (now (moved .entry)) ⌝ }
     ensures kept { λ _. ⌜ ((c : Chain) → now (moves .entry) ≡ Chain·toRows c → Moves·point (now (moves .entry)) time (now (p .entry)) ≡ Chain·transformPoint c time (Point3f·ofList (now (p .entry)))) ⌝ }
+    ensures lone { λ _. ⌜ ((block : Rows) → now (moves .entry) ≡ block ∷ [] → Moves·point (now (moves .entry)) time (now (p .entry)) ≡ Rows·point block time (now (p .entry))) ⌝ }
 {
     lent_arrays::put_point(
         chain_rows::transform_point(moves, time, lent_arrays::point(p)),

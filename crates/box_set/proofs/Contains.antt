@@ -1,5 +1,6 @@
 -- The guarantee of a set, `chain-set-contains` and `move-set-contains`; that its finer covers are never wider ones, `chain-set-finer`; its numbers, `chain-set-numbered` and
--- `move-set-numbered`. A chain of one move has the move's own: `single-set`. What is known of each box's own cover is known of the set: `set-contains`, `set-finer`.
+-- `move-set-numbered`. A chain of one move has the move's own: `single-set`. What is known of each box's own cover is known of the set: `set-contains`, `set-finer`; so of any built
+-- moves, whatever their times: `moves-set-contains`, `moves-set-finer`.
 use Prim.Native.Nat.{ℕ, _+_, _≤_}
 use mathlib.Core.Path.{_≡_, refl, sym, ap, subst, _∙_}
 use mathlib.Core.Bool.{not}
@@ -30,11 +31,12 @@ use Rattle.cover_depth.specs.Finer.{Within}
 use Rattle.cover_depth.proofs.Finer.{BoxWithin, within-subset}
 use Rattle.bounds_answers.specs.UnionAll.{BoundsAnswer·unionAll, Each}
 use Rattle.bounds_answers.proofs.UnionAll.{each-map, union-all-within}
-use Rattle.motion_chain.specs.Chain.{Chain, Chain·transformPoint, Chain·cover}
+use Rattle.motion_chain.specs.Chain.{Chain, Chain·moves, Chain·transformPoint, Chain·cover}
 use Rattle.motion_chain.specs.Built.{BuiltChain}
 use Rattle.motion_chain.specs.TwoPoses.{Chain·single}
 use Rattle.motion_chain.proofs.TwoPoses.{single-move}
-use Rattle.motion_chain.proofs.Cover.{chain-cover-proper, chain-cover-nonzero, chain-contains, chain-cover-finer}
+use Rattle.motion_chain.proofs.Built.{built-moves}
+use Rattle.motion_chain.proofs.Cover.{moves-proper, chain-cover-nonzero, moves-contain, moves-finer}
 use Rattle.motion_chain.proofs.Numbers.{chain-cover-numbered}
 use Rattle.box_set.specs.Set.{SetAnswer, covered, SetAnswer·refusal, SetAnswer·covers, SetAnswer·union, Boxes·covers, Chain·covers, AnimatedTransform·covers}
 use Rattle.box_set.specs.Theorem.{SetContains, SetContainsMotion, MoveSetContainsMotion, SetWithin, SetFiner, SetAnswer·Numbered}
@@ -62,10 +64,15 @@ module _ (cover : Bounds3f → BoundsAnswer) (nonzero : (b : Bounds3f) → Bound
       subst (λ (s : SetAnswer). SetContains moved boxes (SetAnswer·covers s) (SetAnswer·union s)) (sym (set-of-accepted cover a))
       (each-contains (a .union) boxes (set-within cover proper a))
 
+pub moves-set-contains : (c : Chain) (boxes : List Bounds3f) (d : ℕ) (time : Float)
+    → Each Built (Chain·moves c) → SetAnswer·refusal (Chain·covers c boxes d) ≡ 0 → T (not (isNan time))
+    → SetContains (Chain·transformPoint c time) boxes (SetAnswer·covers (Chain·covers c boxes d)) (SetAnswer·union (Chain·covers c boxes d))
+moves-set-contains c boxes d time built e n =
+    set-contains (λ b. Chain·cover c b d) (λ b. chain-cover-nonzero b d c) (λ b. moves-proper b d c built) (Chain·transformPoint c time)
+    (λ b z p i. moves-contain c b d time p built z n i) boxes e
+
 pub chain-set-contains : (c : Chain) (boxes : List Bounds3f) (d : ℕ) → SetContainsMotion c boxes (Chain·covers c boxes d)
-chain-set-contains c boxes d time built e n =
-    set-contains (λ b. Chain·cover c b d) (λ b. chain-cover-nonzero b d c) (λ b. chain-cover-proper b d built) (Chain·transformPoint c time)
-    (λ b z p i. chain-contains c b d time p built z n i) boxes e
+chain-set-contains c boxes d time built e n = moves-set-contains c boxes d time (built-moves built .each) e n
 
 pub move-set-contains : (m : AnimatedTransform) (boxes : List Bounds3f) (d : ℕ) → MoveSetContainsMotion m boxes (AnimatedTransform·covers m boxes d)
 move-set-contains m boxes d time built e n =
@@ -112,10 +119,15 @@ module _ (fine coarse : Bounds3f → BoundsAnswer)
       let f : AcceptedSet fine boxes = record { count = a .count; first = a .first; rest = a .rest; nonempty = a .nonempty; union = u .box; joined = u .accepted } in
       rw (set-of-accepted fine f, set-of-accepted coarse a) (record { accepted = refl; each = each-subset (a .union) boxes w; union = u .subset })
 
-pub chain-set-finer : (c : Chain) (boxes : List Bounds3f) → SetFiner c boxes
-chain-set-finer c boxes d n built l e =
+pub moves-set-finer : (c : Chain) (boxes : List Bounds3f) (d n : ℕ)
+    → Each Built (Chain·moves c) → d + n ≤ maxDepth → SetAnswer·refusal (Chain·covers c boxes d) ≡ 0
+    → SetWithin (Chain·covers c boxes (d + n)) (Chain·covers c boxes d)
+moves-set-finer c boxes d n built l e =
     set-finer (λ b. Chain·cover c b (d + n)) (λ b. Chain·cover c b d) (λ b. chain-cover-nonzero b (d + n) c) (λ b. chain-cover-nonzero b d c)
-    (λ b. chain-cover-proper b d built) (λ b z. chain-cover-finer c b d n built l z) boxes e
+    (λ b. moves-proper b d c built) (λ b z. moves-finer c b d n built l z) boxes e
+
+pub chain-set-finer : (c : Chain) (boxes : List Bounds3f) → SetFiner c boxes
+chain-set-finer c boxes d n built l e = moves-set-finer c boxes d n (built-moves built .each) l e
 
 -- ---- the numbers
 abbrev coverNumbers : List ℕ

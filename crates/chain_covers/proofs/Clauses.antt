@@ -1,5 +1,5 @@
--- The four clauses of the set query from what is answered: `no-moves`, `no-boxes`, `many-boxes`, `box-refused`, `all-accepted`. The guarantee is the chain's own, since the rows of a
--- chain are asked as the chain is (`kept-set`).
+-- The four clauses of the set query from what is answered: `no-moves`, `no-boxes`, `many-boxes`, `box-refused`, `all-accepted`. The guarantee is that of built moves, since rows that
+-- building has left are asked as the chain of their moves is (`kept-set`).
 use Prim.Native.Nat.{ℕ, _-_, _≤_, _<_}
 use mathlib.Core.Path.{_≡_, refl, sym, ap, subst, _∙_}
 use mathlib.Core.Bool.{Bool, true, false, cond}
@@ -21,11 +21,10 @@ use Rattle.motion_cover.proofs.NonZero.{BoundsAnswer·NonZero}
 use Rattle.motion_chain.specs.Chain.{Chain, Chain·transformPoint, Chain·cover}
 use Rattle.motion_chain.proofs.Cover.{chain-cover-nonzero}
 use Rattle.chain_rows.specs.Kept.{Chain·toRows, Moves·chain, Moves·transformPoint}
-use Rattle.chain_rows.specs.Theorem.{Moves·Holds}
-use Rattle.chain_rows.proofs.Kept.{chain-inverse, kept-point}
+use Rattle.chain_rows.proofs.Kept.{chain-inverse, kept-point, built-rows}
 use Rattle.box_set.specs.Set.{maxBoxes, SetAnswer, covered, refused, SetAnswer·refusal, SetAnswer·covers, SetAnswer·union, SetAnswer·of, Boxes·covers, Chain·covers}
 use Rattle.box_set.specs.Theorem.{SetContains}
-use Rattle.box_set.proofs.Contains.{chain-set-contains}
+use Rattle.box_set.proofs.Contains.{moves-set-contains}
 use Rattle.box_front.specs.declared.Front.{Front}
 use Rattle.box_front.specs.Front.{boxAt}
 use Rattle.motion_fronts.specs.Worked.{Worked}
@@ -52,12 +51,14 @@ module _ (rows : List Rows) (boxes : List (List Float)) (depth : ℕ) (covers : 
       → map Bounds3f·ofList (take (length boxes) cs) ≡ SetAnswer·covers (Moves·covers rows boxes depth)
       → Bounds3f·ofList u ≡ SetAnswer·union (Moves·covers rows boxes depth)
       → KeptSetContainsMotion rows boxes cs u
-  set-contains n z cs u e f c time h nan =
+  set-contains n z cs u e f time h nan =
+      let b = built-rows h in
+      let c = b .chain in
       let asked : Point3f → PointAnswer = λ p. Moves·transformPoint rows time p in
       let own : Point3f → PointAnswer = λ p. Chain·transformPoint c time p in
-      let same : asked ≡ own = λ i p. kept-point rows c time p (h .same) i in
-      let k = kept-set c (h .same) n in
-      let contains = chain-set-contains c (map Bounds3f·ofList boxes) depth time (h .built) (ap SetAnswer·refusal (sym k) ∙ z) nan in
+      let same : asked ≡ own = λ i p. kept-point rows c time p (b .same) i in
+      let k = kept-set c (b .same) n in
+      let contains = moves-set-contains c (map Bounds3f·ofList boxes) depth time (b .each) (ap SetAnswer·refusal (sym k) ∙ z) nan in
       rw (same, e, f, k) contains
 
   -- ---- refusals

@@ -1,39 +1,48 @@
--- The guarantee of a kept chain's cover, `kept-contains`: the rows of a built chain are asked as the chain is, and of the chain it is known. Of any rows a cover whose number is 0 is a
--- box, `cover-answered`.
+-- The guarantee of a kept chain's cover, `kept-contains`: rows that building has left are asked as the chain of their moves is, and of built moves it is known (`moves-contain`). Of any
+-- rows a cover whose number is 0 is a box, `cover-answered`.
 use Prim.Native.Nat.{ℕ}
 use mathlib.Core.Path.{_≡_, ap, sym, _∙_}
+use mathlib.Core.Bool.{not}
 use mathlib.Core.List.{List}
 use native.Mathlib.Omega.{arith}
-use lib.Dec.{eqb}
+use lib.Dec.{T, eqb}
 use lib.ListN.{length}
+use lib.Ieee.{Float, isNan}
 use Rattle.control_flow.proofs.Choice.{cond-keeps}
 use Rattle.matrix4x4.specs.Rows.{Rows}
+use Rattle.bounds3.specs.declared.Point3f.{Point3f}
 use Rattle.bounds3.specs.declared.Bounds3f.{Bounds3f}
+use Rattle.bounds3.specs.Inside.{Inside}
 use Rattle.transform.specs.declared.BoundsAnswer.{BoundsAnswer}
 use Rattle.transform.specs.declared.BoundsAnswer.the-variants.{Bounds, Refused}
 use Rattle.transform.specs.Answer.{BoundsAnswer·refusal, BoundsAnswer·bounds}
-use Rattle.motion_chain.specs.Chain.{Chain, Chain·cover}
-use Rattle.motion_chain.proofs.Cover.{chain-contains}
-use Rattle.motion_chain.proofs.Times.{chain-contains-times}
+use Rattle.motion_cover.specs.Theorem.{MovedInside}
+use Rattle.motion_chain.specs.Chain.{Chain, Chain·transformPoint, Chain·cover}
+use Rattle.motion_chain.proofs.Cover.{moves-contain}
+use Rattle.motion_chain.proofs.Times.{times-inside}
 use Rattle.motion_chain.proofs.Numbers.{chain-cover-numbered}
 use Rattle.chain_rows.specs.Kept.{Chain·toRows, Moves·chain, Moves·cover}
 use Rattle.chain_rows.specs.Theorem.{KeptChainContainsMotion}
-use Rattle.chain_rows.proofs.Kept.{kept-point, kept-points, kept-cover}
+use Rattle.chain_rows.proofs.Kept.{kept-point, kept-points, kept-cover, BuiltRows, built-rows}
 
 pub kept-contains : (rows : List Rows) (b : Bounds3f) (depth : ℕ) → BoundsAnswer·refusal (Moves·cover rows b depth) ≡ 0
     → KeptChainContainsMotion rows b (BoundsAnswer·bounds (Moves·cover rows b depth))
 kept-contains rows b depth none =
     record {
-      at-time = λ c time p h nan inside.
-          rw (kept-point rows c time p (h .same), kept-cover rows c b depth (h .same))
-          (chain-contains c b depth time p (h .built) (accepted c (h .same)) nan inside);
-      at-times = λ c times p h numbers rises inside.
-          rw (kept-points rows c times p _ (h .same), kept-cover rows c b depth (h .same))
-          (chain-contains-times c b depth times p (h .built) (accepted c (h .same)) numbers rises inside);
+      at-time = λ time p h nan inside.
+          let k = built-rows h in
+          rw (kept-point rows (k .chain) time p (k .same), kept-cover rows (k .chain) b depth (k .same)) (contains k time p nan inside);
+      at-times = λ times p h numbers rises inside.
+          let k = built-rows h in
+          let box = BoundsAnswer·bounds (Chain·cover (k .chain) b depth) in
+          rw (kept-points rows (k .chain) times p _ (k .same), kept-cover rows (k .chain) b depth (k .same))
+          (times-inside (k .chain) box times p (λ t nan. contains k t p nan inside) numbers rises);
     }
   where
-    accepted : (c : Chain) → rows ≡ Chain·toRows c → BoundsAnswer·refusal (Chain·cover c b depth) ≡ 0
-    accepted c e = ap BoundsAnswer·refusal (sym (kept-cover rows c b depth e)) ∙ none
+    contains : (k : BuiltRows rows) (time : Float) (p : Point3f) → T (not (isNan time)) → Inside b p
+        → MovedInside (BoundsAnswer·bounds (Chain·cover (k .chain) b depth)) (Chain·transformPoint (k .chain) time p)
+    contains k time p nan inside =
+        moves-contain (k .chain) b depth time p (k .each) (ap BoundsAnswer·refusal (sym (kept-cover rows (k .chain) b depth (k .same))) ∙ none) nan inside
 
 pub cover-answered : (rows : List Rows) (b : Bounds3f) (depth : ℕ) → BoundsAnswer·refusal (Moves·cover rows b depth) ≡ 0
     → Moves·cover rows b depth ≡ Bounds (BoundsAnswer·bounds (Moves·cover rows b depth))

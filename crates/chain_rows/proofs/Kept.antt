@@ -1,4 +1,5 @@
--- What is kept of a chain is the whole chain, `chain-inverse`; so the queries of its rows are its own: `kept-point`, `kept-points`, `kept-cover`.
+-- What is kept of a chain is the whole chain, `chain-inverse`; so the queries of its rows are its own: `kept-point`, `kept-points`, `kept-cover`. One block is asked as the move in it is,
+-- `block-point`. What building leaves are built moves: `built-rows`.
 use Prim.Native.Nat.{ℕ, zero, suc, _<_}
 use mathlib.Core.Path.{_≡_, refl, ap, _∙_}
 use mathlib.Core.Bool.{false, cond}
@@ -13,13 +14,19 @@ use Rattle.bounds3.specs.declared.Point3f.{Point3f}
 use Rattle.bounds3.specs.declared.Bounds3f.{Bounds3f}
 use Rattle.transform.specs.declared.PointAnswer.{PointAnswer}
 use Rattle.animated_transform.specs.declared.AnimatedTransform.{AnimatedTransform}
+use Rattle.animated_transform.specs.Built.{Built}
 use Rattle.motion_rows.specs.Rows.{AnimatedTransform·toRows, AnimatedTransform·fromRows}
+use Rattle.motion_rows.specs.TransformPoint.{Rows·transformPoint}
 use Rattle.motion_rows.proofs.RoundTrip.{from-rows-inverse, transform-point-kept}
 use Rattle.motion_chain.specs.Chain.{Chain, Chain·moves, Chain·moveAt, Chain·transformPoint, Chain·cover}
-use Rattle.motion_chain.specs.MoveAt.{Chain·indexAt}
+use Rattle.motion_chain.specs.Built.{Each}
+use Rattle.motion_chain.specs.MoveAt.{indexFrom, Chain·indexAt}
 use Rattle.motion_chain.specs.Times.{refused, listRefusal, pointsAt, Chain·transformPoints}
+use Rattle.motion_chain.specs.TwoPoses.{Chain·single}
+use Rattle.motion_chain.proofs.Built.{built-moves}
 use Rattle.motion_chain.proofs.MoveAt.{move-index}
 use Rattle.chain_rows.specs.Kept.{Chain·toRows, Moves·chain, Moves·transformPoint, Moves·transformPoints, Moves·cover}
+use Rattle.chain_rows.specs.Theorem.{Moves·Built, chain-built, move-built}
 
 map-inverse : (moves : List AnimatedTransform) → map AnimatedTransform·fromRows (map AnimatedTransform·toRows moves) ≡ moves
 map-inverse [] = refl
@@ -60,6 +67,21 @@ kept-points rows c times p places e =
 pub kept-cover : (rows : List Rows) (c : Chain) (b : Bounds3f) (depth : ℕ) → rows ≡ Chain·toRows c → Moves·cover rows b depth ≡ Chain·cover c b depth
 unfolding Moves·cover
 kept-cover rows c b depth e = rw (e, not-empty c, chain-inverse c)
+
+-- One block, whatever it holds.
+pub block-point : (rows : List Rows) (block : Rows) (time : Float) (p : Point3f) → rows ≡ block ∷ [] → Moves·transformPoint rows time p ≡ Rows·transformPoint block time p
+unfolding Moves·transformPoint Moves·chain indexFrom
+block-point rows block time p e = rw e
+
+-- The chain in the rows that building has left.
+pub record BuiltRows (rows : List Rows) : Type 0 where
+  pub chain : Chain
+  pub each : Each Built (Chain·moves chain)
+  pub same : rows ≡ Chain·toRows chain
+
+pub built-rows : {rows : List Rows} → Moves·Built rows → BuiltRows rows
+built-rows (chain-built c h) = record { chain = c; each = built-moves (h .built) .each; same = h .same }
+built-rows (move-built block m e h) = record { chain = Chain·single m; each = (h .built, tt); same = e ∙ ap (λ (r : Rows). r ∷ []) (h .same) }
 
 -- The clauses of a point query, from its value.
 pub point-clauses : (rows : List Rows) (time : Float) (p : Point3f) {r : PointAnswer} → r ≡ Moves·transformPoint rows time p

@@ -1,8 +1,9 @@
--- A built chain that its caller keeps, `Moves·Holds`, and the guarantee of its cover in the words of who keeps it, `KeptChainContainsMotion`. Definitions only.
+-- What its caller keeps, a built chain, `Moves·Holds`, or a move built by itself: `Moves·Built`; and the guarantee of its cover in the words of who keeps it, `KeptChainContainsMotion`.
+-- Definitions only.
 use Prim.Native.Nat.{_*_}
 use mathlib.Core.Path.{_≡_}
 use mathlib.Core.Bool.{not}
-use mathlib.Core.List.{List}
+use mathlib.Core.List.{List, [], _∷_}
 use lib.Dec.{T}
 use lib.ListN.{length}
 use lib.Ieee.{Float, isNan}
@@ -10,7 +11,9 @@ use Rattle.matrix4x4.specs.Rows.{Rows}
 use Rattle.bounds3.specs.declared.Point3f.{Point3f}
 use Rattle.bounds3.specs.declared.Bounds3f.{Bounds3f}
 use Rattle.bounds3.specs.Inside.{Inside}
+use Rattle.animated_transform.specs.declared.AnimatedTransform.{AnimatedTransform}
 use Rattle.motion_cover.specs.Theorem.{MovedInside}
+use Rattle.motion_rows.specs.Holds.{Rows·Holds}
 use Rattle.motion_chain.specs.Chain.{Chain}
 use Rattle.motion_chain.specs.Built.{BuiltChain}
 use Rattle.motion_chain.specs.Times.{timesAreNumbers, neverFalls, placesPerTime}
@@ -22,12 +25,17 @@ pub record Moves·Holds (rows : List Rows) (c : Chain) : Type 0 where
   pub built : BuiltChain c
   pub same : rows ≡ Chain·toRows c
 
--- Where the rows hold a built chain: every point of the box b, asked of the same rows at any time but NaN, is answered and is inside the box `cover`; so is every point of a list
--- of such times that never falls, for answers of three places a time.
+-- What building leaves: the rows of a chain, or the one block of a move built by itself, whose two times may be equal.
+pub data Moves·Built (rows : List Rows) : Type 0 where
+  chain-built : (c : Chain) → Moves·Holds rows c → Moves·Built rows
+  move-built : (block : Rows) (m : AnimatedTransform) → rows ≡ block ∷ [] → Rows·Holds block m → Moves·Built rows
+
+-- Where the rows hold a built chain or one built move: every point of the box b, asked of the same rows at any time but NaN, is answered and is inside the box `cover`; so is every
+-- point of a list of such times that never falls, for answers of three places a time. One block is asked as the move in it is: `block-point`.
 pub record KeptChainContainsMotion (rows : List Rows) (b cover : Bounds3f) : Type 0 where
-  pub at-time : (c : Chain) (time : Float) (p : Point3f)
-      → Moves·Holds rows c → T (not (isNan time)) → Inside b p
+  pub at-time : (time : Float) (p : Point3f)
+      → Moves·Built rows → T (not (isNan time)) → Inside b p
       → MovedInside cover (Moves·transformPoint rows time p)
-  pub at-times : (c : Chain) (times : List Float) (p : Point3f)
-      → Moves·Holds rows c → T (timesAreNumbers times) → T (neverFalls times) → Inside b p
+  pub at-times : (times : List Float) (p : Point3f)
+      → Moves·Built rows → T (timesAreNumbers times) → T (neverFalls times) → Inside b p
       → PointsInside cover times (Moves·transformPoints rows times p (placesPerTime * length times))

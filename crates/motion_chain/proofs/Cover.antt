@@ -1,10 +1,13 @@
 -- The guarantee for a chain, `chain-contains`, and that its finer cover is never a wider one, `chain-cover-finer`. Each move's cover lies in the accepted cover of the chain
--- (`chain-within`), a time belongs to one of the moves (`each-move-at`), and of each move both are known.
-use Prim.Native.Nat.{ℕ, _+_}
+-- (`moves-within`), a time belongs to one of the moves (`each-move-at`), and of each move both are known. So both hold of any built moves, whatever their times, also of one built by itself:
+-- `moves-contain`, `moves-finer`.
+use Prim.Native.Nat.{ℕ, _+_, _≤_}
 use mathlib.Core.Path.{_≡_, ap, subst}
-use mathlib.Core.Bool.{Bool, true, false, cond}
+use mathlib.Core.Bool.{Bool, true, false, not, cond}
 use mathlib.Core.List.{List, [], _∷_, map}
-use lib.Ieee.{Float, le}
+use lib.Dec.{T}
+use lib.Ieee.{Float, isNan, le}
+use Rattle.bounds3.specs.declared.Point3f.{Point3f}
 use Rattle.bounds3.specs.declared.Bounds3f.{Bounds3f}
 use Rattle.bounds3.specs.Inside.{Inside}
 use Rattle.bounds3.proofs.Union.{subset-inside}
@@ -14,11 +17,14 @@ use Rattle.transform.specs.Answer.{PointAnswer·point, BoundsAnswer·refusal, B
 use Rattle.animated_transform.specs.declared.AnimatedTransform.{AnimatedTransform}
 use Rattle.animated_transform.specs.Built.{Built}
 use Rattle.motion_point.specs.TransformPoint.{AnimatedTransform·transformPoint}
+use Rattle.bounds_query.specs.Query.{maxDepth}
 use Rattle.motion_cover.specs.Cover.{AnimatedTransform·cover}
+use Rattle.motion_cover.specs.Theorem.{MovedInside}
 use Rattle.motion_cover.specs.Answer.{Proper}
 use Rattle.motion_cover.proofs.Contains.{cover-contains}
 use Rattle.motion_cover.proofs.NonZero.{BoundsAnswer·NonZero, nonzero-box, cover-nonzero}
 use Rattle.motion_cover.proofs.Proper.{cover-proper}
+use Rattle.cover_depth.specs.Finer.{Within}
 use Rattle.cover_depth.proofs.Finer.{BoxWithin, box-within, within-subset, cover-box-finer}
 use Rattle.bounds_answers.proofs.UnionAll.{each-map, each-unmap, each-of, union-all-proper, union-all-nonzero, union-all-within, union-all-parts}
 use Rattle.motion_chain.specs.Chain.{Chain, Chain·moves, moveFrom, Chain·moveAt, Chain·transformPoint, unionCovers, Chain·cover}
@@ -49,17 +55,17 @@ module _ (b : Bounds3f) (d : ℕ) where
   covers-proper : (moves : List AnimatedTransform) → Each Built moves → Each Proper (map coverOf moves)
   covers-proper = each-map Proper coverOf (λ (m : AnimatedTransform) (h : Built m). cover-proper h b d)
 
-  pub chain-cover-proper : {c : Chain} → BuiltChain c → Proper (Chain·cover c b d)
+  pub moves-proper : (c : Chain) → Each Built (Chain·moves c) → Proper (Chain·cover c b d)
   unfolding Chain·cover unionCovers
-  chain-cover-proper {c} built =
-      let (h, hs) = built-moves built .each in
-      union-all-proper (coverOf (c .first)) (map coverOf (c .rest)) (cover-proper h b d) (covers-proper (c .rest) hs)
+  moves-proper c (h, hs) = union-all-proper (coverOf (c .first)) (map coverOf (c .rest)) (cover-proper h b d) (covers-proper (c .rest) hs)
 
-  chain-within : {c : Chain} → BuiltChain c → (box : Bounds3f) → Chain·cover c b d ≡ Bounds box
+  pub chain-cover-proper : {c : Chain} → BuiltChain c → Proper (Chain·cover c b d)
+  chain-cover-proper {c} built = moves-proper c (built-moves built .each)
+
+  moves-within : (c : Chain) → Each Built (Chain·moves c) → (box : Bounds3f) → Chain·cover c b d ≡ Bounds box
       → Each (λ m. BoxWithin (AnimatedTransform·cover m b d) box) (Chain·moves c)
   unfolding Chain·cover unionCovers
-  chain-within {c} built box e =
-      let (h, hs) = built-moves built .each in
+  moves-within c (h, hs) box e =
       let (w, ws) = union-all-parts (coverOf (c .first)) (map coverOf (c .rest)) box (cover-proper h b d) (covers-proper (c .rest) hs) e in
       (w, each-unmap (λ s. BoxWithin s box) coverOf (c .rest) ws)
 
@@ -75,22 +81,28 @@ module _ (b : Bounds3f) (d : ℕ) where
   chain-cover-answered c = nonzero-box (Chain·cover c b d) (chain-cover-nonzero c)
 
 -- ---- the guarantee
-pub chain-contains : (c : Chain) (b : Bounds3f) (d : ℕ) → ChainContainsMotion c b (Chain·cover c b d)
+pub moves-contain : (c : Chain) (b : Bounds3f) (d : ℕ) (time : Float) (p : Point3f)
+    → Each Built (Chain·moves c) → BoundsAnswer·refusal (Chain·cover c b d) ≡ 0 → T (not (isNan time)) → Inside b p
+    → MovedInside (BoundsAnswer·bounds (Chain·cover c b d)) (Chain·transformPoint c time p)
 unfolding Chain·transformPoint
-chain-contains c b d time p built e n i =
+moves-contain c b d time p built e n i =
     let m = Chain·moveAt c time in
     let box = BoundsAnswer·bounds (Chain·cover c b d) in
     let w = each-move-at (λ (x : AnimatedTransform). BoxWithin (AnimatedTransform·cover x b d) box) time c
-    (chain-within b d built box (chain-cover-answered b d c e)) in
-    let a = cover-contains m b d time p (each-move-at Built time c (built-moves built .each)) (ap BoundsAnswer·refusal (w .accepted)) n i in
+    (moves-within b d c built box (chain-cover-answered b d c e)) in
+    let a = cover-contains m b d time p (each-move-at Built time c built) (ap BoundsAnswer·refusal (w .accepted)) n i in
     let moved = PointAnswer·point (AnimatedTransform·transformPoint m time p) in
     let inside = subst (λ (x : Bounds3f). Inside x moved) (ap BoundsAnswer·bounds (w .accepted)) (a .inside) in
     record { accepted = a .accepted; inside = subset-inside (w .subset) inside }
 
+pub chain-contains : (c : Chain) (b : Bounds3f) (d : ℕ) → ChainContainsMotion c b (Chain·cover c b d)
+chain-contains c b d time p built e n i = moves-contain c b d time p (built-moves built .each) e n i
+
 -- ---- greater depths
-pub chain-cover-finer : (c : Chain) (b : Bounds3f) → ChainCoverFiner c b
-chain-cover-finer c b d n built l e =
-    box-within (go (finer (Chain·moves c) (built-moves built .each) (chain-within b d built box (chain-cover-answered b d c e))))
+pub moves-finer : (c : Chain) (b : Bounds3f) (d n : ℕ)
+    → Each Built (Chain·moves c) → d + n ≤ maxDepth → BoundsAnswer·refusal (Chain·cover c b d) ≡ 0
+    → Within (Chain·cover c b (d + n)) (BoundsAnswer·bounds (Chain·cover c b d))
+moves-finer c b d n built l e = box-within (go (finer (Chain·moves c) built (moves-within b d c built box (chain-cover-answered b d c e))))
   where
     box : Bounds3f
     box = BoundsAnswer·bounds (Chain·cover c b d)
@@ -104,3 +116,6 @@ chain-cover-finer c b d n built l e =
     go (w, ws) =
         unfold Chain·cover unionCovers in union-all-within box (coverOf b (d + n) (c .first)) (map (coverOf b (d + n)) (c .rest)) w
         (each-map (λ s. BoxWithin s box) (coverOf b (d + n)) (λ m (v : BoxWithin (AnimatedTransform·cover m b (d + n)) box). v) (c .rest) ws)
+
+pub chain-cover-finer : (c : Chain) (b : Bounds3f) → ChainCoverFiner c b
+chain-cover-finer c b d n built l e = moves-finer c b d n (built-moves built .each) l e

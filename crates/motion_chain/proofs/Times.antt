@@ -293,12 +293,17 @@ each-inside c box p f (t ∷ times) n =
     (chain-point-numbered c t p .none (m .accepted)) (m .inside)
     (each-inside c box p f times (and-r (not (isNan t)) (timesAreNumbers times) n))
 
-pub chain-contains-times : (c : Chain) (b : Bounds3f) (d : ℕ) → ChainContainsTimes c b (Chain·cover c b d)
+-- Where each time is answered inside a box, so is the list.
+pub times-inside : (c : Chain) (box : Bounds3f) (times : List Float) (p : Point3f)
+    → ((t : Float) → T (not (isNan t)) → MovedInside box (Chain·transformPoint c t p)) → T (timesAreNumbers times) → T (neverFalls times)
+    → PointsInside box times (Chain·transformPoints c times p (placesPerTime * length times))
 unfolding isNan
-chain-contains-times c b d times p built e numbers rises i =
-    let box = BoundsAnswer·bounds (Chain·cover c b d) in
-    let each : (t : Float) → T (not (isNan t)) → MovedInside box (Chain·transformPoint c t p) = λ t n. chain-contains c b d t p built e n i in
+times-inside c box times p each numbers rises =
     let z = list-accepted times p numbers (answered-finite c (inf false) p (each (inf false) tt .accepted)) rises in
     let h = each-inside c box p each times numbers in
     let answered = query-accepted c times p (placesPerTime * length times) z ∙ h .answered in
     subst (PointsInside box times) (sym answered) (record { accepted = refl; count = h .count; inside = h .inside })
+
+pub chain-contains-times : (c : Chain) (b : Bounds3f) (d : ℕ) → ChainContainsTimes c b (Chain·cover c b d)
+chain-contains-times c b d times p built e numbers rises i =
+    times-inside c (BoundsAnswer·bounds (Chain·cover c b d)) times p (λ t n. chain-contains c b d t p built e n i) numbers rises

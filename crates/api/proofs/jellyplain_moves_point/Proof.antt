@@ -1,7 +1,8 @@
--- `jellyplain_moves_point` meets its contract: the point query of the chain in the rows, which is the chain's own where it was built (`kept-point`).
+-- `jellyplain_moves_point` meets its contract: the point query of the chain in the rows, which is the chain's own where it was built (`kept-point`), and of one block the move's (`block-point`).
+use Rattle.matrix4x4.specs.Rows.{Rows}
 use Rattle.bounds3.specs.List.{Point3f·ofList}
 use Rattle.motion_chain.specs.Chain.{Chain}
-use Rattle.chain_rows.proofs.Kept.{kept-point}
+use Rattle.chain_rows.proofs.Kept.{kept-point, block-point}
 use borrow.Author.Needs.{needs}
 use Rattle.api.proofs.jellyplain_moves_point.Statement.{statement}
 use Rattle.api.proofs.jellyplain_moves_point.Tie as tie
@@ -23,7 +24,10 @@ returns c =
       rw (c .put-point .ensures .0, asked .ensures .0, point .ensures),
       (
         rw (c .put-point .ensures .1, asked .ensures .0, point .ensures),
-        λ (k : Chain). kept-point (a .moves .now) k (a .time) (Point3f·ofList (a .p .now)),
+        (
+          λ (k : Chain). kept-point (a .moves .now) k (a .time) (Point3f·ofList (a .p .now)),
+          λ (block : Rows). block-point (a .moves .now) block (a .time) (Point3f·ofList (a .p .now)),
+        ),
       ),
     )
 
