@@ -29,6 +29,7 @@ WORDS = {
     "covers": "cover",
     "chains": "chain lone cpoint ctimes ccover cinterp cparts cmotion cpmotion",
     "sets": "chain cset ccover",
+    "arcs": "acosn",
 }
 
 
@@ -202,7 +203,7 @@ def trial(title, kind, changes, different, shown=(), sides=None, cases=40):
     """`different` is how many differences are to be told; None for some. The changes are on some sides, or on the project's alone."""
     if len(sys.argv) > 1 and not set(kind.split(",")) & set(sys.argv[1:]):
         return None
-    is_of_chains = kind in ("chains", "sets", "files")
+    is_of_chains = kind in ("chains", "sets", "arcs", "files")
     sides = sides or ("--chain-answers" if is_of_chains else "--answers",)
     with tempfile.TemporaryDirectory() as folder:
         command = [os.path.join(HERE, "run"), "--no-build", "--kinds", kind, "--moves", str(cases), "--chains", str(cases), "--files", str(cases), "--show", "100"]

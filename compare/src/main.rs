@@ -17,7 +17,7 @@ use std::sync::mpsc::{channel, sync_channel, RecvTimeoutError, SyncSender};
 use std::sync::{Arc, Mutex};
 use std::time::{Duration, Instant};
 
-const KINDS: &[&str] = &["numbers", "angles", "matrices", "boxes", "moves", "bounds", "motion", "covers", "chains", "sets", "files"];
+const KINDS: &[&str] = &["numbers", "angles", "matrices", "boxes", "moves", "bounds", "motion", "covers", "chains", "sets", "arcs", "files"];
 
 const HELP: &str = "\
 compare/run [--moves N] [--chains N] [--seed N] [--kinds A,B,..] [--files N] [--no-build] ..
@@ -26,7 +26,7 @@ compare/run [--moves N] [--chains N] [--seed N] [--kinds A,B,..] [--files N] [--
   --chains N             chains, with their questions, and sets, likewise        a quarter of the moves
   --files N              files for the program `cover`                           a tenth of the moves
   --seed N               the same seed makes the same cases                      7
-  --kinds A,B            some of: numbers angles matrices boxes moves bounds motion covers chains sets files; all of them without it
+  --kinds A,B            some of: numbers angles matrices boxes moves bounds motion covers chains sets arcs files; all of them without it
   --show N               how many differences are printed                        10
   --workers N            batches worked at once                                  the number of processors
   --no-build             takes the project's programs as they stand
@@ -156,7 +156,8 @@ fn compare(options: &Options, batch: &Batch, number: u64) -> Report {
     match batch {
         Batch::Files { count, seed } => files::compare(programs, *count as usize, *seed, &mut report),
         Batch::Questions { kind, questions, built } => {
-            let (sides, count) = if are_chains(kind) { (&programs.chains, &mut report.chains) } else { (&programs.moves, &mut report.moves) };
+            let count = if are_chains(kind) { &mut report.chains } else { &mut report.moves };
+            let sides = if are_chains(kind) || kind == "arcs" { &programs.chains } else { &programs.moves };
             *count = *built;
             let runs = run_both(sides, questions);
             report.compare(questions, &runs, name_of);

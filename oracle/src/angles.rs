@@ -214,6 +214,30 @@ pub fn acos(c: f32) -> f32 {
     least_angle(floor_units(c)) as f32 / (1u32 << 28) as f32
 }
 
+/// Document 02's count of an arc cosine: how many cosines a search works out that keeps the one at its lower bound. One at 0, and while an angle lies between the bounds one in the middle; that at
+/// 2Q is -1 and is known. A search that ends at 0 has the first alone, and what is no cosine has none.
+pub fn acos_cosines(c: f32) -> u32 {
+    if !(-1.0..=1.0).contains(&c) {
+        return 0;
+    }
+    let bound = floor_units(c);
+    let (mut low, mut high) = (0, 2 * QUARTER_TURN);
+    let mut lower_cosine = cosine_units(low);
+    let mut worked = 1;
+    while lower_cosine > bound && low + 1 < high {
+        let middle = (low + high) / 2;
+        let cosine = cosine_units(middle);
+        worked += 1;
+        if cosine > bound {
+            (low, lower_cosine) = (middle, cosine);
+        } else {
+            high = middle;
+        }
+    }
+    assert!(worked <= 31 && least_angle(bound) == if lower_cosine > bound { high } else { low });
+    worked
+}
+
 #[cfg(test)]
 mod tests {
     use super::*;
@@ -239,6 +263,7 @@ mod tests {
         assert_eq!(acos(0.0), 13_176_795.0 / 8_388_608.0);
         assert_eq!(acos(-0.0), acos(0.0));
         assert_eq!(acos(-1.0).to_bits(), 1078530011);
+        assert_eq!([1.0, 0.125, 0.0, -1.0, 2.0, f32::NAN].map(acos_cosines), [1, 31, 31, 31, 0, 0]);
         assert!(acos(1.0000001).is_nan() && acos(-1.0000001).is_nan() && acos(f32::NAN).is_nan() && acos(f32::INFINITY).is_nan());
         assert_eq!(sin(0.0).to_bits(), 0);
         assert_eq!(sin(-0.0).to_bits(), 0);

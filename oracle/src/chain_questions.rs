@@ -1,5 +1,6 @@
 //! Document 02's questions: those of the program `chain_answers`, about chains that are kept in slots.
 
+use crate::angles;
 use crate::chain::{Chain, Pose};
 use crate::core::geometry::point::Point3f;
 use crate::judged::{point_values, Judged, Move};
@@ -23,6 +24,7 @@ const QUESTIONS: &[(&str, Question)] = &[
     ("cparts", move_parts),
     ("cmotion", motion),
     ("cpmotion", point_motion),
+    ("acosn", arc_cosine),
 ];
 
 const SLOTS: usize = 4;
@@ -213,6 +215,12 @@ fn point_motion(slots: &mut Slots, words: Words) -> Answer {
     Some(m.bound_point_motion(&Point3f::new(x, y, z)).map(|motion| counted(&motion)))
 }
 
+/// acosn C
+fn arc_cosine(_: &mut Slots, words: Words) -> Answer {
+    let [c] = read(words)?;
+    Some(Ok(floats(&[angles::acos(c)]).number(angles::acos_cosines(c) as usize)))
+}
+
 #[cfg(test)]
 mod tests {
     use super::*;
@@ -301,6 +309,10 @@ mod tests {
             "cset 0 x",
             "cset 0 4 00000000",
             "sin 00000000",
+            "acosn",
+            "acosn 0",
+            "acosn 0 00000000",
+            "acosn 00000000 00000000",
             "nothing",
         ] {
             assert_eq!(answers(&[&build, line]), ["ok 3", "error"], "{line:?}");

@@ -16,6 +16,9 @@ pub fn put_answer(
 ) -> usize {
     let kind = q.kind;
     let floats = q.floats;
+    if kind == 10 {
+        return put_arc_cosine(x[0], out, at);
+    }
     if 3 < wholes[0] {
         return put_error(out, at);
     }
@@ -33,6 +36,15 @@ pub fn put_answer(
             at,
         ),
     }
+}
+
+// Answers acosn C: the arc cosine, and how many cosines were worked out for it.
+fn put_arc_cosine(c: f32, out: &mut [u8; 32768], at: usize) -> usize {
+    let arc = trig::acos_counted(c);
+    let ok = put_text(b"ok", out, at);
+    let angle = question_lines::put_floats(&[arc.angle], 1, out, ok);
+    let end = question_lines::put_decimal(arc.cosines as u64, out, angle);
+    put_text(b"\n", out, end)
 }
 
 // Answers a question about a kept chain.

@@ -1,6 +1,6 @@
 -- The least angle: what passes a test while nothing before it does is what `leastFrom` finds (`least-unique`), so an angle whose cosine is at most n, and
 -- whose predecessor's is above n, is `leastAngle` of n (`leastAngle-unique`), since the cosine falls from 0 to 2 Q; n is biased.
--- The least angle is at most 2 Q (`leastAngle-le`), and at most any whose cosine passes (`leastAngle-below`). `Halving` is the invariant of the search.
+-- The least angle is at most 2 Q (`leastAngle-le`), and at most any whose cosine passes (`leastAngle-below`).
 use mathlib.Core.Path.{_≡_, refl, sym, ap, subst, _∙_}
 use mathlib.Core.Logic.{inl, inr}
 use mathlib.Core.Bool.{Bool, true, false, cond}
@@ -16,7 +16,7 @@ use Rattle.sine_table.specs.Table.{quarterTurn}
 use Rattle.trig.specs.Units.{cosUnits}
 use Rattle.trig.specs.Acos.{leastFrom, leastAngle}
 use Rattle.trig.specs.Biased.{biased}
-use Rattle.trig.proofs.Units.{minus-above, minus-below, cos-unbiased, cos-falls, cos-zero, cos-half-turn}
+use Rattle.trig.proofs.Units.{minus-above, minus-below, cos-unbiased, cos-falls}
 
 -- ---- the least that passes a test
 
@@ -93,29 +93,3 @@ leastAngle-le w = let l = least-le (λ (k : ℕ). leZ (cosUnits k) w) (2 * quart
 pub leastAngle-below : (w : ℤ) (u : ℕ) → u ≤ 2 * quarterTurn → leZ (cosUnits u) w ≡ true → leastAngle w ≤ u
 unfolding leastAngle
 leastAngle-below w u h t = least-below (λ (k : ℕ). leZ (cosUnits k) w) (2 * quarterTurn) 0 u (omega arith) (omega arith) t
-
--- ---- the search by halving: the cosine of the lower angle is above n, that of the higher is not
-
-pub record Halving (n low high : ℕ) : Type 0 where
-  pub order : low < high
-  pub inside : high ≤ 2 * quarterTurn
-  pub above : n < biased (cosUnits low)
-  pub below : biased (cosUnits high) ≤ n
-
-pub halving-starts : (n : ℕ) → n < 2 ^ 31 → Halving n 0 (2 * quarterTurn)
-halving-starts n h = record { order = omega arith; inside = omega arith; above = rw cos-zero h; below = rw cos-half-turn (omega arith) }
-
-module _ {n low high : ℕ} (i : Halving n low high) (apart : 1 < high - low) (r : ℕ) (cosine : r ≡ biased (cosUnits ((low + high) / 2))) where
-  pub halving-raises : n < r → Halving n ((low + high) / 2) high
-  halving-raises h = record { order = omega (arith, i .order); inside = i .inside; above = subst (λ (x : ℕ). n < x) cosine h; below = i .below }
-
-  pub halving-lowers : r ≤ n → Halving n low ((low + high) / 2)
-  halving-lowers h = record { order = omega (arith, i .order); inside = omega (arith, i .inside); above = i .above; below = subst (λ (x : ℕ). x ≤ n) cosine h }
-
-pub halving-ends : {n low high : ℕ} → Halving n low high → high - low ≤ 1 → low + 1 ≡ leastAngle (minus n (2 ^ 30))
-halving-ends {n} {low} {high} i h =
-    let e : high ≡ low + 1 = omega (arith, i .order) in
-    sym (leastAngle-unique n (low + 1) (rw e at (i .inside)) (rw e at (i .below)) (λ k f. subst (λ (u : ℕ). n < biased (cosUnits u)) (let g : low ≡ k = omega (arith, f) in g) (i .above)))
-
-pub least-zero : (n : ℕ) → 2 ^ 31 ≤ n → 0 ≡ leastAngle (minus n (2 ^ 30))
-least-zero n h = sym (leastAngle-unique n 0 (omega arith) (rw cos-zero h) (λ k e. absurd (omega (arith, e))))

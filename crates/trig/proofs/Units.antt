@@ -6,7 +6,7 @@ use mathlib.Core.Logic.{_⊎_, inl, inr}
 use mathlib.Core.List.{List}
 use Prim.Native.Nat.{ℕ, zero, suc, _+_, _-_, _*_, _/_, _%_, _^_, _≤_, _<_, min}
 use native.Mathlib.Nat.{le-trans, eq-or-lt-of-le}
-use native.Mathlib.Decide.{decLt}
+use native.Mathlib.Decide.{decLe, decLt}
 use native.Mathlib.Omega.{arith}
 use borrow.Author.Tests.{le-leb, lt-leb}
 use mathlib.Core.Bool.{Bool, cond}
@@ -41,6 +41,14 @@ pub unbiased-negative : (n : ℕ) → n ≤ 2 ^ 30 → minus (biased (negℤ (po
 unfolding biased
 unbiased-negative zero h = refl
 unbiased-negative (suc n) h = minus-below (2 ^ 30 - suc n) (2 ^ 30) (omega arith) ∙ ap negsuc (omega arith)
+
+pub biased-minus : (n : ℕ) → biased (minus n (2 ^ 30)) ≡ n
+unfolding biased
+biased-minus n = go (decLe (2 ^ 30) n)
+  where
+    go : Dec (2 ^ 30 ≤ n) → biased (minus n (2 ^ 30)) ≡ n
+    go (yes p) = ap biased (minus-above n (2 ^ 30) p) ∙ (let e : 2 ^ 30 + (n - 2 ^ 30) ≡ n = omega arith in e)
+    go (no p) = ap biased (minus-below n (2 ^ 30) (omega arith)) ∙ (let e : 2 ^ 30 - suc (2 ^ 30 - suc n) ≡ n = omega arith in e)
 
 -- In the quarter k, at v.
 abbrev biasedQuarter : ℕ → ℕ → ℕ

@@ -1,5 +1,5 @@
 -- The last steps of sine, cosine and arc cosine: from what the code's calls give to the definitions (`sin-value`, `cos-value`, `acos-value`), and where there is
--- nothing to work out (`sin-far`, `cos-far`, `acos-outside`).
+-- nothing to work out (`sin-far`, `cos-far`, `acos-outside`). The arc cosine's count likewise: `acos-counted`, `acos-uncounted`.
 use mathlib.Core.Path.{_≡_, refl, sym, ap, _∙_}
 use mathlib.Core.Bool.{Bool, true, false, cond}
 use Prim.Native.Nat.{ℕ, _^_, min}
@@ -11,16 +11,19 @@ use Rattle.float_bits.specs.Decode.{negative, integerDecode}
 use Rattle.trig.specs.Units.{angleUnits, sinUnitsOver, cosUnitsOver, nearestFloat, withSign}
 use Rattle.trig.specs.SinCos.{near, farSin, farCos, sinOver, cosOver}
 use Rattle.trig.specs.Acos.{inDomain, leastAngle, floorUnits, acos}
+use Rattle.trig.specs.Biased.{biased}
+use Rattle.trig.specs.Search.{searchCosines, acosCosines}
 use Rattle.trig.proofs.Fixed.{near-units}
+use Rattle.trig.proofs.Units.{biased-minus}
 
 -- The code tests the absolute value that its call gave.
 pub near-test : (a x : Float) (b : Bool) → x ≡ abs a → lt x (ofBits binary32 0x4b800000) ≡ b → near a ≡ b
 near-test a x b e h = ap (λ (y : Float). lt y (ofBits binary32 0x4b800000)) (sym e) ∙ h
 
-taken : (b : Bool) (x y : Float) → b ≡ true → x ≡ cond b x y
+taken : {A : Type 0} (b : Bool) (x y : A) → b ≡ true → x ≡ cond b x y
 taken b x y e = sym (ap (λ (t : Bool). cond t x y) e)
 
-left : (b : Bool) (x y : Float) → b ≡ false → y ≡ cond b x y
+left : {A : Type 0} (b : Bool) (x y : A) → b ≡ false → y ≡ cond b x y
 left b x y e = sym (ap (λ (t : Bool). cond t x y) e)
 
 module _ (T : ℕ → ℕ) (a : Float) (h : near a ≡ true) (u : ℕ) (z : Float) (U : u ≡ min (angleUnits a) (2 ^ 52)) where
@@ -60,3 +63,11 @@ acos-value c w u z h W U Z =
 pub acos-outside : (c : Float) → inDomain c ≡ false → div binary32 (ofBits binary32 0) (ofBits binary32 0) ≡ acos c
 unfolding acos
 acos-outside c h = none ∙ left (inDomain c) (round binary32 false (leastAngle (floorUnits c)) (2 ^ 28)) nan h
+
+pub acos-counted : (c : Float) (w k : ℕ) → inDomain c ≡ true → minus w (2 ^ 30) ≡ floorUnits c → k ≡ searchCosines w → k ≡ acosCosines c
+unfolding acosCosines
+acos-counted c w k h W K = K ∙ ap searchCosines (sym (biased-minus w) ∙ ap biased W) ∙ taken (inDomain c) (searchCosines (biased (floorUnits c))) 0 h
+
+pub acos-uncounted : (c : Float) → inDomain c ≡ false → 0 ≡ acosCosines c
+unfolding acosCosines
+acos-uncounted c h = left (inDomain c) (searchCosines (biased (floorUnits c))) 0 h

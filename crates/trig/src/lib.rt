@@ -12,6 +12,7 @@ ghost use Rattle.trig.specs.Units.{angleUnits, sinUnitsOver, cosUnitsOve
 ghost use Rattle.trig.specs.SinCos.{sin, cos, sinOver, cosOver};
 ghost use Rattle.trig.specs.Acos.{inDomain, leastAngle, floorUnits, acos};
 ghost use Rattle.trig.specs.Biased.{biased};
+ghost use Rattle.trig.specs.Search.{Bracket·Inside, Bracket·Carries, Bracket·halve, searchCosines, acosCosines};
 
 const QUARTER_TURN: u64 = 421657428;
 
@@ -35,6 +36,27 @@ pub struct SinCosPair {
     pub cos_x: f32,
     pub sin_y: f32,
     pub cos_y: f32,
+}
+
+// An arc cosine, and how many cosines were worked out for it.
+pub struct ArcCosine {
+    pub angle: f32,
+    pub cosines: u32,
+}
+
+// The least angle that passes, likewise, in units.
+struct LeastAngle {
+    angle: u64,
+    cosines: u32,
+}
+
+// The search for it: the angle lies above `low` and is at most `high`, unless `low` passes itself. The cosine of `low`, biased, is carried along; `cosines` were
+// worked out so far.
+struct Bracket {
+    low: u64,
+    high: u64,
+    cos_low: u64,
+    cosines: u32,
 }
 
 // m × 2^j / 2^149 rounded down.
@@ -161,27 +183,58 @@ fn biased_cos(table: &[u32; 2049], u: u64) -> u64
     ONE - sine_table::quarter_sine_in(table, u - QUARTER_TURN)
 }
 
-// The least angle in 0 to a half turn whose cosine is at most w, both biased.
-fn least_angle(table: &[u32; 2049], w: u64) -> u64
-    requires { ⌜ now table ≡ sineTable ⌝ }
-    ensures value { λ r. ⌜ r ≡ leastAngle (minus w (2 ^ 30)) ⌝ }
+// The half of a bracket in which the least angle lies, by the cosine in the middle.
+fn halve(table: &[u32; 2049], w: u64, b: Bracket) -> Bracket
+    requires { ⌜ now table ≡ sineTable ⌝ ∗ ⌜ Bracket·Inside b ⌝ ∗ ⌜ Bracket·Carries b ⌝ }
+    ensures value { λ r. ⌜ r ≡ Bracket·halve w b ⌝ }
+    ensures carried { λ r. ⌜ Bracket·Carries r ⌝ }
 {
-    // The cosine of 0 is 1.
-    if w >= 2 * ONE {
-        return 0;
+    let middle = (b.low + b.high) / 2;
+    let cosine = biased_cos(table, middle);
+    let cosines = b.cosines + 1;
+    if cosine > w {
+        return Bracket {
+            low: middle,
+            high: b.high,
+            cos_low: cosine,
+            cosines,
+        };
     }
-    // The cosine of `low` is above w, and that of `high` is not.
-    let mut low: u64 = 0;
-    let mut high: u64 = HALF_TURN;
-    while high - low > 1 {
-        let middle = (low + high) / 2;
-        if biased_cos(table, middle) > w {
-            low = middle;
-        } else {
-            high = middle;
-        }
+    Bracket {
+        low: b.low,
+        high: middle,
+        cos_low: b.cos_low,
+        cosines,
     }
-    low + 1
+}
+
+// The least angle in 0 to a half turn whose cosine is at most w, both biased.
+fn least_angle(table: &[u32; 2049], w: u64) -> LeastAngle
+    requires { ⌜ now table ≡ sineTable ⌝ }
+    ensures angle { λ r. ⌜ r .angle ≡ leastAngle (minus w (2 ^ 30)) ⌝ }
+    ensures cosines { λ r. ⌜ r .cosines ≡ searchCosines w ⌝ }
+{
+    // The cosine of a half turn, -1, is at most w whatever w is.
+    let mut b = Bracket {
+        low: 0,
+        high: HALF_TURN,
+        cos_low: biased_cos(table, 0),
+        cosines: 1,
+    };
+    while (b.cos_low > w) & (b.high - b.low > 1) {
+        let half = halve(table, w, b);
+        b = half;
+    }
+    if b.cos_low > w {
+        return LeastAngle {
+            angle: b.low + 1,
+            cosines: b.cosines,
+        };
+    }
+    LeastAngle {
+        angle: b.low,
+        cosines: b.cosines,
+    }
 }
 
 // c × 2^30 rounded down, biased.
@@ -197,13 +250,29 @@ fn biased_floor(c: f32) -> u64
     ONE + shifted(n, d.exponent)
 }
 
-// Document 01's arc cosine; outside -1 to 1 NaN. Accuracy: heuristic, the float nearest to the least angle whose cosine by the table is not above c.
-pub fn acos(c: f32) -> f32
-    ensures value { λ r. ⌜ r ≡ acos c ⌝ }
+// Document 01's arc cosine; outside -1 to 1 NaN. With it how many cosines were worked out: at most 31, outside -1 to 1 none. Accuracy: heuristic, the float
+// nearest to the least angle whose cosine by the table is not above c.
+pub fn acos_counted(c: f32) -> ArcCosine
+    ensures value { λ r. ⌜ (r .angle ≡ acos c) × (r .cosines ≡ acosCosines c) ⌝ }
+    ensures most { λ r. ⌜ r .cosines ≤ 31 ⌝ }
 {
     if (-1.0 <= c) & (c <= 1.0) {
         let table = sine_table::table();
-        return float_bits::from_fixed(least_angle(&table, biased_floor(c)), 28);
+        let least = least_angle(&table, biased_floor(c));
+        return ArcCosine {
+            angle: float_bits::from_fixed(least.angle, 28),
+            cosines: least.cosines,
+        };
     }
-    0.0 / 0.0
+    ArcCosine {
+        angle: 0.0 / 0.0,
+        cosines: 0,
+    }
+}
+
+// The arc cosine. Accuracy: heuristic, likewise.
+pub fn acos(c: f32) -> f32
+    ensures value { λ r. ⌜ r ≡ acos c ⌝ }
+{
+    acos_counted(c).angle
 }

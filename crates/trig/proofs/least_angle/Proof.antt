@@ -1,54 +1,53 @@
--- The invariant: the cosine of `low` is above w, and that of `high` is not (`Halving`). The measure is their distance.
+-- The invariant: with as many halvings left as cosines to 31, the bracket holds the least angle, its lower cosine is carried along (`Halving`), and its search
+-- ends where the whole one does (`Searching`). The measure is the distance of the ends.
 use Prim.Native.Nat.{_-_}
 use native.Mathlib.Omega.{arith}
 use borrow.Author.Needs.{needs}
-use Rattle.trig.proofs.Least.{Halving, halving-starts, halving-raises, halving-lowers, halving-ends, least-zero}
+use Rattle.trig.proofs.Halving.{Searching, searching-starts, searching-inside, searching-again, searching-closer, searching-counted}
+use Rattle.trig.proofs.Halving.{halving-ends, halving-zero}
 use Rattle.trig.proofs.least_angle.Statement.{statement}
 use Rattle.trig.proofs.least_angle.Tie as tie
 
 abbrev Inv-loop : tie.InvT-loop
-Inv-loop table w low₀ high₀ low high = Halving w low high
+Inv-loop table w b₀ b = Searching w b
 
 abbrev μ-loop : tie.MeasureT-loop
-μ-loop table w low₀ high₀ low high = high - low
-
-mul-if1 : tie.Need-mul-if1 Inv-loop μ-loop
-mul-if1 c = search needs
-
-returns : tie.Need-returns Inv-loop μ-loop
-returns c = least-zero (c .before .args .w) (c .if1 .taken)
-
-loop-holds : tie.Need-loop-holds Inv-loop μ-loop
-loop-holds c = halving-starts (c .before .args .w) (c .if1 .left)
-
-sub-loop : tie.Need-sub-loop Inv-loop μ-loop
-sub-loop c = search needs
-
-add-middle : tie.Need-add-middle Inv-loop μ-loop
-add-middle c = search needs
+μ-loop table w b₀ b = b .high - b .low
 
 biased-cos-requires : tie.Need-biased-cos-requires Inv-loop μ-loop
-biased-cos-requires c κs = let l = c .before .loop .inv .inside in (search needs, omega (arith, l))
+biased-cos-requires c κs = search needs
+
+loop-holds : tie.Need-loop-holds Inv-loop μ-loop
+loop-holds c = searching-starts (c .before .args .w) (c .biased-cos .result) (c .biased-cos .ensures)
+
+sub-if1 : tie.Need-sub-if1 Inv-loop μ-loop
+sub-if1 c = let l = c .before .before .loop .inv .0 .order in omega (arith, l)
+
+halve-requires : tie.Need-halve-requires Inv-loop μ-loop
+halve-requires c κs =
+    let loop = c .before .before .before in
+    (loop .before .before .pre, (searching-inside (loop .loop .inv) (c .if1 .taken), loop .loop .inv .0 .carried))
 
 loop-less : tie.Need-loop-less Inv-loop μ-loop
-loop-less c = omega arith
+loop-less c = searching-closer (c .before .before .before .before .loop .inv) (c .before .if1 .taken) (c .halve .ensures .0)
 
 loop-again : tie.Need-loop-again Inv-loop μ-loop
-loop-again c =
-    halving-raises (c .before .before .before .loop .inv) (c .before .before .loop-test .taken) (c .before .biased-cos .result) (c .before .biased-cos .ensures) (c .if2 .taken)
+loop-again c = searching-again (c .before .before .before .before .loop .inv) (c .before .if1 .taken) (c .halve .ensures .0)
 
-loop-less-2 : tie.Need-loop-less-2 Inv-loop μ-loop
-loop-less-2 c = omega arith
+add-t11 : tie.Need-add-t11 Inv-loop μ-loop
+add-t11 c = let i = c .before .before .before .before .before .before .loop .inv .0 in omega (arith, i .order, i .inside)
 
-loop-again-2 : tie.Need-loop-again-2 Inv-loop μ-loop
-loop-again-2 c =
-    halving-lowers (c .before .before .before .loop .inv) (c .before .before .loop-test .taken) (c .before .biased-cos .result) (c .before .biased-cos .ensures) (c .if2 .left)
-
-add-result : tie.Need-add-result Inv-loop μ-loop
-add-result c = search needs
+returns : tie.Need-returns Inv-loop μ-loop
+returns c =
+    let ended = c .before .before .before in
+    let s = ended .before .before .before .loop .inv in
+    (halving-ends (s .0) (c .before .if2 .taken) (ended .if1 .left), searching-counted s (ended .if1 .left))
 
 returns-2 : tie.Need-returns-2 Inv-loop μ-loop
-returns-2 c = halving-ends (c .before .loop .inv) (c .loop-test .left)
+returns-2 c =
+    let ended = c .before .before in
+    let s = ended .before .before .before .loop .inv in
+    (halving-zero (s .0) (c .if2 .left), searching-counted s (ended .if1 .left))
 
 pub least-angle-spec : {M : Type 1} → statement M
 least-angle-spec =
@@ -56,15 +55,12 @@ least-angle-spec =
     (tie.spec
     Inv-loop
     μ-loop
-    mul-if1
-    returns
-    loop-holds
-    sub-loop
-    add-middle
     biased-cos-requires
+    loop-holds
+    sub-if1
+    halve-requires
     loop-less
     loop-again
-    loop-less-2
-    loop-again-2
-    add-result
+    add-t11
+    returns
     returns-2)

@@ -542,7 +542,7 @@ impl Random {
 }
 
 /// The kinds of question: from `chains` on they are `chain_answers`', the others `answers`'.
-const KINDS: &[&str] = &["numbers", "angles", "matrices", "bounds", "moves", "motion", "covers", "boxes", "chains", "sets"];
+const KINDS: &[&str] = &["numbers", "angles", "matrices", "bounds", "moves", "motion", "covers", "boxes", "chains", "sets", "arcs"];
 
 /// A box that a matrix carries: turned about, mirrored, carried to infinity, with wp of zero and a bottom row that isn't 0 0 0 1.
 fn fixed_boxes<W: Write>(q: &mut Questions<W>) {
@@ -637,29 +637,53 @@ fn fixed_angles<W: Write>(q: &mut Questions<W>) {
             q.ask("cos", &[&[a]]);
         }
     }
-    for entry in angles::TABLE.iter().step_by(64) {
-        let c = *entry as f32 / angles::ONE as f32;
-        for c in [c, c.next_up(), c.next_down(), -c, -c.next_up(), -c.next_down()] {
-            q.ask("acos", &[&[c]]);
-        }
+    for c in cosines_of_the_table() {
+        q.ask("acos", &[&[c]]);
     }
+}
+
+/// The table's cosines, with the floats beside them.
+fn cosines_of_the_table() -> impl Iterator<Item = f32> {
+    angles::TABLE.iter().step_by(64).flat_map(|entry| {
+        let c = *entry as f32 / angles::ONE as f32;
+        [c, c.next_up(), c.next_down(), -c, -c.next_up(), -c.next_down()]
+    })
+}
+
+fn random_cosine(r: &mut Random) -> f32 {
+    match r.below(6) {
+        0 => r.number(),
+        1 => 1.0 - r.size(-30, -1).abs(),
+        2 => r.size(-30, -1).abs() - 1.0,
+        3 => {
+            let c = r.pick(&angles::TABLE) as f32 / angles::ONE as f32;
+            let c = r.near(c);
+            r.pick(&[c, -c])
+        }
+        4 => r.size(-40, -1),
+        _ => r.unit(),
+    }
+}
+
+/// Arc cosines with the number of cosines that were worked out.
+fn fixed_arcs<W: Write>(q: &mut Questions<W>) {
+    for c in EDGES.iter().map(|bits| f32::from_bits(*bits)).chain(cosines_of_the_table()) {
+        q.ask("acosn", &[&[c]]);
+    }
+    for line in ["acosn", "acosn ", "acosn 0", "acosn 0 00000000", "acosn 00000000 00000000", "Acosn 00000000"] {
+        q.line(line);
+    }
+}
+
+fn random_arc<W: Write>(q: &mut Questions<W>, r: &mut Random) {
+    let c = random_cosine(r);
+    q.ask("acosn", &[&[c]]);
 }
 
 fn random_angle<W: Write>(q: &mut Questions<W>, r: &mut Random) {
     let question = r.pick(&["sin", "cos", "acos"]);
     let a = if question == "acos" {
-        match r.below(6) {
-            0 => r.number(),
-            1 => 1.0 - r.size(-30, -1).abs(),
-            2 => r.size(-30, -1).abs() - 1.0,
-            3 => {
-                let c = r.pick(&angles::TABLE) as f32 / angles::ONE as f32;
-                let c = r.near(c);
-                r.pick(&[c, -c])
-            }
-            4 => r.size(-40, -1),
-            _ => r.unit(),
-        }
+        random_cosine(r)
     } else {
         match r.below(6) {
             0 => r.number(),
@@ -1131,6 +1155,7 @@ fn main() {
         "boxes" => (fixed_boxes, random_box),
         "chains" => (chains::fixed, chains::random),
         "sets" => (sets::fixed, sets::random),
+        "arcs" => (fixed_arcs, random_arc),
         _ => usage(),
     };
     // Each kind has numbers of its own, whatever the seed. A kind more leaves those of the others as they are.

@@ -1,0 +1,29 @@
+-- One cosine, in the middle: where it is above w the middle is the lower end and its cosine is carried (`halve-upper`), otherwise the upper end (`halve-lower`).
+use borrow.Author.Needs.{needs}
+use Rattle.trig.proofs.Halving.{halve-upper, halve-lower}
+use Rattle.trig.proofs.halve.Statement.{statement}
+use Rattle.trig.proofs.halve.Tie as tie
+
+add-middle : tie.Need-add-middle
+add-middle c = search needs
+
+biased-cos-requires : tie.Need-biased-cos-requires
+biased-cos-requires c κs = search needs
+
+add-cosines : tie.Need-add-cosines
+add-cosines c = search needs
+
+returns : tie.Need-returns
+returns c =
+    let s = c .before .before .before .before in
+    let r = c .before .before .biased-cos in
+    (halve-upper (s .args .w) (s .args .b) (r .result) (r .ensures) (c .if1 .taken), r .ensures)
+
+returns-2 : tie.Need-returns-2
+returns-2 c =
+    let s = c .before .before .before .before in
+    let r = c .before .before .biased-cos in
+    (halve-lower (s .args .w) (s .args .b) (r .result) (r .ensures) (c .if1 .left), s .pre .1 .1)
+
+pub halve-spec : {M : Type 1} → statement M
+halve-spec = tie.close (tie.spec add-middle biased-cos-requires add-cosines returns returns-2)
