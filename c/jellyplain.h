@@ -81,7 +81,8 @@ uint8_t jellyplain_bound_point_motion(const jellyplain_move *motion, const float
  * Numbers 5, 6, 7 and 9. */
 uint8_t jellyplain_motion_bounds(const jellyplain_move *motion, const float b[6], float bounds[6], uint32_t examined[3]);
 
-/* A box that holds every point of the box b at every time but NaN, from 2^depth slices of the move. Numbers 5, 6, 7, 8 and 10. */
+/* A box that holds every point of the box b at every time but NaN, from 2^depth slices of the move. A greater depth, up to 12, is not refused where
+ * a lesser was accepted, and its box lies in the lesser's. Numbers 5, 6, 7, 8 and 10. */
 uint8_t jellyplain_cover(const jellyplain_move *motion, const float b[6], uint32_t depth, float bounds[6]);
 
 /* ---- chains, by their moves; the inline functions below take the struct */
@@ -95,7 +96,8 @@ uint8_t jellyplain_moves_point(const jellyplain_move *moves, size_t count, float
 /* Where the point p stands at each time of a list that never falls, three places a time. Numbers 6, 13 and 5, and 12 for no moves; all places stay after a refusal. */
 uint8_t jellyplain_moves_points(const jellyplain_move *moves, size_t count, const float *times, size_t times_count, const float p[3], float *answers, size_t places);
 
-/* A box that holds every point of the box b at every time but NaN, from 2^depth slices of each move. Numbers 5, 6, 7, 8 and 10, and 12 for no moves. */
+/* A box that holds every point of the box b at every time but NaN, from 2^depth slices of each move; greater depths as above.
+ * Numbers 5, 6, 7, 8 and 10, and 12 for no moves. */
 uint8_t jellyplain_moves_cover(const jellyplain_move *moves, size_t count, const float b[6], uint32_t depth, float bounds[6]);
 
 /* A box for each of 1 to 16 boxes that holds every point of it at every time but NaN, as jellyplain_moves_cover does, in order, the places behind them +0; and the union of them.

@@ -1,8 +1,9 @@
 -- A kept move is the move that was built: what building leaves holds it (`build-clauses`), the point query of the rows is the move's (`kept-point`), and the cover of the rows
--- holds what the point query of the rows answers (`cover-clauses`); the last also of a kept chain (`moves-cover-clauses`).
-use Prim.Native.Nat.{ℕ}
-use mathlib.Core.Path.{_≡_, ap, sym, _∙_}
+-- holds what the point query of the rows answers, and is no narrower than a finer one (`cover-clauses`); the last also of a kept chain (`moves-cover-clauses`).
+use Prim.Native.Nat.{ℕ, _+_, _-_}
+use mathlib.Core.Path.{_≡_, ap, sym, subst, _∙_}
 use mathlib.Core.List.{List}
+use native.Mathlib.Omega.{arith}
 use lib.Ieee.{Float}
 use Rattle.matrix4x4.specs.Rows.{Rows}
 use Rattle.bounds3.specs.declared.Point3f.{Point3f}
@@ -16,6 +17,8 @@ use Rattle.animated_transform.specs.New.{AnimatedTransform·new}
 use Rattle.motion_point.specs.TransformPoint.{AnimatedTransform·transformPoint}
 use Rattle.motion_cover.proofs.NonZero.{cover-answered}
 use Rattle.motion_cover.proofs.Contains.{cover-contains}
+use Rattle.cover_depth.specs.Finer.{Within}
+use Rattle.cover_depth.proofs.Finer.{cover-finer}
 use Rattle.bounds3.specs.List.{Bounds3f·list, Bounds3f·ofList}
 use Rattle.lent_arrays.specs.Arrays.{BoundsAnswer·left}
 use Rattle.motion_rows.specs.Rows.{AnimatedTransform·toRows, AnimatedTransform·fromRows, AnimatedTransformAnswer·left}
@@ -23,10 +26,11 @@ use Rattle.motion_rows.specs.Holds.{Rows·Holds}
 use Rattle.motion_rows.specs.TransformPoint.{Rows·transformPoint}
 use Rattle.motion_rows.proofs.RoundTrip.{from-rows-inverse, transform-point-kept}
 use Rattle.chain_rows.specs.Theorem.{KeptChainContainsMotion}
+use Rattle.chain_rows.specs.Finer.{KeptChainFiner}
 use Rattle.chain_rows.proofs.Contains as chain
 use Rattle.api.specs.Answers.{Rows·cover}
 use Rattle.api.specs.Chains.{Moves·coverOf}
-use Rattle.api.specs.Kept.{KeptCoverContainsMotion}
+use Rattle.api.specs.Kept.{KeptCoverContainsMotion, KeptCoverFiner}
 
 -- Of what building gives for two poses: its number, what it leaves, and that this holds the move where the number is 0.
 pub build-clauses : (s e : Pose) (a : AnimatedTransformAnswer) (r : ℕ) (rows old : Rows)
@@ -44,33 +48,49 @@ pub kept-point : (rows : Rows) (m : AnimatedTransform) (time : Float) (p : Point
     → Rows·transformPoint rows time p ≡ AnimatedTransform·transformPoint m time p
 kept-point rows m time p e = rw e (transform-point-kept m time p)
 
--- The three clauses of the cover, from its number and what it leaves: number 0 is a box, and the array holds it.
+-- The four clauses of the cover, from its number and what it leaves: number 0 is a box, and the array holds it.
 pub cover-clauses : (rows : Rows) (b : List Float) (d r : ℕ) (bounds old : List Float)
     → r ≡ BoundsAnswer·refusal (Rows·cover rows b d) → bounds ≡ BoundsAnswer·left (Rows·cover rows b d) old
     → (r ≡ BoundsAnswer·refusal (Rows·cover rows b d)) × ((bounds ≡ BoundsAnswer·left (Rows·cover rows b d) old)
-    × (r ≡ 0 → KeptCoverContainsMotion rows b bounds))
-cover-clauses rows b d r bounds old number left = (number, (left, contains))
+    × ((r ≡ 0 → KeptCoverContainsMotion rows b bounds)
+    × (r ≡ 0 → KeptCoverFiner rows b d bounds)))
+cover-clauses rows b d r bounds old number left = (number, (left, (contains, finer)))
   where
+    box-left : r ≡ 0 → bounds ≡ Bounds3f·list (BoundsAnswer·bounds (Rows·cover rows b d))
+    box-left none =
+        left ∙ ap (λ (c : BoundsAnswer). BoundsAnswer·left c old) (cover-answered (AnimatedTransform·fromRows rows) (Bounds3f·ofList b) d (sym number ∙ none))
+
     contains : r ≡ 0 → KeptCoverContainsMotion rows b bounds
     contains none m time p holds nan inside =
         let move : AnimatedTransform·fromRows rows ≡ m = rw (holds .same) (from-rows-inverse m) in
         let accepted : BoundsAnswer·refusal (Rows·cover rows b d) ≡ 0 = sym number ∙ none in
-        let box : bounds ≡ Bounds3f·list (BoundsAnswer·bounds (Rows·cover rows b d)) =
-        left ∙ ap (λ (c : BoundsAnswer). BoundsAnswer·left c old) (cover-answered (AnimatedTransform·fromRows rows) (Bounds3f·ofList b) d accepted) in
+        let box = box-left none in
         let built : Built (AnimatedTransform·fromRows rows) = rw move (holds .built) in
         let point : Rows·transformPoint rows time p ≡ AnimatedTransform·transformPoint (AnimatedTransform·fromRows rows) time p =
         rw move (kept-point rows m time p (holds .same)) in
         rw (point, box) (cover-contains (AnimatedTransform·fromRows rows) (Bounds3f·ofList b) d time p built accepted nan inside)
 
+    finer : r ≡ 0 → KeptCoverFiner rows b d bounds
+    finer none m k holds l most =
+        let own = BoundsAnswer·bounds (Rows·cover rows b d) in
+        let same : d + (k - d) ≡ k = omega (arith, l) in
+        let built : Built (AnimatedTransform·fromRows rows) = subst Built (sym (from-rows-inverse m) ∙ ap AnimatedTransform·fromRows (sym (holds .same))) (holds .built) in
+        let deeper : Within (Rows·cover rows b (d + (k - d))) own =
+        cover-finer (AnimatedTransform·fromRows rows) (Bounds3f·ofList b) d (k - d) built (omega (arith, same, most)) (sym number ∙ none) in
+        rw (box-left none) (subst (λ (x : ℕ). Within (Rows·cover rows b x) own) same deeper)
+
 pub moves-cover-clauses : (rows : List Rows) (b : List Float) (d r : ℕ) (bounds old : List Float)
     → r ≡ BoundsAnswer·refusal (Moves·coverOf rows b d) → bounds ≡ BoundsAnswer·left (Moves·coverOf rows b d) old
     → (r ≡ BoundsAnswer·refusal (Moves·coverOf rows b d)) × ((bounds ≡ BoundsAnswer·left (Moves·coverOf rows b d) old)
-    × (r ≡ 0 → KeptChainContainsMotion rows (Bounds3f·ofList b) (Bounds3f·ofList bounds)))
-moves-cover-clauses rows b d r bounds old number left = (number, (left, contains))
+    × ((r ≡ 0 → KeptChainContainsMotion rows (Bounds3f·ofList b) (Bounds3f·ofList bounds))
+    × (r ≡ 0 → KeptChainFiner rows (Bounds3f·ofList b) d (Bounds3f·ofList bounds))))
+moves-cover-clauses rows b d r bounds old number left = (number, (left, (contains, finer)))
   where
+    box-left : r ≡ 0 → bounds ≡ Bounds3f·list (BoundsAnswer·bounds (Moves·coverOf rows b d))
+    box-left none = left ∙ ap (λ (c : BoundsAnswer). BoundsAnswer·left c old) (chain.cover-answered rows (Bounds3f·ofList b) d (sym number ∙ none))
+
     contains : r ≡ 0 → KeptChainContainsMotion rows (Bounds3f·ofList b) (Bounds3f·ofList bounds)
-    contains none =
-        let accepted : BoundsAnswer·refusal (Moves·coverOf rows b d) ≡ 0 = sym number ∙ none in
-        let box : bounds ≡ Bounds3f·list (BoundsAnswer·bounds (Moves·coverOf rows b d)) =
-        left ∙ ap (λ (c : BoundsAnswer). BoundsAnswer·left c old) (chain.cover-answered rows (Bounds3f·ofList b) d accepted) in
-        rw box (chain.kept-contains rows (Bounds3f·ofList b) d accepted)
+    contains none = rw (box-left none) (chain.kept-contains rows (Bounds3f·ofList b) d (sym number ∙ none))
+
+    finer : r ≡ 0 → KeptChainFiner rows (Bounds3f·ofList b) d (Bounds3f·ofList bounds)
+    finer none = rw (box-left none) (chain.kept-finer rows (Bounds3f·ofList b) d (sym number ∙ none))

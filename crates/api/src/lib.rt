@@ -20,14 +20,16 @@ ghost use Rattle.motion_chain.specs.Times.{PointsAnswer·refusal, PointsAnswer�
 ghost use Rattle.chain_poses.specs.Poses.{Poses·ofLists};
 ghost use Rattle.chain_rows.specs.Kept.{Chain·toRows};
 ghost use Rattle.chain_rows.specs.Theorem.{Moves·Holds, KeptChainContainsMotion};
+ghost use Rattle.chain_rows.specs.Finer.{KeptChainFiner};
 ghost use Rattle.chain_build.specs.Build.{ChainAnswer·left};
 ghost use Rattle.box_set.specs.Set.{SetAnswer·refusal};
 ghost use Rattle.chain_covers.specs.Kept.{Moves·covers, SetAnswer·coversLeft, SetAnswer·unionLeft};
 ghost use Rattle.chain_covers.specs.Theorem.{KeptSetContainsMotion};
+ghost use Rattle.chain_covers.specs.Finer.{KeptSetFiner};
 ghost use Rattle.api.specs.Chains.{layoutNumber, Moves·point, Moves·points, Moves·coverOf};
 ghost use Rattle.api.specs.Answers.{Rows·new, Rows·point, Rows·interpolate, Rows·boundPointMotion, Rows·motionBounds, Rows·cover};
 ghost use Rattle.api.specs.Examined.{MotionBoundsAnswer·left, MotionBoundsAnswer·examinedLeft};
-ghost use Rattle.api.specs.Kept.{KeptCoverContainsMotion};
+ghost use Rattle.api.specs.Kept.{KeptCoverContainsMotion, KeptCoverFiner};
 
 // Puts a motion box and its counts into two lent arrays, or after a refusal nothing, and gives the refusal's number, 0 for none.
 fn put_motion_bounds(
@@ -152,6 +154,7 @@ pub extern "C" fn jellyplain_cover(
     ensures refusal { λ r. ⌜ r ≡ BoundsAnswer·refusal (Rows·cover (now (motion .entry)) (now (b .entry)) depth) ⌝ }
     ensures left { λ _. ⌜ now (bounds .exit) ≡ BoundsAnswer·left (Rows·cover (now (motion .entry)) (now (b .entry)) depth) (now (bounds .entry)) ⌝ }
     ensures contains_motion { λ r. ⌜ (r ≡ 0 → KeptCoverContainsMotion (now (motion .entry)) (now (b .entry)) (now (bounds .exit))) ⌝ }
+    ensures finer { λ r. ⌜ (r ≡ 0 → KeptCoverFiner (now (motion .entry)) (now (b .entry)) depth (now (bounds .exit))) ⌝ }
 {
     lent_arrays::put_bounds(
         motion_cover::cover(
@@ -234,6 +237,7 @@ pub extern "C" fn jellyplain_moves_cover(
     ensures refusal { λ r. ⌜ r ≡ BoundsAnswer·refusal (Moves·coverOf (now (moves .entry)) (now (b .entry)) depth) ⌝ }
     ensures left { λ _. ⌜ now (bounds .exit) ≡ BoundsAnswer·left (Moves·coverOf (now (moves .entry)) (now (b .entry)) depth) (now (bounds .entry)) ⌝ }
     ensures contains_motion { λ r. ⌜ (r ≡ 0 → KeptChainContainsMotion (now (moves .entry)) (Bounds3f·ofList (now (b .entry))) (Bounds3f·ofList (now (bounds .exit)))) ⌝ }
+    ensures finer { λ r. ⌜ (r ≡ 0 → KeptChainFiner (now (moves .entry)) (Bounds3f·ofList (now (b .entry))) depth (Bounds3f·ofList (now (bounds .exit)))) ⌝ }
 {
     lent_arrays::put_bounds(
         chain_cover::cover(moves, lent_arrays::bounds(b), depth),
@@ -255,6 +259,7 @@ pub extern "C" fn jellyplain_moves_covers(
     ensures covers { λ _. ⌜ now (covers .exit) ≡ SetAnswer·coversLeft (Moves·covers (now (moves .entry)) (now (boxes .entry)) depth) (now (covers .entry)) ⌝ }
     ensures union { λ _. ⌜ now (union .exit) ≡ SetAnswer·unionLeft (Moves·covers (now (moves .entry)) (now (boxes .entry)) depth) (now (union .entry)) ⌝ }
     ensures contains_motion { λ r. ⌜ (r ≡ 0 → KeptSetContainsMotion (now (moves .entry)) (now (boxes .entry)) (now (covers .exit)) (now (union .exit))) ⌝ }
+    ensures finer { λ r. ⌜ (r ≡ 0 → KeptSetFiner (now (moves .entry)) (now (boxes .entry)) depth (now (covers .exit)) (now (union .exit))) ⌝ }
 {
     chain_covers::covers(moves, boxes, depth, covers, union)
 }

@@ -12,6 +12,7 @@ ghost use Rattle.motion_rows.specs.Rows.{AnimatedTransform·fromRows};
 ghost use Rattle.motion_chain.specs.Chain.{Chain, Chain·cover};
 ghost use Rattle.chain_rows.specs.Kept.{Chain·toRows, Moves·cover};
 ghost use Rattle.chain_rows.specs.Theorem.{KeptChainContainsMotion};
+ghost use Rattle.chain_rows.specs.Finer.{KeptChainFiner};
 
 // The cover of the move at a place, joined to the covers of those before it.
 fn union_move(
@@ -36,6 +37,7 @@ pub fn cover(moves: &[[[f32; 4]; 44]], b: Bounds3f, depth: u32) -> BoundsAnswer
     ensures value { λ r. ⌜ r ≡ Moves·cover (now (moves .entry)) b depth ⌝ }
     ensures kept { λ r. ⌜ ((c : Chain) → now (moves .entry) ≡ Chain·toRows c → r ≡ Chain·cover c b depth) ⌝ }
     ensures contains_motion { λ r. ⌜ (BoundsAnswer·refusal r ≡ 0 → KeptChainContainsMotion (now (moves .entry)) b (BoundsAnswer·bounds r)) ⌝ }
+    ensures finer { λ r. ⌜ (BoundsAnswer·refusal r ≡ 0 → KeptChainFiner (now (moves .entry)) b depth (BoundsAnswer·bounds r)) ⌝ }
 {
     if moves.len() == 0 {
         return BoundsAnswer::Refused(12);

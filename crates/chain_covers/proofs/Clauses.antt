@@ -1,6 +1,6 @@
--- The four clauses of the set query from what is answered: `no-moves`, `no-boxes`, `many-boxes`, `box-refused`, `all-accepted`. The guarantee is that of built moves, since rows that
+-- The five clauses of the set query from what is answered: `no-moves`, `no-boxes`, `many-boxes`, `box-refused`, `all-accepted`. The guarantee is that of built moves, since rows that
 -- building has left are asked as the chain of their moves is (`kept-set`).
-use Prim.Native.Nat.{ℕ, _-_, _≤_, _<_}
+use Prim.Native.Nat.{ℕ, _+_, _-_, _≤_, _<_}
 use mathlib.Core.Path.{_≡_, refl, sym, ap, subst, _∙_}
 use mathlib.Core.Bool.{Bool, true, false, cond}
 use mathlib.Core.List.{List, [], _∷_, _++_, map}
@@ -23,13 +23,14 @@ use Rattle.motion_chain.proofs.Cover.{chain-cover-nonzero}
 use Rattle.chain_rows.specs.Kept.{Chain·toRows, Moves·chain, Moves·transformPoint}
 use Rattle.chain_rows.proofs.Kept.{chain-inverse, kept-point, built-rows}
 use Rattle.box_set.specs.Set.{maxBoxes, SetAnswer, covered, refused, SetAnswer·refusal, SetAnswer·covers, SetAnswer·union, SetAnswer·of, Boxes·covers, Chain·covers}
-use Rattle.box_set.specs.Theorem.{SetContains}
-use Rattle.box_set.proofs.Contains.{moves-set-contains}
+use Rattle.box_set.specs.Theorem.{SetContains, SetWithin}
+use Rattle.box_set.proofs.Contains.{moves-set-contains, moves-set-finer}
 use Rattle.box_front.specs.declared.Front.{Front}
 use Rattle.box_front.specs.Front.{boxAt}
 use Rattle.motion_fronts.specs.Worked.{Worked}
 use Rattle.chain_covers.specs.Kept.{Moves·covers, SetAnswer·coversLeft, SetAnswer·unionLeft}
 use Rattle.chain_covers.specs.Theorem.{KeptSetContainsMotion}
+use Rattle.chain_covers.specs.Finer.{KeptSetFiner}
 use Rattle.chain_covers.specs.Union.{unionPlaces}
 use Rattle.chain_covers.proofs.Places.{zeros, SetAccepted, places-accepted, places-refused}
 
@@ -39,7 +40,8 @@ Clauses rows boxes depth r covers covers' union union' =
     (r ≡ SetAnswer·refusal (Moves·covers rows boxes depth))
     × ((covers' ≡ SetAnswer·coversLeft (Moves·covers rows boxes depth) covers)
     × ((union' ≡ SetAnswer·unionLeft (Moves·covers rows boxes depth) union)
-    × (r ≡ 0 → KeptSetContainsMotion rows boxes covers' union')))
+    × ((r ≡ 0 → KeptSetContainsMotion rows boxes covers' union')
+    × (r ≡ 0 → KeptSetFiner rows boxes depth covers' union'))))
 
 module _ (rows : List Rows) (boxes : List (List Float)) (depth : ℕ) (covers : List (List Float)) (union : List Float) where
   -- ---- the guarantee
@@ -61,9 +63,27 @@ module _ (rows : List Rows) (boxes : List (List Float)) (depth : ℕ) (covers : 
       let contains = moves-set-contains c (map Bounds3f·ofList boxes) depth time (b .each) (ap SetAnswer·refusal (sym k) ∙ z) nan in
       rw (same, e, f, k) contains
 
+  -- ---- greater depths
+  set-finer : (length rows ≡ 0 → ⊥) → SetAnswer·refusal (Moves·covers rows boxes depth) ≡ 0 → (cs : List (List Float)) (u : List Float)
+      → covered (map Bounds3f·ofList (take (length boxes) cs)) (Bounds3f·ofList u) ≡ Moves·covers rows boxes depth
+      → KeptSetFiner rows boxes depth cs u
+  set-finer n z cs u e finer h l most =
+      let b = built-rows h in
+      let c = b .chain in
+      let m = finer - depth in
+      let bs = map Bounds3f·ofList boxes in
+      let same : depth + m ≡ finer = omega (arith, l) in
+      let own = kept-set c (b .same) n in
+      let deeper : SetWithin (Chain·covers c bs (depth + m)) (Chain·covers c bs depth) =
+      moves-set-finer c bs depth m (b .each) (omega (arith, same, most)) (ap SetAnswer·refusal (sym own) ∙ z) in
+      rw (e, own, deeper-set c (b .same) finer) (subst (λ (d : ℕ). SetWithin (Chain·covers c bs d) (Chain·covers c bs depth)) same deeper)
+    where
+      deeper-set : (c : Chain) → rows ≡ Chain·toRows c → (d : ℕ) → Moves·covers rows boxes d ≡ Chain·covers c (map Bounds3f·ofList boxes) d
+      deeper-set c k d = unfold Moves·covers in rw (ne-eqb (length rows) 0 n, k, chain-inverse c)
+
   -- ---- refusals
   pub refused-clauses : (n : ℕ) → (n ≡ 0 → ⊥) → Moves·covers rows boxes depth ≡ refused n → Clauses rows boxes depth n covers covers union union
-  refused-clauses n h e = rw e (refl, (refl, (refl, λ z. absurd (h z))))
+  refused-clauses n h e = rw e (refl, (refl, (refl, (λ z. absurd (h z), λ z. absurd (h z)))))
 
   pub no-moves : length rows ≡ 0 → Clauses rows boxes depth 12 covers covers union union
   no-moves e = refused-clauses 12 (λ z. absurd (omega (arith, z))) (go e)
@@ -118,11 +138,17 @@ module _ (rows : List Rows) (boxes : List (List Float)) (depth : ℕ) (covers : 
             sym left ∙ ap (λ (s : SetAnswer). SetAnswer·coversLeft s covers) (sym answer),
             (
               ap Bounds3f·list e ∙ ap (λ (s : SetAnswer). SetAnswer·unionLeft s union) (sym answer),
-              λ z. set-contains n (ap SetAnswer·refusal answer) places (Bounds3f·list u) own-covers own-union,
+              (
+                λ z. set-contains n (ap SetAnswer·refusal answer) places (Bounds3f·list u) own-covers own-union,
+                λ z. set-finer n (ap SetAnswer·refusal answer) places (Bounds3f·list u) (whole back e ∙ sym answer),
+              ),
             ),
           ),
         )
       where
+        whole : {cs ds : List Bounds3f} {v w : Bounds3f} → cs ≡ ds → v ≡ w → covered cs v ≡ covered ds w
+        whole {cs} {ds} {v} {w} p q = ap (λ (x : List Bounds3f). covered x v) p ∙ ap (covered ds) q
+
         round-trip : (bs : List Bounds3f) → map Bounds3f·ofList (map Bounds3f·list bs) ≡ bs
         round-trip [] = refl
         round-trip (b ∷ bs) = ap (λ (xs : List Bounds3f). b ∷ xs) (round-trip bs)

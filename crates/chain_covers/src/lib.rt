@@ -6,6 +6,7 @@ ghost use lib.ListN.{length};
 ghost use Rattle.box_set.specs.Set.{maxBoxes, SetAnswer·refusal};
 ghost use Rattle.chain_covers.specs.Kept.{Moves·covers, SetAnswer·coversLeft, SetAnswer·unionLeft};
 ghost use Rattle.chain_covers.specs.Theorem.{KeptSetContainsMotion};
+ghost use Rattle.chain_covers.specs.Finer.{KeptSetFiner};
 ghost use Rattle.chain_covers.specs.Union.{unionPlaces};
 
 const MAX_BOXES: usize = 16;
@@ -41,6 +42,7 @@ pub fn covers(
     ensures covers { λ _. ⌜ now (covers .exit) ≡ SetAnswer·coversLeft (Moves·covers (now (moves .entry)) (now (boxes .entry)) depth) (now (covers .entry)) ⌝ }
     ensures union { λ _. ⌜ now (union .exit) ≡ SetAnswer·unionLeft (Moves·covers (now (moves .entry)) (now (boxes .entry)) depth) (now (union .entry)) ⌝ }
     ensures contains_motion { λ r. ⌜ (r ≡ 0 → KeptSetContainsMotion (now (moves .entry)) (now (boxes .entry)) (now (covers .exit)) (now (union .exit))) ⌝ }
+    ensures finer { λ r. ⌜ (r ≡ 0 → KeptSetFiner (now (moves .entry)) (now (boxes .entry)) depth (now (covers .exit)) (now (union .exit))) ⌝ }
 {
     if moves.len() == 0 {
         return 12;

@@ -1,7 +1,7 @@
 -- The guarantee of a kept chain's cover, `kept-contains`: rows that building has left are asked as the chain of their moves is, and of built moves it is known (`moves-contain`). Of any
--- rows a cover whose number is 0 is a box, `cover-answered`.
-use Prim.Native.Nat.{ℕ}
-use mathlib.Core.Path.{_≡_, ap, sym, _∙_}
+-- rows a cover whose number is 0 is a box, `cover-answered`. Likewise that a finer cover is never a wider one: `kept-finer`.
+use Prim.Native.Nat.{ℕ, _+_, _-_}
+use mathlib.Core.Path.{_≡_, ap, sym, subst, _∙_}
 use mathlib.Core.Bool.{not}
 use mathlib.Core.List.{List}
 use native.Mathlib.Omega.{arith}
@@ -17,12 +17,14 @@ use Rattle.transform.specs.declared.BoundsAnswer.{BoundsAnswer}
 use Rattle.transform.specs.declared.BoundsAnswer.the-variants.{Bounds, Refused}
 use Rattle.transform.specs.Answer.{BoundsAnswer·refusal, BoundsAnswer·bounds}
 use Rattle.motion_cover.specs.Theorem.{MovedInside}
+use Rattle.cover_depth.specs.Finer.{Within}
 use Rattle.motion_chain.specs.Chain.{Chain, Chain·transformPoint, Chain·cover}
-use Rattle.motion_chain.proofs.Cover.{moves-contain}
+use Rattle.motion_chain.proofs.Cover.{moves-contain, moves-finer}
 use Rattle.motion_chain.proofs.Times.{times-inside}
 use Rattle.motion_chain.proofs.Numbers.{chain-cover-numbered}
 use Rattle.chain_rows.specs.Kept.{Chain·toRows, Moves·chain, Moves·cover}
 use Rattle.chain_rows.specs.Theorem.{KeptChainContainsMotion}
+use Rattle.chain_rows.specs.Finer.{KeptChainFiner}
 use Rattle.chain_rows.proofs.Kept.{kept-point, kept-points, kept-cover, BuiltRows, built-rows}
 
 pub kept-contains : (rows : List Rows) (b : Bounds3f) (depth : ℕ) → BoundsAnswer·refusal (Moves·cover rows b depth) ≡ 0
@@ -44,6 +46,18 @@ kept-contains rows b depth none =
     contains k time p nan inside =
         moves-contain (k .chain) b depth time p (k .each) (ap BoundsAnswer·refusal (sym (kept-cover rows (k .chain) b depth (k .same))) ∙ none) nan inside
 
+pub kept-finer : (rows : List Rows) (b : Bounds3f) (depth : ℕ) → BoundsAnswer·refusal (Moves·cover rows b depth) ≡ 0
+    → KeptChainFiner rows b depth (BoundsAnswer·bounds (Moves·cover rows b depth))
+kept-finer rows b depth none finer h l most =
+    let k = built-rows h in
+    let c = k .chain in
+    let n = finer - depth in
+    let same : depth + n ≡ finer = omega (arith, l) in
+    let own = kept-cover rows c b depth (k .same) in
+    let deeper : Within (Chain·cover c b (depth + n)) (BoundsAnswer·bounds (Chain·cover c b depth)) =
+    moves-finer c b depth n (k .each) (omega (arith, same, most)) (ap BoundsAnswer·refusal (sym own) ∙ none) in
+    rw (own, kept-cover rows c b finer (k .same)) (subst (λ (d : ℕ). Within (Chain·cover c b d) (BoundsAnswer·bounds (Chain·cover c b depth))) same deeper)
+
 pub cover-answered : (rows : List Rows) (b : Bounds3f) (depth : ℕ) → BoundsAnswer·refusal (Moves·cover rows b depth) ≡ 0
     → Moves·cover rows b depth ≡ Bounds (BoundsAnswer·bounds (Moves·cover rows b depth))
 unfolding Moves·cover
@@ -54,5 +68,6 @@ cover-answered rows b depth =
 -- The clauses of the cover, from its value.
 pub cover-clauses : (rows : List Rows) (b : Bounds3f) (depth : ℕ) {r : BoundsAnswer} → r ≡ Moves·cover rows b depth
     → (r ≡ Moves·cover rows b depth) × (((c : Chain) → rows ≡ Chain·toRows c → r ≡ Chain·cover c b depth)
-    × (BoundsAnswer·refusal r ≡ 0 → KeptChainContainsMotion rows b (BoundsAnswer·bounds r)))
-cover-clauses rows b depth e = (e, (λ c k. e ∙ kept-cover rows c b depth k, rw e (kept-contains rows b depth)))
+    × ((BoundsAnswer·refusal r ≡ 0 → KeptChainContainsMotion rows b (BoundsAnswer·bounds r))
+    × (BoundsAnswer·refusal r ≡ 0 → KeptChainFiner rows b depth (BoundsAnswer·bounds r))))
+cover-clauses rows b depth e = (e, (λ c k. e ∙ kept-cover rows c b depth k, rw e (kept-contains rows b depth, kept-finer rows b depth)))
