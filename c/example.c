@@ -15,6 +15,8 @@ int main(void)
     const float times[3] = {0.5f, 1, 1.5f};
     const float mast_and_arm[2][6] = {{0, 0, 0, 0, 2, 0}, {-3, 2, 0, 3, 2, 0}};
     static jellyplain_chain chain;
+    static jellyplain_pose poses[JELLYPLAIN_FILE_POSES];
+    static uint8_t text[JELLYPLAIN_TEXT];
     jellyplain_move move;
     float moved[3], transform[2][4][4], bounds[6], points[9], covers[JELLYPLAIN_BOXES][6];
     uint32_t examined[3];
@@ -44,6 +46,12 @@ int main(void)
         printf("reserved for both: %g %g %g to %g %g %g\n", bounds[0], bounds[1], bounds[2], bounds[3], bounds[4], bounds[5]);
     if (jellyplain_chain_covers(&chain, mast_and_arm, 2, 10, covers, bounds) == JELLYPLAIN_NONE)
         printf("a mast and an arm: x from %g to %g and from %g to %g\n", covers[0][0], covers[0][3], covers[1][0], covers[1][3]);
+    jellyplain_written written = jellyplain_chain_write(&chain, boom, text, sizeof text);
+    if (written.refusal == JELLYPLAIN_NONE)
+        printf("as a move file: %zu bytes, ", written.length);
+    jellyplain_file_read read = jellyplain_read_file(text, written.length, poses, bounds);
+    if (read.refusal == JELLYPLAIN_NONE)
+        printf("in which %zu poses are read, the last at %g\n", read.count, poses[read.count - 1].time);
     printf("at depth 13: refused with %d\n", jellyplain_cover(&move, boom, 13, bounds));
     return 0;
 }

@@ -2,8 +2,8 @@
  * caller, and asked many times. Their contracts are proved in crates/api, whose specs/ say what each returns and leaves for all arguments; this header itself is not checked
  * against them, nor are its inline functions, each of which makes one call.
  *
- * Each function answers a refusal number, 0 for none (the enum below). Where nothing is refused it writes what it is lent for its answer, the arguments that are not const, whole;
- * after a refusal that is as it was. Any floats may be handed in. Pointers must be valid for the sizes that are written here and aligned for what they point to, and what is
+ * Each function answers a refusal number, 0 for none (the enum below), those of move files in a struct. Where nothing is refused it writes what it is lent for its answer, the
+ * arguments that are not const, whole (those of move files the front of an array); after a refusal that is as it was. Any floats may be handed in. Pointers must be valid for the sizes that are written here and aligned for what they point to, and what is
  * written overlaps nothing else.
  * Nothing is kept between calls and nothing is allocated, so that calls from several threads need no lock.
  */
@@ -58,10 +58,11 @@ enum jellyplain_refusal {
     JELLYPLAIN_DEPTH = 8,           /* the depth is above 12 */
     JELLYPLAIN_NINTH_ZERO = 9,      /* a motion box's search finds more than eight zeros on an axis */
     JELLYPLAIN_SQUARED_LENGTH = 10, /* a cover's slices are too wide for the rotation in them: ask with a greater depth */
-    JELLYPLAIN_FILE = 11,           /* a move file departs from its layout: only the program `cover` reads files */
+    JELLYPLAIN_FILE = 11,           /* a move file departs from its layout */
     JELLYPLAIN_CHAIN = 12,          /* a chain has fewer than 2 poses or more than 32, or its times don't rise strictly */
     JELLYPLAIN_TIME_LIST = 13,      /* a list of times falls, or the answers aren't three places a time */
-    JELLYPLAIN_SET = 14             /* a set has no box or more than 16 */
+    JELLYPLAIN_SET = 14,            /* a set has no box or more than 16 */
+    JELLYPLAIN_ROOM = 15            /* a buffer is too short for the text of a move file */
 };
 
 /* The move from one pose to another. Numbers 1 to 5. */
@@ -105,6 +106,31 @@ uint8_t jellyplain_moves_cover(const jellyplain_move *moves, size_t count, const
 uint8_t jellyplain_moves_covers(const jellyplain_move *moves, size_t count, const float (*boxes)[6], size_t boxes_count, uint32_t depth, float covers[JELLYPLAIN_BOXES][6],
                                 float all[6]);
 
+/* ---- move files */
+
+/* The most poses that a file has room for, and the bytes that hold the text of any chain. */
+#define JELLYPLAIN_FILE_POSES 559
+#define JELLYPLAIN_TEXT 3869
+
+/* How many poses a file holds and JELLYPLAIN_NONE, or 0 and a refusal. */
+typedef struct {
+    size_t count;
+    uint8_t refusal;
+} jellyplain_file_read;
+
+/* How many bytes a text has and JELLYPLAIN_NONE, or 0 and a refusal. */
+typedef struct {
+    size_t length;
+    uint8_t refusal;
+} jellyplain_written;
+
+/* The poses of a move file into the front of `poses`, and its box; whether they make a chain is asked by jellyplain_build_moves. Number 11; poses and box then stay. */
+jellyplain_file_read jellyplain_read_file(const uint8_t *bytes, size_t size, jellyplain_pose poses[JELLYPLAIN_FILE_POSES], float bounds[6]);
+
+/* The poses of a chain and the box b as a move file, in the one way that it is written: lower-case digits, single spaces, line feeds, no space at a line's end. The text goes
+ * into the front of `out`, and the bytes behind it stay. Numbers 6 and 7, then 15 where `size` is too small, and 12 for no moves; all bytes then stay. */
+jellyplain_written jellyplain_write_file(const jellyplain_move *moves, size_t count, const float b[6], uint8_t *out, size_t size);
+
 static inline uint8_t jellyplain_build_chain(const jellyplain_pose *poses, size_t count, jellyplain_chain *chain)
 {
     uint8_t refusal = jellyplain_build_moves(poses, count, chain->moves);
@@ -132,6 +158,11 @@ static inline uint8_t jellyplain_chain_covers(const jellyplain_chain *chain, con
                                               float all[6])
 {
     return jellyplain_moves_covers(chain->moves, chain->count, boxes, boxes_count, depth, covers, all);
+}
+
+static inline jellyplain_written jellyplain_chain_write(const jellyplain_chain *chain, const float b[6], uint8_t *out, size_t size)
+{
+    return jellyplain_write_file(chain->moves, chain->count, b, out, size);
 }
 
 #ifdef __cplusplus

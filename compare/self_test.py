@@ -3,8 +3,8 @@
 
   self_test.py [KIND..]   runs every trial, or those of some kinds, and says what was seen; status 0 if all was as it should be
 
-With WRONG in the environment it is itself the program that answers: the one behind it, and then the changes that WRONG names. In the place of `cover` it is the
-oracle, with tools/move_files.py for a reader.
+With WRONG in the environment it is itself the program that answers: the one behind it, and then the changes that WRONG names. In the place of `cover`, or under the
+name of `rewrite`, it is the oracle, with tools/move_files.py for a reader.
 """
 import os
 import re
@@ -13,7 +13,7 @@ import subprocess
 import sys
 import tempfile
 
-HERE = os.path.dirname(os.path.abspath(__file__))
+HERE = os.path.dirname(os.path.realpath(__file__))
 ROOT = os.path.dirname(HERE)
 ORACLE = os.path.join(ROOT, "oracle/target/release/answers")
 CHAIN_ORACLE = os.path.join(ROOT, "oracle/target/release/chain_answers")
@@ -29,6 +29,7 @@ WORDS = {
     "covers": "cover",
     "chains": "chain lone cpoint ctimes ccover cinterp cparts cmotion cpmotion",
     "sets": "chain cset ccover",
+    "texts": "chain write read",
     "arcs": "acosn",
 }
 
@@ -93,6 +94,10 @@ def changed(change, question, answer):
         return re.sub(rb"\b[08]0000000\b", lambda zero: b"80000000" if zero[0] == b"00000000" else b"00000000", answer)
     if change == "point_zero" and word in ("point", "cpoint") and b" 00000000" in answer:
         return answer.replace(b" 00000000", b" 80000000", 1) if first_time(change) else answer
+    if change == "other_time" and word == "write" and answer.startswith(b"ok "):
+        # The last digit of the first pose's time.
+        ok, length, text = answer.split()
+        return b" ".join([ok, length, text[:2 * 60] + (b"31" if text[2 * 60:2 * 61] == b"30" else b"30") + text[2 * 61:]])
     if change == "nan_bits":
         return answer.replace(b"7fc00000", b"ffc12345")
     if change == "many_boxes" and word == "cset" and answer == b"refused 14" and len(values) == 3 + 17 * 6:
@@ -172,22 +177,30 @@ def answers(changes):
         sys.exit(1)
 
 
-def printed_for(data):
-    """What `cover` prints for a file."""
+def answer_of_file(data, question):
+    """The answer to a question about a file's chain and box, or to building the chain where it is refused."""
     sys.path.insert(0, os.path.join(ROOT, "tools"))
     import move_files
     bits = move_files.read(data)
     if bits is None:
-        return b"refused\n11\n"
+        return b"refused 11"
     words = [b"%08x" % b for b in bits]
     poses = [b" ".join(words[i:i + 13] + [b"00000000"] * 3 + [b"3f800000", b"00000000"]) for i in range(0, len(words) - 6, 13)]
-    built, cover = answers_to([b" ".join([b"chain 0 plain"] + poses), b" ".join([b"ccover 0 10"] + words[-6:])], ["--any-length"])
-    answer = cover if built.startswith(b"ok") else built
-    return b"x0 y0 z0 x1 y1 z1\n" + answer[3:] + b"\n" if answer.startswith(b"ok") else answer.replace(b" ", b"\n") + b"\n"
+    built, answer = answers_to([b" ".join([b"chain 0 plain"] + poses), b" ".join([question] + words[-6:])], ["--any-length"])
+    return answer if built.startswith(b"ok") else built
+
+
+def rewrite(is_wrong):
+    answer = answer_of_file(sys.stdin.buffer.read(), b"write 0 65536")
+    printed = bytes.fromhex(answer.split()[2].decode()) if answer.startswith(b"ok") else answer.replace(b" ", b"\n") + b"\n"
+    if is_wrong and answer.startswith(b"ok") and first_time("text"):
+        printed = printed[:-1] + b" \n"
+    sys.stdout.buffer.write(printed)
 
 
 def cover(is_wrong):
-    printed = printed_for(sys.stdin.buffer.read())
+    answer = answer_of_file(sys.stdin.buffer.read(), b"ccover 0 10")
+    printed = b"x0 y0 z0 x1 y1 z1\n" + answer[3:] + b"\n" if answer.startswith(b"ok") else answer.replace(b" ", b"\n") + b"\n"
     if is_wrong and (printed.startswith(b"x0") and first_time("box") or printed.startswith(b"refused") and first_time("number")):
         printed = other_digit(printed[:-1]) + b"\n"
     sys.stdout.buffer.write(printed)
@@ -203,13 +216,14 @@ def trial(title, kind, changes, different, shown=(), sides=None, cases=40):
     """`different` is how many differences are to be told; None for some. The changes are on some sides, or on the project's alone."""
     if len(sys.argv) > 1 and not set(kind.split(",")) & set(sys.argv[1:]):
         return None
-    is_of_chains = kind in ("chains", "sets", "arcs", "files")
+    is_of_chains = kind in ("chains", "sets", "texts", "arcs", "files")
     sides = sides or ("--chain-answers" if is_of_chains else "--answers",)
     with tempfile.TemporaryDirectory() as folder:
         command = [os.path.join(HERE, "run"), "--no-build", "--kinds", kind, "--moves", str(cases), "--chains", str(cases), "--files", str(cases), "--show", "100"]
         for side, program in SIDES.items():
             command += [side, os.path.abspath(__file__) if side in sides and kind != "files" else program]
-        command += ["--cover", os.path.abspath(__file__)]
+        os.symlink(os.path.abspath(__file__), os.path.join(folder, "rewrite"))
+        command += ["--cover", os.path.abspath(__file__), "--rewrite", os.path.join(folder, "rewrite")]
         environment = dict(os.environ, WRONG=" ".join(changes), TRIAL=folder, BEHIND=CHAIN_ORACLE if is_of_chains else ORACLE)
         run = subprocess.run(command, env=environment, stdout=subprocess.PIPE, stderr=subprocess.PIPE, text=True)
     if run.returncode == 2:
@@ -228,7 +242,8 @@ def main():
     results = [trial("nothing changed", "angles,moves,covers", [], 0)]
     for kind, words in WORDS.items():
         words = words.split()
-        results.append(trial("a digit of one answer to each of " + ", ".join(words), kind, words, len(words), words))
+        # A text that was written otherwise is read otherwise too.
+        results.append(trial("a digit of one answer to each of " + ", ".join(words), kind, words, len(words) + (kind == "texts"), words))
     results += [
         trial("a built move refused", "bounds", ["built"], 1, ["move"]),
         trial("another number of one refusal", "moves", ["refusal"], 1),
@@ -271,8 +286,12 @@ def main():
         trial("sets that grow with the depth, on both sides", "sets", ["growing"], None, ["a finer cover is wider"], BOTH_OF_CHAINS),
         trial("unions alone that grow with the depth, on both sides", "sets", ["growing_union"], None, ["a finer cover is wider"], BOTH_OF_CHAINS),
         trial("sets refused above depth 2, on both sides", "sets", ["shallow"], None, ["a finer cover is refused"], BOTH_OF_CHAINS),
+        trial("texts as they are", "texts", [], 0, cases=200),
+        trial("another number of one text's refusal", "texts", ["refusal"], 1),
+        trial("another time in every written text, on both sides", "texts", ["other_time"], None, ["read of what was written"], BOTH_OF_CHAINS),
         trial("files as they are", "files", ["file"], 0, cases=200),
         trial("a digit of one file's box and of one file's refusal", "files", ["wrong_file"], 2, ["cover, the program"], cases=200),
+        trial("a space at the end of one rewritten file", "files", ["wrong_text"], None, ["rewrite, the program"], cases=200),
     ]
     results = [right for right in results if right is not None]
     print("%d of %d trials as they should be" % (sum(results), len(results)))
@@ -282,7 +301,9 @@ def main():
 if __name__ == "__main__":
     if "WRONG" not in os.environ:
         main()
-    elif os.environ["WRONG"] in ("file", "wrong_file"):
+    elif os.path.basename(sys.argv[0]) == "rewrite":
+        rewrite(os.environ["WRONG"] == "wrong_text")
+    elif os.environ["WRONG"] in ("file", "wrong_file", "wrong_text"):
         cover(os.environ["WRONG"] == "wrong_file")
     else:
         answers(os.environ["WRONG"].split())

@@ -1,8 +1,10 @@
 #!/usr/bin/env bash
 # Runs the program `cover` on each move file of examples/ and examples/refused/ and holds what it prints to the file's .expected; zeros count as equal
 # whatever their sign. Then on a file of as many bytes as one may have, and of one more: `main` has no contract, and these runs hold what it reads and prints.
+# Runs the program `rewrite` on the same: a file of examples/ is its own one form, that of examples/rewritten/NAME.*.txt is examples/NAME.txt, byte for byte, and
+# the refused ones are refused with the same numbers.
 # Exit status 1 where one differs.
-#   tools/examples.sh                     compares; target/bin/cover must be built
+#   tools/examples.sh                     compares; target/bin/cover and target/bin/rewrite must be built
 #   tools/examples.sh --expect PROGRAM    writes the .expected files of examples/ by what PROGRAM answers at depth 10: the oracle's `chain_answers`, so that
 #                                         they come from outside the libraries; those of examples/refused/ are the documents' numbers
 set -u
@@ -22,18 +24,24 @@ if [ $# -eq 2 ] && [ "$1" = --expect ]; then
     done
     exit
 fi
-[ $# -eq 0 ] || { sed -n '2,7s/^# \{0,1\}//p' "$0"; exit 2; }
+[ $# -eq 0 ] || { sed -n '2,9s/^# \{0,1\}//p' "$0"; exit 2; }
 same_zeros() { sed 's/\b80000000\b/00000000/g' "$1"; }
 made=$(mktemp) input=$(mktemp) eleven=$(mktemp)
 trap 'rm -f "$made" "$input" "$eleven"' EXIT
 count=0 status=0
-# Runs the program on a file and compares.
+# Runs a program on a file and compares; a box's zeros alone may differ in sign.
 try() { # NAME FILE EXPECTED [WORDS FOR IT]
-    if target/bin/cover <"$2" >"$made" 2>&1 && [ -s "$3" ] && diff -q <(same_zeros "$3") <(same_zeros "$made") >/dev/null; then
+    compared cover same_zeros "$@"
+}
+try_rewrite() { # NAME FILE EXPECTED [WORDS FOR IT]
+    compared rewrite cat "$@"
+}
+compared() { # PROGRAM FILTER NAME FILE EXPECTED [WORDS FOR IT]
+    if "target/bin/$1" <"$4" >"$made" 2>&1 && [ -s "$5" ] && diff -q <("$2" "$5") <("$2" "$made") >/dev/null; then
         count=$((count + 1))
     else
-        echo "EXAMPLE $1: target/bin/cover does not print what ${4:-$3} has:"
-        diff "$3" "$made"
+        echo "EXAMPLE $3: target/bin/$1 does not print what ${6:-$5} has:"
+        diff "$5" "$made"
         status=1
     fi
 }
@@ -53,6 +61,19 @@ swing_of() { # BYTES
     try "swing.txt of 65,536 bytes and a line feed more" "$input" "$eleven" "refusal 11"
     swing_of 65537 >"$input"
     try "swing.txt of 65,537 bytes" "$input" "$eleven" "refusal 11"
+    try_rewrite "swing.txt of 65,537 bytes" "$input" "$eleven" "refusal 11"
+    swing_of 65536 >"$input"
+    try_rewrite "swing.txt of 65,536 bytes" "$input" examples/swing.txt
+    for file in examples/*.txt; do
+        try_rewrite "$file" "$file" "$file"
+    done
+    for file in examples/rewritten/*.txt; do
+        name=${file##*/}
+        try_rewrite "$file" "$file" "examples/${name%%.*}.txt"
+    done
+    for file in examples/refused/*.txt; do
+        try_rewrite "$file" "$file" "${file%.txt}.expected"
+    done
 } 2>&1
-[ "$status" -ne 0 ] || echo "examples: $count move files, each with the expected output"
+[ "$status" -ne 0 ] || echo "examples: $count runs on move files, each with the expected output"
 exit "$status"

@@ -17,6 +17,13 @@ pub fn words(line: &[u8]) -> impl Iterator<Item = &[u8]> {
     line.split(|byte| *byte == b' ')
 }
 
+/// Bytes of two hexadecimal digits each.
+pub fn bytes(digits: &[u8]) -> Option<Vec<u8>> {
+    let (pairs, []) = digits.as_chunks::<2>() else { return None };
+    let digit = |byte: u8| (byte as char).to_digit(16);
+    pairs.iter().map(|[high, low]| Some((16 * digit(*high)? + digit(*low)?) as u8)).collect()
+}
+
 pub fn text(line: &[u8]) -> String {
     String::from_utf8_lossy(line).into_owned()
 }
@@ -47,7 +54,7 @@ impl<'a> Kept<'a> {
         let mut words = words(question);
         match (words.next(), words.next()) {
             (
-                Some(b"chain" | b"lone" | b"cpoint" | b"ctimes" | b"ccover" | b"cset" | b"cinterp" | b"cparts" | b"cmotion" | b"cpmotion"),
+                Some(b"chain" | b"lone" | b"cpoint" | b"ctimes" | b"ccover" | b"cset" | b"cinterp" | b"cparts" | b"cmotion" | b"cpmotion" | b"write"),
                 Some([slot @ b'0'..=b'3']),
             ) => 1 + usize::from(slot - b'0'),
             _ => 0,

@@ -1,9 +1,9 @@
-//! Move files, good and damaged: what the program `cover` prints for each, against what the oracle says of it.
+//! Move files, good and damaged: what the programs `cover` and `rewrite` print for each, against what the oracle says of it.
 //! tools/move_files.py makes the files, around the moves and boxes of `vectors covers` and the chains and boxes of `vectors chains`, and reads their layout; the
-//! oracle builds the chain and covers the box at depth 10.
+//! oracle builds the chain, covers the box at depth 10 and writes both. What `rewrite` prints for a file it prints for that text too.
 
-use crate::answer::{lines, poses, same, text, words};
-use crate::program::{give_up, output_of, run, Programs};
+use crate::answer::{bytes, lines, poses, same, text, words};
+use crate::program::{give_up, output_of, run, Programs, Run};
 use crate::report::Report;
 use std::path::Path;
 
@@ -47,7 +47,7 @@ fn split(mut stream: &[u8]) -> Vec<&[u8]> {
     files
 }
 
-/// The two questions that a good file's values ask: its poses as a chain, with their bottom rows and pads of zero, and the cover of its box.
+/// The questions that a good file's values ask: its poses as a chain, with their bottom rows and pads of zero, the cover of its box, and its text.
 fn questions_of(values: &[u8]) -> Vec<u8> {
     let values: Vec<&[u8]> = words(values).collect();
     let (poses, bounds) = values.split_at(values.len() - 6);
@@ -55,7 +55,8 @@ fn questions_of(values: &[u8]) -> Vec<u8> {
     let poses: Vec<&[u8]> = poses.chunks(13).flat_map(|pose| [pose, &bottom_and_pad].concat()).collect();
     let build = [&[b"chain".as_slice(), b"0", b"plain"], poses.as_slice()].concat().join(&b' ');
     let cover = [&[b"ccover".as_slice(), b"0", b"10"], bounds].concat().join(&b' ');
-    [build, cover, vec![]].join(&b'\n')
+    let write = [&[b"write".as_slice(), b"0", b"65536"], bounds].concat().join(&b' ');
+    [build, cover, write, vec![]].join(&b'\n')
 }
 
 /// What document 01 has the program print for an answer of the oracle.
@@ -63,6 +64,14 @@ fn printed(answer: &[u8]) -> Vec<u8> {
     match answer.strip_prefix(b"ok ") {
         Some(values) => [BOX, values, b""].join(&b'\n'),
         None => [b"refused".as_slice(), answer.strip_prefix(b"refused ").unwrap_or(answer), b""].join(&b'\n'),
+    }
+}
+
+/// What document 02 has the program `rewrite` print.
+fn rewritten(answer: &[u8]) -> Vec<u8> {
+    match answer.strip_prefix(b"ok ").and_then(|values| bytes(words(values).nth(1)?)) {
+        Some(text) => text,
+        None => printed(answer),
     }
 }
 
@@ -88,26 +97,34 @@ pub fn compare(programs: &Programs, count: usize, seed: u64, report: &mut Report
     let answers = output_of(&programs.chains.oracle, &["--any-length"], &asked);
     let mut answers = lines(&answers);
     for (i, (file, layout)) in files.iter().zip(&layout).enumerate() {
-        let expected = if is_good(&layout) {
+        let (cover, form) = if is_good(&layout) {
             let mut next = || answers.next().unwrap_or_else(|| give_up("the oracle has too few answers for the files"));
-            let (built, cover) = (next(), next());
+            let (built, cover, form) = (next(), next(), next());
             if built.starts_with(b"ok") {
-                cover
+                (cover, form)
             } else {
-                built
+                (built, built)
             }
         } else {
-            layout
+            (*layout, *layout)
         };
-        let run = run(&programs.cover, &[], file);
-        let is_same = run.ended_well && same_text(&run.output, &printed(expected));
-        report.compared("move file, to the program `cover`", expected, is_same);
-        if !is_same {
-            let kept = format!("compare/target/different-{seed}-{i}.txt");
-            std::fs::write(&kept, file).unwrap_or_else(|e| give_up(&format!("{kept}: {e}")));
-            let status = if run.ended_well { "" } else { "ended by a failure" };
-            report
-                .found("cover, the program", &[("file:", kept.as_bytes()), ("project:", &run.output), ("project:", status.as_bytes()), ("oracle:", expected)]);
+        let mut tell = |row: &'static str, title: &str, expected: &[u8], run: &Run, is_same: bool| {
+            report.compared(row, expected, run.ended_well && is_same);
+            if !(run.ended_well && is_same) {
+                let kept = format!("compare/target/different-{seed}-{i}.txt");
+                std::fs::write(&kept, file).unwrap_or_else(|e| give_up(&format!("{kept}: {e}")));
+                let status = if run.ended_well { "" } else { "ended by a failure" };
+                report.found(title, &[("file:", kept.as_bytes()), ("project:", &run.output), ("project:", status.as_bytes()), ("oracle:", expected)]);
+            }
+        };
+        let run_of_cover = run(&programs.cover, &[], file);
+        let is_same = same_text(&run_of_cover.output, &printed(cover));
+        tell("move file, to the program `cover`", "cover, the program", cover, &run_of_cover, is_same);
+        let (run_of_rewrite, text) = (run(&programs.rewrite, &[], file), rewritten(form));
+        tell("move file, to the program `rewrite`", "rewrite, the program", form, &run_of_rewrite, run_of_rewrite.output == text);
+        if form.starts_with(b"ok") {
+            let again = run(&programs.rewrite, &[], &run_of_rewrite.output);
+            tell("what `rewrite` printed, to it again", "rewrite, of its own text", form, &again, again.output == text);
         }
     }
 }

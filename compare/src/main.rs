@@ -6,6 +6,7 @@ mod guarantee;
 mod program;
 mod random;
 mod report;
+mod texts;
 
 use program::{give_up, run_both, Programs, Sides};
 use random::Random;
@@ -17,22 +18,23 @@ use std::sync::mpsc::{channel, sync_channel, RecvTimeoutError, SyncSender};
 use std::sync::{Arc, Mutex};
 use std::time::{Duration, Instant};
 
-const KINDS: &[&str] = &["numbers", "angles", "matrices", "boxes", "moves", "bounds", "motion", "covers", "chains", "sets", "arcs", "files"];
+const KINDS: &[&str] = &["numbers", "angles", "matrices", "boxes", "moves", "bounds", "motion", "covers", "chains", "sets", "texts", "arcs", "files"];
 
 const HELP: &str = "\
 compare/run [--moves N] [--chains N] [--seed N] [--kinds A,B,..] [--files N] [--no-build] ..
 
   --moves N              cases of each kind beside the fixed ones                20000
-  --chains N             chains, with their questions, and sets, likewise        a quarter of the moves
-  --files N              files for the program `cover`                           a tenth of the moves
+  --chains N             chains, with their questions, sets and texts, likewise  a quarter of the moves
+  --files N              files for the programs `cover` and `rewrite`            a tenth of the moves
   --seed N               the same seed makes the same cases                      7
-  --kinds A,B            some of: numbers angles matrices boxes moves bounds motion covers chains sets arcs files; all of them without it
+  --kinds A,B            some of: numbers angles matrices boxes moves bounds motion covers chains sets texts arcs files; all of them without it
   --show N               how many differences are printed                        10
   --workers N            batches worked at once                                  the number of processors
   --no-build             takes the project's programs as they stand
   --answers PATH         the project's program `answers`                         target/bin/answers
   --chain-answers PATH   the project's program `chain_answers`                   target/bin/chain_answers
   --cover PATH           the project's program `cover`                           target/bin/cover
+  --rewrite PATH         the project's program `rewrite`                         target/bin/rewrite
   --oracle PATH          the oracle's program `answers`                          oracle/target/release/answers
   --chain-oracle PATH    the oracle's program `chain_answers`                    oracle/target/release/chain_answers
 Exit status: 0 no difference, 1 a difference, 2 nothing could be compared.";
@@ -57,6 +59,7 @@ fn options() -> Options {
         moves: Sides { project: "target/bin/answers".into(), oracle: "oracle/target/release/answers".into() },
         chains: Sides { project: "target/bin/chain_answers".into(), oracle: "oracle/target/release/chain_answers".into() },
         cover: "target/bin/cover".into(),
+        rewrite: "target/bin/rewrite".into(),
         vectors: "oracle/target/release/vectors".into(),
         move_files: "tools/move_files.py".into(),
     };
@@ -81,6 +84,7 @@ fn options() -> Options {
             "--answers" => options.programs.moves.project = value.into(),
             "--chain-answers" => options.programs.chains.project = value.into(),
             "--cover" => options.programs.cover = value.into(),
+            "--rewrite" => options.programs.rewrite = value.into(),
             "--oracle" => options.programs.moves.oracle = value.into(),
             "--chain-oracle" => options.programs.chains.oracle = value.into(),
             _ => give_up(&format!("no option {option}; --help lists them")),
@@ -102,7 +106,7 @@ const BATCH_BYTES: usize = 1 << 18;
 const BATCH_FILES: u64 = 200;
 
 fn are_chains(kind: &str) -> bool {
-    matches!(kind, "chains" | "sets")
+    matches!(kind, "chains" | "sets" | "texts")
 }
 
 /// Cuts what `vectors` prints for a kind into batches: before a move, or anywhere as long as there was none; chains at the comment before a case.
@@ -161,7 +165,9 @@ fn compare(options: &Options, batch: &Batch, number: u64) -> Report {
             *count = *built;
             let runs = run_both(sides, questions);
             report.compare(questions, &runs, name_of);
-            if kind == "covers" || are_chains(kind) {
+            if kind == "texts" {
+                texts::test(sides, questions, &runs[0].output, &mut report);
+            } else if kind == "covers" || are_chains(kind) {
                 guarantee::test(sides, questions, &runs[0].output, &mut Random::new(options.seed, number), &mut report);
             }
         }

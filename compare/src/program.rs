@@ -12,6 +12,7 @@ pub struct Programs {
     /// `chain_answers`, asked about chains.
     pub chains: Sides,
     pub cover: PathBuf,
+    pub rewrite: PathBuf,
     pub vectors: PathBuf,
     pub move_files: PathBuf,
 }

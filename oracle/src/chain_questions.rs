@@ -3,8 +3,9 @@
 use crate::angles;
 use crate::chain::{Chain, Pose};
 use crate::core::geometry::point::Point3f;
+use crate::file::File;
 use crate::judged::{point_values, Judged, Move};
-use crate::lines::{bounds, counted, float, floats, matrix, matrix_floats, parts, read, whole, Answer, Session, Values};
+use crate::lines::{bounds, bytes, counted, float, floats, matrix, matrix_floats, parts, read, whole, Answer, Session, Values};
 
 /// The words of a question behind its name.
 type Words<'a> = &'a [&'a [u8]];
@@ -24,6 +25,8 @@ const QUESTIONS: &[(&str, Question)] = &[
     ("cparts", move_parts),
     ("cmotion", motion),
     ("cpmotion", point_motion),
+    ("write", write),
+    ("read", read_file),
     ("acosn", arc_cosine),
 ];
 
@@ -221,6 +224,30 @@ fn arc_cosine(_: &mut Slots, words: Words) -> Answer {
     Some(Ok(floats(&[angles::acos(c)]).number(angles::acos_cosines(c) as usize)))
 }
 
+/// write S ROOM BOX
+fn write(slots: &mut Slots, words: Words) -> Answer {
+    let (slot, words) = slot(words)?;
+    let (room, words) = first(words)?;
+    let b = read(words)?;
+    let text = slots.chain(slot)?.write(&b, room);
+    Some(text.map(|text| Values::default().number(text.len()).bytes(text.as_bytes())))
+}
+
+/// read HEXBYTES
+fn read_file(_: &mut Slots, words: Words) -> Answer {
+    // No word at all is a file of no bytes.
+    let file = match words {
+        [] => File::read(b""),
+        [word] => File::read(&bytes(word)?),
+        _ => return None,
+    };
+    Some(file.map(|file| {
+        let answer = Values::default().number(file.poses.len()).bits(&file.bounds);
+        // A pose of the protocol's has a pad, for now of zero.
+        file.poses.iter().fold(answer, |answer, pose| answer.bits(&[pose.time]).bits(pose.matrix.m.as_flattened()).bits(&[0.0]))
+    }))
+}
+
 #[cfg(test)]
 mod tests {
     use super::*;
@@ -283,6 +310,20 @@ mod tests {
     }
 
     #[test]
+    fn files() {
+        let build = format!("chain 2 plain {}", three_poses());
+        let write = |room: usize| format!("write 2 {room} {ORIGIN} {ORIGIN}");
+        let session = answers(&[&build, &write(475), &write(476), &format!("write 2 0 7fc00000 {ORIGIN} 00000000 00000000")]);
+        assert_eq!((&*session[1], &*session[3]), ("refused 15", "refused 6"));
+        let text = session[2].strip_prefix("ok 476 ").unwrap();
+        let pads = three_poses().replace("7fc00000", "00000000");
+        assert_eq!(
+            answers(&[&format!("read {text}"), "read", "read ", "read 0a", &format!("read {}", text.to_uppercase())]),
+            [&*format!("ok 3 {ORIGIN} {ORIGIN} {pads}"), "refused 11", "refused 11", "refused 11", &*format!("ok 3 {ORIGIN} {ORIGIN} {pads}"),]
+        );
+    }
+
+    #[test]
     fn malformed_lines() {
         let build = format!("chain 0 plain {}", three_poses());
         let rigid = format!("chain 0 rigid {}", three_poses());
@@ -308,6 +349,14 @@ mod tests {
             "cset 0",
             "cset 0 x",
             "cset 0 4 00000000",
+            "write",
+            "write 0",
+            "write 0 5000",
+            "write 4 5000 00000000 00000000 00000000 00000000 00000000 00000000",
+            "write 1 5000 00000000 00000000 00000000 00000000 00000000 00000000",
+            "read 0",
+            "read 0g",
+            "read 00 00",
             "sin 00000000",
             "acosn",
             "acosn 0",

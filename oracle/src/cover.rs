@@ -221,14 +221,20 @@ fn slice(f: &Fields, dt: Interval, b: &[Interval; 3]) -> Judged<[f32; 6]> {
     moved(&pose, b)
 }
 
-/// The cover of a box x0 y0 z0 x1 y1 z1 at a depth: 6, 7, 8, then start box, end box, slices in rising order.
-pub fn cover(f: &Fields, b: &[f32; 6], depth: u64) -> Judged<[f32; 6]> {
+/// 6, then 7.
+pub fn check_box(b: &[f32; 6]) -> Judged<()> {
     if b.iter().any(|x| !x.is_finite()) {
         return Err(QUERY);
     }
     if (0..3).any(|i| b[i] > b[i + 3]) {
         return Err(CORNERS);
     }
+    Ok(())
+}
+
+/// The cover of a box x0 y0 z0 x1 y1 z1 at a depth: 6, 7, 8, then start box, end box, slices in rising order.
+pub fn cover(f: &Fields, b: &[f32; 6], depth: u64) -> Judged<[f32; 6]> {
+    check_box(b)?;
     if depth > MAX_DEPTH {
         return Err(DEPTH);
     }

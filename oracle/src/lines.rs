@@ -62,6 +62,24 @@ impl Values {
         self
     }
 
+    /// Floats as a file has them, a NaN with its own bits.
+    pub fn bits(mut self, values: &[f32]) -> Values {
+        values.iter().for_each(|x| write!(self.0, " {:08x}", x.to_bits()).unwrap());
+        self
+    }
+
+    /// Bytes, two hexadecimal digits each.
+    pub fn bytes(mut self, bytes: &[u8]) -> Values {
+        self.0.push(' ');
+        bytes.iter().for_each(|byte| write!(self.0, "{byte:02x}").unwrap());
+        self
+    }
+
+    /// The words, a space before each.
+    pub fn text(&self) -> &str {
+        &self.0
+    }
+
     pub fn floats(mut self, values: &[f32]) -> Values {
         for x in values {
             // The compiler takes a root for its own NaN and drops a test of it; `black_box` hides where the bits came from.
@@ -83,6 +101,13 @@ pub fn float(word: &[u8]) -> Option<f32> {
     }
     let digits = std::str::from_utf8(word).ok()?;
     Some(f32::from_bits(u32::from_str_radix(digits, 16).ok()?))
+}
+
+/// Bytes of two hexadecimal digits each, of either case.
+pub fn bytes(word: &[u8]) -> Option<Vec<u8>> {
+    let (pairs, []) = word.as_chunks::<2>() else { return None };
+    let digit = |byte: u8| (byte as char).to_digit(16);
+    pairs.iter().map(|[high, low]| Some((16 * digit(*high)? + digit(*low)?) as u8)).collect()
 }
 
 /// Exactly N words, each a float.

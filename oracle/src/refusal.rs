@@ -20,9 +20,13 @@ pub const DEPTH: u8 = 8;
 pub const NINTH_ZERO: u8 = 9;
 /// In a cover's slerp, the low end of a squared length to be rooted is zero or below.
 pub const SQUARED_LENGTH: u8 = 10;
+/// A file departs from its layout.
+pub const FILE: u8 = 11;
 /// Fewer than 2 poses, more than 32, or times that don't rise strictly.
 pub const CHAIN: u8 = 12;
 /// A list of times that falls, or answers that aren't three places a time.
 pub const TIME_LIST: u8 = 13;
 /// A set of no boxes, or of more than 16.
 pub const SET: u8 = 14;
+/// A buffer too short for the text of a file.
+pub const ROOM: u8 = 15;

@@ -202,4 +202,31 @@ impl Chain {
         let each = covers.into_iter().take(boxes.len()).map(Bounds::from_array).collect();
         answered(number, Covers { each, union: Bounds::from_array(union) })
     }
+
+    /// The move file of the chain's poses and a box, in the one way that it is written: [`MoveFile::read`] gives the same bits back, a bottom row's zeros as +0.
+    /// Refused with [`Refusal::Query`] and [`Refusal::Corners`].
+    pub fn write(&self, b: &Bounds) -> Result<String, Refusal> {
+        // 53 bytes of names, 117 for a pose, 72 for the box.
+        let mut text = vec![0; 125 + 117 * (self.moves.len() + 1)];
+        let written = unsafe { library::jellyplain_write_file(self.moves.as_ptr(), self.moves.len(), &b.to_array(), text.as_mut_ptr(), text.len()) };
+        text.truncate(written.length);
+        answered(written.refusal, String::from_utf8(text).expect("the text is digits, spaces, names and line feeds"))
+    }
+}
+
+/// What a move file holds: any number of poses, and a box. Whether a chain can be built of the poses is asked by [`Chain::new`].
+#[derive(Clone, Debug, PartialEq)]
+pub struct MoveFile {
+    pub poses: Vec<Pose>,
+    pub bounds: Bounds,
+}
+
+impl MoveFile {
+    /// Reads a file's bytes, whatever its spaces and the case of its digits. Refused with [`Refusal::File`].
+    pub fn read(bytes: &[u8]) -> Result<MoveFile, Refusal> {
+        library::check_layout();
+        let (mut poses, mut bounds) = ([Pose { time: 0.0, matrix: IDENTITY }; library::FILE_POSES], [0.0; 6]);
+        let read = unsafe { library::jellyplain_read_file(bytes.as_ptr(), bytes.len(), &mut poses, &mut bounds) };
+        answered(read.refusal, MoveFile { poses: poses[..read.count].to_vec(), bounds: Bounds::from_array(bounds) })
+    }
 }

@@ -14,6 +14,25 @@ pub const MOVES: usize = 31;
 /// The most boxes of a set.
 pub const BOXES: usize = 16;
 
+/// The most poses that a move file has room for.
+pub const FILE_POSES: usize = 559;
+
+/// How many poses a file holds, or the number of a refusal.
+#[derive(Debug, PartialEq)]
+#[repr(C)]
+pub struct FileRead {
+    pub count: usize,
+    pub refusal: u8,
+}
+
+/// How long a text is, or the number of a refusal.
+#[derive(Debug, PartialEq)]
+#[repr(C)]
+pub struct Written {
+    pub length: usize,
+    pub refusal: u8,
+}
+
 extern "C" {
     pub fn jellyplain_build(start: &Pose, end: &Pose, motion: &mut Rows) -> u8;
     pub fn jellyplain_point(motion: &Rows, time: f32, p: &[f32; 3], moved: &mut [f32; 3]) -> u8;
@@ -43,6 +62,8 @@ extern "C" {
         covers: &mut [[f32; 6]; BOXES],
         union: &mut [f32; 6],
     ) -> u8;
+    pub fn jellyplain_read_file(bytes: *const u8, size: usize, poses: &mut [Pose; FILE_POSES], bounds: &mut [f32; 6]) -> FileRead;
+    pub fn jellyplain_write_file(moves: *const Rows, count: usize, b: &[f32; 6], out: *mut u8, size: usize) -> Written;
 }
 
 /// The layout in which poses, moves and chains cross to the archive.
@@ -138,6 +159,38 @@ mod tests {
         let mut expected = [[0.0; 6]; BOXES];
         (expected[0], expected[1]) = (own, own);
         assert_eq!(ask(1, &boxes[..2], 8), (0, expected, own));
+    }
+
+    #[test]
+    fn files_in_lent_arrays() {
+        let moves = [built()];
+        let mut text = [7u8; 400];
+        let mut write = |count: usize, b: &[f32; 6], size: usize| {
+            let written = unsafe { jellyplain_write_file(moves.as_ptr(), count, b, text.as_mut_ptr(), size) };
+            (written, text)
+        };
+        let refused = |refusal: u8| (Written { length: 0, refusal }, [7; 400]);
+        let (nan, crossed) = ([f32::NAN; 6], [1.0, 0.0, 0.0, 0.0, 0.0, 0.0]);
+        assert_eq!(write(0, &nan, 0), refused(12));
+        assert_eq!(write(1, &nan, 0), refused(6));
+        assert_eq!(write(1, &crossed, 0), refused(7));
+        assert_eq!(write(1, &[0.0; 6], 0), refused(15));
+        assert_eq!(write(1, &[0.0; 6], 358), refused(15));
+        let (written, text) = write(1, &[0.0; 6], 400);
+        assert_eq!(written, Written { length: 359, refusal: 0 });
+        assert_eq!((text[358], &text[359..]), (b'\n', &[7; 41][..]));
+
+        let seven = Pose { time: 7.0, matrix: [[7.0; 4]; 4] };
+        let (mut poses, mut b) = ([seven; FILE_POSES], [7.0; 6]);
+        let mut read = |bytes: &[u8]| {
+            let read = unsafe { jellyplain_read_file(bytes.as_ptr(), bytes.len(), &mut poses, &mut b) };
+            (read, poses, b)
+        };
+        assert_eq!(read(&text[..358]), (FileRead { count: 0, refusal: 11 }, [seven; FILE_POSES], [7.0; 6]));
+        let (read, poses, b) = read(&text[..359]);
+        assert_eq!((read, b), (FileRead { count: 2, refusal: 0 }, [0.0; 6]));
+        assert_eq!((poses[1].time, poses[1].matrix[0][3], poses[1].matrix[3]), (1.0, 1.0, IDENTITY[3]));
+        assert_eq!(poses[2..], [seven; FILE_POSES - 2]);
     }
 
     /// Rows that no building made are answered too: here a move at rest whose matrices are all zeros, so that a point's wp is zero.

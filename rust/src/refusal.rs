@@ -24,7 +24,7 @@ pub enum Refusal {
     NinthZero = 9,
     /// The slices of a cover are too wide for the rotation in them: ask with a greater depth.
     SquaredLength = 10,
-    /// A move file departs from its layout. Only the program `cover` reads files; no function here gives it.
+    /// A move file departs from its layout.
     File = 11,
     /// A chain has fewer than 2 poses or more than 32, or its times don't rise strictly.
     Chain = 12,
@@ -32,19 +32,21 @@ pub enum Refusal {
     TimeList = 13,
     /// A set has no box or more than 16.
     Set = 14,
+    /// A buffer is too short for the text of a move file. The functions here lend one that is long enough.
+    Room = 15,
 }
 
 impl Refusal {
-    const ALL: [Refusal; 14] = {
+    const ALL: [Refusal; 15] = {
         use Refusal::*;
-        [PoseNotFinite, BottomRow, Times, ZeroPivot, NotFinite, Query, Corners, Depth, NinthZero, SquaredLength, File, Chain, TimeList, Set]
+        [PoseNotFinite, BottomRow, Times, ZeroPivot, NotFinite, Query, Corners, Depth, NinthZero, SquaredLength, File, Chain, TimeList, Set, Room]
     };
 
     pub fn number(self) -> u8 {
         self as u8
     }
 
-    /// The refusal of a number from 1 to 14.
+    /// The refusal of a number from 1 to 15.
     pub fn from_number(number: u8) -> Option<Refusal> {
         Refusal::ALL.into_iter().find(|refusal| refusal.number() == number)
     }
@@ -67,6 +69,7 @@ impl fmt::Display for Refusal {
             Refusal::Chain => "a chain has 2 to 32 poses with times that rise strictly",
             Refusal::TimeList => "the list of times falls",
             Refusal::Set => "a set has 1 to 16 boxes",
+            Refusal::Room => "the buffer is too short for the text",
         };
         write!(f, "refused with {}: {reason}", self.number())
     }
@@ -80,7 +83,7 @@ mod tests {
 
     #[test]
     fn numbers() {
-        assert!((1..=14).all(|number| Refusal::from_number(number).unwrap().number() == number));
-        assert_eq!((Refusal::from_number(0), Refusal::from_number(15)), (None, None));
+        assert!((1..=15).all(|number| Refusal::from_number(number).unwrap().number() == number));
+        assert_eq!((Refusal::from_number(0), Refusal::from_number(16)), (None, None));
     }
 }

@@ -1,7 +1,9 @@
 // The library that Rust and C link: a move is built once, kept by its caller as 44 rows of four floats, and asked many times; a chain is kept as the rows of
-// its moves, one block for each. Each function returns the number of a refusal, 0 for none. Where nothing is refused it writes what it is lent for its answer;
-// after a refusal that is as it was. Any floats may be handed in, and any rows may be asked, but the guarantee is for rows that building has written.
+// its moves, one block for each. Each function returns the number of a refusal, 0 for none, those over move files beside a length or a count. Where nothing is
+// refused it writes what it is lent for its answer; after a refusal that is as it was. Any floats may be handed in, and any rows may be asked, but the guarantee
+// is for rows that building has written.
 use animated_transform::AnimatedTransform;
+use chain_text::Written;
 use motion_bounds::MotionBoundsAnswer;
 ghost use Prim.Native.Nat.{_-_};
 ghost use mathlib.Core.Path.{_≡_};
@@ -26,6 +28,11 @@ ghost use Rattle.box_set.specs.Set.{SetAnswer·refusal};
 ghost use Rattle.chain_covers.specs.Kept.{Moves·covers, SetAnswer·coversLeft, SetAnswer·unionLeft};
 ghost use Rattle.chain_covers.specs.Theorem.{KeptSetContainsMotion};
 ghost use Rattle.chain_covers.specs.Finer.{KeptSetFiner};
+ghost use Rattle.motion_file.specs.Layout.{MoveFile·read, MoveFile·poses};
+ghost use Rattle.motion_file.specs.Front.{front as posesFront};
+ghost use Rattle.chain_text.specs.Write.{TextAnswer·refusal, TextAnswer·length, TextAnswer·left};
+ghost use Rattle.chain_text.specs.Theorem.{WrittenBack};
+ghost use Rattle.api.specs.Files.{MoveFile·boundsLeft, Moves·written};
 ghost use Rattle.api.specs.Chains.{layoutNumber, Moves·point, Moves·points, Moves·coverOf};
 ghost use Rattle.api.specs.Answers.{Rows·new, Rows·point, Rows·interpolate, Rows·boundPointMotion, Rows·motionBounds, Rows·cover};
 ghost use Rattle.api.specs.Examined.{MotionBoundsAnswer·left, MotionBoundsAnswer·examinedLeft};
@@ -262,4 +269,50 @@ pub extern "C" fn jellyplain_moves_covers(
     ensures finer { λ r. ⌜ (r ≡ 0 → KeptSetFiner (now (moves .entry)) (now (boxes .entry)) depth (now (covers .exit)) (now (union .exit))) ⌝ }
 {
     chain_covers::covers(moves, boxes, depth, covers, union)
+}
+
+// How many poses a move file holds, and 0; or 0 and the number of a refusal.
+#[repr(C)]
+pub struct FileRead {
+    pub count: usize,
+    pub refusal: u8,
+}
+
+// The poses that a move file's bytes hold, in the front places, and its box. Refused with 11 where the bytes depart from the layout; poses and box then stay.
+// Whether the poses are a chain's, and the box a query's, is asked where they are handed in. Accuracy: exact; every pattern of a NaN gives NaN.
+#[no_mangle]
+pub extern "C" fn jellyplain_read_file(
+    bytes: &[u8],
+    poses: &mut [[f32; 17]; 559],
+    bounds: &mut [f32; 6],
+) -> FileRead
+    ensures count { λ r. ⌜ r .count ≡ MoveFile·read (now (bytes .entry)) .count ⌝ }
+    ensures refusal { λ r. ⌜ r .refusal ≡ MoveFile·read (now (bytes .entry)) .refusal ⌝ }
+    ensures poses { λ _. ⌜ now (poses .exit) ≡ posesFront (MoveFile·poses (now (bytes .entry))) (now (poses .entry)) ⌝ }
+    ensures bounds { λ _. ⌜ now (bounds .exit) ≡ MoveFile·boundsLeft (MoveFile·read (now (bytes .entry))) (now (bounds .entry)) ⌝ }
+{
+    let file = motion_file::read(bytes, poses);
+    let refusal = file.refusal;
+    let count = file.count;
+    if refusal == 0 {
+        let b = file.bounds;
+        *bounds = b;
+    }
+    FileRead { count, refusal }
+}
+
+// The poses of a chain and the box b as a move file, in the front bytes; those behind it stay. Gives the length of the text. Refused with 6 or 7, then with 15 where the
+// bytes are too few, and with 12 where there are no moves; all bytes then stay. Accuracy: exact.
+#[no_mangle]
+pub extern "C" fn jellyplain_write_file(
+    moves: &[[[f32; 4]; 44]],
+    b: &[f32; 6],
+    out: &mut [u8],
+) -> Written
+    ensures refusal { λ r. ⌜ r .refusal ≡ TextAnswer·refusal (Moves·written (now (moves .entry)) (now (b .entry)) (length (now (out .entry)))) ⌝ }
+    ensures length { λ r. ⌜ r .length ≡ TextAnswer·length (Moves·written (now (moves .entry)) (now (b .entry)) (length (now (out .entry)))) ⌝ }
+    ensures left { λ _. ⌜ now (out .exit) ≡ TextAnswer·left (Moves·written (now (moves .entry)) (now (b .entry)) (length (now (out .entry)))) (now (out .entry)) ⌝ }
+    ensures written_back { λ r. ⌜ (r .refusal ≡ 0 → WrittenBack (now (moves .entry)) (Bounds3f·ofList (now (b .entry))) (take (r .length) (now (out .exit)))) ⌝ }
+{
+    chain_text::write(moves, lent_arrays::bounds(b), out)
 }

@@ -1,6 +1,7 @@
 // A question's answer: `ok` and values, the number of a refusal, or `error` for a line that is no question, or one about a slot
 // that keeps nothing of which it may be asked.
 use crate::chains;
+use crate::files;
 use crate::question::Question;
 use question_lines::put_text;
 
@@ -66,6 +67,7 @@ fn put_asked(
         3 => chains::points(moves, n, floats, x, out, at),
         4 => chains::cover(moves, n, x, out, at),
         9 => chains::covers(moves, n, floats / 6, x, out, at),
+        11 => files::write(moves, n, &chains::bounds_at(x, 0), out, at),
         _ => put_asked_move(kind, n, x, moves, out, at),
     }
 }

@@ -314,7 +314,7 @@ fn point_at(x: &[f32; 900]) -> [f32; 3] {
 }
 
 // The i-th box.
-fn bounds_at(x: &[f32; 900], i: usize) -> [f32; 6] {
+pub fn bounds_at(x: &[f32; 900], i: usize) -> [f32; 6] {
     if i < 150 {
         let k = 6 * i;
         return [x[k], x[k + 1], x[k + 2], x[k + 3], x[k + 4], x[k + 5]];

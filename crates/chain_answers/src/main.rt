@@ -2,6 +2,7 @@
 // implementation can be compared with the library through a pipe. What is read at once is answered before more is read.
 mod answer;
 mod chains;
+mod files;
 mod question;
 
 use question_lines::part;
@@ -85,6 +86,9 @@ fn answer_line(
         return written;
     }
     let at = make_room(out, written);
+    if question::is_read(line) {
+        return files::read(line, out, at);
+    }
     let mut wholes = [0u64; 4];
     let mut x = [0.0f32; 900];
     let q = question::parse(line, &mut wholes, &mut x);

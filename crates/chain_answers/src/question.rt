@@ -12,7 +12,7 @@ pub struct Question {
 
 // Of each question: how many poses the slot that it asks must have, where a move by itself counts as one; and what follows the name: how many whole numbers,
 // whether the word that says how a chain is built, how many floats at least, and how many floats each thing has of which any number may follow, 0 for none.
-const SHAPES: [[usize; 5]; 11] = [
+const SHAPES: [[usize; 5]; 12] = [
     [0, 1, 1, 0, 18], // chain S KIND P*
     [0, 1, 1, 36, 0], // lone S KIND P P
     [1, 1, 0, 4, 0], // cpoint S T X Y Z
@@ -24,6 +24,7 @@ const SHAPES: [[usize; 5]; 11] = [
     [1, 2, 0, 3, 0], // cpmotion S I X Y Z
     [2, 2, 0, 0, 6], // cset S D BOX*
     [0, 0, 0, 1, 0], // acosn C
+    [2, 2, 0, 6, 0], // write S ROOM BOX
 ];
 
 pub fn parse(line: &[u8], wholes: &mut [u64; 4], x: &mut [f32; 900]) -> Question {
@@ -33,14 +34,22 @@ pub fn parse(line: &[u8], wholes: &mut [u64; 4], x: &mut [f32; 900]) -> Question
     let end = word_end(line, 0);
     let kind = position(
         part(line, 0, end),
-        b"chain lone cpoint ctimes ccover cinterp cparts cmotion cpmotion cset acosn",
+        b"chain lone cpoint ctimes ccover cinterp cparts cmotion cpmotion cset acosn write",
     );
-    if 11 <= kind {
+    if 12 <= kind {
         return malformed();
     }
     let shape = SHAPES[kind];
     let at = read_wholes(line, end, shape[1], wholes);
     parse_floats(line, read_kind(line, at, shape[2]), kind, shape, x)
+}
+
+// Whether a line asks for a file to be read; its second word is no float.
+pub fn is_read(line: &[u8]) -> bool {
+    if line.len() > 8000 {
+        return false;
+    }
+    position(part(line, 0, word_end(line, 0)), b"read") == 0
 }
 
 fn malformed() -> Question {

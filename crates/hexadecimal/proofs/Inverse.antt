@@ -1,4 +1,5 @@
--- Reading inverts writing: `read-inverse`. Rests on `number-digits`, that the digits of a number write it, and on the place that a write leaves them at.
+-- Reading inverts writing: `read-inverse`. Rests on `digits-only` and `number-digits`, that the digits of a number are digits and write it, and on the place
+-- that a write leaves them at.
 use Prim.Native.Nat.{ℕ, zero, suc, _+_, _/_, _%_, _^_, _≤_, _<_}
 use native.Mathlib.Nat.{pow-succ', one-le-pow, mod-one, mod-eq-of-lt}
 use native.Mathlib.Omega.{arith}
@@ -17,14 +18,14 @@ use Rattle.hexadecimal.proofs.Words.{length-digits, write-fits}
 below-sixteen : (n : ℕ) → n % 16 < 16
 below-sixteen n = omega arith
 
-digits-only : (k n : ℕ) → digitsOnly (digits k n) ≡ true
+pub digits-only : (k n : ℕ) → digitsOnly (digits k n) ≡ true
 unfolding digitsOnly digits
 digits-only zero n = refl
 digits-only (suc k) n =
     rw (digitValue-inverse (n / 16 ^ k % 16) (below-sixteen (n / 16 ^ k)), lt-ltb (n / 16 ^ k % 16) 16 (below-sixteen (n / 16 ^ k)))
     (digits-only k n)
 
-number-digits : (k n : ℕ) → number (digits k n) ≡ n % 16 ^ k
+pub number-digits : (k n : ℕ) → number (digits k n) ≡ n % 16 ^ k
 unfolding number digits
 number-digits zero n = sym (mod-one n)
 number-digits (suc k) n =

@@ -24,9 +24,13 @@ poseNames = ascii "time m00 m01 m02 m03 m10 m11 m12 m13 m20 m21 m22 m23"
 abbrev pub boundsNames : List ℕ
 boundsNames = ascii "x0 y0 z0 x1 y1 z1"
 
+-- the lines of a file with these names, so many values under them in each of n lines, and a box
+abbrev pub layoutOf : List ℕ → ℕ → ℕ → List Line
+layoutOf text columns n = names text ∷ (replicate n (values columns) ++ (names boundsNames ∷ values 6 ∷ []))
+
 -- the lines of a move file with n poses, and a box; document 02, "Poses in a chain": "A file's pose lines, however many, are a chain."
 abbrev pub layout : ℕ → List Line
-layout n = names poseNames ∷ (replicate n (values 13) ++ (names boundsNames ∷ values 6 ∷ []))
+layout n = layoutOf poseNames 13 n
 
 -- what stands between runs of spaces; a space before the first word or after the last makes an empty word, which is no name and no value
 abbrev pub words : List ℕ → List (List ℕ)

@@ -57,6 +57,13 @@ Wrote text buffer after r =
 pub wrote-none : (text buffer : List ℕ) → length buffer < length text → Wrote text buffer buffer 0
 wrote-none text buffer h = (lengthIn-short text buffer h, (front-short text buffer h, (omega arith, refl)))
 
+-- a text put in one piece
+pub wrote-one : (text buffer after : List ℕ) (r : ℕ) → r ≡ length text → r ≤ length buffer → after ≡ paste buffer 0 text r
+    → (r ≡ lengthIn text buffer) × (after ≡ front text buffer)
+wrote-one text buffer after r er h e =
+    let fit : length text ≤ length buffer = omega (arith, er) in
+    (er ∙ lengthIn-fits text buffer fit, e ∙ rw er (front-fits text buffer fit))
+
 -- a text put in two pieces
 pub wrote-two : (first second buffer half after : List ℕ) (m n r : ℕ) → m ≡ length first → n ≡ length second → r ≡ m + n → r ≤ length buffer
     → half ≡ paste buffer 0 first m → after ≡ paste half m second n → Wrote (first ++ second) buffer after r

@@ -23,6 +23,31 @@ pub fn write_bounds(bounds: [f32; 6], out: &mut [u8]) -> usize
     72
 }
 
+// Writes a text into the front of `out`, and gives its length; where it doesn't fit, `out` is kept as it is and the answer is 0. Accuracy: exact.
+pub fn write_text(text: &[u8], out: &mut [u8]) -> usize
+    ensures value { λ r. ⌜ r ≡ lengthIn (now (text .entry)) (now (out .entry)) ⌝ }
+    ensures text { λ _. ⌜ now (out .exit) ≡ front (now (text .entry)) (now (out .entry)) ⌝ }
+{
+    if out.len() < text.len() {
+        return 0;
+    }
+    put(text, out, 0);
+    text.len()
+}
+
+// Writes a line of values into the front of `out`, and gives the length of the text; where that doesn't fit, `out` is kept as it is and the answer is 0.
+// Accuracy: exact; a NaN is written as 7fc00000.
+pub fn write_values(values: &[f32], out: &mut [u8]) -> usize
+    ensures value { λ r. ⌜ r ≡ lengthIn (line (map wordOf (now (values .entry)))) (now (out .entry)) ⌝ }
+    ensures text { λ _. ⌜ now (out .exit) ≡ front (line (map wordOf (now (values .entry)))) (now (out .entry)) ⌝ }
+{
+    if out.len() / 9 < values.len() {
+        return 0;
+    }
+    put_values(values, out, 0);
+    9 * values.len()
+}
+
 // Writes the line `refused` and a line with the number in decimal into the front of `out`, and gives the length of the text; where that doesn't fit, `out` is
 // kept as it is and the answer is 0. Accuracy: exact.
 pub fn write_refusal(number: u8, out: &mut [u8]) -> usize

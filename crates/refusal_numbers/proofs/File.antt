@@ -56,7 +56,7 @@ read-number bytes = go (read-refusals bytes)
     go (inr e) = inr (inr (inr (inr (inr (inr (inr (inr (inl (ap (λ (f : MoveFile). f .refusal) e)))))))))
 
 -- ---- a chain of poses whose bottom rows are right is not refused with 2
-abbrev Not2 : ℕ → Type 0
+abbrev pub Not2 : ℕ → Type 0
 Not2 n = n ≡ 2 → ⊥
 
 chosen : (b : Bool) (m n : ℕ) → Not2 m → Not2 n → Not2 (cond b m n)
@@ -139,7 +139,7 @@ unfolding ChainAnswer·fromMoves
 from-moves-not [] h = twelve-not
 from-moves-not (a ∷ answers) h = tested-not (stage (λ x. x .refusal) (a ∷ answers)) _ (stage-not (λ x. x .refusal) (a ∷ answers) h) zero-not
 
-chain-affine : (poses : List Pose) → T (every Pose·isAffine poses) → Not2 (ChainAnswer·refusal (Chain·new poses))
+pub chain-affine : (poses : List Pose) → T (every Pose·isAffine poses) → Not2 (ChainAnswer·refusal (Chain·new poses))
 unfolding Chain·new
 chain-affine poses h = let each = affine-each poses h in tested-not (chainRefusal poses) _ (checks-not poses each) (from-moves-not _ (moves-not poses each))
 

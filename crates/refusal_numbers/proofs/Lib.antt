@@ -5,3 +5,4 @@ pub mod Numbers
 pub mod Chain
 pub mod KeptChain
 pub mod EveryChain
+pub mod Files

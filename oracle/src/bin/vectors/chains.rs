@@ -10,9 +10,9 @@ const MOST_POSES: usize = 49;
 /// A pose with its time and pad.
 #[derive(Clone, Copy)]
 pub struct Pose {
-    time: f32,
-    matrix: [f32; 16],
-    pad: f32,
+    pub time: f32,
+    pub matrix: [f32; 16],
+    pub pad: f32,
 }
 
 pub type Chain = Vec<Pose>;

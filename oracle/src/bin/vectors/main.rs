@@ -4,6 +4,7 @@
 
 mod chains;
 mod sets;
+mod texts;
 
 use oracle::core::geometry::point::Point3f;
 use oracle::core::transform::fields::find_zeros;
@@ -542,7 +543,7 @@ impl Random {
 }
 
 /// The kinds of question: from `chains` on they are `chain_answers`', the others `answers`'.
-const KINDS: &[&str] = &["numbers", "angles", "matrices", "bounds", "moves", "motion", "covers", "boxes", "chains", "sets", "arcs"];
+const KINDS: &[&str] = &["numbers", "angles", "matrices", "bounds", "moves", "motion", "covers", "boxes", "chains", "sets", "arcs", "texts"];
 
 /// A box that a matrix carries: turned about, mirrored, carried to infinity, with wp of zero and a bottom row that isn't 0 0 0 1.
 fn fixed_boxes<W: Write>(q: &mut Questions<W>) {
@@ -1155,6 +1156,7 @@ fn main() {
         "boxes" => (fixed_boxes, random_box),
         "chains" => (chains::fixed, chains::random),
         "sets" => (sets::fixed, sets::random),
+        "texts" => (texts::fixed, texts::random),
         "arcs" => (fixed_arcs, random_arc),
         _ => usage(),
     };

@@ -1,0 +1,19 @@
+-- `jellyplain_write_file` meets its contract: that of `write` at the box in the lent array.
+use borrow.Author.Needs.{needs}
+use Rattle.api.proofs.jellyplain_write_file.Statement.{statement}
+use Rattle.api.proofs.jellyplain_write_file.Tie as tie
+
+bounds-requires : tie.Need-bounds-requires
+bounds-requires c κs = search needs
+
+write-requires : tie.Need-write-requires
+write-requires c κs = search needs
+
+same-length : tie.Need-same-length
+same-length c = search needs
+
+returns : tie.Need-returns
+returns c = rw (← c .before .before .before .before .bounds .ensures) (c .before .before .write .ensures)
+
+pub jellyplain-write-file-spec : {M : Type 1} → statement M
+jellyplain-write-file-spec = tie.close (tie.spec bounds-requires write-requires same-length returns)

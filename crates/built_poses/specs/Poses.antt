@@ -1,0 +1,43 @@
+-- The poses in a chain: `Chain·poses`, each from the time and the matrix that a move stores; `Poses·lists`, poses as 17 floats each. A built chain's are those
+-- that it was built from: `BuiltPoses` and `BuiltLists`, the statements of `built-poses` and `built-lists`.
+use Prim.Native.Nat.{ℕ}
+use mathlib.Core.Path.{_≡_}
+use mathlib.Core.List.{List, _∷_, _++_, map}
+use lib.ListN.{length}
+use lib.Ieee.{Float}
+use Rattle.pose_pair.specs.declared.Pose.{Pose}
+use Rattle.animated_transform.specs.declared.AnimatedTransform.{AnimatedTransform}
+use Rattle.motion_chain.specs.Chain.{Chain, Chain·moves, built, Chain·new}
+use Rattle.motion_chain.specs.Built.{Each}
+use Rattle.chain_poses.specs.Poses.{Poses·ofLists}
+
+abbrev pub AnimatedTransform·startPose : AnimatedTransform → Pose
+AnimatedTransform·startPose a = record { time = a .«start_time»; m = a .«start_transform» .m }
+
+abbrev pub AnimatedTransform·endPose : AnimatedTransform → Pose
+AnimatedTransform·endPose a = record { time = a .«end_time»; m = a .«end_transform» .m }
+
+-- the first move's start, then each move's end
+unfoldable pub Chain·poses : Chain → List Pose
+Chain·poses c = AnimatedTransform·startPose (c .first) ∷ map AnimatedTransform·endPose (Chain·moves c)
+
+-- a pose as 17 floats: its time, then its matrix row by row
+abbrev pub placesPerPose : ℕ
+placesPerPose = 17
+
+abbrev pub Pose·list : Pose → List Float
+Pose·list p = p .time ∷ (p .m .r0 ++ (p .m .r1 ++ (p .m .r2 ++ p .m .r3)))
+
+unfoldable pub Poses·lists : List Pose → List (List Float)
+Poses·lists poses = map Pose·list poses
+
+-- ---- of a built chain: no bit of its poses is lost
+
+abbrev pub BuiltPoses : List Pose → Type 0
+BuiltPoses poses = (c : Chain) → Chain·new poses ≡ built c → Chain·poses c ≡ poses
+
+-- the same of poses in a lent array
+abbrev pub BuiltLists : List (List Float) → Type 0
+BuiltLists lists =
+    (c : Chain) → Each (λ l. length l ≡ placesPerPose) lists → Chain·new (Poses·ofLists lists) ≡ built c
+    → Poses·lists (Chain·poses c) ≡ lists

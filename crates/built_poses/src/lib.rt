@@ -1,0 +1,1 @@
+// Laws only: the poses that a built chain was built from.

@@ -1,0 +1,66 @@
+-- `put_poses` is safe and ends.
+use Prim.Native.Nat.{_-_, _≤_}
+use borrow.Author.Needs.{needs}
+use Rattle.chain_answers.proofs.files.put_poses.Statement.{statement}
+use Rattle.chain_answers.proofs.files.put_poses.Tie as tie
+
+abbrev Inv-loop : tie.InvT-loop
+Inv-loop text count poses out₀ at end₀ i₀ t9 out end i = i ≤ 559
+
+abbrev μ-loop : tie.MeasureT-loop
+μ-loop text count poses out₀ at end₀ i₀ t9 out end i = 559 - i
+
+loop-holds : tie.Need-loop-holds Inv-loop μ-loop
+loop-holds c = search needs
+
+mul-put-pose : tie.Need-mul-put-pose Inv-loop μ-loop
+mul-put-pose c = search needs
+
+add-put-pose : tie.Need-add-put-pose Inv-loop μ-loop
+add-put-pose c = search needs
+
+mul-put-pose-2 : tie.Need-mul-put-pose-2 Inv-loop μ-loop
+mul-put-pose-2 c = search needs
+
+index-1-put-pose : tie.Need-index-1-put-pose Inv-loop μ-loop
+index-1-put-pose c = search needs
+
+put-pose-requires : tie.Need-put-pose-requires Inv-loop μ-loop
+put-pose-requires c κs = search needs
+
+add-i : tie.Need-add-i Inv-loop μ-loop
+add-i c = search needs
+
+loop-less : tie.Need-loop-less Inv-loop μ-loop
+loop-less c = search needs
+
+loop-again : tie.Need-loop-again Inv-loop μ-loop
+loop-again c = search needs
+
+slice-aggregate-put-text : tie.Need-slice-aggregate-put-text Inv-loop μ-loop
+slice-aggregate-put-text c = search needs
+
+put-text-requires : tie.Need-put-text-requires Inv-loop μ-loop
+put-text-requires c κs = search needs
+
+returns : tie.Need-returns Inv-loop μ-loop
+returns c = search needs
+
+pub put-poses-spec : {M : Type 1} → statement M
+put-poses-spec =
+    tie.close
+    (tie.spec
+    Inv-loop
+    μ-loop
+    loop-holds
+    mul-put-pose
+    add-put-pose
+    mul-put-pose-2
+    index-1-put-pose
+    put-pose-requires
+    add-i
+    loop-less
+    loop-again
+    slice-aggregate-put-text
+    put-text-requires
+    returns)

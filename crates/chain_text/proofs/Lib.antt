@@ -1,0 +1,6 @@
+-- Laws of the text of a kept chain.
+pub mod Parts
+pub mod Lines
+pub mod Pieces
+pub mod Kept
+pub mod Clauses

@@ -1,0 +1,70 @@
+-- `put` puts the text in four pieces: the names, the first pose, the moves' ends and the box (`put-all`).
+use mathlib.Core.Path.{_∙_}
+use borrow.Author.Needs.{needs}
+use Rattle.motion_file.specs.Text.{ascii}
+use Rattle.chain_text.proofs.Pieces.{put-all}
+use Rattle.chain_text.proofs.put.Statement.{statement}
+use Rattle.chain_text.proofs.put.Tie as tie
+
+slice-aggregate-write-text : tie.Need-slice-aggregate-write-text
+slice-aggregate-write-text c = search needs
+
+write-text-requires : tie.Need-write-text-requires
+write-text-requires c κs = search needs
+
+shared-slice-element-start-values : tie.Need-shared-slice-element-start-values
+shared-slice-element-start-values c = search needs
+
+start-values-requires : tie.Need-start-values-requires
+start-values-requires c κs = search needs
+
+put-pose-requires : tie.Need-put-pose-requires
+put-pose-requires c κs = search needs
+
+put-ends-requires : tie.Need-put-ends-requires
+put-ends-requires c κs = search needs
+
+add-put-bounds : tie.Need-add-put-bounds
+add-put-bounds c = search needs
+
+mul-put-bounds : tie.Need-mul-put-bounds
+mul-put-bounds c = search needs
+
+add-put-bounds-2 : tie.Need-add-put-bounds-2
+add-put-bounds-2 c = search needs
+
+put-bounds-requires : tie.Need-put-bounds-requires
+put-bounds-requires c κs = search needs
+
+same-length : tie.Need-same-length
+same-length c = search needs
+
+returns : tie.Need-returns
+unfolding ascii
+returns c =
+    let bounds = c .before .before in
+    let ends = bounds .before .before .before .before in
+    let pose = ends .before .before .before .before in
+    let values = pose .before .before in
+    let names = values .before .before .before .before in
+    let entry = names .before .before .before .before in
+    let a = entry .args in
+    put-all (a .moves .now) (a .b) (entry .pre .0) (a .out .now) (entry .pre .1) _ _ _ _ (names .write-text .ensures .1)
+    (rw (values .start-values .ensures) at (pose .put-pose .ensures)) (ends .put-ends .ensures) (bounds .put-bounds .ensures)
+
+pub put-spec : {M : Type 1} → statement M
+put-spec =
+    tie.close
+    (tie.spec
+    slice-aggregate-write-text
+    write-text-requires
+    shared-slice-element-start-values
+    start-values-requires
+    put-pose-requires
+    put-ends-requires
+    add-put-bounds
+    mul-put-bounds
+    add-put-bounds-2
+    put-bounds-requires
+    same-length
+    returns)

@@ -1,0 +1,90 @@
+-- `put_ends` puts the lines of the moves' ends. The invariant: the first i of them stand in `out`.
+use Prim.Native.Nat.{_+_, _-_, _*_, _≤_}
+use native.Mathlib.Omega.{arith}
+use mathlib.Core.Path.{_≡_, refl, _∙_, ap}
+use lib.ListN.{length}
+use lib.Seq.{paste, paste-zero}
+use borrow.Author.Needs.{needs}
+use Rattle.chain_text.proofs.Lines.{endsText}
+use Rattle.chain_text.proofs.Pieces.{ends-size, put-end}
+use Rattle.chain_text.proofs.put_ends.Statement.{statement}
+use Rattle.chain_text.proofs.put_ends.Tie as tie
+
+abbrev Inv-loop : tie.InvT-loop
+Inv-loop moves out₀ i₀ out i = (i ≤ length moves) × (length out ≡ length out₀) × (out ≡ paste out₀ 170 (endsText moves) (117 * i))
+
+abbrev μ-loop : tie.MeasureT-loop
+μ-loop moves out₀ i₀ out i = length moves - i
+
+loop-holds : tie.Need-loop-holds Inv-loop μ-loop
+loop-holds c =
+    let a = c .before .args in
+    (omega arith, refl, paste-zero (a .out .now) 170 (endsText (a .moves .now)))
+
+mul-end-values : tie.Need-mul-end-values Inv-loop μ-loop
+mul-end-values c = search needs
+
+shared-slice-element-end-values : tie.Need-shared-slice-element-end-values Inv-loop μ-loop
+shared-slice-element-end-values c = search needs
+
+end-values-requires : tie.Need-end-values-requires Inv-loop μ-loop
+end-values-requires c κs = search needs
+
+add-put-pose : tie.Need-add-put-pose Inv-loop μ-loop
+add-put-pose c = search needs
+
+mul-put-pose : tie.Need-mul-put-pose Inv-loop μ-loop
+mul-put-pose c = record { fits = omega arith }
+
+add-put-pose-2 : tie.Need-add-put-pose-2 Inv-loop μ-loop
+add-put-pose-2 c = record { fits = omega arith }
+
+put-pose-requires : tie.Need-put-pose-requires Inv-loop μ-loop
+put-pose-requires c κs =
+    let l = c .before .before .before .before .loop in
+    omega (arith, l .inv .1, c .before .before .before .loop-test .taken)
+
+add-i : tie.Need-add-i Inv-loop μ-loop
+add-i c = search needs
+
+loop-less : tie.Need-loop-less Inv-loop μ-loop
+loop-less c = search needs
+
+loop-again : tie.Need-loop-again Inv-loop μ-loop
+loop-again c =
+    let l = c .before .before .before .before .before .before .before .loop in
+    let e = c .before .before .before .before .before .before .before .before .before in
+    let a = e .args in
+    let h = c .before .before .before .before .before .before .loop-test .taken in
+    let line = rw (c .before .before .before .before .end-values .ensures) at (c .before .before .put-pose .ensures) in
+    let turn = put-end (a .out .now) (a .moves .now) (e .pre) (l .i) h (l .out) _ (l .inv .2) line in
+    (omega (arith, h), ap length turn ∙ ends-size (a .out .now) (a .moves .now) (e .pre) (l .i + 1) (omega (arith, h)), turn)
+
+same-length : tie.Need-same-length Inv-loop μ-loop
+same-length c = search needs
+
+returns : tie.Need-returns Inv-loop μ-loop
+returns c =
+    let l = c .before .loop in
+    let e : l .i ≡ length (c .before .before .before .args .moves .now) = omega arith in
+    rw (← e) (l .inv .2)
+
+pub put-ends-spec : {M : Type 1} → statement M
+put-ends-spec =
+    tie.close
+    (tie.spec
+    Inv-loop
+    μ-loop
+    loop-holds
+    mul-end-values
+    shared-slice-element-end-values
+    end-values-requires
+    add-put-pose
+    mul-put-pose
+    add-put-pose-2
+    put-pose-requires
+    add-i
+    loop-less
+    loop-again
+    same-length
+    returns)

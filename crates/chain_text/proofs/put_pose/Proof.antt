@@ -1,0 +1,47 @@
+-- `put_pose` writes a line into the part of the buffer from `at` on (`part-front`).
+use native.Mathlib.Omega.{arith}
+use mathlib.Core.Path.{_≡_, sym}
+use lib.ListN.{length}
+use borrow.Author.Needs.{needs}
+use Rattle.motion_text.proofs.Written.{length-values}
+use Rattle.file_text.specs.Text.{valuesText}
+use Rattle.chain_text.proofs.Parts.{part-front}
+use Rattle.chain_text.proofs.put_pose.Statement.{statement}
+use Rattle.chain_text.proofs.put_pose.Tie as tie
+
+slice-aggregate-write-values : tie.Need-slice-aggregate-write-values
+slice-aggregate-write-values c = search needs
+
+sub-write-values : tie.Need-sub-write-values
+sub-write-values c = search needs
+
+part-write-values-start : tie.Need-part-write-values-start
+part-write-values-start c = search needs
+
+part-write-values-end : tie.Need-part-write-values-end
+part-write-values-end c = search needs
+
+write-values-requires : tie.Need-write-values-requires
+write-values-requires c κs = search needs
+
+same-length : tie.Need-same-length
+same-length c = search needs
+
+returns : tie.Need-returns
+returns c =
+    let a = c .before .before .before .before .before .before .args in
+    let thirteen : length (a .t1) ≡ 13 = search needs in
+    rw (c .before .before .write-values .ensures .1)
+    (part-front (valuesText (a .t1)) (a .out .now) (a .at) 117 (omega (arith, length-values (a .t1), thirteen)) (c .before .before .before .before .before .before .pre))
+
+pub put-pose-spec : {M : Type 1} → statement M
+put-pose-spec =
+    tie.close
+    (tie.spec
+    slice-aggregate-write-values
+    sub-write-values
+    part-write-values-start
+    part-write-values-end
+    write-values-requires
+    same-length
+    returns)

@@ -1,0 +1,65 @@
+-- No text is longer than that of 32 poses, so that 3,869 bytes hold what is printed for every file: `rewritten-length`.
+use Prim.Native.Nat.{ℕ, _+_, _*_, _≤_}
+use native.Mathlib.Omega.{arith}
+use mathlib.Core.Path.{_≡_, refl, sym, ap}
+use mathlib.Core.Bool.{cond}
+use mathlib.Core.List.{List, [], _∷_}
+use lib.Dec.{eqb, ltb}
+use lib.Ieee.{Float}
+use lib.ListN.{length}
+use Rattle.control_flow.proofs.Choice.{cond-keeps}
+use Rattle.bounds3.specs.declared.Bounds3f.{Bounds3f}
+use Rattle.bounds3.specs.List.{Bounds3f·list}
+use Rattle.bounds_query.specs.Query.{Bounds3f·refusal}
+use Rattle.motion_chain.specs.Chain.{Chain, ChainAnswer, built, refused, ChainAnswer·refusal, Chain·new}
+use Rattle.motion_chain.specs.Built.{Each}
+use Rattle.chain_poses.specs.Poses.{Poses·ofLists}
+use Rattle.built_poses.specs.Poses.{Poses·lists, Chain·poses}
+use Rattle.built_poses.proofs.Built.{built-poses}
+use Rattle.motion_file.specs.declared.MoveFile.{MoveFile}
+use Rattle.motion_file.specs.Layout.{MoveFile·read, MoveFile·poses}
+use Rattle.motion_text.specs.Answer.{zerosInFront, refusalText}
+use Rattle.motion_text.proofs.Written.{length-refusal}
+use Rattle.motion_answer.proofs.Posed.{built-count}
+use Rattle.file_text.specs.Text.{poseColumns, Chain·text}
+use Rattle.file_text.specs.Theorem.{boxOf}
+use Rattle.file_text.proofs.Length.{move-text-length}
+use Rattle.file_rewrite.specs.Rewrite.{boxedText, ChainAnswer·text, rewrittenText}
+use Rattle.file_rewrite.specs.Theorem.{longestText}
+
+refusal-length : (n : ℕ) → length (refusalText n) ≤ longestText
+refusal-length n =
+    let few : zerosInFront n ≤ 2 =
+    cond-keeps (λ (z : ℕ). z ≤ 2) (ltb n 10) 2 (cond (ltb n 100) 1 0) (omega arith) (cond-keeps (λ (z : ℕ). z ≤ 2) (ltb n 100) 1 0 (omega arith) (omega arith)) in
+    omega (arith, length-refusal n (zerosInFront n) refl few)
+
+-- ---- a chain's text
+each-long : (lists : List (List Float)) → Each (λ pose. poseColumns ≤ length pose) (Poses·lists (Poses·ofLists lists))
+unfolding Poses·lists Poses·ofLists
+each-long [] = tt
+each-long (l ∷ lists) = (omega arith, each-long lists)
+
+lists-count : (lists : List (List Float)) → length (Poses·lists (Poses·ofLists lists)) ≡ length lists
+unfolding Poses·lists Poses·ofLists
+lists-count [] = refl
+lists-count (l ∷ lists) = rw (lists-count lists)
+
+chain-length : (lists : List (List Float)) (c : Chain) (b : Bounds3f) → Chain·new (Poses·ofLists lists) ≡ built c → length (Chain·text c b) ≤ longestText
+unfolding Chain·text
+chain-length lists c b s =
+    let few = built-count lists {r = 0} (sym (ap ChainAnswer·refusal s)) refl .1 in
+    rw (built-poses (Poses·ofLists lists) c s)
+    (omega (arith, move-text-length (Poses·lists (Poses·ofLists lists)) (Bounds3f·list b) (each-long lists) refl, lists-count lists, few))
+
+pub rewritten-length : (bytes : List ℕ) → length (rewrittenText bytes) ≤ longestText
+unfolding rewrittenText ChainAnswer·text boxedText
+rewritten-length bytes =
+    cond-keeps (λ (text : List ℕ). length text ≤ longestText) (eqb (MoveFile·read bytes .refusal) 0)
+    (ChainAnswer·text (Chain·new (Poses·ofLists (MoveFile·poses bytes))) (boxOf bytes)) (refusalText (MoveFile·read bytes .refusal))
+    (go (Chain·new (Poses·ofLists (MoveFile·poses bytes))) refl (boxOf bytes)) (refusal-length (MoveFile·read bytes .refusal))
+  where
+    go : (a : ChainAnswer) → Chain·new (Poses·ofLists (MoveFile·poses bytes)) ≡ a → (b : Bounds3f) → length (ChainAnswer·text a b) ≤ longestText
+    go (built c) e b =
+        cond-keeps (λ (text : List ℕ). length text ≤ longestText) (eqb (Bounds3f·refusal b) 0) (Chain·text c b) (refusalText (Bounds3f·refusal b))
+        (chain-length (MoveFile·poses bytes) c b e) (refusal-length (Bounds3f·refusal b))
+    go (refused n) e b = refusal-length n

@@ -1,0 +1,79 @@
+-- `write_poses` meets its contract: building's number chooses the case (proofs/Printed.antt). What was built is kept in the first moves, one fewer than poses.
+use native.Mathlib.Omega.{arith}
+use mathlib.Core.Path.{sym, _∙_}
+use lib.Seq.{length-take-le}
+use borrow.Author.Needs.{needs}
+use Rattle.motion_chain.specs.Chain.{Chain·new}
+use Rattle.chain_poses.specs.Poses.{Poses·ofLists}
+use Rattle.motion_answer.proofs.Built.{new-none}
+use Rattle.motion_answer.proofs.Posed.{built-count, moves-room}
+use Rattle.file_rewrite.proofs.Printed.{refused-printed, built-printed}
+use Rattle.file_rewrite.proofs.write_poses.Statement.{statement}
+use Rattle.file_rewrite.proofs.write_poses.Tie as tie
+
+build-requires : tie.Need-build-requires
+build-requires c κs = search needs
+
+write-refusal-requires : tie.Need-write-refusal-requires
+write-refusal-requires c κs = search needs
+
+same-length : tie.Need-same-length
+same-length c = search needs
+
+returns : tie.Need-returns
+returns c =
+    let build = c .before .before .before .before .before in
+    let a = build .before .before .before .args in
+    let some = c .before .before .before .before .if1 .taken in
+    rw (refused-printed (Chain·new (Poses·ofLists (a .poses .now))) (a .b) (build .build .ensures .0) some) (c .before .before .write-refusal .ensures)
+
+sub-n : tie.Need-sub-n
+sub-n c =
+    let build = c .before .build in
+    omega (arith, built-count (c .before .before .before .before .args .poses .now) (build .ensures .0) (c .if1 .left) .0)
+
+array-share-prefix-moves : tie.Need-array-share-prefix-moves
+array-share-prefix-moves c =
+    let build = c .before .build in
+    let lists = c .before .before .before .before .args .poses .now in
+    let few = built-count lists (build .ensures .0) (c .if1 .left) in
+    omega (arith, few .1, moves-room (Chain·new (Poses·ofLists lists)) _ (build .ensures .1 .0))
+
+slice-aggregate-write-moves : tie.Need-slice-aggregate-write-moves
+slice-aggregate-write-moves c =
+    let build = c .before .before .build in
+    let lists = c .before .before .before .before .before .args .poses .now in
+    let few = built-count lists (build .ensures .0) (c .before .if1 .left) in
+    sym (length-take-le _ _ (omega (arith, few .1, moves-room (Chain·new (Poses·ofLists lists)) _ (build .ensures .1 .0))))
+
+write-moves-requires : tie.Need-write-moves-requires
+write-moves-requires c κs =
+    let build = c .before .before .before .build in
+    let lists = c .before .before .before .before .before .before .args .poses .now in
+    let (chain, s) = new-none (Poses·ofLists lists) (sym (build .ensures .0) ∙ c .before .before .if1 .left) in
+    rw (build .ensures .1 .1 chain s .same) (omega arith)
+
+same-length-2 : tie.Need-same-length-2
+same-length-2 c = search needs
+
+returns-2 : tie.Need-returns-2
+returns-2 c =
+    let built = c .before .before .before .before .before in
+    let build = built .before .build in
+    let a = built .before .before .before .before .args in
+    rw (built-printed (a .poses .now) (a .b) _ (build .ensures .0) (built .if1 .left) (λ chain s. build .ensures .1 .1 chain s .same)) (c .before .before .write-moves .ensures)
+
+pub write-poses-spec : {M : Type 1} → statement M
+write-poses-spec =
+    tie.close
+    (tie.spec
+    build-requires
+    write-refusal-requires
+    same-length
+    returns
+    sub-n
+    array-share-prefix-moves
+    slice-aggregate-write-moves
+    write-moves-requires
+    same-length-2
+    returns-2)

@@ -1,0 +1,96 @@
+-- What is written of poses and a box is read back with the same bits, and the written forms of two files tell whether the files hold the same bits.
+--
+-- Quotations are of document 02, "One way to write a move file". A float stands for its bits; a NaN, which has many, is in no accepted file. The statements of
+-- `read-written`, `chain-read-written`, `built-read-written`, `move-text-length`, `chain-text-length`, `written-read`, `same-written`, `accepted-written` and
+-- `same-bits`.
+use Prim.Native.Nat.{ℕ, _+_, _*_, _≤_, _<_}
+use mathlib.Core.Path.{_≡_}
+use mathlib.Core.Logic.{_↔_}
+use mathlib.Core.List.{List, _++_, map}
+use lib.ListN.{length}
+use lib.Ieee.{Float}
+use Rattle.bounds3.specs.declared.Bounds3f.{Bounds3f}
+use Rattle.bounds3.specs.List.{Bounds3f·list, Bounds3f·ofList}
+use Rattle.bounds_query.specs.Query.{Bounds3f·refusal}
+use Rattle.motion_chain.specs.Chain.{Chain, Chain·moves, built, Chain·new}
+use Rattle.motion_chain.specs.Built.{Each}
+use Rattle.chain_poses.specs.Poses.{Poses·ofLists}
+use Rattle.built_poses.specs.Poses.{Chain·poses, placesPerPose, Poses·lists}
+use Rattle.motion_file.specs.Layout.{maxPoseLines, bottomRow, MoveFile·read, MoveFile·poses}
+use Rattle.file_text.specs.Text.{poseColumns, poseValues, MoveFile·text, Chain·text, MoveFile·written}
+use Rattle.file_text.specs.RoundTrip.{Floats}
+
+-- ---- what is written
+
+-- a pose with the bottom row 0 0 0 1, its zeros +0
+abbrev pub withBottomRow : List Float → List Float
+withBottomRow pose = poseValues pose ++ bottomRow
+
+-- "Reading it gives the same bits, a bottom row's zeros as +0."
+pub record ReadsAs (bytes : List ℕ) (poses : List (List Float)) (bounds : List Float) : Type 0 where
+  pub said : MoveFile·read bytes ≡ record { count = length poses; bounds = bounds; refusal = 0 }
+  pub same-poses : MoveFile·poses bytes ≡ map withBottomRow poses
+
+-- of any poses for which a file has room
+abbrev pub ReadWritten : List (List Float) → List Float → Type 0
+ReadWritten poses bounds =
+    Each (λ pose. Floats poseColumns (poseValues pose)) poses → length poses ≤ maxPoseLines → Floats 6 bounds
+    → ReadsAs (MoveFile·text poses bounds) poses bounds
+
+-- of any chain, and a box
+abbrev pub ChainReadWritten : Chain → Bounds3f → Type 0
+ChainReadWritten c b =
+    Each (Floats placesPerPose) (Poses·lists (Chain·poses c)) → length (Chain·moves c) < maxPoseLines → Floats 6 (Bounds3f·list b)
+    → ReadsAs (Chain·text c b) (Poses·lists (Chain·poses c)) (Bounds3f·list b)
+
+-- of a chain that was built from poses in a lent array: these are read
+abbrev pub BuiltReadWritten : List (List Float) → Bounds3f → Type 0
+BuiltReadWritten poses b =
+    (c : Chain) → Each (Floats placesPerPose) poses → Chain·new (Poses·ofLists poses) ≡ built c → Floats 6 (Bounds3f·list b)
+    → ReadsAs (Chain·text c b) poses (Bounds3f·list b)
+
+-- the lines of names have 53 and 18 bytes, a pose's 117, a box's 54
+abbrev pub MoveTextLength : List (List Float) → List Float → Type 0
+MoveTextLength poses bounds =
+    Each (λ pose. poseColumns ≤ length pose) poses → length bounds ≡ 6
+    → length (MoveFile·text poses bounds) ≡ 53 + 117 * length poses + 72
+
+abbrev pub ChainTextLength : Chain → Bounds3f → Type 0
+ChainTextLength c b =
+    Each (λ pose. poseColumns ≤ length pose) (Poses·lists (Chain·poses c))
+    → length (Chain·text c b) ≡ 53 + 117 * (length (Chain·moves c) + 1) + 72
+
+-- ---- the written forms of files
+
+-- two files hold the same
+pub record HoldSame (f g : List ℕ) : Type 0 where
+  pub poses : MoveFile·poses f ≡ MoveFile·poses g
+  pub bounds : MoveFile·read f .bounds ≡ MoveFile·read g .bounds
+
+-- of any bytes, since those that depart from the layout are read as no poses and a box of +0: the written form keeps the layout and holds what they hold,
+abbrev pub WrittenRead : List ℕ → Type 0
+WrittenRead f = (MoveFile·read (MoveFile·written f) .refusal ≡ 0) × HoldSame (MoveFile·written f) f
+
+-- and tells what they hold
+abbrev pub SameWritten : List ℕ → List ℕ → Type 0
+SameWritten f g = HoldSame f g ↔ (MoveFile·written f ≡ MoveFile·written g)
+
+-- a file's box, of the values `x0 y0 z0 x1 y1 z1`
+abbrev pub boxOf : List ℕ → Bounds3f
+boxOf bytes = Bounds3f·ofList (MoveFile·read bytes .bounds)
+
+-- "accepted files (refused neither for layout, chain nor box)": c is a file's chain
+pub record MoveFile·Accepted (bytes : List ℕ) (c : Chain) : Type 0 where
+  pub layout : MoveFile·read bytes .refusal ≡ 0
+  pub chain : Chain·new (Poses·ofLists (MoveFile·poses bytes)) ≡ built c
+  pub box : Bounds3f·refusal (boxOf bytes) ≡ 0
+
+-- what is written of an accepted file's chain and box is its written form,
+abbrev pub AcceptedWritten : List ℕ → Chain → Type 0
+AcceptedWritten f c = MoveFile·Accepted f c → Chain·text c (boxOf f) ≡ MoveFile·written f
+
+-- and "Two accepted files .. hold the same bits exactly when their written forms are the same bytes."
+abbrev pub SameBits : List ℕ → List ℕ → Type 0
+SameBits f g =
+    (c d : Chain) → MoveFile·Accepted f c → MoveFile·Accepted g d
+    → (HoldSame f g ↔ (Chain·text c (boxOf f) ≡ Chain·text d (boxOf g)))

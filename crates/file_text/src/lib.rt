@@ -1,0 +1,1 @@
+// Laws only: the one way to write a move file.

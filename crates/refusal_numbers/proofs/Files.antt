@@ -1,0 +1,154 @@
+-- The writer gives 6, 7, 12 and 15 alone, and the program `rewrite` document 01's and 02's numbers of a file: `every-file-answer`.
+use Prim.Native.Nat.{ℕ}
+use mathlib.Core.Path.{_≡_, refl, sym, ap, subst, _∙_}
+use mathlib.Core.Bool.{Bool, true, false, not, cond}
+use mathlib.Core.Logic.{_⊎_, inl, inr}
+use mathlib.Core.List.{List, [], _∷_}
+use native.Mathlib.Omega.{arith}
+use borrow.Author.Tests.{eqb-true, eqb-false, eq-eqb, ne-eqb}
+use lib.Dec.{T, eqb, leb}
+use lib.ListN.{length}
+use Rattle.matrix4x4.specs.Rows.{Rows}
+use Rattle.bounds3.specs.declared.Bounds3f.{Bounds3f}
+use Rattle.bounds3.specs.Finite.{Bounds3f·isFinite}
+use Rattle.transform.specs.Answer.{OneOf}
+use Rattle.bounds_query.specs.Query.{Bounds3f·isOrdered, Bounds3f·refusal}
+use Rattle.animated_transform.specs.New.{firstRefusal}
+use Rattle.motion_chain.specs.Chain.{Chain, ChainAnswer, built, refused, ChainAnswer·refusal, Chain·new}
+use Rattle.chain_poses.specs.Poses.{Poses·ofLists}
+use Rattle.motion_file.specs.declared.MoveFile.{MoveFile}
+use Rattle.motion_file.specs.Layout.{MoveFile·departs, MoveFile·read, MoveFile·poses}
+use Rattle.motion_file.proofs.Files.{read-refusals}
+use Rattle.motion_text.specs.Answer.{refusalText}
+use Rattle.motion_answer.proofs.Built.{poses-affine}
+use Rattle.file_text.specs.Text.{Chain·text, MoveFile·written}
+use Rattle.file_text.specs.Theorem.{boxOf}
+use Rattle.file_text.proofs.Same.{accepted-written}
+use Rattle.chain_text.specs.Write.{written, refused as refusedBy, TextAnswer·refusal, roomRefusal, Moves·text, Moves·writeRefusal, Moves·write}
+use Rattle.file_rewrite.specs.Rewrite.{boxedText, ChainAnswer·text, rewrittenText}
+use Rattle.refusal_numbers.specs.Chain.{ChainAnswer·Numbered}
+use Rattle.refusal_numbers.specs.Files.{Rewritten·Numbered, form, number, EveryFileAnswer}
+use Rattle.refusal_numbers.proofs.Chain.{building-numbered}
+use Rattle.refusal_numbers.proofs.File.{Not2, chain-affine}
+
+-- ---- the box
+box-number : (b : Bounds3f) → OneOf (Bounds3f·refusal b) (0 ∷ 6 ∷ 7 ∷ [])
+unfolding Bounds3f·refusal
+box-number b = go (Bounds3f·isFinite b) (Bounds3f·isOrdered b)
+  where
+    go : (f o : Bool) → OneOf (cond (not f) 6 (cond (not o) 7 0)) (0 ∷ 6 ∷ 7 ∷ [])
+    go true true = inl refl
+    go true false = inr (inr (inl refl))
+    go false o = inr (inl refl)
+
+-- ---- the writer
+abbrev Number : ℕ → Type 0
+Number n = OneOf n (0 ∷ 6 ∷ 7 ∷ 12 ∷ 15 ∷ [])
+
+chosen : (p : Bool) (m n : ℕ) → Number m → Number n → Number (cond p m n)
+chosen true m n h k = h
+chosen false m n h k = k
+
+asked : {n : ℕ} → OneOf n (0 ∷ 6 ∷ 7 ∷ []) → Number n
+asked (inl e) = inl e
+asked (inr (inl e)) = inr (inl e)
+asked (inr (inr (inl e))) = inr (inr (inl e))
+
+refusal-number : (rows : List Rows) (b : Bounds3f) (room : ℕ) → Number (Moves·writeRefusal rows b room)
+unfolding Moves·writeRefusal
+refusal-number rows b room =
+    let short = chosen (leb (length (Moves·text rows b)) room) 0 15 (inl refl) (inr (inr (inr (inr (inl refl))))) in
+    let judged = chosen (eqb (Bounds3f·refusal b) 0) _ (Bounds3f·refusal b) short (asked (box-number b)) in
+    chosen (eqb (length rows) 0) 12 _ (inr (inr (inr (inl refl)))) judged
+
+write-number : (rows : List Rows) (b : Bounds3f) (room : ℕ) → Number (TextAnswer·refusal (Moves·write rows b room))
+unfolding Moves·write
+write-number rows b room = go (eqb (Moves·writeRefusal rows b room) 0)
+  where
+    go : (p : Bool) → Number (TextAnswer·refusal (cond p (written (Moves·text rows b)) (refusedBy (Moves·writeRefusal rows b room))))
+    go true = inl refl
+    go false = refusal-number rows b room
+
+-- ---- a file
+abbrev Printed : List ℕ → Type 0
+Printed = Rewritten·Numbered (1 ∷ 3 ∷ 4 ∷ 5 ∷ 6 ∷ 7 ∷ 11 ∷ 12 ∷ [])
+
+abbrev FileNumber : ℕ → Type 0
+FileNumber n = OneOf n (1 ∷ 3 ∷ 4 ∷ 5 ∷ 6 ∷ 7 ∷ 11 ∷ 12 ∷ [])
+
+of-building : {n : ℕ} → OneOf n (0 ∷ 1 ∷ 2 ∷ 3 ∷ 4 ∷ 5 ∷ 12 ∷ []) → (n ≡ 0 → ⊥) → Not2 n → FileNumber n
+of-building (inl e) z t = absurd (z e)
+of-building (inr (inl e)) z t = inl e
+of-building (inr (inr (inl e))) z t = absurd (t e)
+of-building (inr (inr (inr (inl e)))) z t = inr (inl e)
+of-building (inr (inr (inr (inr (inl e))))) z t = inr (inr (inl e))
+of-building (inr (inr (inr (inr (inr (inl e)))))) z t = inr (inr (inr (inl e)))
+of-building (inr (inr (inr (inr (inr (inr (inl e))))))) z t = inr (inr (inr (inr (inr (inr (inr (inl e)))))))
+
+of-box : {n : ℕ} → OneOf n (0 ∷ 6 ∷ 7 ∷ []) → (n ≡ 0 → ⊥) → FileNumber n
+of-box (inl e) z = absurd (z e)
+of-box (inr (inl e)) z = inr (inr (inr (inr (inl e))))
+of-box (inr (inr (inl e))) z = inr (inr (inr (inr (inr (inl e)))))
+
+module _ (bytes : List ℕ) where
+  abbrev answer : ChainAnswer
+  answer = Chain·new (Poses·ofLists (MoveFile·poses bytes))
+
+  departed : MoveFile·read bytes ≡ MoveFile·departs → rewrittenText bytes ≡ refusalText 11
+  unfolding rewrittenText
+  departed e = rw e
+
+  kept : MoveFile·read bytes .refusal ≡ 0 → rewrittenText bytes ≡ ChainAnswer·text answer (boxOf bytes)
+  unfolding rewrittenText
+  kept z = rw (eq-eqb (MoveFile·read bytes .refusal) 0 z)
+
+  refused-text : (n : ℕ) → answer ≡ refused n → ChainAnswer·text answer (boxOf bytes) ≡ refusalText n
+  unfolding ChainAnswer·text
+  refused-text n e = rw e
+
+  boxed : (c : Chain) → answer ≡ built c → (Bounds3f·refusal (boxOf bytes) ≡ 0 → ⊥) → ChainAnswer·text answer (boxOf bytes) ≡ refusalText (Bounds3f·refusal (boxOf bytes))
+  unfolding ChainAnswer·text boxedText
+  boxed c e h = rw (e, ne-eqb (Bounds3f·refusal (boxOf bytes)) 0 h)
+
+  own : (c : Chain) → answer ≡ built c → Bounds3f·refusal (boxOf bytes) ≡ 0 → ChainAnswer·text answer (boxOf bytes) ≡ Chain·text c (boxOf bytes)
+  unfolding ChainAnswer·text boxedText
+  own c e h = rw (e, eq-eqb (Bounds3f·refusal (boxOf bytes)) 0 h)
+
+  refused-numbered : MoveFile·read bytes .refusal ≡ 0 → (n : ℕ) → answer ≡ refused n → Printed bytes
+  refused-numbered z n e =
+      let h = building-numbered (Poses·ofLists (MoveFile·poses bytes)) in
+      let not-none : n ≡ 0 → ⊥ = λ k. let (c, s) = h .none (ap ChainAnswer·refusal e ∙ k) in absurd (unlike n c (sym e ∙ s)) in
+      let not-two = rw e at (chain-affine (Poses·ofLists (MoveFile·poses bytes)) (poses-affine bytes)) in
+      number n (of-building (rw e at (h .number)) not-none not-two) (kept z ∙ refused-text n e)
+    where
+      isBuilt : ChainAnswer → Bool
+      isBuilt (built c) = true
+      isBuilt (refused n) = false
+
+      unlike : (n : ℕ) (c : Chain) → refused n ≡ built c → ⊥
+      unlike n c e = subst T (sym (ap isBuilt e)) tt
+
+  built-numbered : MoveFile·read bytes .refusal ≡ 0 → (c : Chain) → answer ≡ built c → Printed bytes
+  built-numbered z c e = go (eqb (Bounds3f·refusal (boxOf bytes)) 0) refl
+    where
+      go : (p : Bool) → eqb (Bounds3f·refusal (boxOf bytes)) 0 ≡ p → Printed bytes
+      go true h =
+          let none = eqb-true (Bounds3f·refusal (boxOf bytes)) 0 h in
+          form (kept z ∙ own c e none ∙ accepted-written bytes c (record { layout = z; chain = e; box = none }))
+      go false h =
+          let some = eqb-false (Bounds3f·refusal (boxOf bytes)) 0 h in
+          number (Bounds3f·refusal (boxOf bytes)) (of-box (box-number (boxOf bytes)) some) (kept z ∙ boxed c e some)
+
+  chain-numbered : MoveFile·read bytes .refusal ≡ 0 → (a : ChainAnswer) → answer ≡ a → Printed bytes
+  chain-numbered z (built c) e = built-numbered z c e
+  chain-numbered z (refused n) e = refused-numbered z n e
+
+  file-numbered : Printed bytes
+  file-numbered = go (read-refusals bytes)
+    where
+      go : (MoveFile·read bytes .refusal ≡ 0) ⊎ (MoveFile·read bytes ≡ MoveFile·departs) → Printed bytes
+      go (inl z) = chain-numbered z answer refl
+      go (inr e) = number 11 (inr (inr (inr (inr (inr (inr (inl refl))))))) (departed e)
+
+pub every-file-answer : EveryFileAnswer
+every-file-answer = record { writing = write-number; rewriting = file-numbered }

@@ -1,0 +1,51 @@
+//! Move files: read, written in one way, and read again.
+
+use jellyplain::{Bounds, Chain, MoveFile, Refusal};
+
+const FILE: &str = include_str!("../../examples/swing.txt");
+
+fn bits(file: &MoveFile) -> Vec<u32> {
+    let poses = file.poses.iter().flat_map(|pose| [pose.time].into_iter().chain(pose.matrix.into_iter().flatten()));
+    poses.chain(file.bounds.p_min).chain(file.bounds.p_max).map(f32::to_bits).collect()
+}
+
+fn rewritten(file: &MoveFile) -> String {
+    Chain::new(&file.poses).unwrap().write(&file.bounds).unwrap()
+}
+
+#[test]
+fn spaces_and_case_are_one() {
+    let file = MoveFile::read(FILE.as_bytes()).unwrap();
+    let text = rewritten(&file);
+    let is_values = |line: &str| line.starts_with(|c: char| c.is_ascii_digit());
+    let upper: String = FILE.lines().map(|line| if is_values(line) { line.to_uppercase() + "\n" } else { line.to_owned() + "\n" }).collect();
+    assert_ne!(upper, FILE);
+    for other in [text.clone(), FILE.replace(' ', "   "), upper] {
+        let read = MoveFile::read(other.as_bytes()).unwrap();
+        assert_eq!(bits(&read), bits(&file));
+        assert_eq!(rewritten(&read), text);
+    }
+    assert!(text.lines().all(|line| !line.ends_with(' ') && !line.contains("  ")));
+}
+
+#[test]
+fn zeros_keep_their_sign_above_the_bottom_row() {
+    let mut file = MoveFile::read(FILE.as_bytes()).unwrap();
+    file.poses[0].time = -0.0;
+    file.poses[0].matrix[0][1] = -0.0;
+    file.bounds.p_min[2] = -0.0;
+    let with_plus_zero = bits(&file);
+    file.poses[1].matrix[3][0] = -0.0;
+    assert_eq!(bits(&MoveFile::read(rewritten(&file).as_bytes()).unwrap()), with_plus_zero);
+}
+
+#[test]
+fn refused_files() {
+    for bytes in [&b""[..], b"\n", &FILE.as_bytes()[1..], &FILE.as_bytes()[..FILE.len() - 1], FILE.replacen(' ', "\t", 1).as_bytes()] {
+        assert_eq!(MoveFile::read(bytes), Err(Refusal::File));
+    }
+    let file = MoveFile::read(FILE.as_bytes()).unwrap();
+    let chain = Chain::new(&file.poses).unwrap();
+    assert_eq!(chain.write(&Bounds { p_min: [f32::NAN; 3], p_max: [0.0; 3] }), Err(Refusal::Query));
+    assert_eq!(chain.write(&Bounds { p_min: [1.0; 3], p_max: [0.0; 3] }), Err(Refusal::Corners));
+}
