@@ -7,18 +7,19 @@
 
 int main(void)
 {
-    const jellyplain_pose start = {0, {{1, 0, 0, 0}, {0, 1, 0, 0}, {0, 0, 1, 0}, {0, 0, 0, 1}}};
-    const jellyplain_pose end = {1, {{1, 0, 0, 1}, {0, 1, 0, 0}, {0, 0, 1, 0}, {0, 0, 0, 1}}};
+    const jellyplain_pose start = {0, {{1, 0, 0, 0}, {0, 1, 0, 0}, {0, 0, 1, 0}, {0, 0, 0, 1}}, 0};
+    const jellyplain_pose end = {1, {{1, 0, 0, 1}, {0, 1, 0, 0}, {0, 0, 1, 0}, {0, 0, 0, 1}}, 0};
     const float origin[3] = {0, 0, 0};
     const float boom[6] = {0, 0, 0, 0, 2, 0};
-    const jellyplain_pose there_and_back[3] = {start, end, {2, {{1, 0, 0, 0}, {0, 1, 0, 0}, {0, 0, 1, 0}, {0, 0, 0, 1}}}};
+    const jellyplain_pose there_and_back[3] = {start, end, {2, {{1, 0, 0, 0}, {0, 1, 0, 0}, {0, 0, 1, 0}, {0, 0, 0, 1}}, 0}};
     const float times[3] = {0.5f, 1, 1.5f};
     const float mast_and_arm[2][6] = {{0, 0, 0, 0, 2, 0}, {-3, 2, 0, 3, 2, 0}};
+    const jellyplain_pose wide_spray = {1, {{1, 0, 0, 1}, {0, 1, 0, 0}, {0, 0, 1, 0}, {0, 0, 0, 1}}, 2};
     static jellyplain_chain chain;
     static jellyplain_pose poses[JELLYPLAIN_FILE_POSES];
     static uint8_t text[JELLYPLAIN_TEXT];
-    jellyplain_move move;
-    float moved[3], transform[2][4][4], bounds[6], points[9], covers[JELLYPLAIN_BOXES][6];
+    jellyplain_move move, spraying;
+    float moved[3], pad[1], transform[2][4][4], bounds[6], points[9], covers[JELLYPLAIN_BOXES][6];
     uint32_t examined[3];
 
     if (jellyplain_layout() != JELLYPLAIN_LAYOUT) {
@@ -52,6 +53,9 @@ int main(void)
     jellyplain_file_read read = jellyplain_read_file(text, written.length, poses, bounds);
     if (read.refusal == JELLYPLAIN_NONE)
         printf("in which %zu poses are read, the last at %g\n", read.count, poses[read.count - 1].time);
+    if (jellyplain_build(&start, &wide_spray, &spraying) == JELLYPLAIN_NONE && jellyplain_pad(&spraying, 0.5f, pad) == JELLYPLAIN_NONE
+        && jellyplain_cover(&spraying, boom, 12, bounds) == JELLYPLAIN_NONE)
+        printf("with a pad from 0 to 2, %g at 0.5: x from %g to %g\n", pad[0], bounds[0], bounds[3]);
     printf("at depth 13: refused with %d\n", jellyplain_cover(&move, boom, 13, bounds));
     return 0;
 }

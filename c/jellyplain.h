@@ -17,16 +17,17 @@
 extern "C" {
 #endif
 
-/* A matrix of four rows at a time. */
+/* A matrix of four rows at a time, and a pad of at least zero: how far beyond the boom the spray wets the ground then. */
 typedef struct {
     float time;
     float matrix[4][4];
+    float pad;
 } jellyplain_pose;
 
 /* A built move. Its contents are the library's own business: leave them as jellyplain_build wrote them. Queries on any other contents are answered too, but the guarantee
  * of jellyplain_cover is for built moves. */
 typedef struct {
-    float rows[44][4];
+    float rows[45][4];
 } jellyplain_move;
 
 /* The most poses and moves that a chain has. */
@@ -43,12 +44,12 @@ typedef struct {
 } jellyplain_chain;
 
 /* The layout of these structs. The archive has been built with the same where jellyplain_layout() is this number. */
-#define JELLYPLAIN_LAYOUT 1
+#define JELLYPLAIN_LAYOUT 2
 uint32_t jellyplain_layout(void);
 
 enum jellyplain_refusal {
     JELLYPLAIN_NONE = 0,
-    JELLYPLAIN_POSE_NOT_FINITE = 1, /* a matrix entry or a time of a pose isn't finite */
+    JELLYPLAIN_POSE_NOT_FINITE = 1, /* a matrix entry, a time or a pad of a pose isn't finite */
     JELLYPLAIN_BOTTOM_ROW = 2,      /* a bottom row isn't 0, 0, 0, 1 */
     JELLYPLAIN_TIMES = 3,           /* the end time is below the start time, or their difference isn't finite */
     JELLYPLAIN_ZERO_PIVOT = 4,      /* a pose, or a scale on the way, flattens space */
@@ -62,14 +63,18 @@ enum jellyplain_refusal {
     JELLYPLAIN_CHAIN = 12,          /* a chain has fewer than 2 poses or more than 32, or its times don't rise strictly */
     JELLYPLAIN_TIME_LIST = 13,      /* a list of times falls, or the answers aren't three places a time */
     JELLYPLAIN_SET = 14,            /* a set has no box or more than 16 */
-    JELLYPLAIN_ROOM = 15            /* a buffer is too short for the text of a move file */
+    JELLYPLAIN_ROOM = 15,           /* a buffer is too short for the text of a move file */
+    JELLYPLAIN_PAD = 16             /* a pad is below zero */
 };
 
-/* The move from one pose to another. Numbers 1 to 5. */
+/* The move from one pose to another. Numbers 1 to 5 and 16. */
 uint8_t jellyplain_build(const jellyplain_pose *start, const jellyplain_pose *end, jellyplain_move *motion);
 
 /* Where the point p stands at a time. Numbers 5 and 6. */
 uint8_t jellyplain_point(const jellyplain_move *motion, float time, const float p[3], float moved[3]);
+
+/* The pad at a time: between the times lerp of the two poses' pads, before and after them that pose's own, the larger throughout where the poses are equal. Numbers 5 and 6. */
+uint8_t jellyplain_pad(const jellyplain_move *motion, float time, float pad[1]);
 
 /* The transform at a time: its matrix, and then its inverse. Numbers 4, 5 and 6. */
 uint8_t jellyplain_interpolate(const jellyplain_move *motion, float time, float transform[2][4][4]);
@@ -82,22 +87,25 @@ uint8_t jellyplain_bound_point_motion(const jellyplain_move *motion, const float
  * Numbers 5, 6, 7 and 9. */
 uint8_t jellyplain_motion_bounds(const jellyplain_move *motion, const float b[6], float bounds[6], uint32_t examined[3]);
 
-/* A box that holds every point of the box b at every time but NaN, from 2^depth slices of the move. A greater depth, up to 12, is not refused where
- * a lesser was accepted, and its box lies in the lesser's. Numbers 5, 6, 7, 8 and 10. */
+/* A box that holds every point of the box b at every time but NaN, and that point less and plus the pad at that time on each axis, each rounded; from 2^depth slices of the
+ * move. A greater depth, up to 12, is not refused where a lesser was accepted, and its box lies in the lesser's. Numbers 5, 6, 7, 8 and 10. */
 uint8_t jellyplain_cover(const jellyplain_move *motion, const float b[6], uint32_t depth, float bounds[6]);
 
 /* ---- chains, by their moves; the inline functions below take the struct */
 
-/* The moves of a chain of poses whose times rise strictly, one fewer than poses, into the front of `moves`; those behind them stay. Numbers 1, 2, 12, 3, 4 and 5. */
+/* The moves of a chain of poses whose times rise strictly, one fewer than poses, into the front of `moves`; those behind them stay. Numbers 1, 2, 16, 12, 3, 4 and 5. */
 uint8_t jellyplain_build_moves(const jellyplain_pose *poses, size_t count, jellyplain_move moves[JELLYPLAIN_MOVES]);
 
 /* Where the point p stands at a time: a time equal to an inner pose's belongs to the earlier move. Numbers 5 and 6, and 12 for no moves. */
 uint8_t jellyplain_moves_point(const jellyplain_move *moves, size_t count, float time, const float p[3], float moved[3]);
 
+/* The pad at a time, of the move that the time belongs to. Numbers 5 and 6, and 12 for no moves. */
+uint8_t jellyplain_moves_pad(const jellyplain_move *moves, size_t count, float time, float pad[1]);
+
 /* Where the point p stands at each time of a list that never falls, three places a time. Numbers 6, 13 and 5, and 12 for no moves; all places stay after a refusal. */
 uint8_t jellyplain_moves_points(const jellyplain_move *moves, size_t count, const float *times, size_t times_count, const float p[3], float *answers, size_t places);
 
-/* A box that holds every point of the box b at every time but NaN, from 2^depth slices of each move; greater depths as above.
+/* A box that holds every point of the box b at every time but NaN, less and plus its pad as above, from 2^depth slices of each move; greater depths as above.
  * Numbers 5, 6, 7, 8 and 10, and 12 for no moves. */
 uint8_t jellyplain_moves_cover(const jellyplain_move *moves, size_t count, const float b[6], uint32_t depth, float bounds[6]);
 
@@ -108,9 +116,9 @@ uint8_t jellyplain_moves_covers(const jellyplain_move *moves, size_t count, cons
 
 /* ---- move files */
 
-/* The most poses that a file has room for, and the bytes that hold the text of any chain. */
+/* The most poses that a file has room for (519 where they have pads), and the bytes that hold the text of any chain. */
 #define JELLYPLAIN_FILE_POSES 559
-#define JELLYPLAIN_TEXT 3869
+#define JELLYPLAIN_TEXT 4161
 
 /* How many poses a file holds and JELLYPLAIN_NONE, or 0 and a refusal. */
 typedef struct {
@@ -124,10 +132,11 @@ typedef struct {
     uint8_t refusal;
 } jellyplain_written;
 
-/* The poses of a move file into the front of `poses`, and its box; whether they make a chain is asked by jellyplain_build_moves. Number 11; poses and box then stay. */
+/* The poses of a move file into the front of `poses`, with pads of +0 where the file has the old thirteen names, and its box; whether they make a chain is asked by
+ * jellyplain_build_moves. Number 11; poses and box then stay. */
 jellyplain_file_read jellyplain_read_file(const uint8_t *bytes, size_t size, jellyplain_pose poses[JELLYPLAIN_FILE_POSES], float bounds[6]);
 
-/* The poses of a chain and the box b as a move file, in the one way that it is written: lower-case digits, single spaces, line feeds, no space at a line's end. The text goes
+/* The poses of a chain and the box b as a move file, in the one way that it is written: fourteen names, lower-case digits, single spaces, line feeds, no space at a line's end. The text goes
  * into the front of `out`, and the bytes behind it stay. Numbers 6 and 7, then 15 where `size` is too small, and 12 for no moves; all bytes then stay. */
 jellyplain_written jellyplain_write_file(const jellyplain_move *moves, size_t count, const float b[6], uint8_t *out, size_t size);
 
@@ -142,6 +151,11 @@ static inline uint8_t jellyplain_build_chain(const jellyplain_pose *poses, size_
 static inline uint8_t jellyplain_chain_point(const jellyplain_chain *chain, float time, const float p[3], float moved[3])
 {
     return jellyplain_moves_point(chain->moves, chain->count, time, p, moved);
+}
+
+static inline uint8_t jellyplain_chain_pad(const jellyplain_chain *chain, float time, float pad[1])
+{
+    return jellyplain_moves_pad(chain->moves, chain->count, time, pad);
 }
 
 static inline uint8_t jellyplain_chain_points(const jellyplain_chain *chain, const float *times, size_t times_count, const float p[3], float *answers, size_t places)

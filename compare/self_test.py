@@ -27,7 +27,7 @@ WORDS = {
     "bounds": "motion pmotion",
     "motion": "motion pmotion zeros",
     "covers": "cover",
-    "chains": "chain lone cpoint ctimes ccover cinterp cparts cmotion cpmotion",
+    "chains": "chain lone cpoint ctimes ccover cpad cinterp cparts cmotion cpmotion",
     "sets": "chain cset ccover",
     "texts": "chain write read",
     "arcs": "acosn",
@@ -47,6 +47,12 @@ def first_time(name):
 
 def other_digit(answer):
     return answer[:-1] + (b"1" if answer[-1:] == b"0" else b"0")
+
+
+def wider(answer):
+    """A box with its last coordinate half as far out again, or of zero one further."""
+    z = float_of(answer[-8:])
+    return answer[:-8] + float_bits(max(1.5 * z, 0.5 * z) if 0 < abs(z) < 1e38 else 1.0)
 
 
 def float_bits(x):
@@ -71,11 +77,25 @@ def union(boxes):
     return [(min if i < 3 else max)((box[i] for box in boxes), key=float_of) for i in range(6)]
 
 
+def written_otherwise(answer, place):
+    """The answer to `write` with another digit at a place of the text."""
+    ok, length, text = answer.split()
+    return b" ".join([ok, length, text[:2 * place] + (b"31" if text[2 * place:2 * place + 2] == b"30" else b"30") + text[2 * place + 2:]])
+
+
+def without_pads(text):
+    """A move file with the old thirteen names, whatever its pads were."""
+    lines = text.split(b"\n")
+    return b"\n".join(line.rsplit(b" ", 1)[0] if i < len(lines) - 3 else line for i, line in enumerate(lines))
+
+
 def changed(change, question, answer):
     values = question.decode(errors="replace").split(" ")
     word = values[0]
     if change == word and answer.startswith(b"ok ") and answer[-8:] != b"7fc00000":
-        return other_digit(answer) if first_time(change) else answer
+        # A cover is made wider, so that a finer one still lies in it.
+        other = wider if word in ("cover", "ccover", "cset") else other_digit
+        return other(answer) if first_time(change) else answer
     if change == "built" and word in ("move", "chain") and answer.startswith(b"ok"):
         return b"refused 5" if first_time(change) else answer
     if change == "too_long" and word == "chain" and answer == b"refused 12" and len(values) == 3 + 33 * 18:
@@ -96,8 +116,18 @@ def changed(change, question, answer):
         return answer.replace(b" 00000000", b" 80000000", 1) if first_time(change) else answer
     if change == "other_time" and word == "write" and answer.startswith(b"ok "):
         # The last digit of the first pose's time.
-        ok, length, text = answer.split()
-        return b" ".join([ok, length, text[:2 * 60] + (b"31" if text[2 * 60:2 * 61] == b"30" else b"30") + text[2 * 61:]])
+        return written_otherwise(answer, 64)
+    if change == "other_pad" and word == "write" and answer.startswith(b"ok "):
+        # The last digit of the first pose's pad.
+        return written_otherwise(answer, 57 + 124)
+    if change == "pads_left_out" and word == "write" and answer.startswith(b"ok "):
+        return b" ".join([b"ok", answer.split()[1], without_pads(bytes.fromhex(answer.split()[2].decode())).hex().encode()])
+    if change == "wide_pad" and word == "cpad" and answer.startswith(b"ok "):
+        return b"ok " + float_bits(min(1.5 * float_of(answer[3:]) + 1e-3, 3.4e38))
+    if change == "pad_unanswered" and word == "cpad":
+        return b"refused 5"
+    if change == "sixteen" and word in ("chain", "lone") and answer == b"refused 16":
+        return b"ok 2" if first_time(change) else answer
     if change == "nan_bits":
         return answer.replace(b"7fc00000", b"ffc12345")
     if change == "many_boxes" and word == "cset" and answer == b"refused 14" and len(values) == 3 + 17 * 6:
@@ -141,7 +171,11 @@ def asked_otherwise(changes, asked, given):
         if "one_slot" in changes and len(words) > 1 and words[1] in (b"0", b"1", b"2", b"3"):
             words[1] = b"0"
         question = b" ".join(words)
-        if chain and ("first_move_points" in changes and words[0] == b"cpoint" or "first_move_covers" in changes and words[0] == b"ccover"):
+        if chain and "covers_unpadded" in changes and words[0] in (b"ccover", b"cset"):
+            unpadded = [b"00000000" if i > 3 and (i - 3) % 18 == 17 else word for i, word in enumerate(chain)]
+            stream += [b" ".join(unpadded), question, b" ".join(chain)]
+            places.append(len(stream) - 2)
+        elif chain and ("first_move_points" in changes and words[0] == b"cpoint" or "first_move_covers" in changes and words[0] == b"ccover"):
             stream += [b" ".join(chain[:3 + 2 * 18]), question, b" ".join(chain)]
             places.append(len(stream) - 2)
         else:
@@ -150,7 +184,7 @@ def asked_otherwise(changes, asked, given):
     return stream, places
 
 
-CHAIN_CHANGES = {"slots_kept", "one_slot", "first_move_points", "first_move_covers", "last_refused"}
+CHAIN_CHANGES = {"covers_unpadded", "slots_kept", "one_slot", "first_move_points", "first_move_covers", "last_refused"}
 
 
 def answers_to(questions, arguments=()):
@@ -177,7 +211,7 @@ def answers(changes):
         sys.exit(1)
 
 
-def answer_of_file(data, question):
+def answer_of_file(data, question, has_pads=True):
     """The answer to a question about a file's chain and box, or to building the chain where it is refused."""
     sys.path.insert(0, os.path.join(ROOT, "tools"))
     import move_files
@@ -185,21 +219,22 @@ def answer_of_file(data, question):
     if bits is None:
         return b"refused 11"
     words = [b"%08x" % b for b in bits]
-    poses = [b" ".join(words[i:i + 13] + [b"00000000"] * 3 + [b"3f800000", b"00000000"]) for i in range(0, len(words) - 6, 13)]
+    poses = [b" ".join(words[i:i + 13] + [b"00000000"] * 3 + [b"3f800000", words[i + 13] if has_pads else b"00000000"]) for i in range(0, len(words) - 6, 14)]
     built, answer = answers_to([b" ".join([b"chain 0 plain"] + poses), b" ".join([question] + words[-6:])], ["--any-length"])
     return answer if built.startswith(b"ok") else built
 
 
-def rewrite(is_wrong):
+def rewrite(change):
     answer = answer_of_file(sys.stdin.buffer.read(), b"write 0 65536")
     printed = bytes.fromhex(answer.split()[2].decode()) if answer.startswith(b"ok") else answer.replace(b" ", b"\n") + b"\n"
-    if is_wrong and answer.startswith(b"ok") and first_time("text"):
-        printed = printed[:-1] + b" \n"
+    if change in ("wrong_text", "old_names") and answer.startswith(b"ok") and first_time("text"):
+        printed = printed[:-1] + b" \n" if change == "wrong_text" else without_pads(printed)
     sys.stdout.buffer.write(printed)
 
 
-def cover(is_wrong):
-    answer = answer_of_file(sys.stdin.buffer.read(), b"ccover 0 10")
+def cover(change):
+    answer = answer_of_file(sys.stdin.buffer.read(), b"ccover 0 10", change != "no_pads")
+    is_wrong = change == "wrong_file"
     printed = b"x0 y0 z0 x1 y1 z1\n" + answer[3:] + b"\n" if answer.startswith(b"ok") else answer.replace(b" ", b"\n") + b"\n"
     if is_wrong and (printed.startswith(b"x0") and first_time("box") or printed.startswith(b"refused") and first_time("number")):
         printed = other_digit(printed[:-1]) + b"\n"
@@ -274,6 +309,10 @@ def main():
         trial("the last points of lists elsewhere, on both sides", "chains", ["list_outside"], None, ["guarantee: a point leaves"], BOTH_OF_CHAINS),
         trial("covers of chains that grow with the depth, on both sides", "chains", ["growing"], None, ["a finer cover is wider"], BOTH_OF_CHAINS),
         trial("covers of chains refused above depth 2, on both sides", "chains", ["shallow"], None, ["a finer cover is refused"], BOTH_OF_CHAINS),
+        trial("a pad below zero accepted", "chains", ["sixteen"], 1),
+        trial("covers that don't grow by the pads, on both sides", "chains", ["covers_unpadded"], None, ["guarantee: a point leaves"], BOTH_OF_CHAINS),
+        trial("pads that are wider than the covers' own, on both sides", "chains", ["wide_pad"], None, ["guarantee: a point leaves"], BOTH_OF_CHAINS),
+        trial("pads refused, on both sides", "chains", ["pad_unanswered"], None, ["guarantee: a pad of an accepted cover is not answered"], BOTH_OF_CHAINS),
         trial("sets as they are", "sets", [], 0, cases=200),
         trial("17 boxes accepted", "sets", ["many_boxes"], 1, ["cset"]),
         trial("another number of one set's refusal", "sets", ["refusal"], 1),
@@ -289,9 +328,14 @@ def main():
         trial("texts as they are", "texts", [], 0, cases=200),
         trial("another number of one text's refusal", "texts", ["refusal"], 1),
         trial("another time in every written text, on both sides", "texts", ["other_time"], None, ["read of what was written"], BOTH_OF_CHAINS),
+        trial("another pad in every written text, on both sides", "texts", ["other_pad"], None, ["read of what was written"], BOTH_OF_CHAINS),
+        trial("every text written without its pads, on both sides", "texts", ["pads_left_out"], None, ["read of what was written"], BOTH_OF_CHAINS),
+        trial("sets that don't grow by the pads, on both sides", "sets", ["covers_unpadded"], None, ["guarantee: a point leaves"], BOTH_OF_CHAINS),
         trial("files as they are", "files", ["file"], 0, cases=200),
         trial("a digit of one file's box and of one file's refusal", "files", ["wrong_file"], 2, ["cover, the program"], cases=200),
         trial("a space at the end of one rewritten file", "files", ["wrong_text"], None, ["rewrite, the program"], cases=200),
+        trial("one file rewritten with the old thirteen names", "files", ["old_names"], None, ["rewrite, the program"], cases=200),
+        trial("files of fourteen names taken as if their pads were zero", "files", ["no_pads"], None, ["cover, the program"], cases=200),
     ]
     results = [right for right in results if right is not None]
     print("%d of %d trials as they should be" % (sum(results), len(results)))
@@ -302,8 +346,8 @@ if __name__ == "__main__":
     if "WRONG" not in os.environ:
         main()
     elif os.path.basename(sys.argv[0]) == "rewrite":
-        rewrite(os.environ["WRONG"] == "wrong_text")
-    elif os.environ["WRONG"] in ("file", "wrong_file", "wrong_text"):
-        cover(os.environ["WRONG"] == "wrong_file")
+        rewrite(os.environ["WRONG"])
+    elif os.environ["WRONG"] in ("file", "wrong_file", "wrong_text", "old_names", "no_pads"):
+        cover(os.environ["WRONG"])
     else:
         answers(os.environ["WRONG"].split())

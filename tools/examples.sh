@@ -1,17 +1,21 @@
 #!/usr/bin/env bash
 # Runs the program `cover` on each move file of examples/ and examples/refused/ and holds what it prints to the file's .expected; zeros count as equal
 # whatever their sign. Then on a file of as many bytes as one may have, and of one more: `main` has no contract, and these runs hold what it reads and prints.
-# Runs the program `rewrite` on the same: a file of examples/ is its own one form, that of examples/rewritten/NAME.*.txt is examples/NAME.txt, byte for byte, and
-# the refused ones are refused with the same numbers.
+# Runs the program `rewrite` on the same: the one form of a file of examples/ is the file with its pads, +0 where it has none, that of
+# examples/rewritten/NAME.*.txt is that of examples/NAME.txt, byte for byte, and the refused ones are refused with the same numbers.
 # Exit status 1 where one differs.
 #   tools/examples.sh                     compares; target/bin/cover and target/bin/rewrite must be built
 #   tools/examples.sh --expect PROGRAM    writes the .expected files of examples/ by what PROGRAM answers at depth 10: the oracle's `chain_answers`, so that
 #                                         they come from outside the libraries; those of examples/refused/ are the documents' numbers
 set -u
 cd "$(dirname "$0")/.." || exit 2
-# A move file as two questions: the chain, its poses with the bottom rows that the file leaves out and a pad, and its cover.
+# A move file as two questions: the chain, its poses with the bottom rows that the file leaves out and their pads, of +0 where it has none, and its cover.
 questions() {
-    awk 'NR == 1 { next } $1 == "x0" { getline; print "chain 0 plain" poses; print "ccover 0 10 " $0; exit } { poses = poses " " $0 " 00000000 00000000 00000000 3f800000 00000000" }' "$1"
+    awk '
+        NR == 1 { next }
+        $1 == "x0" { getline; print "chain 0 plain" poses; print "ccover 0 10 " $0; exit }
+        { pad = NF == 14 ? $14 : "00000000"; NF = 13; poses = poses " " $0 " 00000000 00000000 00000000 3f800000 " pad }
+    ' "$1"
 }
 # Their answers as the text that the program prints; a refused chain leaves the cover without an answer.
 printed() {
@@ -25,9 +29,11 @@ if [ $# -eq 2 ] && [ "$1" = --expect ]; then
     exit
 fi
 [ $# -eq 0 ] || { sed -n '2,9s/^# \{0,1\}//p' "$0"; exit 2; }
+# A file of thirteen names with its pads of +0.
+with_pads() { awk 'NR == 1 { old = NF == 13; print $0 (old ? " pad" : ""); next } $1 == "x0" { old = 0 } { print $0 (old ? " 00000000" : "") }' "$1"; }
 same_zeros() { sed 's/\b80000000\b/00000000/g' "$1"; }
-made=$(mktemp) input=$(mktemp) eleven=$(mktemp)
-trap 'rm -f "$made" "$input" "$eleven"' EXIT
+made=$(mktemp) input=$(mktemp) eleven=$(mktemp) form=$(mktemp)
+trap 'rm -f "$made" "$input" "$eleven" "$form"' EXIT
 count=0 status=0
 # Runs a program on a file and compares; a box's zeros alone may differ in sign.
 try() { # NAME FILE EXPECTED [WORDS FOR IT]
@@ -63,13 +69,16 @@ swing_of() { # BYTES
     try "swing.txt of 65,537 bytes" "$input" "$eleven" "refusal 11"
     try_rewrite "swing.txt of 65,537 bytes" "$input" "$eleven" "refusal 11"
     swing_of 65536 >"$input"
-    try_rewrite "swing.txt of 65,536 bytes" "$input" examples/swing.txt
+    with_pads examples/swing.txt >"$form"
+    try_rewrite "swing.txt of 65,536 bytes" "$input" "$form" "swing.txt with its pads"
     for file in examples/*.txt; do
-        try_rewrite "$file" "$file" "$file"
+        with_pads "$file" >"$form"
+        try_rewrite "$file" "$file" "$form" "$file with its pads"
     done
     for file in examples/rewritten/*.txt; do
         name=${file##*/}
-        try_rewrite "$file" "$file" "examples/${name%%.*}.txt"
+        with_pads "examples/${name%%.*}.txt" >"$form"
+        try_rewrite "$file" "$file" "$form" "examples/${name%%.*}.txt with its pads"
     done
     for file in examples/refused/*.txt; do
         try_rewrite "$file" "$file" "${file%.txt}.expected"

@@ -2,7 +2,7 @@
 """Makes move files, good and damaged, with any number of pose lines, and says what their layout (document 01, with document 02's chains) asks for each.
 
   move_files.py stream COUNT SEED [-]      the files one after the other, each behind its length as eight hexadecimal digits and a line feed
-  move_files.py answers COUNT SEED [-]     a line for each: 13 values for each pose and 6 of the box as lower-case bits, every NaN as 7fc00000, or `refused 11`
+  move_files.py answers COUNT SEED [-]     a line for each: 14 values for each pose, the pad last, and 6 of the box as lower-case bits, every NaN as 7fc00000, or `refused 11`
   move_files.py write DIR COUNT SEED [-]   the files as DIR/0000.txt and so on, the answers as DIR/answers
   move_files.py read FILE                  the answer for one file
 
@@ -16,10 +16,12 @@ import struct
 import sys
 
 POSE = b"time m00 m01 m02 m03 m10 m11 m12 m13 m20 m21 m22 m23"
+PADDED = POSE + b" pad"
 BOX = b"x0 y0 z0 x1 y1 z1"
 MOST = 65536
-# Pose lines that go into a file.
+# Pose lines of 13 values and of 14 that go into a file.
 MOST_POSES = 559
+MOST_PADDED = 519
 LINE = re.compile(rb"[^ \n]+(?: +[^ \n]+)*\Z")
 VALUE = re.compile(rb"[0-9a-fA-F]{8}\Z")
 
@@ -38,14 +40,15 @@ def values_of(line, count):
 
 
 def read(data):
-    """The bits of the values, 13 for each pose line and 6 for the box, or None for refusal 11."""
+    """The bits of the values, 14 for each pose line, +0 for a pad that isn't there, and 6 for the box, or None for refusal 11."""
     if len(data) > MOST or not data.endswith(b"\n"):
         return None
     lines = data[:-1].split(b"\n")
-    if len(lines) < 3 or words_of(lines[0]) != POSE.split() or words_of(lines[-2]) != BOX.split():
+    names = words_of(lines[0])
+    if len(lines) < 3 or names not in (POSE.split(), PADDED.split()) or words_of(lines[-2]) != BOX.split():
         return None
-    parts = [values_of(line, 13) for line in lines[1:-2]] + [values_of(lines[-1], 6)]
-    return None if None in parts else sum(parts, [])
+    parts = [values_of(line, len(names)) for line in lines[1:-2]] + [values_of(lines[-1], 6)]
+    return None if None in parts else sum([(part + [0])[:14] if len(part) > 6 else part for part in parts], [])
 
 
 def answer(data):
@@ -85,27 +88,36 @@ def line(rng, words):
 
 
 def good_values(rng):
-    """A row of 13 values for each pose and one of 6 for the box."""
+    """A row of 14 values for each pose, or of 13 where the pads are left out, and one of 6 for the box."""
     poses = rng.choice([2, 2, 2, 2, 3, 3, 4, 7, 0, 1, 32, 33])
-    values = rng.given or [value(rng) for _ in range(13 * poses + 6)]
-    return [values[i:i + 13] for i in range(0, len(values) - 6, 13)] + [values[-6:]]
+    values = rng.given or [value(rng) for _ in range(14 * poses + 6)]
+    columns = rng.choice([13, 14])
+    return [values[i:i + columns] for i in range(0, len(values) - 6, 14)] + [values[-6:]], columns
 
 
 def good_lines(rng):
-    rows = [line(rng, [word(rng, bits) for bits in row]) for row in good_values(rng)]
-    return [line(rng, POSE.split())] + rows[:-1] + [line(rng, BOX.split()), rows[-1]]
+    values, columns = good_values(rng)
+    rows = [line(rng, [word(rng, bits) for bits in row]) for row in values]
+    return [line(rng, names(columns))] + rows[:-1] + [line(rng, BOX.split()), rows[-1]]
 
 
-def many_lines(rng, count):
-    """So many pose lines, as short as they can be: the poses over and over, at times one with a value that is not finite."""
-    rows = good_values(rng)
-    poses = [list(rows[i % (len(rows) - 1)]) for i in range(count)] if len(rows) > 1 else [[value(rng) for _ in range(13)] for _ in range(count)]
+def names(columns):
+    return (POSE if columns == 13 else PADDED).split()
+
+
+def many_lines(rng, count=None):
+    """So many pose lines, or as many as there may be, each as short as it can be: the poses over and over, at times one with a value that is not finite."""
+    rows, columns = good_values(rng)
+    if count is None:
+        most = MOST_POSES if columns == 13 else MOST_PADDED
+        count = rng.choice([most - 1, most, most, most + 1])
+    poses = [list(rows[i % (len(rows) - 1)]) for i in range(count)] if len(rows) > 1 else [[value(rng) for _ in range(columns)] for _ in range(count)]
     if rng.randrange(2):
         poses = [[b & 0x7F7FFFFF if b & 0x7F800000 == 0x7F800000 else b for b in pose] for pose in poses]
         if rng.randrange(2):
-            rng.choice([poses[0], poses[-1], rng.choice(poses)])[rng.randrange(13)] = rng.choice([0x7F800000, 0xFF800000, 0x7FC00000])
+            rng.choice([poses[0], poses[-1], rng.choice(poses)])[rng.randrange(columns)] = rng.choice([0x7F800000, 0xFF800000, 0x7FC00000])
     lines = [b" ".join(word(rng, bits) for bits in row) for row in poses + rows[-1:]]
-    return [POSE] + lines[:-1] + [BOX, lines[-1]]
+    return [b" ".join(names(columns))] + lines[:-1] + [BOX, lines[-1]]
 
 
 def joined(lines):
@@ -191,8 +203,8 @@ def damages():
     damage(lambda rng, lines: joined(lines[:rng.randrange(len(lines))]))
     damage(lambda rng, lines: joined(rng.sample(lines, len(lines))))
     damage(lambda rng, lines: joined(many_lines(rng, rng.choice([2, 3, 31, 32, 33, 34, 64, 100]))))
-    damage(lambda rng, lines: joined(many_lines(rng, rng.choice([MOST_POSES - 1, MOST_POSES, MOST_POSES, MOST_POSES + 1]))))
-    damage(lambda rng, lines: spread(rng, many_lines(rng, MOST_POSES), MOST + rng.choice([0, 0, -1, 1])))
+    damage(lambda rng, lines: joined(many_lines(rng)))
+    damage(lambda rng, lines: spread(rng, many_lines(rng, MOST_PADDED - 1), MOST + rng.choice([0, 0, -1, 1])))
     damage(lambda rng, lines: joined(lines) + joined(lines))
     damage(lambda rng, lines: some_values(rng, lines, lambda w: w[:-1]))
     damage(lambda rng, lines: some_values(rng, lines, lambda w: w[1:]))
@@ -213,7 +225,8 @@ def damages():
     damage(lambda rng, lines: some_names(rng, lines, lambda w: w[:-1]))
     damage(lambda rng, lines: some_names(rng, lines, lambda w: w[1:]))
     damage(lambda rng, lines: some_names(rng, lines, lambda w: w + [rng.choice([b"pad", b"m30", w[-1]])]))
-    damage(lambda rng, lines: joined([line(rng, POSE.split() + [b"pad"])] + [l + b" 00000000" for l in lines[1:-2]] + lines[-2:]))
+    damage(lambda rng, lines: joined([line(rng, lines[0].split() + [b"pad"])] + [l + b" 00000000" for l in lines[1:-2]] + lines[-2:]))
+    damage(lambda rng, lines: joined([line(rng, rng.choice([POSE, PADDED]).split())] + lines[1:]))
     damage(lambda rng, lines: joined(lines[-2:] + lines[:-2]))
 
     @damage

@@ -13,7 +13,7 @@ const BOXES: usize = 16;
 fn chain(random: &mut Random) -> (Vec<Pose>, Chain, Bounds) {
     loop {
         let cases = cases(Kind::Turning, POSES, random);
-        let poses: Vec<Pose> = cases.iter().zip(0u8..).map(|(case, second)| Pose { time: f32::from(second), matrix: case.poses[0].matrix }).collect();
+        let poses: Vec<Pose> = cases.iter().zip(0u8..).map(|(case, second)| Pose { time: f32::from(second), matrix: case.poses[0].matrix, pad: 0.0 }).collect();
         let bounds = cases[0].bounds;
         if let Ok(chain) = Chain::new(&poses) {
             if chain.cover(&bounds, 8).is_ok() {

@@ -85,7 +85,7 @@ pub fn cases(kind: Kind, count: usize, random: &mut Random) -> Vec<Case> {
         let matrices = [random.matrix(q), random.matrix(std::array::from_fn(|i| q[i] + turn[i]))];
         let start = random.between(0.0, 100.0);
         let times = [start, start + random.between(1.0, 60.0)];
-        let poses = [0, 1].map(|i| Pose { time: times[i], matrix: matrices[i] });
+        let poses = [0, 1].map(|i| Pose { time: times[i], matrix: matrices[i], pad: 0.0 });
         let (Ok(port), Ok(original)) =
             (Move::new(&poses[0], &poses[1]), judged::build(times[0], &original_matrix(&matrices[0]), times[1], &original_matrix(&matrices[1])))
         else {

@@ -28,15 +28,16 @@ pub fn text(line: &[u8]) -> String {
     String::from_utf8_lossy(line).into_owned()
 }
 
-/// The poses of a question that builds, each its time and 16 entries as words: of `move`, or of `chain` and `lone` without their pads.
-pub fn poses(question: &[u8]) -> Option<Vec<Vec<&[u8]>>> {
-    let words: Vec<&[u8]> = words(question).collect();
+/// The poses of a question that builds, each its time, 16 entries and pad as words: of `move`, whose pads are +0, or of `chain` and `lone`.
+pub fn poses<'a>(question: &'a [u8]) -> Option<Vec<Vec<&'a [u8]>>> {
+    let words: Vec<&'a [u8]> = words(question).collect();
     let (values, size) = match words.as_slice() {
         [b"move", values @ ..] if values.len() == 34 => (values, 17),
         [b"chain" | b"lone", _, _, values @ ..] => (values, 18),
         _ => return None,
     };
-    values.len().is_multiple_of(size).then(|| values.chunks(size).map(|pose| pose[..17].to_vec()).collect())
+    let padded = |pose: &[&'a [u8]]| pose.iter().copied().chain((size == 17).then_some(b"00000000".as_slice())).collect();
+    values.len().is_multiple_of(size).then(|| values.chunks(size).map(padded).collect())
 }
 
 /// A move or chain is built.
@@ -54,7 +55,7 @@ impl<'a> Kept<'a> {
         let mut words = words(question);
         match (words.next(), words.next()) {
             (
-                Some(b"chain" | b"lone" | b"cpoint" | b"ctimes" | b"ccover" | b"cset" | b"cinterp" | b"cparts" | b"cmotion" | b"cpmotion" | b"write"),
+                Some(b"chain" | b"lone" | b"cpoint" | b"ctimes" | b"ccover" | b"cset" | b"cpad" | b"cinterp" | b"cparts" | b"cmotion" | b"cpmotion" | b"write"),
                 Some([slot @ b'0'..=b'3']),
             ) => 1 + usize::from(slot - b'0'),
             _ => 0,

@@ -9,14 +9,14 @@ use std::path::Path;
 
 const BOX: &[u8] = b"x0 y0 z0 x1 y1 z1";
 
-/// A row of values for each move or chain of a kind, refused ones too: for each pose its time and upper three rows, then the last box that was asked for before.
+/// A row of values for each move or chain of a kind, refused ones too: for each pose its time, upper three rows and pad, then the last box that was asked for before.
 fn rows(programs: &Programs, kind: &str, count: usize, seed: u64) -> Vec<Vec<u8>> {
     let asked = output_of(&programs.vectors, &[kind, &count.to_string(), &seed.to_string()], b"");
     let mut rows = Vec::new();
     let mut bounds: Vec<&[u8]> = vec![b"00000000"; 6];
     for line in lines(&asked) {
         if let Some(poses) = poses(line) {
-            let values: Vec<&[u8]> = poses.iter().flat_map(|pose| &pose[..13]).chain(&bounds).copied().collect();
+            let values: Vec<&[u8]> = poses.iter().flat_map(|pose| pose[..13].iter().chain(&pose[17..])).chain(&bounds).copied().collect();
             rows.push(values.join(&b' '));
         }
         match words(line).collect::<Vec<_>>().as_slice() {
@@ -47,12 +47,12 @@ fn split(mut stream: &[u8]) -> Vec<&[u8]> {
     files
 }
 
-/// The questions that a good file's values ask: its poses as a chain, with their bottom rows and pads of zero, the cover of its box, and its text.
+/// The questions that a good file's values ask: its poses as a chain, with their bottom rows, the cover of its box, and its text.
 fn questions_of(values: &[u8]) -> Vec<u8> {
     let values: Vec<&[u8]> = words(values).collect();
     let (poses, bounds) = values.split_at(values.len() - 6);
-    let bottom_and_pad: [&[u8]; 5] = [b"00000000", b"00000000", b"00000000", b"3f800000", b"00000000"];
-    let poses: Vec<&[u8]> = poses.chunks(13).flat_map(|pose| [pose, &bottom_and_pad].concat()).collect();
+    let bottom: [&[u8]; 4] = [b"00000000", b"00000000", b"00000000", b"3f800000"];
+    let poses: Vec<&[u8]> = poses.chunks(14).flat_map(|pose| [&pose[..13], &bottom, &pose[13..]].concat()).collect();
     let build = [&[b"chain".as_slice(), b"0", b"plain"], poses.as_slice()].concat().join(&b' ');
     let cover = [&[b"ccover".as_slice(), b"0", b"10"], bounds].concat().join(&b' ');
     let write = [&[b"write".as_slice(), b"0", b"65536"], bounds].concat().join(&b' ');

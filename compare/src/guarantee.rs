@@ -1,10 +1,12 @@
 //! The guarantee, tested from outside: each point of the box, asked at any time, is answered, and lies inside the cover that was accepted, of a move or of
-//! a chain; of a set of boxes inside its own box's cover and inside the union. And that a cover at a greater depth is accepted and lies inside it too.
+//! a chain, by itself and less and plus the pad at that time; of a set of boxes inside its own box's cover and inside the union. And that a cover at a greater
+//! depth is accepted and lies inside it too, and so does the cover of the same poses with pads of +0.
 
 use crate::answer::{accepted, float, lines, poses, questions, rows, text, words, write_float, Kept};
 use crate::program::{run_both, Sides};
 use crate::random::Random;
 use crate::report::{Guarantee, Report};
+use std::collections::HashMap;
 
 type Bounds = [f32; 6];
 
@@ -144,10 +146,13 @@ fn ask(questions: &mut Vec<u8>, question: &str, values: &[&[f32]]) {
     questions.push(b'\n');
 }
 
-/// Asks at each time for a corner of a box and for a point at another place, and of a chain for a point at all of the times.
+/// Asks at each time for the pad, where there may be one, for a corner of a box and for a point at another place, and of a chain for a point at all of the times.
 fn ask_points(questions: &mut Vec<u8>, cover: &Cover, b: &Bounds, random: &mut Random) {
     let mut times = times(cover, random);
     for time in &times {
+        if cover.slot.is_some() {
+            ask(questions, &name(cover, "pad"), &[&[*time]]);
+        }
         for place in [Corner, random.pick(&[FaceCentre, Inside, Mixed])] {
             ask(questions, &name(cover, "point"), &[&[*time], &point(b, place, random)]);
         }
@@ -175,6 +180,21 @@ fn ask_finer(questions: &mut Vec<u8>, cover: &Cover, random: &mut Random) {
     }
 }
 
+/// The question that builds the same with pads of +0, where it had others.
+fn without_pads(built: &[u8]) -> Option<Vec<u8>> {
+    let mut made: Vec<&[u8]> = words(built).collect();
+    made.get_mut(3..)?.chunks_exact_mut(18).for_each(|pose| pose[17] = b"00000000");
+    let made = made.join(&b' ');
+    (made != built).then_some(made)
+}
+
+/// Builds the same with pads of +0 and asks for the same cover or set.
+fn ask_without_pads(questions: &mut Vec<u8>, cover: &Cover) {
+    if let Some(built) = cover.slot.and_then(|_| without_pads(cover.built)) {
+        questions.extend([built.as_slice(), b"\n", cover.question, b"\n"].concat());
+    }
+}
+
 /// What it takes to ask again.
 fn told<'a>(cover: &Cover<'a>, question: &'a [u8], answer: &'a [u8]) -> [(&'static str, &'a [u8]); 5] {
     [("", cover.built), ("", cover.question), ("project:", cover.answer), ("", question), ("project:", answer)]
@@ -190,22 +210,40 @@ fn guarantee<'a>(cover: &Cover, report: &'a mut Report) -> &'a mut Guarantee {
     }
 }
 
-/// How many points a question asks for: `ctimes S PLACES ..` tells it.
-fn points_asked(question: &[u8]) -> usize {
+/// The times at which a question asks for a point, as words: of `point T ..`, `cpoint S T ..` and `ctimes S PLACES X Y Z T*`.
+fn times_asked(question: &[u8]) -> Vec<&[u8]> {
     let mut words = words(question);
     match words.next() {
-        Some(b"ctimes") => words.nth(1).and_then(|places| text(places).parse::<usize>().ok()).unwrap_or(0) / 3,
-        _ => 1,
+        Some(b"ctimes") => words.skip(5).collect(),
+        Some(b"cpoint") => words.skip(1).take(1).collect(),
+        _ => words.take(1).collect(),
     }
 }
+
+/// The pads that were answered, by the word of their time.
+type Pads<'a> = HashMap<&'a [u8], f32>;
 
 fn is_inside(b: &Bounds, p: &[f32; 3]) -> bool {
     (0..3).all(|axis| b[axis] <= p[axis] && p[axis] <= b[axis + 3])
 }
 
+/// The pad at the time of a question `cpad S T`.
+fn note_pad<'a>(cover: &Cover, question: &'a [u8], answer: &[u8], pads: &mut Pads<'a>, report: &mut Report) {
+    match (words(question).nth(2), accepted::<1>(answer).as_deref()) {
+        (Some(time), Some([[pad]])) => {
+            pads.insert(time, *pad);
+        }
+        _ => {
+            guarantee(cover, report).refused += 1;
+            report.found("guarantee: a pad of an accepted cover is not answered", &told(cover, question, answer));
+        }
+    }
+}
+
 /// Points of the box at a place.
-fn check_points(cover: &Cover, place: usize, question: &[u8], answer: &[u8], report: &mut Report) {
-    let count = points_asked(question);
+fn check_points(cover: &Cover, place: usize, pads: &Pads, question: &[u8], answer: &[u8], report: &mut Report) {
+    let times = times_asked(question);
+    let count = times.len();
     guarantee(cover, report).points += count as u64;
     let Some(points) = accepted(answer).filter(|points| points.len() == count) else {
         guarantee(cover, report).refused += 1;
@@ -214,26 +252,50 @@ fn check_points(cover: &Cover, place: usize, question: &[u8], answer: &[u8], rep
     };
     let own = &cover.covers[place];
     let is_touching = |p: &[f32; 3]| is_inside(own, p) && (0..3).any(|axis| own[axis] == p[axis] || p[axis] == own[axis + 3]);
-    let outside = points.iter().filter(|p| !is_inside(own, p) || !is_inside(&cover.union, p)).count();
+    let leaves = |p: &[f32; 3]| !is_inside(own, p) || !is_inside(&cover.union, p);
+    let pad_at = |time: &[u8]| pads.get(time).copied().unwrap_or(0.0);
+    let padded_leaves = |(time, p): &(&&[u8], &[f32; 3])| {
+        let pad = pad_at(time);
+        leaves(p) || leaves(&p.map(|x| x - pad)) || leaves(&p.map(|x| x + pad))
+    };
+    let outside = times.iter().zip(&points).filter(padded_leaves).count();
+    let padded = times.iter().filter(|time| pad_at(time) > 0.0).count();
     if outside > 0 {
         report.found("guarantee: a point leaves its accepted cover", &told(cover, question, answer));
     }
     let guarantee = guarantee(cover, report);
     guarantee.outside += outside as u64;
+    guarantee.padded += padded as u64;
     guarantee.touching += points.iter().filter(|p| is_touching(p)).count() as u64;
+}
+
+/// Whether an answer's covers and their union lie inside those that were accepted; None where it is refused.
+fn lies_inside(cover: &Cover, answer: &[u8]) -> Option<bool> {
+    let (union, covers) = covers_in(answer, cover.is_set).filter(|(_, covers)| covers.len() == cover.boxes.len())?;
+    let is_inside = |b: &Bounds, first: &Bounds| (0..3).all(|axis| first[axis] <= b[axis] && b[axis + 3] <= first[axis + 3]);
+    Some(is_inside(&union, &cover.union) && covers.iter().zip(&cover.covers).all(|(b, first)| is_inside(b, first)))
 }
 
 fn check_finer(cover: &Cover, question: &[u8], answer: &[u8], report: &mut Report) {
     guarantee(cover, report).finer += 1;
-    let Some((union, covers)) = covers_in(answer, cover.is_set).filter(|(_, covers)| covers.len() == cover.boxes.len()) else {
-        guarantee(cover, report).finer_refused += 1;
-        report.found("a finer cover is refused", &told(cover, question, answer));
-        return;
-    };
-    let is_wider = |finer: &Bounds, first: &Bounds| !(0..3).all(|axis| first[axis] <= finer[axis] && finer[axis + 3] <= first[axis + 3]);
-    if is_wider(&union, &cover.union) || covers.iter().zip(&cover.covers).any(|(finer, first)| is_wider(finer, first)) {
-        guarantee(cover, report).finer_wider += 1;
-        report.found("a finer cover is wider", &told(cover, question, answer));
+    match lies_inside(cover, answer) {
+        Some(true) => (),
+        Some(false) => {
+            guarantee(cover, report).finer_wider += 1;
+            report.found("a finer cover is wider", &told(cover, question, answer));
+        }
+        None => {
+            guarantee(cover, report).finer_refused += 1;
+            report.found("a finer cover is refused", &told(cover, question, answer));
+        }
+    }
+}
+
+fn check_without_pads(cover: &Cover, question: &[u8], answer: &[u8], report: &mut Report) {
+    guarantee(cover, report).without_pads += 1;
+    if lies_inside(cover, answer) != Some(true) {
+        guarantee(cover, report).without_pads_wider += 1;
+        report.found("a cover with pads of +0 is refused or wider", &told(cover, question, answer));
     }
 }
 
@@ -242,10 +304,11 @@ fn row(question: &[u8]) -> &'static str {
         Some(b"move") => "move of an accepted cover",
         Some(b"cover") => "cover at a greater depth",
         Some(b"chain" | b"lone") => "chain of an accepted cover",
-        Some(b"ccover") => "chain's cover at a greater depth",
-        Some(b"cset") => "set at a greater depth",
+        Some(b"ccover") => "chain's cover at a greater depth, or without pads",
+        Some(b"cset") => "set at a greater depth, or without pads",
         Some(b"cpoint") => "point of a chain's accepted cover",
         Some(b"ctimes") => "list of times of a chain's accepted cover",
+        Some(b"cpad") => "pad of a chain's accepted cover",
         _ => "point of an accepted cover",
     }
 }
@@ -266,21 +329,34 @@ pub fn test(sides: &Sides, asked: &[u8], answers: &[u8], random: &mut Random, re
             ask_points(&mut text, cover, b, random);
             lines(&text[before..]).count()
         });
-        counts.push((finer, points.collect::<Vec<_>>()));
+        let points = points.collect::<Vec<_>>();
+        let before = text.len();
+        ask_without_pads(&mut text, cover);
+        let without_pads = lines(&text[before..]).count();
+        counts.push((finer, points, without_pads));
     }
     let runs = run_both(sides, &text);
     report.compare(&text, &runs, row);
     let mut pairs = questions(&text).zip(lines(&runs[0].output));
-    for (cover, (finer, points)) in covers.iter().zip(counts) {
+    for (cover, (finer, points, without_pads)) in covers.iter().zip(counts) {
         guarantee(cover, report).covers += cover.boxes.len() as u64;
         // The first answer is that of the question that builds.
         for (question, answer) in pairs.by_ref().take(1 + finer).skip(1) {
             check_finer(cover, question, answer, report);
         }
         for (place, count) in points.into_iter().enumerate() {
+            let mut pads = Pads::new();
             for (question, answer) in pairs.by_ref().take(count) {
-                check_points(cover, place, question, answer, report);
+                if question.starts_with(b"cpad") {
+                    note_pad(cover, question, answer, &mut pads, report);
+                } else {
+                    check_points(cover, place, &pads, question, answer, report);
+                }
             }
+        }
+        // The first of the two answers is that of the question that builds.
+        for (question, answer) in pairs.by_ref().take(without_pads).skip(1) {
+            check_without_pads(cover, question, answer, report);
         }
     }
 }

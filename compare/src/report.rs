@@ -21,6 +21,8 @@ struct Count {
 pub struct Guarantee {
     pub covers: u64,
     pub points: u64,
+    /// Those with a pad above zero.
+    pub padded: u64,
     /// On a face of the cover, which belongs to it.
     pub touching: u64,
     pub refused: u64,
@@ -28,27 +30,38 @@ pub struct Guarantee {
     pub finer: u64,
     pub finer_refused: u64,
     pub finer_wider: u64,
+    /// Covers of the same poses with pads of +0.
+    pub without_pads: u64,
+    pub without_pads_wider: u64,
 }
 
 impl Guarantee {
     fn add(&mut self, more: &Guarantee) {
         self.covers += more.covers;
         self.points += more.points;
+        self.padded += more.padded;
         self.touching += more.touching;
         self.refused += more.refused;
         self.outside += more.outside;
         self.finer += more.finer;
         self.finer_refused += more.finer_refused;
         self.finer_wider += more.finer_wider;
+        self.without_pads += more.without_pads;
+        self.without_pads_wider += more.without_pads_wider;
     }
 
     fn row(&self, of: &str) -> String {
-        let cells = [self.covers, self.points, self.touching, self.refused, self.outside].map(grouped);
+        let cells = [self.covers, self.points, self.padded, self.touching, self.refused, self.outside].map(grouped);
         format!("| {of} | {} |\n", cells.join(" | "))
     }
 
     fn different(&self) -> u64 {
-        self.refused + self.outside + self.finer_refused + self.finer_wider
+        self.refused + self.outside + self.finer_refused + self.finer_wider + self.without_pads_wider
+    }
+
+    fn without_pads_line(&self, of: &str) -> String {
+        let [covers, wider] = [self.without_pads, self.without_pads_wider].map(grouped);
+        format!("covers of {of} with pads of +0 in place of theirs: {covers}, {} refused or wider\n", if wider == "0" { "none" } else { &wider })
     }
 
     fn finer_line(&self, of: &str) -> String {
@@ -79,7 +92,7 @@ const MOST_FOUND: usize = 100;
 const NAMES: &[&str] = &[
     "move", "parts", "point", "interp", "motion", "pmotion", "cover", "zeros", "sin", "cos", "acos", "abs", "root", "least", "greatest", "lerp", "clamp", "whole",
     "inverse", "mul", "quat", "rotation", "dot", "normalize", "slerp", "decompose", "bounds",
-    "chain", "lone", "cpoint", "ctimes", "ccover", "cset", "cinterp", "cparts", "cmotion", "cpmotion", "acosn",
+    "chain", "lone", "cpoint", "ctimes", "ccover", "cset", "cpad", "cinterp", "cparts", "cmotion", "cpmotion", "acosn",
     "write", "read",
 ];
 
@@ -210,10 +223,11 @@ impl Report {
         let all = [("moves", &self.guarantee), ("chains", &self.chain_guarantee), ("sets", &self.set_guarantee)];
         let tested: Vec<_> = all.into_iter().filter(|(_, g)| g.covers > 0).collect();
         if !tested.is_empty() {
-            out += "\n| of | accepted covers | points of them, at a time | on a face of the cover | not answered | outside |\n|---|---|---|---|---|---|\n";
+            out += "\n| of | accepted covers | points of them, at a time | with a pad above zero | on a face of the cover | not answered | outside |\n|---|---|---|---|---|---|---|\n";
             tested.iter().for_each(|(of, g)| out += &g.row(of));
             out.push('\n');
             tested.iter().for_each(|(of, g)| out += &g.finer_line(of));
+            tested.iter().filter(|(_, g)| g.without_pads > 0).for_each(|(of, g)| out += &g.without_pads_line(of));
         }
         out
     }

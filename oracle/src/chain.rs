@@ -10,11 +10,12 @@ use crate::refusal::*;
 pub const MOST_POSES: usize = 32;
 pub const MOST_BOXES: usize = 16;
 
-/// A value line: a pose at its time.
+/// A value line: a pose at its time, with its pad.
 #[derive(Debug, Clone, Copy)]
 pub struct Pose {
     pub time: f32,
     pub matrix: Matrix4x4,
+    pub pad: f32,
 }
 
 /// A chain that was built: a move for each neighbouring pair of its poses.
@@ -24,13 +25,22 @@ pub struct Chain {
     pub moves: Vec<Move>,
 }
 
-/// Each over the whole chain before the next: 1, 2, 12, 3.
-fn check(poses: &[Pose]) -> Judged<()> {
-    let is_finite = |pose: &Pose| finite(&[pose.time]).is_ok() && finite_matrix(&pose.matrix).is_ok();
+/// Of every pose before the next: 1, 2, 16.
+fn check_poses(poses: &[Pose]) -> Judged<()> {
+    let is_finite = |pose: &Pose| finite(&[pose.time, pose.pad]).is_ok() && finite_matrix(&pose.matrix).is_ok();
     if !poses.iter().all(is_finite) {
         return Err(POSE_NOT_FINITE);
     }
     poses.iter().try_for_each(|pose| check_bottom_row(&pose.matrix))?;
+    if poses.iter().any(|pose| pose.pad < 0.0) {
+        return Err(PAD);
+    }
+    Ok(())
+}
+
+/// Each over the whole chain before the next: 1, 2, 16, 12, 3.
+fn check(poses: &[Pose]) -> Judged<()> {
+    check_poses(poses)?;
     let pairs = || poses.windows(2).map(|pair| (pair[0].time, pair[1].time));
     if poses.len() < 2 || poses.len() > MOST_POSES || !pairs().all(|(start, end)| start < end) {
         return Err(CHAIN);
@@ -42,7 +52,8 @@ fn check(poses: &[Pose]) -> Judged<()> {
 }
 
 fn build_move(start: &Pose, end: &Pose) -> Judged<Move> {
-    judged::build(start.time, &start.matrix, end.time, &end.matrix)
+    let built = judged::build(start.time, &start.matrix, end.time, &end.matrix)?;
+    Ok(Move { pads: [start.pad, end.pad], ..built })
 }
 
 impl Chain {
@@ -53,8 +64,9 @@ impl Chain {
         Ok(Chain { poses: poses.to_vec(), moves: moves? })
     }
 
-    /// A move built by itself, with document 01's rule for its times.
+    /// A move built by itself, with document 01's rule for its times: 1, 2, 16, then 3.
     pub fn lone(poses: &[Pose; 2]) -> Judged<Chain> {
+        check_poses(poses)?;
         Ok(Chain { poses: poses.to_vec(), moves: vec![build_move(&poses[0], &poses[1])?] })
     }
 
@@ -66,6 +78,10 @@ impl Chain {
 
     pub fn transform_point(&self, time: f32, p: &Point3f) -> Judged<Point3f> {
         self.move_at(time).transform_point(time, p)
+    }
+
+    pub fn pad(&self, time: f32) -> Judged<f32> {
+        self.move_at(time).pad(time)
     }
 
     /// A point at each time of a list that never falls, three places a time: 6 of the point and of every time, 13, then the first time's number that is refused.
@@ -84,7 +100,7 @@ impl Chain {
 
     /// 6, 7, 8, then the moves' covers in rising order, and their union.
     pub fn cover(&self, b: &[f32; 6], depth: u64) -> Judged<[f32; 6]> {
-        let covers: Judged<Vec<[f32; 6]>> = self.moves.iter().map(|m| cover::cover(&m.fields, b, depth)).collect();
+        let covers: Judged<Vec<[f32; 6]>> = self.moves.iter().map(|m| m.cover(b, depth)).collect();
         Ok(covers?.into_iter().reduce(cover::union).expect("a chain has a move"))
     }
 
@@ -106,7 +122,7 @@ mod tests {
     fn shifted(time: f32, x: f32) -> Pose {
         let mut matrix = Matrix4x4::default();
         matrix.m[0][3] = x;
-        Pose { time, matrix }
+        Pose { time, matrix, pad: 0.0 }
     }
 
     fn turned(time: f32) -> Pose {
@@ -148,6 +164,39 @@ mod tests {
         singular.time = f32::MIN;
         assert_eq!(number(&[singular, shifted(-3e38, 0.0), shifted(3e38, 0.0)]), Some(TIMES));
         assert_eq!(number(&[singular, shifted(0.0, 0.0)]), Some(ZERO_PIVOT));
+    }
+
+    fn padded(pose: Pose, pad: f32) -> Pose {
+        Pose { pad, ..pose }
+    }
+
+    #[test]
+    fn pads_are_judged_after_bottom_rows() {
+        let (start, end) = (shifted(0.0, 0.0), shifted(1.0, 1.0));
+        let mut bent = end;
+        bent.matrix.m[3][0] = 1.0;
+        let number_of = |poses: [Pose; 2]| (number(&poses), Chain::lone(&poses).err());
+        assert_eq!(number_of([padded(start, -0.0), padded(end, 2.0)]), (None, None));
+        assert_eq!(number_of([start, padded(end, -1e-40)]), (Some(PAD), Some(PAD)));
+        assert_eq!(number_of([padded(start, -1.0), bent]), (Some(BOTTOM_ROW), Some(BOTTOM_ROW)));
+        assert_eq!(number_of([padded(start, f32::INFINITY), bent]), (Some(POSE_NOT_FINITE), Some(POSE_NOT_FINITE)));
+        assert_eq!(number_of([padded(end, -1.0), start]), (Some(PAD), Some(PAD)));
+    }
+
+    #[test]
+    fn pads_at_times() {
+        let pad_of = |poses: [Pose; 2], time: f32| Chain::lone(&poses).unwrap().pad(time);
+        let moving = [padded(shifted(0.0, 0.0), 1.0), padded(shifted(1.0, 1.0), 3.0)];
+        let still = [padded(shifted(0.0, 0.0), 1.0), padded(shifted(1.0, 0.0), 3.0)];
+        for (time, pad) in [(f32::NEG_INFINITY, 1.0), (0.0, 1.0), (0.5, 2.0), (1.0, 3.0), (2.0, 3.0)] {
+            assert_eq!(pad_of(moving, time), Ok(pad));
+            assert_eq!(pad_of(still, time), Ok(3.0));
+        }
+        assert_eq!(pad_of(moving, f32::NAN), Err(QUERY));
+        // The cover grows by the pads: an end box by its own, the one box of equal poses by the larger.
+        let cover = Chain::lone(&moving).unwrap().cover(&[0.0; 6], 12).unwrap();
+        assert!(cover[0] <= -1.0 && cover[3] >= 4.0 && cover[1] <= -3.0 && cover[4] >= 3.0);
+        assert_eq!(Chain::lone(&still).unwrap().cover(&[0.0; 6], 0), Ok([-3.0, -3.0, -3.0, 3.0, 3.0, 3.0]));
     }
 
     #[test]
@@ -223,7 +272,7 @@ mod tests {
         // The moves' own covers: each inside the union, and each end of it is one of theirs.
         let chain = Chain::build(&[shifted(0.0, 0.0), turned(1.0), shifted(2.0, 5.0)]).unwrap();
         let all = chain.cover(&b, 6).unwrap();
-        let covers: Vec<[f32; 6]> = chain.moves.iter().map(|m| cover::cover(&m.fields, &b, 6).unwrap()).collect();
+        let covers: Vec<[f32; 6]> = chain.moves.iter().map(|m| m.cover(&b, 6).unwrap()).collect();
         for i in 0..6 {
             let ends = covers.iter().map(|c| c[i]);
             assert_eq!(all[i], if i < 3 { ends.fold(f32::INFINITY, f32::min) } else { ends.fold(f32::NEG_INFINITY, f32::max) });

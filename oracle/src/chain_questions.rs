@@ -21,6 +21,7 @@ const QUESTIONS: &[(&str, Question)] = &[
     ("ctimes", times),
     ("ccover", cover),
     ("cset", set),
+    ("cpad", pad),
     ("cinterp", interp),
     ("cparts", move_parts),
     ("cmotion", motion),
@@ -119,11 +120,11 @@ fn list(words: Words) -> Option<Vec<f32>> {
 
 const POSE_FLOATS: usize = 18;
 
-/// Any number of poses: time, matrix and pad. The pad is read and, for now, has no meaning.
+/// Any number of poses: time, matrix and pad.
 fn poses(words: Words) -> Option<Vec<Pose>> {
     let values = list(words)?;
     let poses = values.chunks_exact(POSE_FLOATS);
-    poses.remainder().is_empty().then(|| poses.map(|pose| Pose { time: pose[0], matrix: matrix(&pose[1..17]) }).collect())
+    poses.remainder().is_empty().then(|| poses.map(|pose| Pose { time: pose[0], matrix: matrix(&pose[1..17]), pad: pose[17] }).collect())
 }
 
 fn box_floats(b: Judged<[f32; 6]>) -> Judged<Values> {
@@ -156,6 +157,13 @@ fn point(slots: &mut Slots, words: Words) -> Answer {
     let [time, x, y, z] = read(words)?;
     let moved = slots.any(slot)?.transform_point(time, &Point3f::new(x, y, z));
     Some(moved.map(|p| floats(&point_values(&p))))
+}
+
+/// cpad S T
+fn pad(slots: &mut Slots, words: Words) -> Answer {
+    let (slot, words) = slot(words)?;
+    let [time] = read(words)?;
+    Some(slots.any(slot)?.pad(time).map(|pad| floats(&[pad])))
 }
 
 /// ctimes S PLACES X Y Z T*
@@ -243,8 +251,7 @@ fn read_file(_: &mut Slots, words: Words) -> Answer {
     };
     Some(file.map(|file| {
         let answer = Values::default().number(file.poses.len()).bits(&file.bounds);
-        // A pose of the protocol's has a pad, for now of zero.
-        file.poses.iter().fold(answer, |answer, pose| answer.bits(&[pose.time]).bits(pose.matrix.m.as_flattened()).bits(&[0.0]))
+        file.poses.iter().fold(answer, |answer, pose| answer.bits(&[pose.time]).bits(pose.matrix.m.as_flattened()).bits(&[pose.pad]))
     }))
 }
 
@@ -254,10 +261,10 @@ mod tests {
 
     const ORIGIN: &str = "00000000 00000000 00000000";
 
-    /// The identity moved along x, at a time; both as bits. The pad is a NaN, which nothing looks at.
+    /// The identity moved along x, at a time; both as bits.
     fn pose(time: &str, x: &str) -> String {
         let row = |place: usize| ["3f800000 00000000 00000000", "00000000 3f800000 00000000", "00000000 00000000 3f800000"][place];
-        format!("{time} {} {x} {} 00000000 {} 00000000 {ORIGIN} 3f800000 7fc00000", row(0), row(1), row(2))
+        format!("{time} {} {x} {} 00000000 {} 00000000 {ORIGIN} 3f800000 00000000", row(0), row(1), row(2))
     }
 
     fn three_poses() -> String {
@@ -313,13 +320,18 @@ mod tests {
     fn files() {
         let build = format!("chain 2 plain {}", three_poses());
         let write = |room: usize| format!("write 2 {room} {ORIGIN} {ORIGIN}");
-        let session = answers(&[&build, &write(475), &write(476), &format!("write 2 0 7fc00000 {ORIGIN} 00000000 00000000")]);
+        let session = answers(&[&build, &write(506), &write(507), &format!("write 2 0 7fc00000 {ORIGIN} 00000000 00000000")]);
         assert_eq!((&*session[1], &*session[3]), ("refused 15", "refused 6"));
-        let text = session[2].strip_prefix("ok 476 ").unwrap();
-        let pads = three_poses().replace("7fc00000", "00000000");
+        let text = session[2].strip_prefix("ok 507 ").unwrap();
         assert_eq!(
             answers(&[&format!("read {text}"), "read", "read ", "read 0a", &format!("read {}", text.to_uppercase())]),
-            [&*format!("ok 3 {ORIGIN} {ORIGIN} {pads}"), "refused 11", "refused 11", "refused 11", &*format!("ok 3 {ORIGIN} {ORIGIN} {pads}"),]
+            [
+                &*format!("ok 3 {ORIGIN} {ORIGIN} {}", three_poses()),
+                "refused 11",
+                "refused 11",
+                "refused 11",
+                &*format!("ok 3 {ORIGIN} {ORIGIN} {}", three_poses()),
+            ]
         );
     }
 

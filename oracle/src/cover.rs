@@ -1,9 +1,9 @@
-//! A second implementation of document 01's cover, in plain floats. Of the move it takes the constants only (poses, times, translations, rotations, S);
+//! A second implementation of document 01's cover with document 02's pads, in plain floats. Of the move it takes the constants only (poses, times, translations, rotations, S);
 //! the steps, the order and the refusals are its own, written from document 01 and from the steps of `interpolate` and `transform_point`.
 
 use crate::angles::{acos, cos, sin, units, QUARTER_TURN};
 use crate::core::transform::fields::Fields;
-use crate::judged::{quaternion_values, vector_values, Judged};
+use crate::judged::{finite, quaternion_values, vector_values, Judged};
 use crate::refusal::*;
 use std::ops::{Add, Div, Mul, Sub};
 
@@ -232,8 +232,16 @@ pub fn check_box(b: &[f32; 6]) -> Judged<()> {
     Ok(())
 }
 
-/// The cover of a box x0 y0 z0 x1 y1 z1 at a depth: 6, 7, 8, then start box, end box, slices in rising order.
-pub fn cover(f: &Fields, b: &[f32; 6], depth: u64) -> Judged<[f32; 6]> {
+/// A box of which a cover is the union: what the start makes of it, or the end, a slice, or equal poses.
+enum Part {
+    Start,
+    End,
+    Slice(Interval),
+    EqualPoses,
+}
+
+/// The union of a cover's boxes at a depth: 6, 7, 8, then start box, end box, slices in rising order, each handed to `grow` as soon as it is worked out.
+fn union_of_boxes(f: &Fields, b: &[f32; 6], depth: u64, grow: impl Fn(Part, [f32; 6]) -> Judged<[f32; 6]>) -> Judged<[f32; 6]> {
     check_box(b)?;
     if depth > MAX_DEPTH {
         return Err(DEPTH);
@@ -241,16 +249,43 @@ pub fn cover(f: &Fields, b: &[f32; 6], depth: u64) -> Judged<[f32; 6]> {
     let b: [Interval; 3] = std::array::from_fn(|i| Interval { low: b[i], high: b[i + 3], refusal: 0 });
     let start = moved(&matrix(&f.start.m.m), &b)?;
     if f.start == f.end {
-        return Ok(start);
+        return grow(Part::EqualPoses, start);
     }
-    let mut covered = union(start, moved(&matrix(&f.end.m.m), &b)?);
+    let start = grow(Part::Start, start)?;
+    let mut covered = union(start, grow(Part::End, moved(&matrix(&f.end.m.m), &b)?)?);
     let slices = 1u32 << depth;
     for k in 0..slices {
         let end = |k: u32| k as f32 / slices as f32;
         let dt = Interval { low: end(k), high: end(k + 1), refusal: 0 };
-        covered = union(covered, slice(f, dt, &b)?);
+        covered = union(covered, grow(Part::Slice(dt), slice(f, dt, &b)?)?);
     }
     Ok(covered)
+}
+
+/// Document 01's cover of a box x0 y0 z0 x1 y1 z1, which knows no pads.
+pub fn cover(f: &Fields, b: &[f32; 6], depth: u64) -> Judged<[f32; 6]> {
+    union_of_boxes(f, b, depth, |_, moved| Ok(moved))
+}
+
+/// A box with each face moved outwards by a pad.
+fn grown(b: [f32; 6], pad: f32) -> Judged<[f32; 6]> {
+    let grown = std::array::from_fn(|i| if i < 3 { b[i] - pad } else { b[i] + pad });
+    finite(&grown)?;
+    Ok(grown)
+}
+
+/// Document 02's cover: an end box grows by its own pad, that of equal poses by the larger, a slice's by the high end of the pad over it.
+pub fn padded_cover(f: &Fields, [start, end]: [f32; 2], b: &[f32; 6], depth: u64) -> Judged<[f32; 6]> {
+    union_of_boxes(f, b, depth, |part, moved| match part {
+        Part::Start => grown(moved, start),
+        Part::End => grown(moved, end),
+        Part::EqualPoses => grown(moved, greatest(start, end)),
+        Part::Slice(dt) => {
+            let pad = (ONE - dt) * constant(start) + dt * constant(end);
+            judge(&[pad])?;
+            grown(moved, pad.high)
+        }
+    })
 }
 
 #[cfg(test)]
@@ -356,23 +391,47 @@ mod tests {
         }
     }
 
+    /// By themselves, and less and plus the pad at that time.
     #[test]
     fn moved_points_are_inside() {
         let mut random = Random(3);
         let mut inside = 0;
         for m in random.moves(300) {
             let b = [-1.0, -2.0, 0.0, 1.0, 0.5, 0.0];
+            let m = Move { pads: [random.unit().abs(), 3.0 * random.unit().abs()], ..m };
             for depth in [0, 2, 5] {
-                let Ok(cover) = cover(&m.fields, &b, depth) else { continue };
+                let (Ok(cover), Ok(padded)) = (cover(&m.fields, &b, depth), m.cover(&b, depth)) else { continue };
                 for _ in 0..50 {
                     let p = Point3f::new(random.unit(), -2.0 + 2.5 * random.unit().abs(), 0.0);
-                    let moved = point_values(&m.transform_point(0.5 + 0.55 * random.unit(), &p).unwrap());
+                    let time = 0.5 + 0.55 * random.unit();
+                    let (moved, pad) = (point_values(&m.transform_point(time, &p).unwrap()), m.pad(time).unwrap());
                     assert!((0..3).all(|i| cover[i] <= moved[i] && moved[i] <= cover[i + 3]));
+                    assert!((0..3).all(|i| padded[i] <= moved[i] - pad && moved[i] + pad <= padded[i + 3]));
                     inside += 1;
                 }
             }
         }
         assert!(inside > 20_000, "{inside} inside");
+    }
+
+    #[test]
+    fn pads_of_zero_change_nothing() {
+        let mut random = Random(4);
+        for m in random.moves(300) {
+            let b = [-1.0, -2.0, 0.0, 1.0, 0.5, 0.0];
+            for (depth, pads) in [(0, [0.0, 0.0]), (3, [0.0, 0.0]), (3, [-0.0, 0.0]), (4, [-0.0, -0.0])] {
+                assert_eq!(padded_cover(&m.fields, pads, &b, depth), cover(&m.fields, &b, depth));
+            }
+        }
+    }
+
+    /// The high end of the pad over the second half is 3.5, above both pads: over an interval 1 - dt and dt are at their greatest at once.
+    #[test]
+    fn a_slice_grows_by_the_high_end() {
+        let padded = |pads: [f32; 2]| Move { pads, ..a() };
+        assert_eq!(padded([1.0, 3.0]).cover(&[0.0; 6], 1), Ok([-3.0, -3.5, -3.5, 4.5, 3.5, 3.5]));
+        let overflowing = padded([f32::MAX; 2]);
+        assert_eq!((overflowing.cover(&[0.0; 6], 1), overflowing.pad(0.5)), (Err(NOT_FINITE), Ok(f32::MAX)));
     }
 
     /// Q, 2Q and 3Q are held where they lie between the ends; without them the ends decide.

@@ -8,6 +8,7 @@ use crate::lines;
 use crate::refusal::*;
 
 const POSE: &str = "time m00 m01 m02 m03 m10 m11 m12 m13 m20 m21 m22 m23";
+const PADDED_POSE: &str = "time m00 m01 m02 m03 m10 m11 m12 m13 m20 m21 m22 m23 pad";
 const BOX: &str = "x0 y0 z0 x1 y1 z1";
 const MOST_BYTES: usize = 65_536;
 
@@ -39,7 +40,14 @@ fn pose(line: &[u8]) -> Option<Pose> {
     let values: [f32; 13] = values(line)?;
     let mut matrix = Matrix4x4::default();
     matrix.m.as_flattened_mut()[..12].copy_from_slice(&values[1..]);
-    Some(Pose { time: values[0], matrix })
+    Some(Pose { time: values[0], matrix, pad: 0.0 })
+}
+
+fn padded_pose(line: &[u8]) -> Option<Pose> {
+    let values: [f32; 14] = values(line)?;
+    let mut matrix = Matrix4x4::default();
+    matrix.m.as_flattened_mut()[..12].copy_from_slice(&values[1..13]);
+    Some(Pose { time: values[0], matrix, pad: values[13] })
 }
 
 fn lines_of(bytes: &[u8]) -> Option<Vec<&[u8]>> {
@@ -52,10 +60,16 @@ fn lines_of(bytes: &[u8]) -> Option<Vec<&[u8]>> {
 fn read_lines(bytes: &[u8]) -> Option<File> {
     let lines = lines_of(bytes)?;
     let [names, poses @ .., box_names, bounds] = lines.as_slice() else { return None };
-    if !are_names(names, POSE) || !are_names(box_names, BOX) {
+    if !are_names(box_names, BOX) {
         return None;
     }
-    let poses: Option<Vec<Pose>> = poses.iter().map(|line| pose(line)).collect();
+    let poses: Option<Vec<Pose>> = if are_names(names, PADDED_POSE) {
+        poses.iter().map(|line| padded_pose(line)).collect()
+    } else if are_names(names, POSE) {
+        poses.iter().map(|line| pose(line)).collect()
+    } else {
+        return None;
+    };
     Some(File { poses: poses?, bounds: values(bounds)? })
 }
 
@@ -65,11 +79,11 @@ impl File {
         read_lines(bytes).ok_or(FILE)
     }
 
-    /// Lower-case digits, single spaces, line feeds, no space at a line's end.
+    /// Fourteen names; lower-case digits, single spaces, line feeds, no space at a line's end.
     pub fn write(&self) -> String {
         let line = |values: &[f32]| lines::floats(values).text()[1..].to_owned();
-        let poses = self.poses.iter().map(|pose| line(&[&[pose.time], &pose.matrix.m.as_flattened()[..12]].concat()));
-        [POSE.to_owned()].into_iter().chain(poses).chain([BOX.to_owned(), line(&self.bounds)]).map(|line| line + "\n").collect()
+        let poses = self.poses.iter().map(|pose| line(&[&[pose.time], &pose.matrix.m.as_flattened()[..12], &[pose.pad]].concat()));
+        [PADDED_POSE.to_owned()].into_iter().chain(poses).chain([BOX.to_owned(), line(&self.bounds)]).map(|line| line + "\n").collect()
     }
 }
 
@@ -89,11 +103,11 @@ impl Chain {
 mod tests {
     use super::*;
 
-    const SHIFT: &str = "00000000 3f800000 00000000 00000000 00000000 00000000 3f800000 00000000 00000000 00000000 00000000 3f800000 00000000";
+    const SHIFT: &str = "00000000 3f800000 00000000 00000000 00000000 00000000 3f800000 00000000 00000000 00000000 00000000 3f800000 00000000 40000000";
 
     fn file(pose_lines: &[&str]) -> String {
         format!(
-            "{POSE}\n{}{BOX}\n00000000 00000000 00000000 3f800000 3f800000 80000000\n",
+            "{PADDED_POSE}\n{}{BOX}\n00000000 00000000 00000000 3f800000 3f800000 80000000\n",
             pose_lines.iter().map(|line| format!("{line}\n")).collect::<String>()
         )
     }
@@ -114,6 +128,15 @@ mod tests {
         for other in [text.replace(' ', "   "), text.replace("abcdef01", "ABCDEF01"), text.replace("abcdef01", "aBcDeF01").replacen(' ', "  ", 3)] {
             assert_eq!(File::read(other.as_bytes()).unwrap().write(), text, "{other}");
         }
+    }
+
+    #[test]
+    fn thirteen_names_are_pads_of_zero() {
+        let text = file(&[SHIFT.replace("40000000", "00000000").as_str(); 2]);
+        let old = text.replace(" pad\n", "\n").replace("00000000 00000000\n", "00000000\n");
+        assert_eq!(old.len() + 4 + 2 * 9, text.len());
+        assert_eq!(File::read(old.as_bytes()).unwrap().write(), text);
+        assert_eq!(File::read(text.replace(" pad\n", "\n").as_bytes()).err(), Some(FILE));
     }
 
     #[test]

@@ -9,7 +9,7 @@ use crate::core::quaternion::{slerp, Quaternion};
 use crate::core::transform::fields::{find_zeros, Fields};
 use crate::core::transform::{AnimatedTransform, Matrix4x4, Transform};
 use crate::refusal::*;
-use crate::{angles, log};
+use crate::{angles, cover, log};
 use std::sync::Arc;
 
 /// A value, or a refusal number.
@@ -20,6 +20,8 @@ pub type Judged<T> = Result<T, u8>;
 pub struct Move {
     pub original: AnimatedTransform,
     pub fields: Fields,
+    /// Of the start and the end: the original knows none.
+    pub pads: [f32; 2],
 }
 
 /// A motion box, and how many intervals were examined for it on each axis.
@@ -217,7 +219,7 @@ pub fn build(start_time: f32, start: &Matrix4x4, end_time: f32, end: &Matrix4x4)
         finite(&quaternion_values(&perpendicular))?;
     }
     finite(fields.c.as_flattened().as_flattened())?;
-    Ok(Move { original, fields })
+    Ok(Move { original, fields, pads: [0.0; 2] })
 }
 
 impl Move {
@@ -229,6 +231,44 @@ impl Move {
             Some(&self.fields.end)
         } else {
             None
+        }
+    }
+
+    /// Document 02's pad at a time: lerp of the two between the end times, that pose's own before and after, and the larger throughout where the poses are equal.
+    pub fn pad(&self, time: f32) -> Judged<f32> {
+        let Fields { start_time, end_time, actually_animated, .. } = self.fields;
+        let [start, end] = self.pads;
+        if time.is_nan() {
+            return Err(QUERY);
+        }
+        let pad = if !actually_animated {
+            self.larger_pad()
+        } else if time <= start_time {
+            start
+        } else if time >= end_time {
+            end
+        } else {
+            lerp((time - start_time) / (end_time - start_time), start, end)
+        };
+        finite(&[pad])?;
+        Ok(pad)
+    }
+
+    pub fn larger_pad(&self) -> f32 {
+        let [start, end] = self.pads;
+        if start < end {
+            end
+        } else {
+            start
+        }
+    }
+
+    /// Document 02's cover of a box. With pads of +0 document 01's is asked for, which grows nothing: it must be the same.
+    pub fn cover(&self, b: &[f32; 6], depth: u64) -> Judged<[f32; 6]> {
+        if self.pads.iter().all(|pad| pad.to_bits() == 0) {
+            cover::cover(&self.fields, b, depth)
+        } else {
+            cover::padded_cover(&self.fields, self.pads, b, depth)
         }
     }
 

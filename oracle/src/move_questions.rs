@@ -1,5 +1,6 @@
 //! Document 01's questions: those of the program `answers`.
 
+use crate::angles;
 use crate::core::geometry::bounds::Bounds3f;
 use crate::core::geometry::point::Point3f;
 use crate::core::pbrt::{clamp, lerp};
@@ -8,7 +9,6 @@ use crate::core::transform::{Matrix4x4, Transform};
 use crate::judged::{self, bounds_values, point_values, quaternion_values, vector_values, Move};
 use crate::lines::{bounds, counted, floats, matrix, matrix_floats, parts, quaternion, quaternion_floats, read, whole, Answer, Session, Values};
 use crate::num::Float;
-use crate::{angles, cover};
 
 /// The program `answers`, which keeps a move.
 #[derive(Default)]
@@ -72,7 +72,7 @@ impl Session for Moves {
             b"cover" => {
                 let (depth, words) = words.split_first()?;
                 let (depth, b) = (whole(depth)?, read(words)?);
-                Some(cover::cover(&self.kept.as_ref()?.fields, &b, depth).map(|b| floats(&b)))
+                Some(self.kept.as_ref()?.cover(&b, depth).map(|b| floats(&b)))
             }
             b"zeros" => {
                 let [c1, c2, c3, c4, c5, theta] = read(words)?;

@@ -1,6 +1,6 @@
 //! The refusal numbers of documents 01 and 02.
 
-/// Building: a matrix entry or time is not finite.
+/// Building: a matrix entry, a time or a pad is not finite.
 pub const POSE_NOT_FINITE: u8 = 1;
 /// Building: a bottom row is not 0, 0, 0, 1.
 pub const BOTTOM_ROW: u8 = 2;
@@ -30,3 +30,5 @@ pub const TIME_LIST: u8 = 13;
 pub const SET: u8 = 14;
 /// A buffer too short for the text of a file.
 pub const ROOM: u8 = 15;
+/// A pose's pad is below zero.
+pub const PAD: u8 = 16;

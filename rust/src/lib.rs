@@ -8,7 +8,7 @@
 //!
 //! let mut end = IDENTITY;
 //! end[0][3] = 1.0; // one metre along x
-//! let m = Move::new(&Pose { time: 0.0, matrix: IDENTITY }, &Pose { time: 1.0, matrix: end })?;
+//! let m = Move::new(&Pose { time: 0.0, matrix: IDENTITY, pad: 0.0 }, &Pose { time: 1.0, matrix: end, pad: 0.0 })?;
 //! assert_eq!(m.point(0.5, [0.0; 3])?, [0.5, 0.0, 0.0]);
 //!
 //! // The box that is reserved: every point of `boom` is inside `cover` at every time.
@@ -32,12 +32,13 @@ pub type Matrix = [[f32; 4]; 4];
 
 pub const IDENTITY: Matrix = [[1.0, 0.0, 0.0, 0.0], [0.0, 1.0, 0.0, 0.0], [0.0, 0.0, 1.0, 0.0], [0.0, 0.0, 0.0, 1.0]];
 
-/// A matrix at a time. The library reads it as 17 floats.
+/// A matrix at a time, and a pad of at least zero: how far beyond the boom the spray wets the ground then. The library reads it as 18 floats.
 #[derive(Clone, Copy, Debug, PartialEq)]
 #[repr(C)]
 pub struct Pose {
     pub time: f32,
     pub matrix: Matrix,
+    pub pad: f32,
 }
 
 /// A box: its least corner and its greatest.
@@ -92,7 +93,7 @@ fn answered<T>(number: u8, value: T) -> Result<T, Refusal> {
 }
 
 impl Move {
-    /// The move from one pose to another: pbrt's `AnimatedTransform::new`. Refused with numbers 1 to 5.
+    /// The move from one pose to another: pbrt's `AnimatedTransform::new`. Refused with numbers 1 to 5 and 16.
     pub fn new(start: &Pose, end: &Pose) -> Result<Move, Refusal> {
         library::check_layout();
         let mut rows = library::EMPTY;
@@ -105,6 +106,14 @@ impl Move {
         let mut moved = [0.0; 3];
         let number = unsafe { library::jellyplain_point(&self.rows, time, &p, &mut moved) };
         answered(number, moved)
+    }
+
+    /// The pad at a time: between the times lerp of the two poses' pads, before and after them that pose's own, and the larger throughout where the poses are equal.
+    /// Refused with [`Refusal::Query`] and [`Refusal::NotFinite`].
+    pub fn pad(&self, time: f32) -> Result<f32, Refusal> {
+        let mut pad = [0.0];
+        let number = unsafe { library::jellyplain_pad(&self.rows, time, &mut pad) };
+        answered(number, pad[0])
     }
 
     /// The transform at a time. Refused with [`Refusal::Query`], [`Refusal::ZeroPivot`] and [`Refusal::NotFinite`].
@@ -130,8 +139,8 @@ impl Move {
         answered(number, MotionBounds { bounds: Bounds::from_array(bounds), examined })
     }
 
-    /// A box that holds every point of `b` at every time but NaN: [`Move::point`] answers a point inside it. It is worked from 2^depth slices of the move, `depth` from 0 to 12;
-    /// a greater depth costs twice as much and never gives a larger box. Refused with [`Refusal::Query`], [`Refusal::Corners`], [`Refusal::Depth`], [`Refusal::NotFinite`]
+    /// A box that holds every point of `b` at every time but NaN: [`Move::point`] answers a point inside it, and less and plus [`Move::pad`] on each axis, each rounded, that
+    /// point is inside too. It is worked from 2^depth slices of the move, `depth` from 0 to 12; a greater depth costs twice as much and never gives a larger box. Refused with [`Refusal::Query`], [`Refusal::Corners`], [`Refusal::Depth`], [`Refusal::NotFinite`]
     /// and [`Refusal::SquaredLength`].
     pub fn cover(&self, b: &Bounds, depth: u32) -> Result<Bounds, Refusal> {
         let mut bounds = [0.0; 6];
@@ -154,7 +163,7 @@ pub struct Chain {
 }
 
 impl Chain {
-    /// The chain of 2 to 32 poses whose times rise strictly. Refused with numbers 1, 2, 12, 3, 4 and 5, in this order.
+    /// The chain of 2 to 32 poses whose times rise strictly. Refused with numbers 1, 2, 16, 12, 3, 4 and 5, in this order.
     pub fn new(poses: &[Pose]) -> Result<Chain, Refusal> {
         library::check_layout();
         let mut moves = [library::EMPTY; library::MOVES];
@@ -176,6 +185,13 @@ impl Chain {
         answered(number, moved)
     }
 
+    /// The pad at a time, of the move that the time belongs to. Refused as [`Move::pad`].
+    pub fn pad(&self, time: f32) -> Result<f32, Refusal> {
+        let mut pad = [0.0];
+        let number = unsafe { library::jellyplain_moves_pad(self.moves.as_ptr(), self.moves.len(), time, &mut pad) };
+        answered(number, pad[0])
+    }
+
     /// Where a point stands at each time of a list that never falls. Refused with [`Refusal::Query`], [`Refusal::TimeList`] and [`Refusal::NotFinite`].
     pub fn points(&self, times: &[f32], p: [f32; 3]) -> Result<Vec<[f32; 3]>, Refusal> {
         let mut points = vec![[0.0; 3]; times.len()];
@@ -184,8 +200,8 @@ impl Chain {
         answered(number, points)
     }
 
-    /// A box that holds every point of `b` at every time but NaN: [`Chain::point`] and [`Chain::points`] answer points inside it. It is the union of the moves' covers, each from
-    /// 2^depth slices. Refused as [`Move::cover`].
+    /// A box that holds every point of `b` at every time but NaN: [`Chain::point`] and [`Chain::points`] answer points inside it, and so they are less and plus [`Chain::pad`]. It
+    /// is the union of the moves' covers, each from 2^depth slices. Refused as [`Move::cover`].
     pub fn cover(&self, b: &Bounds, depth: u32) -> Result<Bounds, Refusal> {
         let mut bounds = [0.0; 6];
         let number = unsafe { library::jellyplain_moves_cover(self.moves.as_ptr(), self.moves.len(), &b.to_array(), depth, &mut bounds) };
@@ -203,11 +219,11 @@ impl Chain {
         answered(number, Covers { each, union: Bounds::from_array(union) })
     }
 
-    /// The move file of the chain's poses and a box, in the one way that it is written: [`MoveFile::read`] gives the same bits back, a bottom row's zeros as +0.
+    /// The move file of the chain's poses and a box, in the one way that it is written, with fourteen names: [`MoveFile::read`] gives the same bits back, a bottom row's zeros as +0.
     /// Refused with [`Refusal::Query`] and [`Refusal::Corners`].
     pub fn write(&self, b: &Bounds) -> Result<String, Refusal> {
-        // 53 bytes of names, 117 for a pose, 72 for the box.
-        let mut text = vec![0; 125 + 117 * (self.moves.len() + 1)];
+        // 57 bytes of names, 126 for a pose, 72 for the box.
+        let mut text = vec![0; 129 + 126 * (self.moves.len() + 1)];
         let written = unsafe { library::jellyplain_write_file(self.moves.as_ptr(), self.moves.len(), &b.to_array(), text.as_mut_ptr(), text.len()) };
         text.truncate(written.length);
         answered(written.refusal, String::from_utf8(text).expect("the text is digits, spaces, names and line feeds"))
@@ -222,10 +238,10 @@ pub struct MoveFile {
 }
 
 impl MoveFile {
-    /// Reads a file's bytes, whatever its spaces and the case of its digits. Refused with [`Refusal::File`].
+    /// Reads a file's bytes, whatever its spaces and the case of its digits; with the old thirteen names the pads are +0. Refused with [`Refusal::File`].
     pub fn read(bytes: &[u8]) -> Result<MoveFile, Refusal> {
         library::check_layout();
-        let (mut poses, mut bounds) = ([Pose { time: 0.0, matrix: IDENTITY }; library::FILE_POSES], [0.0; 6]);
+        let (mut poses, mut bounds) = ([Pose { time: 0.0, matrix: IDENTITY, pad: 0.0 }; library::FILE_POSES], [0.0; 6]);
         let read = unsafe { library::jellyplain_read_file(bytes.as_ptr(), bytes.len(), &mut poses, &mut bounds) };
         answered(read.refusal, MoveFile { poses: poses[..read.count].to_vec(), bounds: Bounds::from_array(bounds) })
     }

@@ -4,9 +4,9 @@
 use crate::Pose;
 
 /// A built move as its caller keeps it. What stands in it is the library's own business.
-pub type Rows = [[f32; 4]; 44];
+pub type Rows = [[f32; 4]; 45];
 
-pub const EMPTY: Rows = [[0.0; 4]; 44];
+pub const EMPTY: Rows = [[0.0; 4]; 45];
 
 /// The most moves that a chain has.
 pub const MOVES: usize = 31;
@@ -36,6 +36,7 @@ pub struct Written {
 extern "C" {
     pub fn jellyplain_build(start: &Pose, end: &Pose, motion: &mut Rows) -> u8;
     pub fn jellyplain_point(motion: &Rows, time: f32, p: &[f32; 3], moved: &mut [f32; 3]) -> u8;
+    pub fn jellyplain_pad(motion: &Rows, time: f32, pad: &mut [f32; 1]) -> u8;
     pub fn jellyplain_interpolate(motion: &Rows, time: f32, transform: &mut [[f32; 4]; 8]) -> u8;
     pub fn jellyplain_bound_point_motion(motion: &Rows, p: &[f32; 3], out: &mut [f32; 6], examined: &mut [u32; 3]) -> u8;
     pub fn jellyplain_motion_bounds(motion: &Rows, b: &[f32; 6], out: &mut [f32; 6], examined: &mut [u32; 3]) -> u8;
@@ -43,6 +44,7 @@ extern "C" {
     pub fn jellyplain_layout() -> u32;
     pub fn jellyplain_build_moves(poses: *const Pose, count: usize, moves: &mut [Rows; MOVES]) -> u8;
     pub fn jellyplain_moves_point(moves: *const Rows, count: usize, time: f32, p: &[f32; 3], moved: &mut [f32; 3]) -> u8;
+    pub fn jellyplain_moves_pad(moves: *const Rows, count: usize, time: f32, pad: &mut [f32; 1]) -> u8;
     pub fn jellyplain_moves_points(
         moves: *const Rows,
         count: usize,
@@ -67,7 +69,7 @@ extern "C" {
 }
 
 /// The layout in which poses, moves and chains cross to the archive.
-pub const LAYOUT: u32 = 1;
+pub const LAYOUT: u32 = 2;
 
 /// The archive that was linked has this package's layout, or the program stops here.
 pub fn check_layout() {
@@ -84,7 +86,7 @@ mod tests {
         let mut end = IDENTITY;
         end[0][3] = 1.0;
         let mut rows = EMPTY;
-        assert_eq!(unsafe { jellyplain_build(&Pose { time: 0.0, matrix: IDENTITY }, &Pose { time: 1.0, matrix: end }, &mut rows) }, 0);
+        assert_eq!(unsafe { jellyplain_build(&Pose { time: 0.0, matrix: IDENTITY, pad: 0.0 }, &Pose { time: 1.0, matrix: end, pad: 0.0 }, &mut rows) }, 0);
         rows
     }
 
@@ -94,7 +96,7 @@ mod tests {
         let mut kept = rows;
         let mut flat = IDENTITY;
         flat[2] = [0.0; 4];
-        assert_eq!(unsafe { jellyplain_build(&Pose { time: 0.0, matrix: flat }, &Pose { time: 1.0, matrix: IDENTITY }, &mut kept) }, 4);
+        assert_eq!(unsafe { jellyplain_build(&Pose { time: 0.0, matrix: flat, pad: 0.0 }, &Pose { time: 1.0, matrix: IDENTITY, pad: 0.0 }, &mut kept) }, 4);
         assert_eq!(kept, rows);
 
         let (origin, mut three, mut six, mut eight, mut counts) = ([0.0; 3], [7.0; 3], [7.0; 6], [[7.0; 4]; 8], [7; 3]);
@@ -111,13 +113,13 @@ mod tests {
 
     #[test]
     fn refused_chains_leave_all_as_it_was() {
-        let at = |time: f32| Pose { time, matrix: IDENTITY };
-        let mut moves = [[[7.0f32; 4]; 44]; MOVES];
+        let at = |time: f32| Pose { time, matrix: IDENTITY, pad: 0.0 };
+        let mut moves = [[[7.0f32; 4]; 45]; MOVES];
         let poses = [at(0.0), at(1.0), at(1.0)];
         assert_eq!(unsafe { jellyplain_build_moves(poses.as_ptr(), 3, &mut moves) }, 12);
-        assert_eq!(moves, [[[7.0; 4]; 44]; MOVES]);
+        assert_eq!(moves, [[[7.0; 4]; 45]; MOVES]);
         assert_eq!(unsafe { jellyplain_build_moves(poses.as_ptr(), 2, &mut moves) }, 0);
-        assert_eq!(moves[1..], [[[7.0; 4]; 44]; MOVES - 1]);
+        assert_eq!(moves[1..], [[[7.0; 4]; 45]; MOVES - 1]);
 
         let (origin, times, mut nine) = ([0.0; 3], [0.0, 2.0, 1.0], [7.0f32; 9]);
         let mut points = |times: &[f32], places: usize| unsafe {
@@ -175,21 +177,21 @@ mod tests {
         assert_eq!(write(1, &nan, 0), refused(6));
         assert_eq!(write(1, &crossed, 0), refused(7));
         assert_eq!(write(1, &[0.0; 6], 0), refused(15));
-        assert_eq!(write(1, &[0.0; 6], 358), refused(15));
+        assert_eq!(write(1, &[0.0; 6], 380), refused(15));
         let (written, text) = write(1, &[0.0; 6], 400);
-        assert_eq!(written, Written { length: 359, refusal: 0 });
-        assert_eq!((text[358], &text[359..]), (b'\n', &[7; 41][..]));
+        assert_eq!(written, Written { length: 381, refusal: 0 });
+        assert_eq!((text[380], &text[381..]), (b'\n', &[7; 19][..]));
 
-        let seven = Pose { time: 7.0, matrix: [[7.0; 4]; 4] };
+        let seven = Pose { time: 7.0, matrix: [[7.0; 4]; 4], pad: 7.0 };
         let (mut poses, mut b) = ([seven; FILE_POSES], [7.0; 6]);
         let mut read = |bytes: &[u8]| {
             let read = unsafe { jellyplain_read_file(bytes.as_ptr(), bytes.len(), &mut poses, &mut b) };
             (read, poses, b)
         };
-        assert_eq!(read(&text[..358]), (FileRead { count: 0, refusal: 11 }, [seven; FILE_POSES], [7.0; 6]));
-        let (read, poses, b) = read(&text[..359]);
+        assert_eq!(read(&text[..380]), (FileRead { count: 0, refusal: 11 }, [seven; FILE_POSES], [7.0; 6]));
+        let (read, poses, b) = read(&text[..381]);
         assert_eq!((read, b), (FileRead { count: 2, refusal: 0 }, [0.0; 6]));
-        assert_eq!((poses[1].time, poses[1].matrix[0][3], poses[1].matrix[3]), (1.0, 1.0, IDENTITY[3]));
+        assert_eq!((poses[1].time, poses[1].matrix[0][3], poses[1].matrix[3], poses[1].pad), (1.0, 1.0, IDENTITY[3], 0.0));
         assert_eq!(poses[2..], [seven; FILE_POSES - 2]);
     }
 
@@ -199,7 +201,7 @@ mod tests {
         let mut moved = [7.0; 3];
         assert_eq!(unsafe { jellyplain_point(&EMPTY, 0.0, &[1.0; 3], &mut moved) }, 5);
         assert_eq!(moved, [7.0; 3]);
-        let nan = [[f32::NAN; 4]; 44];
+        let nan = [[f32::NAN; 4]; 45];
         assert_eq!(unsafe { jellyplain_cover(&nan, &[0.0; 6], 12, &mut [0.0; 6]) }, 5);
     }
 }

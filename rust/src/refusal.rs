@@ -4,7 +4,7 @@ use std::fmt;
 #[derive(Clone, Copy, Debug, PartialEq, Eq, Hash)]
 #[repr(u8)]
 pub enum Refusal {
-    /// A matrix entry or a time of a pose isn't finite.
+    /// A matrix entry, a time or a pad of a pose isn't finite.
     PoseNotFinite = 1,
     /// A bottom row isn't 0, 0, 0, 1.
     BottomRow = 2,
@@ -34,19 +34,21 @@ pub enum Refusal {
     Set = 14,
     /// A buffer is too short for the text of a move file. The functions here lend one that is long enough.
     Room = 15,
+    /// A pad is below zero.
+    Pad = 16,
 }
 
 impl Refusal {
-    const ALL: [Refusal; 15] = {
+    const ALL: [Refusal; 16] = {
         use Refusal::*;
-        [PoseNotFinite, BottomRow, Times, ZeroPivot, NotFinite, Query, Corners, Depth, NinthZero, SquaredLength, File, Chain, TimeList, Set, Room]
+        [PoseNotFinite, BottomRow, Times, ZeroPivot, NotFinite, Query, Corners, Depth, NinthZero, SquaredLength, File, Chain, TimeList, Set, Room, Pad]
     };
 
     pub fn number(self) -> u8 {
         self as u8
     }
 
-    /// The refusal of a number from 1 to 15.
+    /// The refusal of a number from 1 to 16.
     pub fn from_number(number: u8) -> Option<Refusal> {
         Refusal::ALL.into_iter().find(|refusal| refusal.number() == number)
     }
@@ -55,7 +57,7 @@ impl Refusal {
 impl fmt::Display for Refusal {
     fn fmt(&self, f: &mut fmt::Formatter<'_>) -> fmt::Result {
         let reason = match self {
-            Refusal::PoseNotFinite => "a matrix entry or a time isn't finite",
+            Refusal::PoseNotFinite => "a matrix entry, a time or a pad isn't finite",
             Refusal::BottomRow => "a bottom row isn't 0 0 0 1",
             Refusal::Times => "the end time is below the start time, or too far from it",
             Refusal::ZeroPivot => "a pose or a scale on the way flattens space",
@@ -70,6 +72,7 @@ impl fmt::Display for Refusal {
             Refusal::TimeList => "the list of times falls",
             Refusal::Set => "a set has 1 to 16 boxes",
             Refusal::Room => "the buffer is too short for the text",
+            Refusal::Pad => "a pad is below zero",
         };
         write!(f, "refused with {}: {reason}", self.number())
     }
@@ -83,7 +86,7 @@ mod tests {
 
     #[test]
     fn numbers() {
-        assert!((1..=15).all(|number| Refusal::from_number(number).unwrap().number() == number));
-        assert_eq!((Refusal::from_number(0), Refusal::from_number(16)), (None, None));
+        assert!((1..=16).all(|number| Refusal::from_number(number).unwrap().number() == number));
+        assert_eq!((Refusal::from_number(0), Refusal::from_number(17)), (None, None));
     }
 }

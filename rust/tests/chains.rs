@@ -1,4 +1,4 @@
-//! Chains of poses: which move a time belongs to, lists of times, covers, sets of boxes and refusals.
+//! Chains of poses: which move a time belongs to, lists of times, covers, sets of boxes, pads and refusals.
 
 use jellyplain::{Bounds, Chain, Covers, Matrix, Move, Pose, Refusal, IDENTITY};
 
@@ -13,7 +13,7 @@ fn quarter_turn() -> Matrix {
 }
 
 fn at(time: f32, matrix: Matrix) -> Pose {
-    Pose { time, matrix }
+    Pose { time, matrix, pad: 0.0 }
 }
 
 /// Out by a quarter turn, a rest, and on by a shift.
@@ -145,4 +145,70 @@ fn refused_chains() {
     assert_eq!(refused(&[at(-3e38, IDENTITY), at(3e38, IDENTITY), at(3e38, IDENTITY)]), Some(Refusal::Chain));
     assert_eq!(refused(&[at(0.0, [[0.0; 4], [0.0; 4], [0.0; 4], IDENTITY[3]]), at(-3e38, IDENTITY), at(3e38, IDENTITY)]), Some(Refusal::Chain));
     assert_eq!(refused(&[at(-3.1e38, [[0.0; 4], [0.0; 4], [0.0; 4], IDENTITY[3]]), at(-3e38, IDENTITY), at(3e38, IDENTITY)]), Some(Refusal::Times));
+}
+
+fn padded(poses: &[Pose], pads: &[f32]) -> Vec<Pose> {
+    poses.iter().zip(pads).map(|(pose, pad)| Pose { pad: *pad, ..*pose }).collect()
+}
+
+/// A pad of 1 at the start, of 3 at the end of the first move; equal poses keep the larger.
+#[test]
+fn pads() {
+    let moving = Chain::new(&padded(&[at(0.0, IDENTITY), at(1.0, translation(1.0)), at(2.0, translation(1.0))], &[1.0, 3.0, 2.0])).unwrap();
+    for (time, pad) in [(f32::NEG_INFINITY, 1.0), (0.0, 1.0), (0.5, 2.0), (1.0, 3.0), (1.5, 3.0), (2.0, 3.0), (f32::INFINITY, 3.0)] {
+        assert_eq!(moving.pad(time), Ok(pad), "at {time}");
+    }
+    assert_eq!(moving.moves().map(|m| m.pad(0.5).unwrap()).collect::<Vec<_>>(), [2.0, 3.0]);
+    assert_eq!(moving.pad(f32::NAN), Err(Refusal::Query));
+    // 1 of any pose, 2, 16, then 12; -0 is accepted.
+    let refused = |pads: [f32; 2], times: [f32; 2]| Chain::new(&padded(&[at(times[0], IDENTITY), at(times[1], translation(1.0))], &pads)).err();
+    assert_eq!((refused([-0.0, 0.0], [0.0, 1.0]), refused([0.0, -1e-40], [0.0, 1.0])), (None, Some(Refusal::Pad)));
+    assert_eq!((refused([-1.0, f32::NAN], [0.0, 1.0]), refused([0.0, -1.0], [0.0, 0.0])), (Some(Refusal::PoseNotFinite), Some(Refusal::Pad)));
+    let mut bottom = IDENTITY;
+    bottom[3][0] = 1.0;
+    assert_eq!(Chain::new(&padded(&[at(0.0, IDENTITY), at(1.0, bottom)], &[-1.0, 0.0])).err(), Some(Refusal::BottomRow));
+}
+
+#[test]
+fn padded_points_are_inside_the_cover() {
+    let (poses, b) = (poses(), Bounds { p_min: [0.0, -0.5, 0.0], p_max: [12.0, 0.5, 0.25] });
+    let [plain, chain] = [[0.0; 4], [0.5, 3.0, 0.0, 0.1]].map(|pads| Chain::new(&padded(&poses, &pads)).unwrap());
+    let mut coarser = chain.cover(&b, 3).unwrap();
+    for depth in [4, 8] {
+        let cover = chain.cover(&b, depth).unwrap();
+        assert!(coarser.contains(cover.p_min) && coarser.contains(cover.p_max));
+        let unpadded = plain.cover(&b, depth).unwrap();
+        assert!(cover.contains(unpadded.p_min) && cover.contains(unpadded.p_max));
+        for k in 0..1000 {
+            let part = |n: usize| (k * n % 997) as f32 / 996.0;
+            let time = -0.5 + 6.0 * part(1);
+            let (moved, pad) = (chain.point(time, [12.0 * part(7), part(31) - 0.5, 0.25 * part(101)]).unwrap(), chain.pad(time).unwrap());
+            assert!([0.0, -pad, pad].into_iter().all(|pad| cover.contains(moved.map(|x| x + pad))));
+        }
+        coarser = cover;
+    }
+}
+
+/// Between two pads of 0.1 lerp may give the next float above: the high end of the pad's interval holds it too.
+#[test]
+fn a_pad_between_may_exceed_both() {
+    let chain = Chain::new(&padded(&[at(0.0, IDENTITY), at(1.0, translation(1.0))], &[0.1, 0.1])).unwrap();
+    assert_eq!(chain.pad(0.2), Ok(0.1f32.next_up()));
+    let origin = Bounds { p_min: [0.0; 3], p_max: [0.0; 3] };
+    for depth in 1..=12 {
+        let [x, y, z] = chain.point(0.2, [0.0; 3]).unwrap();
+        assert!(chain.cover(&origin, depth).unwrap().contains([x, y + 0.1f32.next_up(), z]));
+    }
+}
+
+/// A slice of a translation's second half grows by 0.5 * 1 + 1 * 3, the high end of its pad; pads near the end of the format leave it on the way.
+#[test]
+fn covers_grow_by_pads() {
+    let cover = |pads: [f32; 2], depth: u32| Chain::new(&padded(&[at(0.0, IDENTITY), at(1.0, translation(1.0))], &pads)).unwrap().cover(&parts(1)[0], depth);
+    let origin = Bounds { p_min: [0.0; 3], p_max: [0.0; 3] };
+    let moving = Chain::new(&padded(&[at(0.0, IDENTITY), at(1.0, translation(1.0))], &[1.0, 3.0])).unwrap();
+    assert_eq!(moving.cover(&origin, 1), Ok(Bounds { p_min: [-3.0, -3.5, -3.5], p_max: [4.5, 3.5, 3.5] }));
+    let still = Chain::new(&padded(&[at(0.0, IDENTITY), at(1.0, IDENTITY)], &[1.0, 3.0])).unwrap();
+    assert_eq!(still.cover(&origin, 0), Ok(Bounds { p_min: [-3.0; 3], p_max: [3.0; 3] }));
+    assert_eq!((cover([f32::MAX; 2], 4), cover([-0.0, 0.0], 4)), (Err(Refusal::NotFinite), cover([0.0; 2], 4)));
 }

@@ -11,7 +11,7 @@ fn translation(x: f32) -> Matrix {
 }
 
 fn built(start_time: f32, start: Matrix, end_time: f32, end: Matrix) -> Result<Move, Refusal> {
-    Move::new(&Pose { time: start_time, matrix: start }, &Pose { time: end_time, matrix: end })
+    Move::new(&Pose { time: start_time, matrix: start, pad: 0.0 }, &Pose { time: end_time, matrix: end, pad: 0.0 })
 }
 
 /// Identity at time 0, one further along x at time 1.

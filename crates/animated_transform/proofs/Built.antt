@@ -1,4 +1,5 @@
--- What building has judged of a built move (`built-judged`): its times, poses, parts, dot product and coefficients are finite, and the dot product is at least 0.
+-- What building has judged of a built move (`built-judged`): its times, poses, parts, dot product, coefficients and pads are finite, and the dot product and
+-- the pads are at least 0.
 use mathlib.Core.Path.{_≡_, refl, sym, ap, subst, _∙_}
 use mathlib.Core.Bool.{Bool, true, false, not, _&&_, _||_, cond}
 use Prim.Native.Nat.{ℕ, suc}
@@ -34,11 +35,11 @@ use Rattle.pose_pair.specs.declared.Pose.{Pose}
 use Rattle.animated_transform.specs.declared.AnimatedTransform.{AnimatedTransform}
 use Rattle.animated_transform.specs.declared.AnimatedTransformAnswer.{AnimatedTransformAnswer}
 use Rattle.rotation_arc.specs.declared.CoefficientsAnswer.{CoefficientsAnswer}
-use Rattle.pose_pair.specs.Pose.{Pose·isFinite, Pose·isAffine, timesRefusal, posesRefusal}
+use Rattle.pose_pair.specs.Pose.{Pose·isFinite, Pose·isBinary32, Pose·isAffine, Pose·isPadded, timesRefusal, posesRefusal}
 use Rattle.rotation_arc.specs.ShorterArc.{flip, dotsRefusal}
 use Rattle.rotation_arc.specs.ArcCoefficients.{CoefficientsAnswer·judged, rotationCoefficients, pairCoefficients}
 use Rattle.animated_transform.specs.New.{AnimatedTransformAnswer·refused, firstRefusal, assembled, between, work, AnimatedTransform·new}
-use Rattle.animated_transform.specs.Built.{Built, StoredPose, AnimatedTransform·Judged}
+use Rattle.animated_transform.specs.Built.{Built, StoredPose, Pad·Judged, AnimatedTransform·Judged}
 use Rattle.rotation_arc.proofs.DotProduct.{dot-after-flip}
 
 -- ---- a number that was not met
@@ -80,30 +81,44 @@ record PosePassed (p : Pose) : Type 0 where
   binary32-time : T (fits binary32 (p .time))
   matrix : T (Matrix4x4·isFinite (Matrix4x4·toRows (p .m)))
   affine : T (Matrix4x4·isAffine (Matrix4x4·toRows (p .m)))
+  pad : Pad·Judged (p .pad)
 
-pose-passed : (p : Pose) → T (fits binary32 (p .time)) → T (Pose·isFinite p) → T (Pose·isAffine p) → PosePassed p
-unfolding Pose·isFinite Pose·isAffine
-pose-passed p t f a = record {
-  time = and-l (finite (p .time)) (Matrix4x4·isFinite (Matrix4x4·toRows (p .m))) f;
-  binary32-time = t;
-  matrix = and-r (finite (p .time)) (Matrix4x4·isFinite (Matrix4x4·toRows (p .m))) f;
-  affine = a;
-}
+pose-passed : (p : Pose) → T (Pose·isBinary32 p) → T (Pose·isFinite p) → T (Pose·isAffine p) → T (Pose·isPadded p) → PosePassed p
+unfolding Pose·isFinite Pose·isAffine Pose·isPadded
+pose-passed p b f a z =
+    let time = finite (p .time) in
+    let matrix = Matrix4x4·isFinite (Matrix4x4·toRows (p .m)) in
+    let pad = finite (p .pad) in
+    let t = and-l (time && matrix) pad f in
+    record {
+      time = and-l time matrix t;
+      binary32-time = and-l (fits binary32 (p .time)) (fits binary32 (p .pad)) b;
+      matrix = and-r time matrix t;
+      affine = a;
+      pad = record {
+        finite = and-r (time && matrix) pad f;
+        binary32 = and-r (fits binary32 (p .time)) (fits binary32 (p .pad)) b;
+        at-least-zero = record { holds = z };
+      };
+    }
 
 record PosesPassed (start end : Pose) : Type 0 where
   start-pose : PosePassed start
   end-pose : PosePassed end
   times : Times (start .time) (end .time)
 
-poses-passed : (start end : Pose) → T (fits binary32 (start .time)) → T (fits binary32 (end .time)) → posesRefusal start end ≡ 0 → PosesPassed start end
+poses-passed : (start end : Pose) → T (Pose·isBinary32 start) → T (Pose·isBinary32 end) → posesRefusal start end ≡ 0 → PosesPassed start end
 unfolding posesRefusal
 poses-passed start end t u h =
     let f = passed (Pose·isFinite start && Pose·isFinite end) 0 _ h in
     let a = passed (Pose·isAffine start && Pose·isAffine end) 1 _ (f .1) in
+    let z = passed (Pose·isPadded start && Pose·isPadded end) 15 _ (a .1) in
     record {
-      start-pose = pose-passed start t (and-l (Pose·isFinite start) (Pose·isFinite end) (f .0)) (and-l (Pose·isAffine start) (Pose·isAffine end) (a .0));
-      end-pose = pose-passed end u (and-r (Pose·isFinite start) (Pose·isFinite end) (f .0)) (and-r (Pose·isAffine start) (Pose·isAffine end) (a .0));
-      times = times-passed (start .time) (end .time) (a .1);
+      start-pose = pose-passed start t (and-l (Pose·isFinite start) (Pose·isFinite end) (f .0))
+          (and-l (Pose·isAffine start) (Pose·isAffine end) (a .0)) (and-l (Pose·isPadded start) (Pose·isPadded end) (z .0));
+      end-pose = pose-passed end u (and-r (Pose·isFinite start) (Pose·isFinite end) (f .0))
+          (and-r (Pose·isAffine start) (Pose·isAffine end) (a .0)) (and-r (Pose·isPadded start) (Pose·isPadded end) (z .0));
+      times = times-passed (start .time) (end .time) (z .1);
     }
 
 record Stored (p : Pose) (t : Transform) : Type 0 where
@@ -201,6 +216,8 @@ module _ (start end : Pose) (poses : PosesPassed start end) (a b : Transform) (s
         dot-sign = dot-after-flip (p .r) (q .r) (dots .before) (dots .after);
         rotation = refl;
         coefficients = coefficients-passed hasRotation (p .t) (q .t) (p .r) r1 (p .s) (q .s) cosθ (n .1);
+        pad0 = poses .start-pose .pad;
+        pad1 = poses .end-pose .pad;
       })
 
 work-judged : (start end : Pose) → PosesPassed start end → (m : AnimatedTransform) → work start end ≡ record { value = m; refusal = 0 } → AnimatedTransform·Judged m
@@ -227,16 +244,20 @@ built-judged {m} b =
     let g = not-refused (posesRefusal (b .start) (b .end)) (work (b .start) (b .end)) m (b .accepted) in
     work-judged (b .start) (b .end) (poses-passed (b .start) (b .end) (b .start-binary32) (b .end-binary32) (g .0)) m (g .1)
 
--- Both clauses of building's contract, from the first: what isn't refused is a built move, since f32 times are binary32.
-pub new-clauses : {r : AnimatedTransformAnswer} (start end : Pose) → fits binary32 (start .time) ≡ true → fits binary32 (end .time) ≡ true
+-- Both clauses of building's contract, from the first: what isn't refused is a built move, since f32 times and pads are binary32.
+pub new-clauses : {r : AnimatedTransformAnswer} (start end : Pose)
+    → fits binary32 (start .time) ≡ true → fits binary32 (start .pad) ≡ true → fits binary32 (end .time) ≡ true → fits binary32 (end .pad) ≡ true
     → r ≡ AnimatedTransform·new start end → (r ≡ AnimatedTransform·new start end) × (r .refusal ≡ 0 → Built (r .value))
-new-clauses {r} start end f g e = (e, built)
+new-clauses {r} start end f f' g g' e = (e, built)
   where
+    fitting : {x y : Bool} → x ≡ true → y ≡ true → T (x && y)
+    fitting {x} {y} h k = rw (h, k) tt
+
     built : r .refusal ≡ 0 → Built (r .value)
     built none = record {
       start = start;
       end = end;
-      start-binary32 = subst T (sym f) tt;
-      end-binary32 = subst T (sym g) tt;
+      start-binary32 = fitting f f';
+      end-binary32 = fitting g g';
       accepted = sym e ∙ ap (λ (n : ℕ). record { value = r .value; refusal = n }) none;
     }

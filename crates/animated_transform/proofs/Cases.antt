@@ -1,4 +1,4 @@
--- Moves of document 01's "Poses tried", built by computing the definition: a translation from the identity, also between equal times, and refusals 1, 3 and 4.
+-- Moves of document 01's "Poses tried", built by computing the definition: a translation from the identity, also between equal times, and refusals 1, 2, 3, 4 and 16.
 use mathlib.Core.Path.{_≡_, refl}
 use mathlib.Core.Bool.{true, false}
 use mathlib.Core.List.{[], _∷_}
@@ -20,6 +20,9 @@ one = ofBits binary32 0x3f800000
 abbrev minusOne : Float
 minusOne = ofBits binary32 0xbf800000
 
+abbrev minusZero : Float
+minusZero = ofBits binary32 0x80000000
+
 abbrev infinity : Float
 infinity = ofBits binary32 0x7f800000
 
@@ -32,7 +35,7 @@ identity = matrix one o o
 
 -- identity at time 0, identity with m03 = 1 at the end time
 abbrev moveA : Float → AnimatedTransformAnswer
-moveA t = AnimatedTransform·new (record { time = o; m = identity }) (record { time = t; m = matrix one one o })
+moveA t = AnimatedTransform·new (record { time = o; m = identity; pad = o }) (record { time = t; m = matrix one one o; pad = one })
 
 abbrev builtA : Float → AnimatedTransformAnswer
 builtA t =
@@ -52,6 +55,8 @@ builtA t =
         s0 = identity;
         s1 = matrix one one o;
         coefficients = Coefficients·zero;
+        pad0 = o;
+        pad1 = one;
       };
       refusal = 0;
     }
@@ -68,11 +73,28 @@ end-before-start : moveA minusOne ≡ AnimatedTransformAnswer·refused 3
 unfolding computing
 end-before-start = refl
 
-linear-part-of-zeros : AnimatedTransform·new (record { time = o; m = identity }) (record { time = one; m = matrix o one o }) ≡ AnimatedTransformAnswer·refused 4
+linear-part-of-zeros : AnimatedTransform·new (record { time = o; m = identity; pad = o }) (record { time = one; m = matrix o one o; pad = o }) ≡ AnimatedTransformAnswer·refused 4
 unfolding computing
 linear-part-of-zeros = refl
 
--- an infinite entry is met before a bottom row
-infinite-entry-first : AnimatedTransform·new (record { time = o; m = matrix one infinity one }) (record { time = one; m = identity }) ≡ AnimatedTransformAnswer·refused 1
+-- a pad below zero is met before times that fall, and after a bottom row; a pad of -0 is accepted
+pad-before-times : AnimatedTransform·new (record { time = o; m = identity; pad = minusOne }) (record { time = minusOne; m = identity; pad = o }) ≡ AnimatedTransformAnswer·refused 16
+unfolding computing
+pad-before-times = refl
+
+bottom-row-before-pad : AnimatedTransform·new (record { time = o; m = identity; pad = minusOne }) (record { time = one; m = matrix one o one; pad = o }) ≡ AnimatedTransformAnswer·refused 2
+unfolding computing
+bottom-row-before-pad = refl
+
+pad-of-minus-zero : AnimatedTransform·new (record { time = o; m = identity; pad = minusZero }) (record { time = one; m = identity; pad = o }) .refusal ≡ 0
+unfolding computing
+pad-of-minus-zero = refl
+
+-- a pad and an entry that aren't finite are met before a bottom row
+infinite-pad-first : AnimatedTransform·new (record { time = o; m = matrix one o one; pad = infinity }) (record { time = one; m = identity; pad = o }) ≡ AnimatedTransformAnswer·refused 1
+unfolding computing
+infinite-pad-first = refl
+
+infinite-entry-first : AnimatedTransform·new (record { time = o; m = matrix one infinity one; pad = minusOne }) (record { time = one; m = identity; pad = o }) ≡ AnimatedTransformAnswer·refused 1
 unfolding computing
 infinite-entry-first = refl

@@ -1,3 +1,4 @@
 pub mod Numbers
 pub mod Built
 pub mod Cases
+pub mod Kept

@@ -1,9 +1,10 @@
--- The numbers that building can give are 0 to 5 (`new-refusal`), but not 2 where both bottom rows are right (`new-affine`), and after a refusal every number is
+-- The numbers that building can give are 0 to 5 and 16 (`new-refusal`), but not 2 where both bottom rows are right (`new-affine`), and after a refusal every number is
 -- +0 and every yes or no is no (`new-refused`). Those of its work are 0, 4 and 5.
 use mathlib.Core.Path.{_≡_, refl}
 use mathlib.Core.Bool.{Bool, true, false, not, _&&_, _||_, cond}
 use mathlib.Core.Logic.{_⊎_, inl, inr}
-use Prim.Native.Nat.{ℕ, _≤_}
+use mathlib.Core.List.{[], _∷_}
+use Prim.Native.Nat.{ℕ}
 use native.Mathlib.Omega.{arith}
 use lib.Dec.{eqb}
 use lib.Ieee.{Float, lt}
@@ -17,6 +18,7 @@ use Rattle.quaternion.specs.IsFinite.{Quaternion·isFinite}
 use Rattle.matrix4x4.specs.declared.Matrix4x4.{Matrix4x4}
 use Rattle.matrix4x4.specs.Rows.{Matrix4x4·toRows}
 use Rattle.transform.specs.declared.Transform.{Transform}
+use Rattle.transform.specs.Answer.{OneOf}
 use Rattle.transform.specs.Transform.{Transform·fromMatrix}
 use Rattle.transform.proofs.FromMatrix.{from-matrix-numbers}
 use Rattle.decomposition.specs.declared.Decomposition.{Decomposition}
@@ -28,7 +30,7 @@ use Rattle.coefficients.specs.IsFinite.{Coefficients·isFinite}
 use Rattle.pose_pair.specs.declared.Pose.{Pose}
 use Rattle.animated_transform.specs.declared.AnimatedTransformAnswer.{AnimatedTransformAnswer}
 use Rattle.rotation_arc.specs.declared.CoefficientsAnswer.{CoefficientsAnswer}
-use Rattle.pose_pair.specs.Pose.{Pose·isFinite, Pose·isAffine, timesRefusal, posesRefusal}
+use Rattle.pose_pair.specs.Pose.{Pose·isFinite, Pose·isAffine, Pose·isPadded, timesRefusal, posesRefusal}
 use Rattle.rotation_arc.specs.ShorterArc.{flip, dotsRefusal}
 use Rattle.rotation_arc.specs.ArcCoefficients.{CoefficientsAnswer·judged, rotationCoefficients, pairCoefficients}
 use Rattle.animated_transform.specs.New.{AnimatedTransformAnswer·refused, firstRefusal, assembled, between, work, AnimatedTransform·new}
@@ -43,45 +45,47 @@ chosen : (P : ℕ → Type 0) (b : Bool) (m n : ℕ) → P m → P n → P (cond
 chosen P true m n p q = p
 chosen P false m n p q = q
 
-up-to-five : (n : ℕ) → Worked n → n ≤ 5
-up-to-five n (inl e) = omega arith
-up-to-five n (inr (inl e)) = omega arith
-up-to-five n (inr (inr e)) = omega arith
+-- 0 to 5 and 16
+abbrev Numbered : ℕ → Type 0
+Numbered n = OneOf n (0 ∷ 1 ∷ 2 ∷ 3 ∷ 4 ∷ 5 ∷ 16 ∷ [])
+
+worked-numbered : (n : ℕ) → Worked n → Numbered n
+worked-numbered n (inl e) = inl e
+worked-numbered n (inr (inl e)) = inr (inr (inr (inr (inl e))))
+worked-numbered n (inr (inr e)) = inr (inr (inr (inr (inr (inl e)))))
 
 worked-not-two : (n : ℕ) → Worked n → n ≡ 2 → ⊥
 worked-not-two n (inl e) h = absurd (omega (arith, e, h))
 worked-not-two n (inr (inl e)) h = absurd (omega (arith, e, h))
 worked-not-two n (inr (inr e)) h = absurd (omega (arith, e, h))
 
-times-three : (t u : Float) → (timesRefusal t u ≡ 0) ⊎ (timesRefusal t u ≡ 3)
+times-three : (P : ℕ → Type 0) (t u : Float) → P 0 → P 3 → P (timesRefusal t u)
 unfolding timesRefusal
-times-three t u = chosen (λ n. (n ≡ 0) ⊎ (n ≡ 3)) (lt u t || not (finite (u ⊖ t))) 3 0 (inr refl) (inl refl)
+times-three P t u p q = chosen P (lt u t || not (finite (u ⊖ t))) 3 0 q p
 
-times-number : (t u : Float) → timesRefusal t u ≤ 5
-times-number t u = go (times-three t u)
-  where
-    go : (timesRefusal t u ≡ 0) ⊎ (timesRefusal t u ≡ 3) → timesRefusal t u ≤ 5
-    go (inl e) = omega (arith, e)
-    go (inr e) = omega (arith, e)
-
-poses-number : (start end : Pose) → posesRefusal start end ≤ 5
+-- 1, 2, 16 and 3, 0 being none
+poses-numbers : (P : ℕ → Type 0) (start end : Pose) → P 0 → P 1 → P 2 → P 16 → P 3 → P (posesRefusal start end)
 unfolding posesRefusal
+poses-numbers P start end none one two sixteen three =
+    chosen P (not (Pose·isFinite start && Pose·isFinite end)) 1 _ one
+    (chosen P (not (Pose·isAffine start && Pose·isAffine end)) 2 _ two
+    (chosen P (not (Pose·isPadded start && Pose·isPadded end)) 16 _ sixteen (times-three P (start .time) (end .time) none three)))
+
+poses-number : (start end : Pose) → Numbered (posesRefusal start end)
 poses-number start end =
-    chosen (λ n. n ≤ 5) (not (Pose·isFinite start && Pose·isFinite end)) 1 _ (omega arith)
-    (chosen (λ n. n ≤ 5) (not (Pose·isAffine start && Pose·isAffine end)) 2 _ (omega arith) (times-number (start .time) (end .time)))
+    poses-numbers Numbered start end (inl refl) (inr (inl refl)) (inr (inr (inl refl))) (inr (inr (inr (inr (inr (inr (inl refl))))))) (inr (inr (inr (inl refl))))
 
 -- 2 is met where a bottom row is wrong, and only there.
 poses-affine : (start end : Pose) → Pose·isAffine start ≡ true → Pose·isAffine end ≡ true → posesRefusal start end ≡ 2 → ⊥
 unfolding posesRefusal
-poses-affine start end a b = rw (a, b) (go (Pose·isFinite start && Pose·isFinite end) (times-three (start .time) (end .time)))
+poses-affine start end a b =
+    rw (a, b)
+    (chosen Not2 (not (Pose·isFinite start && Pose·isFinite end)) 1 _ (λ e. absurd (omega (arith, e)))
+    (chosen Not2 (not (Pose·isPadded start && Pose·isPadded end)) 16 _ (λ e. absurd (omega (arith, e)))
+    (times-three Not2 (start .time) (end .time) (λ e. absurd (omega (arith, e))) (λ e. absurd (omega (arith, e))))))
   where
-    times : ℕ
-    times = timesRefusal (start .time) (end .time)
-
-    go : (f : Bool) → (times ≡ 0) ⊎ (times ≡ 3) → cond (not f) 1 times ≡ 2 → ⊥
-    go true (inl e) h = absurd (omega (arith, e, h))
-    go true (inr e) h = absurd (omega (arith, e, h))
-    go false t h = absurd (omega (arith, h))
+    Not2 : ℕ → Type 0
+    Not2 n = n ≡ 2 → ⊥
 
 dots-number : (d e : Float) → Worked (dotsRefusal d e)
 unfolding dotsRefusal
@@ -153,12 +157,12 @@ new-answered P start end h k =
     let w = work-answered start end in
     after P (posesRefusal start end) (work start end) h (record { number = k (work start end .refusal) (w .number); zero = w .zero })
 
-pub new-refusal : (start end : Pose) → AnimatedTransform·new start end .refusal ≤ 5
-new-refusal start end = new-answered (λ n. n ≤ 5) start end (poses-number start end) up-to-five .number
+pub new-refusal : (start end : Pose) → OneOf (AnimatedTransform·new start end .refusal) (0 ∷ 1 ∷ 2 ∷ 3 ∷ 4 ∷ 5 ∷ 16 ∷ [])
+new-refusal start end = new-answered Numbered start end (poses-number start end) worked-numbered .number
 
 pub new-affine : (start end : Pose) → Pose·isAffine start ≡ true → Pose·isAffine end ≡ true → AnimatedTransform·new start end .refusal ≡ 2 → ⊥
 new-affine start end a b = new-answered (λ n. n ≡ 2 → ⊥) start end (poses-affine start end a b) worked-not-two .number
 
 pub new-refused : (start end : Pose) → (AnimatedTransform·new start end .refusal ≡ 0 → ⊥)
     → AnimatedTransform·new start end ≡ AnimatedTransformAnswer·refused (AnimatedTransform·new start end .refusal)
-new-refused start end = new-answered (λ n. n ≤ 5) start end (poses-number start end) up-to-five .zero
+new-refused start end = new-answered Numbered start end (poses-number start end) worked-numbered .zero

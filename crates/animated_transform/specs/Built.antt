@@ -2,7 +2,7 @@
 use mathlib.Core.Path.{_≡_}
 use mathlib.Core.Bool.{not}
 use lib.Dec.{T}
-use lib.Ieee.{binary32, fits, lt}
+use lib.Ieee.{Float, binary32, fits, lt}
 use lib.Ieee.Scale.{finite}
 use Rattle.float32.specs.Operators.{_⊖_}
 use Rattle.rounding.specs.Order.{_≼_}
@@ -18,15 +18,16 @@ use Rattle.quaternion.specs.IsFinite.{Quaternion·isFinite}
 use Rattle.decomposition.specs.Decompose.{translationOf}
 use Rattle.coefficients.specs.IsFinite.{Coefficients·isFinite}
 use Rattle.pose_pair.specs.declared.Pose.{Pose}
+use Rattle.pose_pair.specs.Pose.{Pose·isBinary32}
 use Rattle.animated_transform.specs.declared.AnimatedTransform.{AnimatedTransform}
 use Rattle.animated_transform.specs.New.{AnimatedTransform·new}
 
--- document 01, Cover: "A move is built .. when the call with its arguments gives no refusal"; "Float is 32-bit IEEE 754 throughout", which of the times is needed
+-- document 01, Cover: "A move is built .. when the call with its arguments gives no refusal"; "Float is 32-bit IEEE 754 throughout", which of times and pads is needed
 pub record Built (m : AnimatedTransform) : Type 0 where
   pub start : Pose
   pub end : Pose
-  pub start-binary32 : T (fits binary32 (start .time))
-  pub end-binary32 : T (fits binary32 (end .time))
+  pub start-binary32 : T (Pose·isBinary32 start)
+  pub end-binary32 : T (Pose·isBinary32 end)
   pub accepted : AnimatedTransform·new start end ≡ record { value = m; refusal = 0 }
 
 abbrev pub MatrixFinite : Matrix4x4 → Type 0
@@ -37,6 +38,12 @@ pub record StoredPose (t : Transform) : Type 0 where
   pub affine : T (Matrix4x4·isAffine (Matrix4x4·toRows (t .m)))
   pub matrix : MatrixFinite (t .m)
   pub inverse : MatrixFinite (t .«m_inv»)
+
+-- A pad that building has judged: a finite float of at least zero.
+pub record Pad·Judged (pad : Float) : Type 0 where
+  pub finite : T (finite pad)
+  pub binary32 : T (fits binary32 pad)
+  pub at-least-zero : positiveZero ≼ pad
 
 -- What building has judged of a move, and how its yes and no are found.
 pub record AnimatedTransform·Judged (m : AnimatedTransform) : Type 0 where
@@ -59,3 +66,5 @@ pub record AnimatedTransform·Judged (m : AnimatedTransform) : Type 0 where
   pub dot-sign : positiveZero ≼ Quaternion·dot (m .r0) (m .r1)
   pub rotation : m .«has_rotation» ≡ lt (Quaternion·dot (m .r0) (m .r1)) slerpThreshold
   pub coefficients : T (Coefficients·isFinite (m .coefficients))
+  pub pad0 : Pad·Judged (m .pad0)
+  pub pad1 : Pad·Judged (m .pad1)

@@ -1,4 +1,4 @@
--- pbrt's `AnimatedTransform::new`, judged: 1, 2 and 3 before anything is worked, then 4 or 5, whichever is met first, in this order: both inverses, start parts, end parts,
+-- pbrt's `AnimatedTransform::new`, judged: 1, 2, 16 and 3 before anything is worked, then 4 or 5, whichever is met first, in this order: both inverses, start parts, end parts,
 -- the dot products of the two quaternions, the coefficients. After a refusal every number is +0 and every yes or no is no. Definitions only.
 use Prim.Native.Nat.{ℕ}
 use mathlib.Core.Bool.{false, not, cond}
@@ -43,6 +43,8 @@ AnimatedTransform·zero =
       s0 = m;
       s1 = m;
       coefficients = Coefficients·zero;
+      pad0 = positiveZero;
+      pad1 = positiveZero;
     }
 
 abbrev pub AnimatedTransformAnswer·refused : ℕ → AnimatedTransformAnswer
@@ -52,7 +54,7 @@ AnimatedTransformAnswer·refused n = record { value = AnimatedTransform·zero; r
 abbrev pub firstRefusal : ℕ → ℕ → ℕ
 firstRefusal a b = cond (eqb a 0) b a
 
--- A move from transforms a and b, parts p and q, the end's quaternion after the flip, and coefficients.
+-- A move from transforms a and b, parts p and q, the end's quaternion after the flip, and coefficients; its pads are the poses' own.
 abbrev pub assembled : Pose → Pose → Transform → Transform → Decomposition → Decomposition → Quaternion → Coefficients → AnimatedTransform
 assembled start end a b p q r1 c =
     record {
@@ -69,6 +71,8 @@ assembled start end a b p q r1 c =
       s0 = p .s;
       s1 = q .s;
       coefficients = c;
+      pad0 = start .pad;
+      pad1 = end .pad;
     }
 
 -- work per pair

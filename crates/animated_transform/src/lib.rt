@@ -10,7 +10,7 @@ ghost use mathlib.Core.Path.{_≡_};
 ghost use Rattle.animated_transform.specs.Built.{Built};
 ghost use Rattle.animated_transform.specs.New.{firstRefusal, AnimatedTransformAnswer·refused, between, work, AnimatedTransform·new};
 
-// 0 stands for the start and 1 for the end, so that pbrt's t[0] is t0; the coefficients are pbrt's c1 to c5.
+// 0 stands for the start and 1 for the end, so that pbrt's t[0] is t0; the coefficients are pbrt's c1 to c5. The pads are the poses' own, of which pbrt knows none.
 pub struct AnimatedTransform {
     pub start_transform: Transform,
     pub end_transform: Transform,
@@ -25,6 +25,8 @@ pub struct AnimatedTransform {
     pub s0: Matrix4x4,
     pub s1: Matrix4x4,
     pub coefficients: Coefficients,
+    pub pad0: f32,
+    pub pad1: f32,
 }
 
 // A move beside a refusal (error code, 0 for none), after which every number is +0 and every yes or no is no.
@@ -64,6 +66,8 @@ fn refused(refusal: u8) -> AnimatedTransformAnswer
         s0: m,
         s1: m,
         coefficients,
+        pad0: 0.0,
+        pad1: 0.0,
     };
     AnimatedTransformAnswer { value, refusal }
 }
@@ -116,6 +120,8 @@ fn between(
         s0,
         s1,
         coefficients,
+        pad0: start.pad,
+        pad1: end.pad,
     };
     AnimatedTransformAnswer { value, refusal: 0 }
 }
@@ -140,7 +146,7 @@ fn work(start: Pose, end: Pose) -> AnimatedTransformAnswer
 }
 
 impl AnimatedTransform {
-    // pbrt's `AnimatedTransform::new`: a move from two poses; refused with 1 to 5, whichever is met first, where pbrt goes on.
+    // pbrt's `AnimatedTransform::new`: a move from two poses; refused with 1 to 5 or 16, whichever is met first, where pbrt goes on.
     // What isn't refused is a built move.
     // Accuracy: each operation but the arc cosine is correctly rounded.
     pub fn new(start: Pose, end: Pose) -> AnimatedTransformAnswer

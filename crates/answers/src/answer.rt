@@ -45,7 +45,7 @@ pub fn put_answer(
     x: &[f32; 34],
     out: &mut [u8; 16384],
     at: usize,
-    motion: &mut [[f32; 4]; 44],
+    motion: &mut [[f32; 4]; 45],
 ) -> usize {
     if q.kind == 21 {
         return moves::put_parts(motion, out, at);
@@ -56,7 +56,7 @@ pub fn put_answer(
 }
 
 // The number of a refusal, 0 for none, and 255 for a line that is no question, or one about a move where none is kept.
-fn answer(q: Question, x: &[f32; 34], motion: &mut [[f32; 4]; 44], rows: &mut [[f32; 4]; 9]) -> u8 {
+fn answer(q: Question, x: &[f32; 34], motion: &mut [[f32; 4]; 45], rows: &mut [[f32; 4]; 9]) -> u8 {
     let kind = q.kind;
     if kind < 11 {
         rows[0] = [value(kind, q.decimal, x), 0.0, 0.0, 0.0];

@@ -10,7 +10,7 @@ use question_lines::part;
 fn main() {
     let mut input = [0u8; 16384];
     let mut out = [0u8; 16384];
-    let mut motion = [[moves::NONE; 4]; 44];
+    let mut motion = [[moves::NONE; 4]; 45];
     let mut held = 0;
     let mut turns = u64::MAX;
     while turns > 0 {
@@ -29,7 +29,7 @@ fn answer_rest(
     input: &[u8; 16384],
     held: usize,
     out: &mut [u8; 16384],
-    motion: &mut [[f32; 4]; 44],
+    motion: &mut [[f32; 4]; 45],
 ) {
     let written = answer_line(part(input, 0, held), out, 0, motion);
     send(out, written);
@@ -41,14 +41,14 @@ fn answer_block(
     input: &mut [u8],
     n: usize,
     out: &mut [u8; 16384],
-    motion: &mut [[f32; 4]; 44],
+    motion: &mut [[f32; 4]; 45],
 ) -> usize {
     let next = answer_lines(part(input, 0, n), out, motion);
     question_lines::keep(input, next, n, 1201)
 }
 
 // Answers each line of `text` that ends in a line feed, and answers where the first line starts that has not ended.
-fn answer_lines(text: &[u8], out: &mut [u8; 16384], motion: &mut [[f32; 4]; 44]) -> usize {
+fn answer_lines(text: &[u8], out: &mut [u8; 16384], motion: &mut [[f32; 4]; 45]) -> usize {
     let mut written = 0;
     let mut at = 0;
     while at < text.len() {
@@ -68,7 +68,7 @@ fn answer_line(
     line: &[u8],
     out: &mut [u8; 16384],
     written: usize,
-    motion: &mut [[f32; 4]; 44],
+    motion: &mut [[f32; 4]; 45],
 ) -> usize {
     if line.len() == 0 {
         return written;

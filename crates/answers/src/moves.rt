@@ -2,7 +2,7 @@
 // parts, point T X Y Z, interp T (both halves of the transform), motion BOX, pmotion X Y Z (`bound_point_motion`), each with three counts behind its box, cover D BOX, with a depth D.
 // `parts` asks whether it is animated and whether it rotates, for start and end t, r, S and the inverse, then c1 to c5, each on the axes
 // x y z, each kc kx ky kz.
-// A move is kept as the library's callers keep it, in 44 rows (`motion_rows`).
+// A move is kept as the library's callers keep it, in 45 rows (`motion_rows`).
 use crate::matrices::bounds_at;
 use crate::matrices::point_at;
 use crate::matrices::put_bounds;
@@ -10,11 +10,11 @@ use crate::matrices::row_at;
 use hexadecimal::float_of_bits;
 use question_lines::put_text;
 
-// What stands first in the last row where no move is kept: a kept move has 0 or 1 there.
+// What stands first in the row of constants where no move is kept: a kept move has 0 or 1 there.
 pub const NONE: f32 = 2.0;
 
 // Builds a move and keeps it, or none where it is refused.
-pub fn build(x: &[f32; 34], motion: &mut [[f32; 4]; 44]) -> u8 {
+pub fn build(x: &[f32; 34], motion: &mut [[f32; 4]; 45]) -> u8 {
     let start = pose_at(x, 0);
     let end = pose_at(x, 17);
     let refusal = api::jellyplain_build(&start, &end, motion);
@@ -24,8 +24,8 @@ pub fn build(x: &[f32; 34], motion: &mut [[f32; 4]; 44]) -> u8 {
     refusal
 }
 
-// A pose's 17 floats, from a place on.
-fn pose_at(x: &[f32; 34], i: usize) -> [f32; 17] {
+// A pose of 17 floats, from a place on; its pad is +0.
+fn pose_at(x: &[f32; 34], i: usize) -> [f32; 18] {
     if i < 18 {
         let a = row_at(x, i);
         let b = row_at(x, i + 4);
@@ -49,13 +49,14 @@ fn pose_at(x: &[f32; 34], i: usize) -> [f32; 17] {
             d[2],
             d[3],
             x[i + 16],
+            0.0,
         ];
     }
-    [0.0; 17]
+    [0.0; 18]
 }
 
 // Answers `parts`.
-pub fn put_parts(motion: &[[f32; 4]; 44], out: &mut [u8; 16384], at: usize) -> usize {
+pub fn put_parts(motion: &[[f32; 4]; 45], out: &mut [u8; 16384], at: usize) -> usize {
     if is_none(motion[43]) {
         return put_text(b"error\n", out, at);
     }
@@ -68,7 +69,7 @@ pub fn answer(
     kind: usize,
     n: u64,
     x: &[f32; 34],
-    motion: &[[f32; 4]; 44],
+    motion: &[[f32; 4]; 45],
     rows: &mut [[f32; 4]; 9],
 ) -> u8 {
     if is_none(motion[43]) {
@@ -88,7 +89,7 @@ fn is_none(last: [f32; 4]) -> bool {
     last[0] == NONE
 }
 
-fn point(x: &[f32; 34], motion: &[[f32; 4]; 44], rows: &mut [[f32; 4]; 9]) -> u8 {
+fn point(x: &[f32; 34], motion: &[[f32; 4]; 45], rows: &mut [[f32; 4]; 9]) -> u8 {
     let p = point_at(x, 1);
     let mut moved = [0.0f32; 3];
     let refusal = api::jellyplain_point(motion, x[0], &p, &mut moved);
@@ -100,7 +101,7 @@ fn put_point(p: [f32; 3], rows: &mut [[f32; 4]; 9]) {
     rows[0] = [p[0], p[1], p[2], 0.0];
 }
 
-fn interpolate(x: &[f32; 34], motion: &[[f32; 4]; 44], rows: &mut [[f32; 4]; 9]) -> u8 {
+fn interpolate(x: &[f32; 34], motion: &[[f32; 4]; 45], rows: &mut [[f32; 4]; 9]) -> u8 {
     let mut pose = [[0.0f32; 4]; 8];
     let refusal = api::jellyplain_interpolate(motion, x[0], &mut pose);
     for i in 0..8 {
@@ -109,7 +110,7 @@ fn interpolate(x: &[f32; 34], motion: &[[f32; 4]; 44], rows: &mut [[f32; 4]; 9])
     refusal
 }
 
-fn motion_bounds(x: &[f32; 34], motion: &[[f32; 4]; 44], rows: &mut [[f32; 4]; 9]) -> u8 {
+fn motion_bounds(x: &[f32; 34], motion: &[[f32; 4]; 45], rows: &mut [[f32; 4]; 9]) -> u8 {
     let asked = bounds_at(x, 0);
     let mut b = [0.0f32; 6];
     let mut examined = [0u32; 3];
@@ -119,7 +120,7 @@ fn motion_bounds(x: &[f32; 34], motion: &[[f32; 4]; 44], rows: &mut [[f32; 4]; 9
     refusal
 }
 
-fn bound_point_motion(x: &[f32; 34], motion: &[[f32; 4]; 44], rows: &mut [[f32; 4]; 9]) -> u8 {
+fn bound_point_motion(x: &[f32; 34], motion: &[[f32; 4]; 45], rows: &mut [[f32; 4]; 9]) -> u8 {
     let p = point_at(x, 0);
     let mut b = [0.0f32; 6];
     let mut examined = [0u32; 3];
@@ -139,7 +140,7 @@ fn counts(n: [u32; 3]) -> [f32; 4] {
     ]
 }
 
-fn cover(x: &[f32; 34], depth: u32, motion: &[[f32; 4]; 44], rows: &mut [[f32; 4]; 9]) -> u8 {
+fn cover(x: &[f32; 34], depth: u32, motion: &[[f32; 4]; 45], rows: &mut [[f32; 4]; 9]) -> u8 {
     let asked = bounds_at(x, 0);
     let mut b = [0.0f32; 6];
     let refusal = api::jellyplain_cover(motion, &asked, depth, &mut b);

@@ -68,7 +68,7 @@ cover-clauses rows b d r bounds old number left = (number, (left, (contains, fin
         let built : Built (AnimatedTransform·fromRows rows) = rw move (holds .built) in
         let point : Rows·transformPoint rows time p ≡ AnimatedTransform·transformPoint (AnimatedTransform·fromRows rows) time p =
         rw move (kept-point rows m time p (holds .same)) in
-        rw (point, box) (cover-contains (AnimatedTransform·fromRows rows) (Bounds3f·ofList b) d time p built accepted nan inside)
+        rw (← move, point, box) (cover-contains (AnimatedTransform·fromRows rows) (Bounds3f·ofList b) d time p built accepted nan inside)
 
     finer : r ≡ 0 → KeptCoverFiner rows b d bounds
     finer none m k holds l most =

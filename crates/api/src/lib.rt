@@ -1,4 +1,4 @@
-// The library that Rust and C link: a move is built once, kept by its caller as 44 rows of four floats, and asked many times; a chain is kept as the rows of
+// The library that Rust and C link: a move is built once, kept by its caller as 45 rows of four floats, and asked many times; a chain is kept as the rows of
 // its moves, one block for each. Each function returns the number of a refusal, 0 for none, those over move files beside a length or a count. Where nothing is
 // refused it writes what it is lent for its answer; after a refusal that is as it was. Any floats may be handed in, and any rows may be asked, but the guarantee
 // is for rows that building has written.
@@ -17,10 +17,11 @@ ghost use Rattle.lent_arrays.specs.Arrays.{PointAnswer·left, TransformAnswer·
 ghost use Rattle.matrix4x4.specs.Rows.{Rows};
 ghost use Rattle.motion_rows.specs.Rows.{AnimatedTransform·toRows, AnimatedTransformAnswer·left};
 ghost use Rattle.motion_rows.specs.Holds.{Rows·Holds};
+ghost use Rattle.pad_query.specs.PadQuery.{AnimatedTransform·pad, Rows·pad, PadAnswer·refusal, PadAnswer·left};
 ghost use Rattle.motion_chain.specs.Chain.{Chain, built, ChainAnswer·refusal, Chain·new, Chain·transformPoint};
 ghost use Rattle.motion_chain.specs.Times.{PointsAnswer·refusal, PointsAnswer·left, Chain·transformPoints};
 ghost use Rattle.chain_poses.specs.Poses.{Poses·ofLists};
-ghost use Rattle.chain_rows.specs.Kept.{Chain·toRows};
+ghost use Rattle.chain_rows.specs.Kept.{Chain·toRows, Chain·pad, Moves·pad};
 ghost use Rattle.chain_rows.specs.Theorem.{Moves·Holds, KeptChainContainsMotion};
 ghost use Rattle.chain_rows.specs.Finer.{KeptChainFiner};
 ghost use Rattle.chain_build.specs.Build.{ChainAnswer·left};
@@ -58,13 +59,13 @@ fn put_motion_bounds(
     }
 }
 
-// Builds a move from two poses, each 17 floats: a time and a matrix row by row. Refused with 1 to 5.
+// Builds a move from two poses, each 18 floats: a time, a matrix row by row and a pad. Refused with 1 to 5 or 16.
 // Accuracy: each operation but the arc cosine is correctly rounded.
 #[no_mangle]
 pub extern "C" fn jellyplain_build(
-    start: &[f32; 17],
-    end: &[f32; 17],
-    motion: &mut [[f32; 4]; 44],
+    start: &[f32; 18],
+    end: &[f32; 18],
+    motion: &mut [[f32; 4]; 45],
 ) -> u8
     ensures refusal { λ r. ⌜ r ≡ Rows·new (now (start .entry)) (now (end .entry)) .refusal ⌝ }
     ensures left { λ _. ⌜ now (motion .exit) ≡ AnimatedTransformAnswer·left (Rows·new (now (start .entry)) (now (end .entry))) (now (motion .entry)) ⌝ }
@@ -79,7 +80,7 @@ pub extern "C" fn jellyplain_build(
 // Where a point stands at a time. Refused with 5 or 6. Accuracy: each operation but sine and cosine is correctly rounded.
 #[no_mangle]
 pub extern "C" fn jellyplain_point(
-    motion: &[[f32; 4]; 44],
+    motion: &[[f32; 4]; 45],
     time: f32,
     p: &[f32; 3],
     moved: &mut [f32; 3],
@@ -94,11 +95,22 @@ pub extern "C" fn jellyplain_point(
     )
 }
 
+// The pad at a time: between the times of a move lerp of its two pads, before and after them that pose's own, and the larger throughout where the poses are
+// equal. Refused with 5 or 6. Accuracy: each operation is correctly rounded.
+#[no_mangle]
+pub extern "C" fn jellyplain_pad(motion: &[[f32; 4]; 45], time: f32, pad: &mut [f32; 1]) -> u8
+    ensures refusal { λ r. ⌜ r ≡ PadAnswer·refusal (Rows·pad (now (motion .entry)) time) ⌝ }
+    ensures left { λ _. ⌜ now (pad .exit) ≡ PadAnswer·left (Rows·pad (now (motion .entry)) time) (now (pad .entry)) ⌝ }
+    ensures built { λ _. ⌜ ((m : AnimatedTransform) → now (motion .entry) ≡ AnimatedTransform·toRows m → Rows·pad (now (motion .entry)) time ≡ AnimatedTransform·pad m time) ⌝ }
+{
+    pad_query::put_pad(pad_query::pad(motion, time), pad)
+}
+
 // The transform at a time: the rows of its matrix, and then those of its inverse. Refused with 4, 5 or 6.
 // Accuracy: each operation but sine, cosine and arc cosine is correctly rounded.
 #[no_mangle]
 pub extern "C" fn jellyplain_interpolate(
-    motion: &[[f32; 4]; 44],
+    motion: &[[f32; 4]; 45],
     time: f32,
     transform: &mut [[f32; 4]; 8],
 ) -> u8
@@ -114,7 +126,7 @@ pub extern "C" fn jellyplain_interpolate(
 // pbrt's motion box of a point: no cover; how many intervals its search examined on x, y and z, each at most 511. Refused with 5, 6 or 9. Accuracy: heuristic.
 #[no_mangle]
 pub extern "C" fn jellyplain_bound_point_motion(
-    motion: &[[f32; 4]; 44],
+    motion: &[[f32; 4]; 45],
     p: &[f32; 3],
     bounds: &mut [f32; 6],
     examined: &mut [u32; 3],
@@ -133,7 +145,7 @@ pub extern "C" fn jellyplain_bound_point_motion(
 // pbrt's motion box of the box b: no cover; how many intervals were examined on x, y and z, over its eight corners. Refused with 5, 6, 7 or 9. Accuracy: heuristic.
 #[no_mangle]
 pub extern "C" fn jellyplain_motion_bounds(
-    motion: &[[f32; 4]; 44],
+    motion: &[[f32; 4]; 45],
     b: &[f32; 6],
     bounds: &mut [f32; 6],
     examined: &mut [u32; 3],
@@ -153,7 +165,7 @@ pub extern "C" fn jellyplain_motion_bounds(
 // Accuracy: encloses.
 #[no_mangle]
 pub extern "C" fn jellyplain_cover(
-    motion: &[[f32; 4]; 44],
+    motion: &[[f32; 4]; 45],
     b: &[f32; 6],
     depth: u32,
     bounds: &mut [f32; 6],
@@ -173,21 +185,21 @@ pub extern "C" fn jellyplain_cover(
     )
 }
 
-// The number of the layout in which poses, moves and chains cross: 17 floats, 44 rows, up to 31 blocks. It changes where one of them does, so that a caller
+// The number of the layout in which poses, moves and chains cross: 18 floats, 45 rows, up to 31 blocks. It changes where one of them does, so that a caller
 // built against another layout is told. Accuracy: exact.
 #[no_mangle]
 pub extern "C" fn jellyplain_layout() -> u32
     ensures value { λ r. ⌜ r ≡ layoutNumber ⌝ }
 {
-    1
+    2
 }
 
-// Builds a chain from 2 to 32 poses; the rows of its moves, one fewer than poses, then stand in the front blocks. Refused with 1, 2, 12, 3, 4 or 5.
+// Builds a chain from 2 to 32 poses; the rows of its moves, one fewer than poses, then stand in the front blocks. Refused with 1, 2, 16, 12, 3, 4 or 5.
 // Accuracy: each operation but the arc cosine is correctly rounded.
 #[no_mangle]
 pub extern "C" fn jellyplain_build_moves(
-    poses: &[[f32; 17]],
-    moves: &mut [[[f32; 4]; 44]; 31],
+    poses: &[[f32; 18]],
+    moves: &mut [[[f32; 4]; 45]; 31],
 ) -> u8
     ensures refusal { λ r. ⌜ r ≡ ChainAnswer·refusal (Chain·new (Poses·ofLists (now (poses .entry)))) ⌝ }
     ensures left { λ _. ⌜ now (moves .exit) ≡ ChainAnswer·left (Chain·new (Poses·ofLists (now (poses .entry)))) (now (moves .entry)) ⌝ }
@@ -200,7 +212,7 @@ pub extern "C" fn jellyplain_build_moves(
 // Accuracy: each operation but sine and cosine is correctly rounded.
 #[no_mangle]
 pub extern "C" fn jellyplain_moves_point(
-    moves: &[[[f32; 4]; 44]],
+    moves: &[[[f32; 4]; 45]],
     time: f32,
     p: &[f32; 3],
     moved: &mut [f32; 3],
@@ -216,11 +228,26 @@ pub extern "C" fn jellyplain_moves_point(
     )
 }
 
+// The pad at a time of a chain, that of the move to which the time belongs. Refused with 5 or 6, and with 12 where there are no moves.
+// Accuracy: each operation is correctly rounded.
+#[no_mangle]
+pub extern "C" fn jellyplain_moves_pad(
+    moves: &[[[f32; 4]; 45]],
+    time: f32,
+    pad: &mut [f32; 1],
+) -> u8
+    ensures refusal { λ r. ⌜ r ≡ PadAnswer·refusal (Moves·pad (now (moves .entry)) time) ⌝ }
+    ensures left { λ _. ⌜ now (pad .exit) ≡ PadAnswer·left (Moves·pad (now (moves .entry)) time) (now (pad .entry)) ⌝ }
+    ensures kept { λ _. ⌜ ((c : Chain) → now (moves .entry) ≡ Chain·toRows c → Moves·pad (now (moves .entry)) time ≡ Chain·pad c time) ⌝ }
+{
+    pad_query::put_pad(chain_rows::pad(moves, time), pad)
+}
+
 // Where a point stands at each time of a list that never falls, three places a time. Refused with 6, 13 or 5, and with 12 where there are no moves.
 // Accuracy: each operation but sine and cosine is correctly rounded.
 #[no_mangle]
 pub extern "C" fn jellyplain_moves_points(
-    moves: &[[[f32; 4]; 44]],
+    moves: &[[[f32; 4]; 45]],
     times: &[f32],
     p: &[f32; 3],
     answers: &mut [f32],
@@ -236,7 +263,7 @@ pub extern "C" fn jellyplain_moves_points(
 // 10, and with 12 where there are no moves. Accuracy: encloses.
 #[no_mangle]
 pub extern "C" fn jellyplain_moves_cover(
-    moves: &[[[f32; 4]; 44]],
+    moves: &[[[f32; 4]; 45]],
     b: &[f32; 6],
     depth: u32,
     bounds: &mut [f32; 6],
@@ -256,7 +283,7 @@ pub extern "C" fn jellyplain_moves_cover(
 // or 10 of the first refused box in order, and with 12 where there are no moves. Accuracy: encloses.
 #[no_mangle]
 pub extern "C" fn jellyplain_moves_covers(
-    moves: &[[[f32; 4]; 44]],
+    moves: &[[[f32; 4]; 45]],
     boxes: &[[f32; 6]],
     depth: u32,
     covers: &mut [[f32; 6]; 16],
@@ -283,7 +310,7 @@ pub struct FileRead {
 #[no_mangle]
 pub extern "C" fn jellyplain_read_file(
     bytes: &[u8],
-    poses: &mut [[f32; 17]; 559],
+    poses: &mut [[f32; 18]; 559],
     bounds: &mut [f32; 6],
 ) -> FileRead
     ensures count { λ r. ⌜ r .count ≡ MoveFile·read (now (bytes .entry)) .count ⌝ }
@@ -305,7 +332,7 @@ pub extern "C" fn jellyplain_read_file(
 // bytes are too few, and with 12 where there are no moves; all bytes then stay. Accuracy: exact.
 #[no_mangle]
 pub extern "C" fn jellyplain_write_file(
-    moves: &[[[f32; 4]; 44]],
+    moves: &[[[f32; 4]; 45]],
     b: &[f32; 6],
     out: &mut [u8],
 ) -> Written

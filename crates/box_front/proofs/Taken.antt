@@ -18,20 +18,20 @@ use Rattle.transform.specs.declared.BoundsAnswer.the-variants.{Bounds, Refused}
 use Rattle.transform.specs.Answer.{BoundsAnswer·refusal, BoundsAnswer·bounds}
 use Rattle.bounds_query.specs.Query.{BoundsAnswer·unionBounds}
 use Rattle.lent_arrays.specs.Arrays.{BoundsAnswer·left}
-use Rattle.pose_steps.specs.declared.JudgedMatrix.{JudgedMatrix}
+use Rattle.motion_piece.specs.declared.PaddedPose.{PaddedPose}
 use Rattle.pose_steps.specs.Enclose.{Pose·encloseTransformPoint, Bounds3f·intervals, IntervalVector·bounds}
 use Rattle.motion_cover.specs.Cover.{BoundsAnswer·fromEnclosure}
-use Rattle.motion_cover.proofs.NonZero.{BoundsAnswer·NonZero, nonzero-box, tested-nonzero}
-use Rattle.motion_piece.specs.Piece.{JudgedMatrix·encloseBounds}
+use Rattle.motion_cover.proofs.NonZero.{BoundsAnswer·NonZero, nonzero-box, tested-nonzero, grow-nonzero}
+use Rattle.motion_piece.specs.Piece.{PaddedPose·encloseBounds}
 use Rattle.box_front.specs.declared.Front.{Front}
 use Rattle.box_front.specs.Front.{boxAt, BoundsAnswer·put, Put, Taken}
 
 -- ---- one box
-pub enclose-nonzero : (pose : JudgedMatrix) (b : Bounds3f) → BoundsAnswer·NonZero (JudgedMatrix·encloseBounds pose b)
-unfolding JudgedMatrix·encloseBounds BoundsAnswer·fromEnclosure
+pub enclose-nonzero : (pose : PaddedPose) (b : Bounds3f) → BoundsAnswer·NonZero (PaddedPose·encloseBounds pose b)
+unfolding PaddedPose·encloseBounds BoundsAnswer·fromEnclosure
 enclose-nonzero pose b =
-    let j = Pose·encloseTransformPoint (pose .refusal) (pose .matrix) (Bounds3f·intervals b) in
-    tested-nonzero (j .refusal) (Bounds (IntervalVector·bounds (j .vector))) tt
+    let j = Pose·encloseTransformPoint (pose .matrix .refusal) (pose .matrix .matrix) (Bounds3f·intervals b) in
+    grow-nonzero (pose .pad) _ (tested-nonzero (j .refusal) (Bounds (IntervalVector·bounds (j .vector))) tt)
 
 pub refused-number : (a : BoundsAnswer) → (BoundsAnswer·refusal a ≡ 0 → ⊥) → a ≡ Refused (BoundsAnswer·refusal a)
 refused-number (Bounds b) h = absurd (h refl)
@@ -69,9 +69,9 @@ put-joined first r new old m u a f e j p q =
     (p ∙ ap BoundsAnswer·refusal j ∙ union-number (Bounds3f·ofList old) m ∙ ap BoundsAnswer·refusal e, rw (f, ← e, ← j) q)
 
 -- ---- the boxes in order
-module _ (first : Bool) (pose : JudgedMatrix) (boxes : List (List Float)) where
+module _ (first : Bool) (pose : PaddedPose) (boxes : List (List Float)) where
   abbrev answerAt : ℕ → BoundsAnswer
-  answerAt i = JudgedMatrix·encloseBounds pose (boxAt boxes i)
+  answerAt i = PaddedPose·encloseBounds pose (boxAt boxes i)
 
   -- The pose is taken over the first k boxes.
   pub record Taking (old new : List (List Float)) (k : ℕ) : Type 0 where

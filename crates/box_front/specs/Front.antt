@@ -14,8 +14,8 @@ use Rattle.transform.specs.declared.BoundsAnswer.{BoundsAnswer}
 use Rattle.transform.specs.declared.BoundsAnswer.the-variants.{Bounds, Refused}
 use Rattle.bounds_query.specs.Query.{coverRefusal, BoundsAnswer·unionBounds}
 use Rattle.lent_arrays.specs.Arrays.{BoundsAnswer·left}
-use Rattle.pose_steps.specs.declared.JudgedMatrix.{JudgedMatrix}
-use Rattle.motion_piece.specs.Piece.{JudgedMatrix·encloseBounds}
+use Rattle.motion_piece.specs.declared.PaddedPose.{PaddedPose}
+use Rattle.motion_piece.specs.Piece.{PaddedPose·encloseBounds}
 use Rattle.box_front.specs.declared.Front.{Front}
 
 -- The places that are lent, one for a box.
@@ -43,12 +43,12 @@ pub record Put (first : Bool) (a : BoundsAnswer) (old new : List Float) : Type 0
   pub place : new ≡ Bounds3f·list (cond first box (Bounds3f·unionBounds (Bounds3f·ofList old) box))
 
 -- One pose over the boxes in front: `from` and `old` before, `to` and `new` after it.
-pub record Taken (first : Bool) (pose : JudgedMatrix) (boxes old new : List (List Float)) (from to : Front) : Type 0 where
+pub record Taken (first : Bool) (pose : PaddedPose) (boxes old new : List (List Float)) (from to : Front) : Type 0 where
   pub size : length new ≡ length old
-  pub put : (i : ℕ) → i < to .count → Put first (JudgedMatrix·encloseBounds pose (boxAt boxes i)) (getD old i []) (getD new i [])
+  pub put : (i : ℕ) → i < to .count → Put first (PaddedPose·encloseBounds pose (boxAt boxes i)) (getD old i []) (getD new i [])
   pub behind : (i : ℕ) → to .count ≤ i → getD new i [] ≡ getD old i []
-  pub stop : (to ≡ from) ⊎ ((to .count < from .count) × (JudgedMatrix·encloseBounds pose (boxAt boxes (to .count)) ≡ Refused (to .refusal)))
+  pub stop : (to ≡ from) ⊎ ((to .count < from .count) × (PaddedPose·encloseBounds pose (boxAt boxes (to .count)) ≡ Refused (to .refusal)))
 
 -- What it is asked of: there is a place for every box in front.
-abbrev pub Takes : Bool → JudgedMatrix → List (List Float) → List (List Float) → List (List Float) → Front → Front → Type 0
+abbrev pub Takes : Bool → PaddedPose → List (List Float) → List (List Float) → List (List Float) → Front → Front → Type 0
 Takes first pose boxes old new from to = from .count ≤ length boxes → from .count ≤ placeCount → length old ≡ placeCount → Taken first pose boxes old new from to

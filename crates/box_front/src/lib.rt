@@ -1,12 +1,12 @@
 // The boxes at the front of a set that are not refused so far, each with what it covers so far in a place of its own. The first refused box in order gives the
 // number, so that those behind it are left aside: one pose is taken over the boxes in front alone.
-use pose_steps::JudgedMatrix;
+use motion_piece::PaddedPose;
 use transform::BoundsAnswer;
 ghost use Prim.Native.Nat.{_<_};
 ghost use mathlib.Core.Path.{_≡_};
 ghost use lib.ListN.{length};
 ghost use Rattle.transform.specs.Answer.{BoundsAnswer·refusal};
-ghost use Rattle.motion_piece.specs.Piece.{JudgedMatrix·encloseBounds};
+ghost use Rattle.motion_piece.specs.Piece.{PaddedPose·encloseBounds};
 ghost use Rattle.box_front.specs.Front.{boxAt, BoundsAnswer·put, Judged, Takes};
 
 const PLACE_COUNT: usize = 16;
@@ -41,16 +41,10 @@ pub fn judged(boxes: &[[f32; 6]], depth: u32) -> Front
 
 // Puts the box that a pose moves the box at i to into its place, joined to what stands there unless it is the first. Gives the number of a refusal, which leaves
 // the place as it was. Accuracy: encloses.
-fn take_box(
-    first: bool,
-    pose: JudgedMatrix,
-    boxes: &[[f32; 6]],
-    i: usize,
-    place: &mut [f32; 6],
-) -> u8
+fn take_box(first: bool, pose: PaddedPose, boxes: &[[f32; 6]], i: usize, place: &mut [f32; 6]) -> u8
     requires { ⌜ i < length (now boxes) ⌝ }
-    ensures refusal { λ r. ⌜ r ≡ BoundsAnswer·refusal (JudgedMatrix·encloseBounds pose (boxAt (now (boxes .entry)) i)) ⌝ }
-    ensures left { λ _. ⌜ now (place .exit) ≡ BoundsAnswer·put first (JudgedMatrix·encloseBounds pose (boxAt (now (boxes .entry)) i)) (now (place .entry)) ⌝ }
+    ensures refusal { λ r. ⌜ r ≡ BoundsAnswer·refusal (PaddedPose·encloseBounds pose (boxAt (now (boxes .entry)) i)) ⌝ }
+    ensures left { λ _. ⌜ now (place .exit) ≡ BoundsAnswer·put first (PaddedPose·encloseBounds pose (boxAt (now (boxes .entry)) i)) (now (place .entry)) ⌝ }
 {
     let moved = motion_piece::box_enclosure(pose, lent_arrays::bounds(&boxes[i]));
     if first {
@@ -63,7 +57,7 @@ fn take_box(
 // One pose over the boxes in front, in order, up to the first that it refuses: those before it are then the front. Accuracy: encloses.
 pub fn take_pose(
     first: bool,
-    pose: JudgedMatrix,
+    pose: PaddedPose,
     boxes: &[[f32; 6]],
     front: Front,
     places: &mut [[f32; 6]; 16],

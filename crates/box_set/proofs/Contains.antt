@@ -11,19 +11,19 @@ use Rattle.formula.specs.Promise.{Pairwise}
 use Rattle.bounds3.specs.declared.Point3f.{Point3f}
 use Rattle.bounds3.specs.declared.Bounds3f.{Bounds3f}
 use Rattle.bounds3.specs.Inside.{Inside, Subset}
-use Rattle.bounds3.proofs.Union.{subset-inside}
 use Rattle.transform.specs.declared.PointAnswer.{PointAnswer}
 use Rattle.transform.specs.declared.BoundsAnswer.{BoundsAnswer}
 use Rattle.transform.specs.declared.BoundsAnswer.the-variants.{Bounds}
-use Rattle.transform.specs.Answer.{PointAnswer·point, BoundsAnswer·refusal, BoundsAnswer·bounds}
+use Rattle.transform.specs.Answer.{BoundsAnswer·refusal, BoundsAnswer·bounds}
 use Rattle.bounds_query.specs.Query.{maxDepth}
 use Rattle.animated_transform.specs.declared.AnimatedTransform.{AnimatedTransform}
 use Rattle.animated_transform.specs.Built.{Built}
 use Rattle.motion_point.specs.TransformPoint.{AnimatedTransform·transformPoint}
+use Rattle.motion_point.specs.PadAt.{AnimatedTransform·padAt}
 use Rattle.motion_cover.specs.Cover.{AnimatedTransform·cover}
 use Rattle.motion_cover.specs.Theorem.{MovedInside}
 use Rattle.motion_cover.specs.Answer.{Proper}
-use Rattle.motion_cover.proofs.Contains.{cover-contains}
+use Rattle.motion_cover.proofs.Contains.{moved-wider, cover-contains}
 use Rattle.motion_cover.proofs.NonZero.{BoundsAnswer·NonZero, nonzero-box, cover-nonzero}
 use Rattle.motion_cover.proofs.Number.{cover-numbered}
 use Rattle.motion_cover.proofs.Proper.{cover-proper}
@@ -31,7 +31,7 @@ use Rattle.cover_depth.specs.Finer.{Within}
 use Rattle.cover_depth.proofs.Finer.{BoxWithin, within-subset}
 use Rattle.bounds_answers.specs.UnionAll.{BoundsAnswer·unionAll, Each}
 use Rattle.bounds_answers.proofs.UnionAll.{each-map, union-all-within}
-use Rattle.motion_chain.specs.Chain.{Chain, Chain·moves, Chain·transformPoint, Chain·cover}
+use Rattle.motion_chain.specs.Chain.{Chain, Chain·moves, Chain·transformPoint, Chain·padAt, Chain·cover}
 use Rattle.motion_chain.specs.Built.{BuiltChain}
 use Rattle.motion_chain.specs.TwoPoses.{Chain·single}
 use Rattle.motion_chain.proofs.TwoPoses.{single-move}
@@ -44,31 +44,30 @@ use Rattle.box_set.proofs.Set.{AcceptedSet, set-of-accepted, set-accept
 
 -- ---- points
 module _ (cover : Bounds3f → BoundsAnswer) (nonzero : (b : Bounds3f) → BoundsAnswer·NonZero (cover b)) (proper : (b : Bounds3f) → Proper (cover b))
-    (moved : Point3f → PointAnswer)
-    (contains : (b : Bounds3f) → BoundsAnswer·refusal (cover b) ≡ 0 → (p : Point3f) → Inside b p → MovedInside (BoundsAnswer·bounds (cover b)) (moved p)) where
+    (pad : Float) (moved : Point3f → PointAnswer)
+    (contains : (b : Bounds3f) → BoundsAnswer·refusal (cover b) ≡ 0 → (p : Point3f) → Inside b p → MovedInside (BoundsAnswer·bounds (cover b)) pad (moved p)) where
   each-contains : (u : Bounds3f) (boxes : List Bounds3f) → Each (λ b. BoxWithin (cover b) u) boxes
-      → SetContains moved boxes (map (λ b. BoundsAnswer·bounds (cover b)) boxes) u
+      → SetContains pad moved boxes (map (λ b. BoundsAnswer·bounds (cover b)) boxes) u
   each-contains u [] h = tt
   each-contains u (b ∷ boxes) (w, ws) = (one, each-contains u boxes ws)
     where
-      one : (p : Point3f) → Inside b p → MovedInside (BoundsAnswer·bounds (cover b)) (moved p) × MovedInside u (moved p)
+      one : (p : Point3f) → Inside b p → MovedInside (BoundsAnswer·bounds (cover b)) pad (moved p) × MovedInside u pad (moved p)
       one p i =
           let a = contains b (ap BoundsAnswer·refusal (w .accepted)) p i in
-          let inside = subst (λ (x : Bounds3f). Inside x (PointAnswer·point (moved p))) (ap BoundsAnswer·bounds (w .accepted)) (a .inside) in
-          (a, record { accepted = a .accepted; inside = subset-inside (w .subset) inside })
+          (a, moved-wider (w .subset) (subst (λ (x : Bounds3f). MovedInside x pad (moved p)) (ap BoundsAnswer·bounds (w .accepted)) a))
 
   pub set-contains : (boxes : List Bounds3f) → SetAnswer·refusal (Boxes·covers cover boxes) ≡ 0
-      → SetContains moved boxes (SetAnswer·covers (Boxes·covers cover boxes)) (SetAnswer·union (Boxes·covers cover boxes))
+      → SetContains pad moved boxes (SetAnswer·covers (Boxes·covers cover boxes)) (SetAnswer·union (Boxes·covers cover boxes))
   set-contains boxes e =
       let a = set-accepted cover nonzero boxes e in
-      subst (λ (s : SetAnswer). SetContains moved boxes (SetAnswer·covers s) (SetAnswer·union s)) (sym (set-of-accepted cover a))
+      subst (λ (s : SetAnswer). SetContains pad moved boxes (SetAnswer·covers s) (SetAnswer·union s)) (sym (set-of-accepted cover a))
       (each-contains (a .union) boxes (set-within cover proper a))
 
 pub moves-set-contains : (c : Chain) (boxes : List Bounds3f) (d : ℕ) (time : Float)
     → Each Built (Chain·moves c) → SetAnswer·refusal (Chain·covers c boxes d) ≡ 0 → T (not (isNan time))
-    → SetContains (Chain·transformPoint c time) boxes (SetAnswer·covers (Chain·covers c boxes d)) (SetAnswer·union (Chain·covers c boxes d))
+    → SetContains (Chain·padAt c time) (Chain·transformPoint c time) boxes (SetAnswer·covers (Chain·covers c boxes d)) (SetAnswer·union (Chain·covers c boxes d))
 moves-set-contains c boxes d time built e n =
-    set-contains (λ b. Chain·cover c b d) (λ b. chain-cover-nonzero b d c) (λ b. moves-proper b d c built) (Chain·transformPoint c time)
+    set-contains (λ b. Chain·cover c b d) (λ b. chain-cover-nonzero b d c) (λ b. moves-proper b d c built) (Chain·padAt c time) (Chain·transformPoint c time)
     (λ b z p i. moves-contain c b d time p built z n i) boxes e
 
 pub chain-set-contains : (c : Chain) (boxes : List Bounds3f) (d : ℕ) → SetContainsMotion c boxes (Chain·covers c boxes d)
@@ -76,7 +75,7 @@ chain-set-contains c boxes d time built e n = moves-set-contains c boxes d time 
 
 pub move-set-contains : (m : AnimatedTransform) (boxes : List Bounds3f) (d : ℕ) → MoveSetContainsMotion m boxes (AnimatedTransform·covers m boxes d)
 move-set-contains m boxes d time built e n =
-    set-contains (λ b. AnimatedTransform·cover m b d) (λ b. cover-nonzero m b d) (λ b. cover-proper built b d) (AnimatedTransform·transformPoint m time)
+    set-contains (λ b. AnimatedTransform·cover m b d) (λ b. cover-nonzero m b d) (λ b. cover-proper built b d) (AnimatedTransform·padAt m time) (AnimatedTransform·transformPoint m time)
     (λ b z p i. cover-contains m b d time p built z n i) boxes e
 
 -- The set of a chain of one move is the move's own.

@@ -1,7 +1,7 @@
 -- The guarantee of a set: at which moments may any part of the boom stand outside its own box of the reserved ones? At none.
 --
 -- Take any chain that is built, any set of boxes, and any depth at which the set is accepted. Then at every time but NaN, for every box of the set and every point of that box, the
--- point query answers a moved point, and that point is inside the box's own cover, and inside the union. One statement over the set's list: `SetContains`.
+-- point query answers a moved point, and that point is inside the box's own cover, and inside the union, by itself and less and plus the pad at that time. One statement over the set's list: `SetContains`.
 --
 -- A finer cover of a set is never a wider one, for each box and for the union: `SetFiner`. Which numbers a set can give: `SetAnswer·Numbered`. The statements of
 -- `chain-set-contains`, `move-set-contains`, `chain-set-finer`, `chain-set-numbered`, `move-set-numbered`, and `FirstRefused` of `first-refused`.
@@ -25,30 +25,32 @@ use Rattle.bounds_answers.specs.UnionAll.{Each}
 use Rattle.animated_transform.specs.declared.AnimatedTransform.{AnimatedTransform}
 use Rattle.animated_transform.specs.Built.{Built}
 use Rattle.motion_point.specs.TransformPoint.{AnimatedTransform·transformPoint}
+use Rattle.motion_point.specs.PadAt.{AnimatedTransform·padAt}
 use Rattle.motion_cover.specs.Theorem.{MovedInside}
-use Rattle.motion_chain.specs.Chain.{Chain, Chain·transformPoint}
+use Rattle.motion_chain.specs.Chain.{Chain, Chain·transformPoint, Chain·padAt}
 use Rattle.motion_chain.specs.Built.{BuiltChain}
 use Rattle.box_set.specs.Set.{maxBoxes, SetAnswer, covered, refused, SetAnswer·refusal, SetAnswer·covers, SetAnswer·union, Boxes·covers, Chain·covers}
 
 -- ---- the guarantee
--- Each box of the set has a cover in the answer, in order, and every point of the box, as it is moved, is inside that cover and inside the union.
-abbrev pub SetContains : (Point3f → PointAnswer) → List Bounds3f → List Bounds3f → Bounds3f → Type 0
-SetContains moved boxes covers union =
-    Pairwise (λ b cover. (p : Point3f) → Inside b p → MovedInside cover (moved p) × MovedInside union (moved p)) boxes covers
+-- Each box of the set has a cover in the answer, in order, and every point of the box, as it is moved, is inside that cover and inside the union, by itself and less and plus
+-- the pad.
+abbrev pub SetContains : Float → (Point3f → PointAnswer) → List Bounds3f → List Bounds3f → Bounds3f → Type 0
+SetContains pad moved boxes covers union =
+    Pairwise (λ b cover. (p : Point3f) → Inside b p → MovedInside cover pad (moved p) × MovedInside union pad (moved p)) boxes covers
 
 -- c is the chain, boxes the set, answer what the query of the set answered.
 abbrev pub SetContainsMotion : Chain → List Bounds3f → SetAnswer → Type 0
 SetContainsMotion c boxes answer =
     (time : Float)
     → BuiltChain c → SetAnswer·refusal answer ≡ 0 → T (not (isNan time))
-    → SetContains (Chain·transformPoint c time) boxes (SetAnswer·covers answer) (SetAnswer·union answer)
+    → SetContains (Chain·padAt c time) (Chain·transformPoint c time) boxes (SetAnswer·covers answer) (SetAnswer·union answer)
 
 -- The same of a move by itself.
 abbrev pub MoveSetContainsMotion : AnimatedTransform → List Bounds3f → SetAnswer → Type 0
 MoveSetContainsMotion m boxes answer =
     (time : Float)
     → Built m → SetAnswer·refusal answer ≡ 0 → T (not (isNan time))
-    → SetContains (AnimatedTransform·transformPoint m time) boxes (SetAnswer·covers answer) (SetAnswer·union answer)
+    → SetContains (AnimatedTransform·padAt m time) (AnimatedTransform·transformPoint m time) boxes (SetAnswer·covers answer) (SetAnswer·union answer)
 
 -- ---- greater depths
 -- The answer is not refused; each box's cover lies in its counterpart, and the union in the other's.

@@ -1,4 +1,4 @@
--- A built chain's poses are those that it was built from: `built-poses`. Every move stores the times and the matrices of its two poses: `new-poses`.
+-- A built chain's poses are those that it was built from: `built-poses`. Every move stores the times, the matrices and the pads of its two poses: `new-poses`.
 use Prim.Native.Nat.{ℕ}
 use mathlib.Core.Path.{_≡_, refl, sym, ap, _∙_}
 use mathlib.Core.Bool.{Bool, true, false, cond, false≢true}
@@ -62,8 +62,8 @@ between-poses p q a b d e ea eb =
     tested-poses (firstRefusal (dotsRefusal (Quaternion·dot (d .r) (e .r)) cosθ) (c .refusal))
     (record { value = assembled p q a b d e r1 (c .value); refusal = 0 })
     (λ _. record {
-      start-pose = λ _. ap (λ (m : Matrix4x4). record { time = p .time; m = m }) ea;
-      end-pose = λ _. ap (λ (m : Matrix4x4). record { time = q .time; m = m }) eb;
+      start-pose = λ _. ap (λ (m : Matrix4x4). record { time = p .time; m = m; pad = p .pad }) ea;
+      end-pose = λ _. ap (λ (m : Matrix4x4). record { time = q .time; m = m; pad = q .pad }) eb;
     })
 
 work-poses : (p q : Pose) → NewPoses p q (work p q)

@@ -1,4 +1,4 @@
--- Poses in lists of 17 floats: `list-inverse`, that such a list is that of its pose; `built-lists`, that a chain that was built from such lists gives them
+-- Poses in lists of 18 floats: `list-inverse`, that such a list is that of its pose; `built-lists`, that a chain that was built from such lists gives them
 -- back; `poses-count`. Rests on `Built.antt`.
 use Prim.Native.Nat.{ℕ, zero, suc, _+_, _≤_}
 use native.Mathlib.Omega.{arith}

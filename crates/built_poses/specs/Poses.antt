@@ -1,8 +1,8 @@
--- The poses in a chain: `Chain·poses`, each from the time and the matrix that a move stores; `Poses·lists`, poses as 17 floats each. A built chain's are those
+-- The poses in a chain: `Chain·poses`, each from the time, the matrix and the pad that a move stores; `Poses·lists`, poses as 18 floats each. A built chain's are those
 -- that it was built from: `BuiltPoses` and `BuiltLists`, the statements of `built-poses` and `built-lists`.
 use Prim.Native.Nat.{ℕ}
 use mathlib.Core.Path.{_≡_}
-use mathlib.Core.List.{List, _∷_, _++_, map}
+use mathlib.Core.List.{List, [], _∷_, _++_, map}
 use lib.ListN.{length}
 use lib.Ieee.{Float}
 use Rattle.pose_pair.specs.declared.Pose.{Pose}
@@ -12,21 +12,21 @@ use Rattle.motion_chain.specs.Built.{Each}
 use Rattle.chain_poses.specs.Poses.{Poses·ofLists}
 
 abbrev pub AnimatedTransform·startPose : AnimatedTransform → Pose
-AnimatedTransform·startPose a = record { time = a .«start_time»; m = a .«start_transform» .m }
+AnimatedTransform·startPose a = record { time = a .«start_time»; m = a .«start_transform» .m; pad = a .pad0 }
 
 abbrev pub AnimatedTransform·endPose : AnimatedTransform → Pose
-AnimatedTransform·endPose a = record { time = a .«end_time»; m = a .«end_transform» .m }
+AnimatedTransform·endPose a = record { time = a .«end_time»; m = a .«end_transform» .m; pad = a .pad1 }
 
 -- the first move's start, then each move's end
 unfoldable pub Chain·poses : Chain → List Pose
 Chain·poses c = AnimatedTransform·startPose (c .first) ∷ map AnimatedTransform·endPose (Chain·moves c)
 
--- a pose as 17 floats: its time, then its matrix row by row
+-- a pose as 18 floats: its time, its matrix row by row, its pad
 abbrev pub placesPerPose : ℕ
-placesPerPose = 17
+placesPerPose = 18
 
 abbrev pub Pose·list : Pose → List Float
-Pose·list p = p .time ∷ (p .m .r0 ++ (p .m .r1 ++ (p .m .r2 ++ p .m .r3)))
+Pose·list p = p .time ∷ (p .m .r0 ++ (p .m .r1 ++ (p .m .r2 ++ (p .m .r3 ++ (p .pad ∷ [])))))
 
 unfoldable pub Poses·lists : List Pose → List (List Float)
 Poses·lists poses = map Pose·list poses

@@ -5,6 +5,7 @@ use Rattle.rounding.specs.Order.{_≼_}
 use Rattle.bounds3.specs.declared.Bounds3f.{Bounds3f}
 use Rattle.animated_transform.specs.Computing as building
 use Rattle.motion_point.specs.TransformPoint.{AnimatedTransform·transformPoint}
+use Rattle.motion_point.specs.PadAt.{AnimatedTransform·padAt}
 use Rattle.motion_cover.specs.Computing as cover
 use Rattle.motion_cover.specs.Theorem.{MovedInside}
 use Rattle.motion_cover.proofs.Contains.{cover-contains}
@@ -29,5 +30,5 @@ hypotheses-met =
 pub midpoint-covered : MidpointCovered
 midpoint-covered =
     let h = hypotheses-met in
-    subst (λ (box : Bounds3f). MovedInside box (AnimatedTransform·transformPoint moveA half origin)) (h .box)
+    subst (λ (box : Bounds3f). MovedInside box (AnimatedTransform·padAt moveA half) (AnimatedTransform·transformPoint moveA half origin)) (h .box)
     (cover-contains moveA originBox 1 half origin (h .built) (h .accepted) (h .time) (h .inside))

@@ -49,10 +49,10 @@ matrix d x y =
 
 -- The identity at a time, and the identity with m03 = 1.
 abbrev pub identityAt : Float → Pose
-identityAt t = record { time = t; m = matrix one zero zero }
+identityAt t = record { time = t; m = matrix one zero zero; pad = zero }
 
 abbrev pub shiftedAt : Float → Pose
-shiftedAt t = record { time = t; m = matrix one one zero }
+shiftedAt t = record { time = t; m = matrix one one zero; pad = zero }
 
 abbrev pub point : Float → Float → Float → Point3f
 point x y z = record { x = x; y = y; z = z }
@@ -124,11 +124,11 @@ equal-times-end-at-infinity = record { query = pointAt (identityAt zero) (shifte
 
 -- "A linear part of zeros: 4."
 abbrev pub zero-linear-part-refused : Row
-zero-linear-part-refused = record { query = build (identityAt zero) (record { time = one; m = matrix zero one zero }); expected = refused 4 }
+zero-linear-part-refused = record { query = build (identityAt zero) (record { time = one; m = matrix zero one zero; pad = zero }); expected = refused 4 }
 
 -- "An infinite entry and m30 = 1: 1."
 abbrev pub infinite-entry-before-bottom-row : Row
-infinite-entry-before-bottom-row = record { query = build (identityAt zero) (record { time = one; m = matrix one (inf false) one }); expected = refused 1 }
+infinite-entry-before-bottom-row = record { query = build (identityAt zero) (record { time = one; m = matrix one (inf false) one; pad = zero }); expected = refused 1 }
 
 -- "Times −3e38 and 3e38: 3."
 abbrev pub infinite-duration-refused : Row

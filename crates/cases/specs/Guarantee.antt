@@ -10,6 +10,7 @@ use Rattle.animated_transform.specs.declared.AnimatedTransform.{AnimatedTransfo
 use Rattle.animated_transform.specs.New.{AnimatedTransform·new}
 use Rattle.animated_transform.specs.Built.{Built}
 use Rattle.motion_point.specs.TransformPoint.{AnimatedTransform·transformPoint}
+use Rattle.motion_point.specs.PadAt.{AnimatedTransform·padAt}
 use Rattle.motion_cover.specs.Cover.{AnimatedTransform·cover}
 use Rattle.motion_cover.specs.Theorem.{MovedInside}
 use Rattle.cases.specs.Cases.{zero, one, half, identityAt, shiftedAt, origin, originBox, unitSegment}
@@ -26,4 +27,4 @@ pub record HypothesesMet : Type 0 where
   pub inside : Inside originBox origin
 
 abbrev pub MidpointCovered : Type 0
-MidpointCovered = MovedInside unitSegment (AnimatedTransform·transformPoint moveA half origin)
+MidpointCovered = MovedInside unitSegment (AnimatedTransform·padAt moveA half) (AnimatedTransform·transformPoint moveA half origin)

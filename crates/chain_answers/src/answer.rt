@@ -12,7 +12,7 @@ pub fn put_answer(
     x: &[f32; 900],
     out: &mut [u8; 32768],
     at: usize,
-    kept: &mut [[[[f32; 4]; 44]; 31]; 4],
+    kept: &mut [[[[f32; 4]; 45]; 31]; 4],
     poses: &mut [usize; 4],
 ) -> usize {
     let kind = q.kind;
@@ -54,7 +54,7 @@ fn put_asked(
     wholes: &[u64; 4],
     floats: usize,
     x: &[f32; 900],
-    moves: &[[[f32; 4]; 44]],
+    moves: &[[[f32; 4]; 45]],
     out: &mut [u8; 32768],
     at: usize,
 ) -> usize {
@@ -68,6 +68,7 @@ fn put_asked(
         4 => chains::cover(moves, n, x, out, at),
         9 => chains::covers(moves, n, floats / 6, x, out, at),
         11 => files::write(moves, n, &chains::bounds_at(x, 0), out, at),
+        12 => chains::pad(moves, x, out, at),
         _ => put_asked_move(kind, n, x, moves, out, at),
     }
 }
@@ -77,7 +78,7 @@ fn put_asked_move(
     kind: usize,
     place: u64,
     x: &[f32; 900],
-    moves: &[[[f32; 4]; 44]],
+    moves: &[[[f32; 4]; 45]],
     out: &mut [u8; 32768],
     at: usize,
 ) -> usize {

@@ -1,5 +1,5 @@
-// Chains of poses, each kept in a slot as the library's callers keep it, 44 rows for each move, beside how many poses it was built from, 0 where none is kept
-// and 1 for a move built by itself; and the questions about them. A pose is 18 floats: its time, its matrix by rows, and a pad, which is left out.
+// Chains of poses, each kept in a slot as the library's callers keep it, 45 rows for each move, beside how many poses it was built from, 0 where none is kept
+// and 1 for a move built by itself; and the questions about them. A pose is 18 floats: its time, its matrix by rows, and its pad.
 use crate::answer::put_count;
 use crate::answer::put_error;
 use crate::answer::put_values;
@@ -13,7 +13,7 @@ pub fn build_chain(
     x: &[f32; 900],
     out: &mut [u8; 32768],
     at: usize,
-    kept: &mut [[[[f32; 4]; 44]; 31]; 4],
+    kept: &mut [[[[f32; 4]; 45]; 31]; 4],
     poses: &mut [usize; 4],
 ) -> usize
     requires { ⌜ slot < 4 ⌝ }
@@ -22,7 +22,7 @@ pub fn build_chain(
     if 50 < count {
         return put_error(out, at);
     }
-    let mut given = [[0.0f32; 17]; 50];
+    let mut given = [[0.0f32; 18]; 50];
     put_poses(x, &mut given);
     let refusal = api::jellyplain_build_moves(&given[0..count], &mut kept[slot]);
     poses[slot] = kept_count(refusal, count);
@@ -35,7 +35,7 @@ pub fn build_lone(
     x: &[f32; 900],
     out: &mut [u8; 32768],
     at: usize,
-    kept: &mut [[[[f32; 4]; 44]; 31]; 4],
+    kept: &mut [[[[f32; 4]; 45]; 31]; 4],
     poses: &mut [usize; 4],
 ) -> usize
     requires { ⌜ slot < 4 ⌝ }
@@ -51,7 +51,7 @@ fn kept_count(refusal: u8, count: usize) -> usize {
     if refusal == 0 { count } else { 0 }
 }
 
-fn put_poses(x: &[f32; 900], poses: &mut [[f32; 17]]) {
+fn put_poses(x: &[f32; 900], poses: &mut [[f32; 18]]) {
     let mut i = 0;
     while i < poses.len() {
         poses[i] = pose_at(x, i);
@@ -59,11 +59,10 @@ fn put_poses(x: &[f32; 900], poses: &mut [[f32; 17]]) {
     }
 }
 
-// The i-th pose, without its pad.
-fn pose_at(x: &[f32; 900], i: usize) -> [f32; 17] {
-    let mut pose = [0.0f32; 17];
+fn pose_at(x: &[f32; 900], i: usize) -> [f32; 18] {
+    let mut pose = [0.0f32; 18];
     if i < 50 {
-        for k in 0..17 {
+        for k in 0..18 {
             pose[k] = x[18 * i + k];
         }
     }
@@ -72,11 +71,11 @@ fn pose_at(x: &[f32; 900], i: usize) -> [f32; 17] {
 
 // The moves that a slot keeps, which were built from so many poses, and none where these are fewer than are asked for.
 pub fn kept_moves(
-    kept: &[[[[f32; 4]; 44]; 31]; 4],
+    kept: &[[[[f32; 4]; 45]; 31]; 4],
     slot: usize,
     poses: usize,
     fewest: usize,
-) -> &[[[f32; 4]; 44]]
+) -> &[[[f32; 4]; 45]]
     requires { ⌜ slot < 4 ⌝ }
 {
     first_moves(&kept[slot], moves_of(poses, fewest))
@@ -89,23 +88,33 @@ fn moves_of(poses: usize, fewest: usize) -> usize {
     if poses < 2 { poses } else { poses - 1 }
 }
 
-fn first_moves(moves: &[[[f32; 4]; 44]], n: usize) -> &[[[f32; 4]; 44]] {
+fn first_moves(moves: &[[[f32; 4]; 45]], n: usize) -> &[[[f32; 4]; 45]] {
     if moves.len() < n {
         return &moves[..0];
     }
     &moves[0..n]
 }
 
-pub fn point(moves: &[[[f32; 4]; 44]], x: &[f32; 900], out: &mut [u8; 32768], at: usize) -> usize {
+pub fn point(moves: &[[[f32; 4]; 45]], x: &[f32; 900], out: &mut [u8; 32768], at: usize) -> usize {
     let p = [x[1], x[2], x[3]];
     let mut moved = [0.0f32; 3];
     let refusal = api::jellyplain_moves_point(moves, x[0], &p, &mut moved);
     put_point(refusal, &moved, out, at)
 }
 
+pub fn pad(moves: &[[[f32; 4]; 45]], x: &[f32; 900], out: &mut [u8; 32768], at: usize) -> usize {
+    let mut pad = [0.0f32; 1];
+    let refusal = api::jellyplain_moves_pad(moves, x[0], &mut pad);
+    put_pad(refusal, &pad, out, at)
+}
+
+fn put_pad(refusal: u8, pad: &[f32; 1], out: &mut [u8; 32768], at: usize) -> usize {
+    put_values(refusal, pad, 1, out, at)
+}
+
 // As many answers are lent as the question says, or more than the times of any line ask for.
 pub fn points(
-    moves: &[[[f32; 4]; 44]],
+    moves: &[[[f32; 4]; 45]],
     places: u64,
     floats: usize,
     x: &[f32; 900],
@@ -142,7 +151,7 @@ fn times_of(x: &[f32], floats: usize) -> &[f32] {
 }
 
 pub fn cover(
-    moves: &[[[f32; 4]; 44]],
+    moves: &[[[f32; 4]; 45]],
     depth: u64,
     x: &[f32; 900],
     out: &mut [u8; 32768],
@@ -161,7 +170,7 @@ pub fn cover(
 
 // The union of the covers of as many boxes, and then the covers.
 pub fn covers(
-    moves: &[[[f32; 4]; 44]],
+    moves: &[[[f32; 4]; 45]],
     depth: u64,
     count: usize,
     x: &[f32; 900],
@@ -196,7 +205,7 @@ fn put_boxes(x: &[f32; 900], boxes: &mut [[f32; 6]]) {
 
 // Both halves of the transform at a time.
 pub fn interpolate(
-    motion: &[[f32; 4]; 44],
+    motion: &[[f32; 4]; 45],
     x: &[f32; 900],
     out: &mut [u8; 32768],
     at: usize,
@@ -210,14 +219,14 @@ pub fn interpolate(
     put_values(refusal, &values, 32, out, at)
 }
 
-pub fn parts(motion: &[[f32; 4]; 44], out: &mut [u8; 32768], at: usize) -> usize {
+pub fn parts(motion: &[[f32; 4]; 45], out: &mut [u8; 32768], at: usize) -> usize {
     let ok = put_text(b"ok", out, at);
     let end = motion_parts::put_parts(motion, out, ok);
     put_text(b"\n", out, end)
 }
 
 pub fn motion_bounds(
-    motion: &[[f32; 4]; 44],
+    motion: &[[f32; 4]; 45],
     x: &[f32; 900],
     out: &mut [u8; 32768],
     at: usize,
@@ -230,7 +239,7 @@ pub fn motion_bounds(
 }
 
 pub fn bound_point_motion(
-    motion: &[[f32; 4]; 44],
+    motion: &[[f32; 4]; 45],
     x: &[f32; 900],
     out: &mut [u8; 32768],
     at: usize,

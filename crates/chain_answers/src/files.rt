@@ -26,13 +26,13 @@ const DIGITS: [u8; 16] = [
 
 // The chain and the box b as a move file, in as many bytes as the question says, or more than a chain's text has.
 pub fn write(
-    moves: &[[[f32; 4]; 44]],
+    moves: &[[[f32; 4]; 45]],
     room: u64,
     b: &[f32; 6],
     out: &mut [u8; 32768],
     at: usize,
 ) -> usize {
-    let mut text = [0u8; 4096];
+    let mut text = [0u8; 4200];
     let size = bytes_lent(room);
     let written = api::jellyplain_write_file(moves, b, &mut text[0..size]);
     put_written(written.refusal, written.length, &text, out, at)
@@ -41,7 +41,7 @@ pub fn write(
 fn put_written(
     refusal: u8,
     length: usize,
-    text: &[u8; 4096],
+    text: &[u8; 4200],
     out: &mut [u8; 32768],
     at: usize,
 ) -> usize {
@@ -54,9 +54,9 @@ fn put_written(
 }
 
 fn bytes_lent(room: u64) -> usize
-    ensures { λ r. ⌜ r ≤ 4096 ⌝ }
+    ensures { λ r. ⌜ r ≤ 4200 ⌝ }
 {
-    if room < 4096 { room as usize } else { 4096 }
+    if room < 4200 { room as usize } else { 4200 }
 }
 
 // A space, the bytes and a line feed.
@@ -122,7 +122,7 @@ fn read_bytes(word: &[u8], bytes: &mut [u8; 4000]) -> bool {
 // The first bytes as a file.
 fn read_file(bytes: &[u8; 4000], size: usize, out: &mut [u8; 32768], at: usize) -> usize {
     let text = part(bytes, 0, size);
-    let mut poses = [[0.0f32; 17]; 559];
+    let mut poses = [[0.0f32; 18]; 559];
     let mut b = [0.0f32; 6];
     let file = api::jellyplain_read_file(text, &mut poses, &mut b);
     if file.refusal != 0 {
@@ -135,20 +135,45 @@ fn read_file(bytes: &[u8; 4000], size: usize, out: &mut [u8; 32768], at: usize) 
     }
     let ok = put_text(b"ok", out, at);
     let behind = question_lines::put_decimal(count as u64, out, ok);
+    let padded = has_pads(text);
     // In front of the box stand two lines of names and the poses.
-    let end = put_box(text, 19 + 13 * count, &b, out, behind);
-    put_poses(text, count, &poses, out, end)
+    let end = put_box(text, words_before(padded, count) + 6, &b, out, behind);
+    put_poses(text, padded, count, &poses, out, end)
 }
 
 fn put_box(text: &[u8], first: usize, b: &[f32; 6], out: &mut [u8; 32768], at: usize) -> usize {
     put_values(text, first, b, 6, out, at)
 }
 
-// The poses, each with its bottom row and a pad.
+// Whether a file has fourteen names for a pose: where the fourteenth word is a name, it is `pad`, and where it isn't, a value or the box's first name.
+fn has_pads(text: &[u8]) -> bool {
+    let at = word_start(text, 13, 0);
+    if at < text.len() {
+        return text[at] == b'p';
+    }
+    false
+}
+
+// How many words stand in front of a pose's: the names and the poses before it.
+fn words_before(padded: bool, poses: usize) -> usize
+    ensures { λ r. ⌜ r ≤ 7840 ⌝ }
+{
+    if 559 < poses {
+        return 0;
+    }
+    if padded {
+        14 + 14 * poses
+    } else {
+        13 + 13 * poses
+    }
+}
+
+// The poses, each with its bottom row and its pad.
 fn put_poses(
     text: &[u8],
+    padded: bool,
     count: usize,
-    poses: &[[f32; 17]; 559],
+    poses: &[[f32; 18]; 559],
     out: &mut [u8; 32768],
     at: usize,
 ) -> usize {
@@ -157,7 +182,7 @@ fn put_poses(
         if count <= i {
             break;
         }
-        let next = put_pose(text, 13 + 13 * i, &poses[i], out, end);
+        let next = put_pose(text, words_before(padded, i), &poses[i], out, end);
         end = next;
     }
     put_text(b"\n", out, end)
@@ -166,13 +191,14 @@ fn put_poses(
 fn put_pose(
     text: &[u8],
     first: usize,
-    pose: &[f32; 17],
+    pose: &[f32; 18],
     out: &mut [u8; 32768],
     at: usize,
 ) -> usize {
     let upper = put_values(text, first, pose, 13, out, at);
-    let bottom = [pose[13], pose[14], pose[15], pose[16], 0.0];
-    question_lines::put_floats(&bottom, 5, out, upper)
+    let bottom = [pose[13], pose[14], pose[15], pose[16]];
+    let end = question_lines::put_floats(&bottom, 4, out, upper);
+    put_value(pose[17], text, first, 13, out, end)
 }
 
 // The first values of an array, which stand in the file from a word on.

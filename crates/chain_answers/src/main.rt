@@ -10,7 +10,7 @@ use question_lines::part;
 fn main() {
     let mut input = [0u8; 16384];
     let mut out = [0u8; 32768];
-    let mut kept = [[[[0.0f32; 4]; 44]; 31]; 4];
+    let mut kept = [[[[0.0f32; 4]; 45]; 31]; 4];
     let mut poses = [0usize; 4];
     let mut held = 0;
     let mut turns = u64::MAX;
@@ -30,7 +30,7 @@ fn answer_rest(
     input: &[u8; 16384],
     held: usize,
     out: &mut [u8; 32768],
-    kept: &mut [[[[f32; 4]; 44]; 31]; 4],
+    kept: &mut [[[[f32; 4]; 45]; 31]; 4],
     poses: &mut [usize; 4],
 ) {
     let written = answer_line(part(input, 0, held), out, 0, kept, poses);
@@ -43,7 +43,7 @@ fn answer_block(
     input: &mut [u8],
     n: usize,
     out: &mut [u8; 32768],
-    kept: &mut [[[[f32; 4]; 44]; 31]; 4],
+    kept: &mut [[[[f32; 4]; 45]; 31]; 4],
     poses: &mut [usize; 4],
 ) -> usize {
     let next = answer_lines(part(input, 0, n), out, kept, poses);
@@ -54,7 +54,7 @@ fn answer_block(
 fn answer_lines(
     text: &[u8],
     out: &mut [u8; 32768],
-    kept: &mut [[[[f32; 4]; 44]; 31]; 4],
+    kept: &mut [[[[f32; 4]; 45]; 31]; 4],
     poses: &mut [usize; 4],
 ) -> usize {
     let mut written = 0;
@@ -76,7 +76,7 @@ fn answer_line(
     line: &[u8],
     out: &mut [u8; 32768],
     written: usize,
-    kept: &mut [[[[f32; 4]; 44]; 31]; 4],
+    kept: &mut [[[[f32; 4]; 45]; 31]; 4],
     poses: &mut [usize; 4],
 ) -> usize {
     if line.len() == 0 {

@@ -1,6 +1,6 @@
 -- What building gives to its caller, in the three ways that it ends: `checks-refused`, `pair-refused`, `all-built`.
 use Prim.Native.Nat.{ℕ, _-_}
-use mathlib.Core.Path.{_≡_, refl, sym, ap, subst, _∙_}
+use mathlib.Core.Path.{_≡_, refl, sym, ap, _∙_}
 use mathlib.Core.Bool.{Bool, true}
 use mathlib.Core.List.{List, [], _∷_, map}
 use native.Mathlib.Omega.{arith}
@@ -8,18 +8,19 @@ use borrow.Author.Tests.{eq-eqb, ne-eqb}
 use lib.Dec.{T}
 use lib.ListN.{length, take, drop, length-map}
 use lib.Seq.{take-append-seam}
-use lib.Ieee.{Float, binary32, fits}
 use lib.Ieee.Fits.{and-i}
 use Rattle.matrix4x4.specs.Rows.{Rows}
 use Rattle.pose_pair.specs.declared.Pose.{Pose}
+use Rattle.pose_pair.specs.Pose.{Pose·isBinary32}
 use Rattle.animated_transform.specs.declared.AnimatedTransformAnswer.{AnimatedTransformAnswer}
 use Rattle.animated_transform.specs.New.{AnimatedTransform·new}
 use Rattle.animated_transform.specs.Built.{Built}
+use Rattle.animated_transform.proofs.Kept.{new-kept, built-kept}
 use Rattle.motion_rows.specs.Rows.{AnimatedTransform·toRows, AnimatedTransformAnswer·left}
 use Rattle.motion_chain.specs.Chain.{neighbours, every, stage, chainRefusal, Chain, ChainAnswer, built, refused, ChainAnswer·refusal}
 use Rattle.motion_chain.specs.Chain.{ChainAnswer·fromMoves, Chain·new}
 use Rattle.motion_chain.specs.Built.{Each}
-use Rattle.motion_chain.proofs.Built.{first-none, checks-passed, new-times}
+use Rattle.motion_chain.proofs.Built.{first-none, checks-passed}
 use Rattle.chain_rows.specs.Kept.{Chain·toRows}
 use Rattle.chain_rows.specs.Theorem.{Moves·Holds}
 use Rattle.chain_poses.proofs.Loops.{pairs-count}
@@ -67,28 +68,28 @@ module _ (p q : Pose) (poses : List Pose) (passed : chainRefusal (p ∷ q ∷ po
   unfolding Chain·new ChainAnswer·fromMoves neighbours
   new-built z = rw (eq-eqb (chainRefusal (p ∷ q ∷ poses)) 0 passed, numbers-same pairs, eq-eqb number 0 z)
 
--- ---- the times of built moves are 32-bit floats
-abbrev timesFit : List Pose → Bool
-timesFit = every (λ p. fits binary32 (p .time))
+-- ---- the times and pads of built moves are 32-bit floats
+same-binary32 : (p p' : Pose) → p .time ≡ p' .time → p .pad ≡ p' .pad → T (Pose·isBinary32 p) → T (Pose·isBinary32 p')
+same-binary32 p p' t u b = rw (← t, ← u) b
 
-pair-fits : (p q : Pose) → Pair·Built (p, q) → Pair·refusal (p, q) ≡ 0 → T (fits binary32 (p .time)) × T (fits binary32 (q .time))
+pair-fits : (p q : Pose) → Pair·Built (p, q) → Pair·refusal (p, q) ≡ 0 → T (Pose·isBinary32 p) × T (Pose·isBinary32 q)
 pair-fits p q b z =
-    let own = new-times (b .start) (b .end) in
-    let none = ap (λ (a : AnimatedTransformAnswer). a .refusal) (b .accepted) in
-    let start = sym (own .start-time none) ∙ (ap (λ (a : AnimatedTransformAnswer). a .value .«start_time») (b .accepted) ∙ new-times p q .start-time z) in
-    let end = sym (own .end-time none) ∙ (ap (λ (a : AnimatedTransformAnswer). a .value .«end_time») (b .accepted) ∙ new-times p q .end-time z) in
-    (subst (λ (t : Float). T (fits binary32 t)) start (b .start-binary32), subst (λ (t : Float). T (fits binary32 t)) end (b .end-binary32))
+    let own = built-kept b in
+    let kept = new-kept p q z in (
+      same-binary32 (b .start) p (sym (own .start-time) ∙ kept .start-time) (sym (own .start-pad) ∙ kept .start-pad) (b .start-binary32),
+      same-binary32 (b .end) q (sym (own .end-time) ∙ kept .end-time) (sym (own .end-pad) ∙ kept .end-pad) (b .end-binary32),
+    )
 
 poses-fit : (p q : Pose) (poses : List Pose) → Each Pair·Built (neighbours (p ∷ q ∷ poses)) → stage Pair·refusal (neighbours (p ∷ q ∷ poses)) ≡ 0
-    → T (timesFit (p ∷ q ∷ poses))
+    → T (every Pose·isBinary32 (p ∷ q ∷ poses))
 unfolding neighbours every
 poses-fit p q [] (b, bs) z =
     let (n, _) = first-none (Pair·refusal (p, q)) [] z in
     let (start, end) = pair-fits p q b n in
-    and-i (fits binary32 (p .time)) (timesFit (q ∷ [])) start (and-i (fits binary32 (q .time)) true end tt)
+    and-i (Pose·isBinary32 p) (every Pose·isBinary32 (q ∷ [])) start (and-i (Pose·isBinary32 q) true end tt)
 poses-fit p q (r ∷ poses) (b, bs) z =
     let (n, ns) = first-none (Pair·refusal (p, q)) (map Pair·refusal (neighbours (q ∷ r ∷ poses))) z in
-    and-i (fits binary32 (p .time)) (timesFit (q ∷ r ∷ poses)) (pair-fits p q b n .0) (poses-fit q r poses bs ns)
+    and-i (Pose·isBinary32 p) (every Pose·isBinary32 (q ∷ r ∷ poses)) (pair-fits p q b n .0) (poses-fit q r poses bs ns)
 
 -- ---- the clauses
 -- n is the number of poses
@@ -133,7 +134,7 @@ all-built (p ∷ q ∷ poses) n old {blocks} l z e w b =
     let same : rows ≡ Chain·toRows (chainOf (p, q) pairs) = ap (λ (l : List Rows). Pair·rows (p, q) ∷ l) (sym (rows-same pairs)) in
     let count : n - 1 ≡ length rows = ap (λ (k : ℕ). k - 1) l ∙ (sym (pairs-count (p ∷ q ∷ poses)) ∙ sym (length-map ((p, q) ∷ pairs) Pair·rows)) in
     let holds : (c : Chain) → Chain·new (p ∷ q ∷ poses) ≡ built c → Moves·Holds (take (n - 1) blocks) c = λ c a. record {
-      built = record { poses = p ∷ q ∷ poses; times-binary32 = poses-fit p q poses b (sym e); accepted = a };
+      built = record { poses = p ∷ q ∷ poses; poses-binary32 = poses-fit p q poses b (sym e); accepted = a };
       same = rw (w, count) (take-append-seam rows (drop (length rows) old) ∙ (same ∙ ap rows-of (sym new ∙ a)));
     } in
     (sym (ap ChainAnswer·refusal new), (w ∙ (ap (λ (l : List Rows). front l old) same ∙ sym (ap (λ (a : ChainAnswer). ChainAnswer·left a old) new)), holds))

@@ -1,4 +1,4 @@
-// A chain built from lent poses, 17 floats each, into 31 lent blocks of 44 rows: the rows of its moves at the front, and behind them what stood there.
+// A chain built from lent poses, 18 floats each, into 31 lent blocks of 45 rows: the rows of its moves at the front, and behind them what stood there.
 // After a refusal all blocks are as they were.
 use animated_transform::AnimatedTransform;
 ghost use Prim.Native.Nat.{_+_, _-_, _<_, _≤_};
@@ -13,7 +13,7 @@ ghost use Rattle.chain_build.specs.Build.{front, ChainAnswer·left};
 ghost use Rattle.chain_build.specs.Pairs.{Pair·refusal, Pair·rows, Pair·Built};
 
 // The move of the pair at a place, built and put into its block.
-fn put_pair(poses: &[[f32; 17]], i: usize, moves: &mut [[[f32; 4]; 44]; 31]) -> u8
+fn put_pair(poses: &[[f32; 18]], i: usize, moves: &mut [[[f32; 4]; 45]; 31]) -> u8
     requires { ⌜ i + 1 < length (now poses) ⌝ }
     requires { ⌜ i < 31 ⌝ }
     ensures refusal { λ r. ⌜ r ≡ Pair·refusal (Poses·pairAt (now (poses .entry)) i) ⌝ }
@@ -26,7 +26,7 @@ fn put_pair(poses: &[[f32; 17]], i: usize, moves: &mut [[[f32; 4]; 44]; 31]) -> 
 }
 
 // The moves of all pairs, in rising order, up to the first that is refused.
-fn put_pairs(poses: &[[f32; 17]], moves: &mut [[[f32; 4]; 44]; 31]) -> u8
+fn put_pairs(poses: &[[f32; 18]], moves: &mut [[[f32; 4]; 45]; 31]) -> u8
     requires { ⌜ length (now poses) ≤ 32 ⌝ }
     requires { ⌜ length (now moves) ≡ 31 ⌝ }
     ensures refusal { λ r. ⌜ r ≡ stage Pair·refusal (neighbours (Poses·ofLists (now (poses .entry)))) ⌝ }
@@ -47,9 +47,9 @@ fn put_pairs(poses: &[[f32; 17]], moves: &mut [[[f32; 4]; 44]; 31]) -> u8
 
 // A chain that has passed its checks. The work goes into a copy of the lent blocks, which takes their place once nothing is refused.
 fn build_passed(
-    poses: &[[f32; 17]],
-    copy: [[[f32; 4]; 44]; 31],
-    moves: &mut [[[f32; 4]; 44]; 31],
+    poses: &[[f32; 18]],
+    copy: [[[f32; 4]; 45]; 31],
+    moves: &mut [[[f32; 4]; 45]; 31],
 ) -> u8
     requires { ⌜ chainRefusal (Poses·ofLists (now poses)) ≡ 0 ⌝ }
     requires { ⌜ copy ≡ now moves ⌝ }
@@ -66,9 +66,9 @@ fn build_passed(
     0
 }
 
-// Builds the chain of the poses into the first blocks, one for each move. Refused with 1, 2, 12, 3, 4 or 5.
+// Builds the chain of the poses into the first blocks, one for each move. Refused with 1, 2, 16, 12, 3, 4 or 5.
 // Accuracy: each operation but the arc cosine is correctly rounded.
-pub fn build(poses: &[[f32; 17]], moves: &mut [[[f32; 4]; 44]; 31]) -> u8
+pub fn build(poses: &[[f32; 18]], moves: &mut [[[f32; 4]; 45]; 31]) -> u8
     ensures refusal { λ r. ⌜ r ≡ ChainAnswer·refusal (Chain·new (Poses·ofLists (now (poses .entry)))) ⌝ }
     ensures left { λ _. ⌜ now (moves .exit) ≡ ChainAnswer·left (Chain·new (Poses·ofLists (now (poses .entry)))) (now (moves .entry)) ⌝ }
     ensures holds { λ _. ⌜ ((c : Chain) → Chain·new (Poses·ofLists (now (poses .entry))) ≡ built c → Moves·Holds (take (length (now (poses .entry)) - 1) (now (moves .exit))) c) ⌝ }

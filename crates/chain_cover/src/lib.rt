@@ -17,7 +17,7 @@ ghost use Rattle.chain_rows.specs.Finer.{KeptChainFiner};
 // The cover of the move at a place, joined to the covers of those before it.
 fn union_move(
     r: BoundsAnswer,
-    moves: &[[[f32; 4]; 44]],
+    moves: &[[[f32; 4]; 45]],
     i: usize,
     b: Bounds3f,
     depth: u32,
@@ -33,7 +33,7 @@ fn union_move(
 
 // A box that holds the box b at every time of a kept chain, from 2^depth slices of each move. Refused with 5, 6, 7, 8 or 10, and with 12 where there are no moves.
 // Accuracy: encloses.
-pub fn cover(moves: &[[[f32; 4]; 44]], b: Bounds3f, depth: u32) -> BoundsAnswer
+pub fn cover(moves: &[[[f32; 4]; 45]], b: Bounds3f, depth: u32) -> BoundsAnswer
     ensures value { λ r. ⌜ r ≡ Moves·cover (now (moves .entry)) b depth ⌝ }
     ensures kept { λ r. ⌜ ((c : Chain) → now (moves .entry) ≡ Chain·toRows c → r ≡ Chain·cover c b depth) ⌝ }
     ensures contains_motion { λ r. ⌜ (BoundsAnswer·refusal r ≡ 0 → KeptChainContainsMotion (now (moves .entry)) b (BoundsAnswer·bounds r)) ⌝ }

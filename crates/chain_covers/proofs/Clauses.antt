@@ -21,7 +21,7 @@ use Rattle.motion_cover.proofs.NonZero.{BoundsAnswer·NonZero}
 use Rattle.motion_chain.specs.Chain.{Chain, Chain·transformPoint, Chain·cover}
 use Rattle.motion_chain.proofs.Cover.{chain-cover-nonzero}
 use Rattle.chain_rows.specs.Kept.{Chain·toRows, Moves·chain, Moves·transformPoint}
-use Rattle.chain_rows.proofs.Kept.{chain-inverse, kept-point, built-rows}
+use Rattle.chain_rows.proofs.Kept.{chain-inverse, kept-point, kept-chain, built-rows}
 use Rattle.box_set.specs.Set.{maxBoxes, SetAnswer, covered, refused, SetAnswer·refusal, SetAnswer·covers, SetAnswer·union, SetAnswer·of, Boxes·covers, Chain·covers}
 use Rattle.box_set.specs.Theorem.{SetContains, SetWithin}
 use Rattle.box_set.proofs.Contains.{moves-set-contains, moves-set-finer}
@@ -61,7 +61,7 @@ module _ (rows : List Rows) (boxes : List (List Float)) (depth : ℕ) (covers : 
       let same : asked ≡ own = λ i p. kept-point rows c time p (b .same) i in
       let k = kept-set c (b .same) n in
       let contains = moves-set-contains c (map Bounds3f·ofList boxes) depth time (b .each) (ap SetAnswer·refusal (sym k) ∙ z) nan in
-      rw (same, e, f, k) contains
+      rw (same, kept-chain rows c (b .same), e, f, k) contains
 
   -- ---- greater depths
   set-finer : (length rows ≡ 0 → ⊥) → SetAnswer·refusal (Moves·covers rows boxes depth) ≡ 0 → (cs : List (List Float)) (u : List Float)

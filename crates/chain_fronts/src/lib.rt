@@ -39,7 +39,7 @@ fn join_boxes(count: usize, moved: &[[f32; 6]; 16], places: &mut [[f32; 6]; 16])
 
 // The covers over one more move, joined to those of the moves before it. Accuracy: encloses.
 fn add_move(
-    rows: &[[f32; 4]; 44],
+    rows: &[[f32; 4]; 45],
     boxes: &[[f32; 6]],
     depth: u32,
     front: Front,
@@ -67,7 +67,7 @@ fn add_move(
 // The cover of each box over a kept chain, in order, up to the first that is refused: its number is in the front. Nothing is worked where there are no moves or
 // more boxes than places. Accuracy: encloses.
 pub fn covers(
-    moves: &[[[f32; 4]; 44]],
+    moves: &[[[f32; 4]; 45]],
     boxes: &[[f32; 6]],
     depth: u32,
     places: &mut [[f32; 6]; 16],

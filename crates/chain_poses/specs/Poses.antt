@@ -1,4 +1,4 @@
--- Poses in a lent array, 17 floats each: the time, then the matrix row by row. Definitions only.
+-- Poses in a lent array, 18 floats each: the time, then the matrix row by row, then the pad. Definitions only.
 use Prim.Native.Nat.{ℕ, _+_}
 use mathlib.Core.List.{List, [], map}
 use lib.ListN.{getD}

@@ -1,5 +1,5 @@
-// The poses of a chain in a lent array, 17 floats each, and what building a chain asks of them before it computes any move. A stage asks one thing of every
-// pose, or of every neighbouring pair, before the next stage: 1 and 2 of every pose, 12 of the count and of every pair, 3 of every pair.
+// The poses of a chain in a lent array, 18 floats each, and what building a chain asks of them before it computes any move. A stage asks one thing of every
+// pose, or of every neighbouring pair, before the next stage: 1, 2 and 16 of every pose, 12 of the count and of every pair, 3 of every pair.
 use pose_pair::Pose;
 ghost use Prim.Native.Nat.{_+_, _<_};
 ghost use mathlib.Core.Path.{_≡_};
@@ -27,17 +27,23 @@ fn pose_number(k: u8, p: Pose) -> u8
         }
         return 2;
     }
+    if k == 16 {
+        if p.is_padded() {
+            return 0;
+        }
+        return 16;
+    }
     0
 }
 
-fn pose_number_at(k: u8, poses: &[[f32; 17]], i: usize) -> u8
+fn pose_number_at(k: u8, poses: &[[f32; 18]], i: usize) -> u8
     requires { ⌜ i < length (now poses) ⌝ }
     ensures value { λ r. ⌜ r ≡ Pose·number k (Pose·ofList (getD (now (poses .entry)) i [])) ⌝ }
 {
     pose_number(k, lent_arrays::pose(&poses[i]))
 }
 
-fn pair_number_at(k: u8, poses: &[[f32; 17]], i: usize) -> u8
+fn pair_number_at(k: u8, poses: &[[f32; 18]], i: usize) -> u8
     requires { ⌜ i + 1 < length (now poses) ⌝ }
     ensures value { λ r. ⌜ r ≡ Pair·number k (Poses·pairAt (now (poses .entry)) i) ⌝ }
 {
@@ -55,7 +61,7 @@ fn pair_number_at(k: u8, poses: &[[f32; 17]], i: usize) -> u8
     0
 }
 
-fn pose_stage(k: u8, poses: &[[f32; 17]]) -> u8
+fn pose_stage(k: u8, poses: &[[f32; 18]]) -> u8
     ensures value { λ r. ⌜ r ≡ stage (Pose·number k) (Poses·ofLists (now (poses .entry))) ⌝ }
 {
     let n = poses.len();
@@ -70,7 +76,7 @@ fn pose_stage(k: u8, poses: &[[f32; 17]]) -> u8
     0
 }
 
-fn pair_stage(k: u8, poses: &[[f32; 17]]) -> u8
+fn pair_stage(k: u8, poses: &[[f32; 18]]) -> u8
     ensures value { λ r. ⌜ r ≡ stage (Pair·number k) (neighbours (Poses·ofLists (now (poses .entry)))) ⌝ }
 {
     let n = poses.len();
@@ -98,17 +104,19 @@ fn first_refusal(a: u8, b: u8) -> u8
     if a == 0 { b } else { a }
 }
 
-// What building a chain asks of its poses before it computes any move: refused with 1, 2, 12 or 3, judged in this order; 0 for none. Accuracy: exact.
-pub fn refusal(poses: &[[f32; 17]]) -> u8
+// What building a chain asks of its poses before it computes any move: refused with 1, 2, 16, 12 or 3, judged in this order; 0 for none. Accuracy: exact.
+pub fn refusal(poses: &[[f32; 18]]) -> u8
     ensures value { λ r. ⌜ r ≡ chainRefusal (Poses·ofLists (now (poses .entry))) ⌝ }
 {
     let finite = pose_stage(1, poses);
     let affine = pose_stage(2, poses);
+    let padded = pose_stage(16, poses);
     let count = count_number(poses.len());
     let rise = pair_stage(12, poses);
     let times = pair_stage(3, poses);
     let pairs = first_refusal(rise, times);
     let chain = first_refusal(count, pairs);
-    let later = first_refusal(affine, chain);
+    let pads = first_refusal(padded, chain);
+    let later = first_refusal(affine, pads);
     first_refusal(finite, later)
 }

@@ -18,14 +18,14 @@ use Rattle.transform.specs.declared.BoundsAnswer.the-variants.{Bounds, Refused}
 use Rattle.transform.specs.Answer.{BoundsAnswer·refusal, BoundsAnswer·bounds}
 use Rattle.motion_cover.specs.Theorem.{MovedInside}
 use Rattle.cover_depth.specs.Finer.{Within}
-use Rattle.motion_chain.specs.Chain.{Chain, Chain·transformPoint, Chain·cover}
+use Rattle.motion_chain.specs.Chain.{Chain, Chain·transformPoint, Chain·padAt, Chain·cover}
 use Rattle.motion_chain.proofs.Cover.{moves-contain, moves-finer}
 use Rattle.motion_chain.proofs.Times.{times-inside}
 use Rattle.motion_chain.proofs.Numbers.{chain-cover-numbered}
-use Rattle.chain_rows.specs.Kept.{Chain·toRows, Moves·chain, Moves·cover}
+use Rattle.chain_rows.specs.Kept.{Chain·toRows, Moves·chain, Moves·padAt, Moves·cover}
 use Rattle.chain_rows.specs.Theorem.{KeptChainContainsMotion}
 use Rattle.chain_rows.specs.Finer.{KeptChainFiner}
-use Rattle.chain_rows.proofs.Kept.{kept-point, kept-points, kept-cover, BuiltRows, built-rows}
+use Rattle.chain_rows.proofs.Kept.{kept-chain, kept-point, kept-points, kept-cover, BuiltRows, built-rows}
 
 pub kept-contains : (rows : List Rows) (b : Bounds3f) (depth : ℕ) → BoundsAnswer·refusal (Moves·cover rows b depth) ≡ 0
     → KeptChainContainsMotion rows b (BoundsAnswer·bounds (Moves·cover rows b depth))
@@ -33,16 +33,17 @@ kept-contains rows b depth none =
     record {
       at-time = λ time p h nan inside.
           let k = built-rows h in
-          rw (kept-point rows (k .chain) time p (k .same), kept-cover rows (k .chain) b depth (k .same)) (contains k time p nan inside);
+          rw (kept-point rows (k .chain) time p (k .same), kept-chain rows (k .chain) (k .same), kept-cover rows (k .chain) b depth (k .same)) (contains k time p nan inside);
       at-times = λ times p h numbers rises inside.
           let k = built-rows h in
           let box = BoundsAnswer·bounds (Chain·cover (k .chain) b depth) in
-          rw (kept-points rows (k .chain) times p _ (k .same), kept-cover rows (k .chain) b depth (k .same))
+          let pads : Moves·padAt rows ≡ Chain·padAt (k .chain) = λ i time. Chain·padAt (kept-chain rows (k .chain) (k .same) i) time in
+          rw (kept-points rows (k .chain) times p _ (k .same), pads, kept-cover rows (k .chain) b depth (k .same))
           (times-inside (k .chain) box times p (λ t nan. contains k t p nan inside) numbers rises);
     }
   where
     contains : (k : BuiltRows rows) (time : Float) (p : Point3f) → T (not (isNan time)) → Inside b p
-        → MovedInside (BoundsAnswer·bounds (Chain·cover (k .chain) b depth)) (Chain·transformPoint (k .chain) time p)
+        → MovedInside (BoundsAnswer·bounds (Chain·cover (k .chain) b depth)) (Chain·padAt (k .chain) time) (Chain·transformPoint (k .chain) time p)
     contains k time p nan inside =
         moves-contain (k .chain) b depth time p (k .each) (ap BoundsAnswer·refusal (sym (kept-cover rows (k .chain) b depth (k .same))) ∙ none) nan inside
 

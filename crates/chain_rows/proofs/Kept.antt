@@ -1,5 +1,5 @@
--- What is kept of a chain is the whole chain, `chain-inverse`; so the queries of its rows are its own: `kept-point`, `kept-points`, `kept-cover`. One block is asked as the move in it is,
--- `block-point`. What building leaves are built moves: `built-rows`.
+-- What is kept of a chain is the whole chain, `chain-inverse`; so the queries of its rows are its own: `kept-point`, `kept-points`, `kept-cover`, `kept-pad`. One block is asked as the
+-- move in it is, `block-point`. What building leaves are built moves: `built-rows`.
 use Prim.Native.Nat.{ℕ, zero, suc, _<_}
 use mathlib.Core.Path.{_≡_, refl, ap, _∙_}
 use mathlib.Core.Bool.{false, cond}
@@ -18,6 +18,8 @@ use Rattle.animated_transform.specs.Built.{Built}
 use Rattle.motion_rows.specs.Rows.{AnimatedTransform·toRows, AnimatedTransform·fromRows}
 use Rattle.motion_rows.specs.TransformPoint.{Rows·transformPoint}
 use Rattle.motion_rows.proofs.RoundTrip.{from-rows-inverse, transform-point-kept}
+use Rattle.pad_query.specs.declared.PadAnswer.{PadAnswer}
+use Rattle.pad_query.proofs.Kept.{pad-kept}
 use Rattle.motion_chain.specs.Chain.{Chain, Chain·moves, Chain·moveAt, Chain·transformPoint, Chain·cover}
 use Rattle.motion_chain.specs.Built.{Each}
 use Rattle.motion_chain.specs.MoveAt.{indexFrom, Chain·indexAt}
@@ -25,7 +27,7 @@ use Rattle.motion_chain.specs.Times.{refused, listRefusal, pointsAt, Chain·tra
 use Rattle.motion_chain.specs.TwoPoses.{Chain·single}
 use Rattle.motion_chain.proofs.Built.{built-moves}
 use Rattle.motion_chain.proofs.MoveAt.{move-index}
-use Rattle.chain_rows.specs.Kept.{Chain·toRows, Moves·chain, Moves·transformPoint, Moves·transformPoints, Moves·cover}
+use Rattle.chain_rows.specs.Kept.{Chain·toRows, Moves·chain, Moves·transformPoint, Moves·transformPoints, Moves·cover, Chain·pad, Moves·pad}
 use Rattle.chain_rows.specs.Theorem.{Moves·Built, chain-built, move-built}
 
 map-inverse : (moves : List AnimatedTransform) → map AnimatedTransform·fromRows (map AnimatedTransform·toRows moves) ≡ moves
@@ -35,6 +37,9 @@ map-inverse (m ∷ moves) = rw (from-rows-inverse m, map-inverse moves)
 pub chain-inverse : (c : Chain) → Moves·chain (Chain·toRows c) ≡ c
 unfolding Moves·chain
 chain-inverse c = rw (from-rows-inverse (c .first), map-inverse (c .rest))
+
+pub kept-chain : (rows : List Rows) (c : Chain) → rows ≡ Chain·toRows c → Moves·chain rows ≡ c
+kept-chain rows c e = ap Moves·chain e ∙ chain-inverse c
 
 not-empty : (c : Chain) → eqb (length (Chain·toRows c)) 0 ≡ false
 not-empty c = ne-eqb (length (Chain·toRows c)) 0 (λ e. absurd (omega (arith, e)))
@@ -67,6 +72,15 @@ kept-points rows c times p places e =
 pub kept-cover : (rows : List Rows) (c : Chain) (b : Bounds3f) (depth : ℕ) → rows ≡ Chain·toRows c → Moves·cover rows b depth ≡ Chain·cover c b depth
 unfolding Moves·cover
 kept-cover rows c b depth e = rw (e, not-empty c, chain-inverse c)
+
+pub kept-pad : (rows : List Rows) (c : Chain) (time : Float) → rows ≡ Chain·toRows c → Moves·pad rows time ≡ Chain·pad c time
+unfolding Moves·pad Chain·pad
+kept-pad rows c time e = rw (e, not-empty c, chain-inverse c, move-kept c time) (pad-kept (Chain·moveAt c time) time)
+
+-- The clauses of a pad query, from its value.
+pub pad-clauses : (rows : List Rows) (time : Float) {r : PadAnswer} → r ≡ Moves·pad rows time
+    → (r ≡ Moves·pad rows time) × ((c : Chain) → rows ≡ Chain·toRows c → r ≡ Chain·pad c time)
+pad-clauses rows time e = (e, λ c k. e ∙ kept-pad rows c time k)
 
 -- One block, whatever it holds.
 pub block-point : (rows : List Rows) (block : Rows) (time : Float) (p : Point3f) → rows ≡ block ∷ [] → Moves·transformPoint rows time p ≡ Rows·transformPoint block time p

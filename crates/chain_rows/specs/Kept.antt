@@ -15,7 +15,10 @@ use Rattle.transform.specs.declared.BoundsAnswer.{BoundsAnswer}
 use Rattle.transform.specs.declared.BoundsAnswer.the-variants as bounds
 use Rattle.motion_rows.specs.Rows.{AnimatedTransform·toRows, AnimatedTransform·fromRows}
 use Rattle.motion_rows.specs.TransformPoint.{Rows·transformPoint}
-use Rattle.motion_chain.specs.Chain.{Chain, Chain·moves, Chain·cover}
+use Rattle.pad_query.specs.declared.PadAnswer.{PadAnswer}
+use Rattle.pad_query.specs.declared.PadAnswer.the-variants as pad
+use Rattle.pad_query.specs.PadQuery.{AnimatedTransform·pad, Rows·pad}
+use Rattle.motion_chain.specs.Chain.{Chain, Chain·moves, Chain·moveAt, Chain·padAt, Chain·cover}
 use Rattle.motion_chain.specs.MoveAt.{Chain·indexAt}
 use Rattle.motion_chain.specs.Times.{PointsAnswer, refused, listRefusal, pointsAt}
 
@@ -30,6 +33,17 @@ Moves·chain rows = record { first = AnimatedTransform·fromRows (getD rows 0 []
 unfoldable pub Moves·transformPoint : List Rows → Float → Point3f → PointAnswer
 Moves·transformPoint rows time p =
     cond (eqb (length rows) 0) (point.Refused 12) (Rows·transformPoint (getD rows (Chain·indexAt (Moves·chain rows) time) []) time p)
+
+-- document 02, "Pads for the spray": the pad at a time, of the move that the time belongs to
+unfoldable pub Chain·pad : Chain → Float → PadAnswer
+Chain·pad c time = AnimatedTransform·pad (Chain·moveAt c time) time
+
+unfoldable pub Moves·pad : List Rows → Float → PadAnswer
+Moves·pad rows time = cond (eqb (length rows) 0) (pad.Refused 12) (Rows·pad (getD rows (Chain·indexAt (Moves·chain rows) time) []) time)
+
+-- the same number, whether finite or not, of the chain in the rows
+abbrev pub Moves·padAt : List Rows → Float → Float
+Moves·padAt rows time = Chain·padAt (Moves·chain rows) time
 
 -- as `Chain·transformPoints`
 unfoldable pub Moves·transformPoints : List Rows → List Float → Point3f → ℕ → PointsAnswer

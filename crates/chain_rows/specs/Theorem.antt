@@ -18,7 +18,7 @@ use Rattle.motion_chain.specs.Chain.{Chain}
 use Rattle.motion_chain.specs.Built.{BuiltChain}
 use Rattle.motion_chain.specs.Times.{timesAreNumbers, neverFalls, placesPerTime}
 use Rattle.motion_chain.specs.TimesAnswer.{PointsInside}
-use Rattle.chain_rows.specs.Kept.{Chain·toRows, Moves·transformPoint, Moves·transformPoints}
+use Rattle.chain_rows.specs.Kept.{Chain·toRows, Moves·transformPoint, Moves·padAt, Moves·transformPoints}
 
 -- The rows are those of a built chain.
 pub record Moves·Holds (rows : List Rows) (c : Chain) : Type 0 where
@@ -30,12 +30,13 @@ pub data Moves·Built (rows : List Rows) : Type 0 where
   chain-built : (c : Chain) → Moves·Holds rows c → Moves·Built rows
   move-built : (block : Rows) (m : AnimatedTransform) → rows ≡ block ∷ [] → Rows·Holds block m → Moves·Built rows
 
--- Where the rows hold a built chain or one built move: every point of the box b, asked of the same rows at any time but NaN, is answered and is inside the box `cover`; so is every
--- point of a list of such times that never falls, for answers of three places a time. One block is asked as the move in it is: `block-point`.
+-- Where the rows hold a built chain or one built move: every point of the box b, asked of the same rows at any time but NaN, is answered and is inside the box `cover`, by itself and
+-- less and plus the pad at that time; so is every point of a list of such times that never falls, for answers of three places a time. One block is asked as the move in it is:
+-- `block-point`.
 pub record KeptChainContainsMotion (rows : List Rows) (b cover : Bounds3f) : Type 0 where
   pub at-time : (time : Float) (p : Point3f)
       → Moves·Built rows → T (not (isNan time)) → Inside b p
-      → MovedInside cover (Moves·transformPoint rows time p)
+      → MovedInside cover (Moves·padAt rows time) (Moves·transformPoint rows time p)
   pub at-times : (times : List Float) (p : Point3f)
       → Moves·Built rows → T (timesAreNumbers times) → T (neverFalls times) → Inside b p
-      → PointsInside cover times (Moves·transformPoints rows times p (placesPerTime * length times))
+      → PointsInside cover (Moves·padAt rows) times (Moves·transformPoints rows times p (placesPerTime * length times))

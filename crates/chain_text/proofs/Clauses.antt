@@ -73,7 +73,7 @@ module _ (rows : List Rows) (b : Bounds3f) (old : List ℕ) where
   pub no-moves : length rows ≡ 0 → (number size : ℕ) → number ≡ 12 → size ≡ 0 → Clauses rows b number size old old
   no-moves e number size en es = refused-clauses number size (en ∙ sym (none-number e)) (λ z. absurd (omega (arith, en, z))) es
 
-  module _ (some : length rows ≡ 0 → ⊥) (length₀ judged room number : ℕ) (el : length₀ ≡ 242 + 117 * length rows) (ej : judged ≡ Bounds3f·refusal b)
+  module _ (some : length rows ≡ 0 → ⊥) (length₀ judged room number : ℕ) (el : length₀ ≡ 255 + 126 * length rows) (ej : judged ≡ Bounds3f·refusal b)
       (er : room ≡ roomRefusal (length old) length₀) (en : number ≡ firstRefusal judged room) where
     text-size : length₀ ≡ length (Moves·text rows b)
     text-size = el ∙ sym (text-length rows b (omega (arith, some)))
@@ -84,7 +84,7 @@ module _ (rows : List Rows) (b : Bounds3f) (old : List ℕ) where
     pub all-refused : (number ≡ 0 → ⊥) → (refusal size : ℕ) → refusal ≡ number → size ≡ 0 → Clauses rows b refusal size old old
     all-refused n refusal size e es = refused-clauses refusal size (e ∙ same-number) (λ z. n (sym e ∙ z)) es
 
-    pub has-room : number ≡ 0 → 242 + 117 * length rows ≤ length old
+    pub has-room : number ≡ 0 → 255 + 126 * length rows ≤ length old
     has-room z = omega (arith, room-none (length old) length₀ (sym er ∙ first-none judged room (sym en ∙ z) .1), el)
 
     pub all-written : number ≡ 0 → (after : List ℕ) → after ≡ front (Moves·text rows b) old → Clauses rows b 0 length₀ old after

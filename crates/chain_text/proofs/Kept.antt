@@ -14,7 +14,7 @@ use Rattle.chain_rows.specs.Kept.{Chain·toRows, Moves·chain}
 use Rattle.chain_rows.proofs.Kept.{chain-inverse}
 use Rattle.built_poses.specs.Poses.{Poses·lists, Chain·poses}
 use Rattle.built_poses.proofs.Built.{built-poses}
-use Rattle.motion_file.specs.Layout.{poseNames}
+use Rattle.motion_file.specs.Layout.{paddedNames}
 use Rattle.file_text.specs.Text.{poseValues, fileText, MoveFile·text, Chain·text}
 use Rattle.file_text.proofs.Written.{built-read-written}
 use Rattle.chain_text.specs.Write.{Pose·values, Moves·text}

@@ -20,9 +20,9 @@ use Rattle.chain_text.specs.Write.{Pose·values, Moves·text}
 use Rattle.chain_text.specs.Lines.{Rows·startValues, Rows·endValues}
 
 abbrev pub namesLine : List ℕ
-namesLine = ascii "time m00 m01 m02 m03 m10 m11 m12 m13 m20 m21 m22 m23\n"
+namesLine = ascii "time m00 m01 m02 m03 m10 m11 m12 m13 m20 m21 m22 m23 pad\n"
 
-pub names-length : length namesLine ≡ 53
+pub names-length : length namesLine ≡ 57
 unfolding ascii
 names-length = refl
 
@@ -40,29 +40,29 @@ text-lines [] b h = absurd (omega (arith, h))
 text-lines (m ∷ rows) b h =
     rw (ends-map rows, append-assoc (valuesText (Rows·startValues m)) (linesText (map Rows·endValues (m ∷ rows))) (boundsText (Bounds3f·list b)))
 
--- ---- the lines of the moves' ends, 13 values each
+-- ---- the lines of the moves' ends, 14 values each
 abbrev pub endsText : List Rows → List ℕ
 endsText rows = linesText (map Rows·endValues rows)
 
-pub ends-length : (rows : List Rows) → length (endsText rows) ≡ 117 * length rows
+pub ends-length : (rows : List Rows) → length (endsText rows) ≡ 126 * length rows
 unfolding linesText
 ends-length [] = refl
 ends-length (m ∷ rows) =
     length-append (valuesText (Rows·endValues m)) (endsText rows) ∙ rw (length-values (Rows·endValues m), ends-length rows) (omega arith)
 
-pub ends-drop : (rows : List Rows) (i : ℕ) → i ≤ length rows → drop (117 * i) (endsText rows) ≡ endsText (drop i rows)
+pub ends-drop : (rows : List Rows) (i : ℕ) → i ≤ length rows → drop (126 * i) (endsText rows) ≡ endsText (drop i rows)
 unfolding linesText
 ends-drop rows zero h = refl
 ends-drop [] (suc i) h = absurd (omega (arith, h))
 ends-drop (m ∷ rows) (suc i) h =
-    let e : 117 * suc i ≡ 117 + 117 * i = omega arith in
+    let e : 126 * suc i ≡ 126 + 126 * i = omega arith in
     rw (
       e,
-      ← drop-drop (117 * i) 117 (valuesText (Rows·endValues m) ++ endsText rows),
-      drop-at (valuesText (Rows·endValues m)) (endsText rows) 117 (length-values (Rows·endValues m)),
+      ← drop-drop (126 * i) 126 (valuesText (Rows·endValues m) ++ endsText rows),
+      drop-at (valuesText (Rows·endValues m)) (endsText rows) 126 (length-values (Rows·endValues m)),
     )
     (ends-drop rows i (omega (arith, h)))
 
-pub ends-take : (m : Rows) (rows : List Rows) → take 117 (endsText (m ∷ rows)) ≡ take 117 (valuesText (Rows·endValues m))
+pub ends-take : (m : Rows) (rows : List Rows) → take 126 (endsText (m ∷ rows)) ≡ take 126 (valuesText (Rows·endValues m))
 unfolding linesText
-ends-take m rows = take-append-le 117 (valuesText (Rows·endValues m)) (endsText rows) (omega (arith, length-values (Rows·endValues m)))
+ends-take m rows = take-append-le 126 (valuesText (Rows·endValues m)) (endsText rows) (omega (arith, length-values (Rows·endValues m)))

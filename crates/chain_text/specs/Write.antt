@@ -14,25 +14,25 @@ use Rattle.animated_transform.specs.New.{firstRefusal}
 use Rattle.pose_pair.specs.declared.Pose.{Pose}
 use Rattle.built_poses.specs.Poses.{Chain·poses}
 use Rattle.chain_rows.specs.Kept.{Moves·chain}
-use Rattle.motion_file.specs.Layout.{poseNames}
+use Rattle.motion_file.specs.Layout.{paddedNames}
 use Rattle.motion_text.specs.Answer.{front}
 use Rattle.file_text.specs.Text.{fileText}
 
--- a time and the upper three rows of a matrix, entry by entry: a pose's line of values
-abbrev pub poseLine : Float → Row → Row → Row → List Float
-poseLine time r0 r1 r2 =
+-- a time, the upper three rows of a matrix, entry by entry, and a pad: a pose's line of values
+abbrev pub poseLine : Float → Row → Row → Row → Float → List Float
+poseLine time r0 r1 r2 pad =
     time
     ∷ col r0 0 ∷ col r0 1 ∷ col r0 2 ∷ col r0 3
     ∷ col r1 0 ∷ col r1 1 ∷ col r1 2 ∷ col r1 3
     ∷ col r2 0 ∷ col r2 1 ∷ col r2 2 ∷ col r2 3
-    ∷ []
+    ∷ pad ∷ []
 
 abbrev pub Pose·values : Pose → List Float
-Pose·values p = poseLine (p .time) (p .m .r0) (p .m .r1) (p .m .r2)
+Pose·values p = poseLine (p .time) (p .m .r0) (p .m .r1) (p .m .r2) (p .pad)
 
 -- the text of the poses in the rows, and a box
 unfoldable pub Moves·text : List Rows → Bounds3f → List ℕ
-Moves·text rows b = fileText poseNames (map Pose·values (Chain·poses (Moves·chain rows))) (Bounds3f·list b)
+Moves·text rows b = fileText paddedNames (map Pose·values (Chain·poses (Moves·chain rows))) (Bounds3f·list b)
 
 pub data TextAnswer : Type 0 where
   written : List ℕ → TextAnswer

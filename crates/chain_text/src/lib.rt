@@ -14,9 +14,9 @@ ghost use Rattle.chain_text.specs.Write.{poseLine, Moves·text, roomRefu
 ghost use Rattle.chain_text.specs.Theorem.{WrittenBack};
 
 // The bytes of the line of names, of a pose's line, and of the box's two lines.
-const NAMES: usize = 53;
+const NAMES: usize = 57;
 
-const POSE: usize = 117;
+const POSE: usize = 126;
 
 const BOX: usize = 72;
 
@@ -27,9 +27,9 @@ pub struct Written {
     pub refusal: u8,
 }
 
-// The values of a pose's line: the time and the upper three rows of the matrix.
-fn pose_values(time: f32, r0: [f32; 4], r1: [f32; 4], r2: [f32; 4]) -> [f32; 13]
-    ensures { λ r. ⌜ r ≡ poseLine time r0 r1 r2 ⌝ }
+// The values of a pose's line: the time, the upper three rows of the matrix, and the pad.
+fn pose_values(time: f32, r0: [f32; 4], r1: [f32; 4], r2: [f32; 4], pad: f32) -> [f32; 14]
+    ensures { λ r. ⌜ r ≡ poseLine time r0 r1 r2 pad ⌝ }
 {
     [
         time,
@@ -45,25 +45,38 @@ fn pose_values(time: f32, r0: [f32; 4], r1: [f32; 4], r2: [f32; 4]) -> [f32; 13]
         r2[1],
         r2[2],
         r2[3],
+        pad,
     ]
 }
 
-fn start_values(motion: &[[f32; 4]; 44]) -> [f32; 13]
+fn start_values(motion: &[[f32; 4]; 45]) -> [f32; 14]
     ensures { λ r. ⌜ r ≡ Rows·startValues (now (motion .entry)) ⌝ }
 {
-    pose_values(motion[16][3], motion[0], motion[1], motion[2])
+    pose_values(
+        motion[16][3],
+        motion[0],
+        motion[1],
+        motion[2],
+        motion[44][0],
+    )
 }
 
-fn end_values(motion: &[[f32; 4]; 44]) -> [f32; 13]
+fn end_values(motion: &[[f32; 4]; 45]) -> [f32; 14]
     ensures { λ r. ⌜ r ≡ Rows·endValues (now (motion .entry)) ⌝ }
 {
-    pose_values(motion[17][3], motion[8], motion[9], motion[10])
+    pose_values(
+        motion[17][3],
+        motion[8],
+        motion[9],
+        motion[10],
+        motion[44][1],
+    )
 }
 
 // Puts a pose's line into `out` from `at` on.
-fn put_pose(values: [f32; 13], out: &mut [u8], at: usize)
-    requires { ⌜ at + 117 ≤ length (now out) ⌝ }
-    ensures { λ _. ⌜ now (out .exit) ≡ paste (now (out .entry)) at (valuesText values) 117 ⌝ }
+fn put_pose(values: [f32; 14], out: &mut [u8], at: usize)
+    requires { ⌜ at + 126 ≤ length (now out) ⌝ }
+    ensures { λ _. ⌜ now (out .exit) ≡ paste (now (out .entry)) at (valuesText values) 126 ⌝ }
 {
     motion_text::write_values(&values, &mut out[at..]);
 }
@@ -77,9 +90,9 @@ fn put_bounds(b: Bounds3f, out: &mut [u8], at: usize)
 }
 
 // Puts the lines of the moves' ends into `out`, behind those of the names and the first pose.
-fn put_ends(moves: &[[[f32; 4]; 44]], out: &mut [u8])
-    requires { ⌜ 170 + 117 * length (now moves) ≤ length (now out) ⌝ }
-    ensures { λ _. ⌜ now (out .exit) ≡ paste (now (out .entry)) 170 (linesText (map Rows·endValues (now (moves .entry)))) (117 * length (now (moves .entry))) ⌝ }
+fn put_ends(moves: &[[[f32; 4]; 45]], out: &mut [u8])
+    requires { ⌜ 183 + 126 * length (now moves) ≤ length (now out) ⌝ }
+    ensures { λ _. ⌜ now (out .exit) ≡ paste (now (out .entry)) 183 (linesText (map Rows·endValues (now (moves .entry)))) (126 * length (now (moves .entry))) ⌝ }
 {
     let mut i = 0;
     while i < moves.len() {
@@ -89,13 +102,13 @@ fn put_ends(moves: &[[[f32; 4]; 44]], out: &mut [u8])
 }
 
 // Puts the text into the front of `out`.
-fn put(moves: &[[[f32; 4]; 44]], b: Bounds3f, out: &mut [u8])
+fn put(moves: &[[[f32; 4]; 45]], b: Bounds3f, out: &mut [u8])
     requires { ⌜ 0 < length (now moves) ⌝ }
-    requires { ⌜ 242 + 117 * length (now moves) ≤ length (now out) ⌝ }
+    requires { ⌜ 255 + 126 * length (now moves) ≤ length (now out) ⌝ }
     ensures { λ _. ⌜ now (out .exit) ≡ front (Moves·text (now (moves .entry)) b) (now (out .entry)) ⌝ }
 {
     motion_text::write_text(
-        b"time m00 m01 m02 m03 m10 m11 m12 m13 m20 m21 m22 m23\n",
+        b"time m00 m01 m02 m03 m10 m11 m12 m13 m20 m21 m22 m23 pad\n",
         out,
     );
     put_pose(start_values(&moves[0]), out, NAMES);
@@ -125,7 +138,7 @@ fn refused(refusal: u8) -> Written
 
 // Writes the poses of a kept chain and the box b as a move file into the front of `out`, and gives the length of the text; the bytes behind it are kept. Refused
 // with 12 where there are no moves, then with 6 or 7, then with 15 where `out` is too short, and `out` is kept as it is. Accuracy: exact; a NaN is written as 7fc00000.
-pub fn write(moves: &[[[f32; 4]; 44]], b: Bounds3f, out: &mut [u8]) -> Written
+pub fn write(moves: &[[[f32; 4]; 45]], b: Bounds3f, out: &mut [u8]) -> Written
     ensures refusal { λ r. ⌜ r .refusal ≡ TextAnswer·refusal (Moves·write (now (moves .entry)) b (length (now (out .entry)))) ⌝ }
     ensures length { λ r. ⌜ r .length ≡ TextAnswer·length (Moves·write (now (moves .entry)) b (length (now (out .entry)))) ⌝ }
     ensures left { λ _. ⌜ now (out .exit) ≡ TextAnswer·left (Moves·write (now (moves .entry)) b (length (now (out .entry)))) (now (out .entry)) ⌝ }

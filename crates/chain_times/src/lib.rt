@@ -33,7 +33,7 @@ fn stretch_end(times: &[f32], from: usize, end: f32) -> usize
 }
 
 // The number of the first time at which the chain refuses the point; 0 for none.
-fn first_refusal(moves: &[[[f32; 4]; 44]], times: &[f32], p: Point3f) -> u8
+fn first_refusal(moves: &[[[f32; 4]; 45]], times: &[f32], p: Point3f) -> u8
     requires { ⌜ 0 < length (now moves) ⌝ }
     requires { ⌜ neverFalls (now times) ≡ true ⌝ }
     ensures value { λ r. ⌜ r ≡ PointsAnswer·refusal (pointsAt (λ t. Moves·transformPoint (now (moves .entry)) t p) (now (times .entry))) ⌝ }
@@ -56,7 +56,7 @@ fn first_refusal(moves: &[[[f32; 4]; 44]], times: &[f32], p: Point3f) -> u8
 
 // A stretch's times and its part of the answers, lent to its move.
 fn fill_part(
-    motion: &[[f32; 4]; 44],
+    motion: &[[f32; 4]; 45],
     times: &[f32],
     from: usize,
     to: usize,
@@ -73,7 +73,7 @@ fn fill_part(
 }
 
 // Each stretch of times, handed to its own move.
-fn fill_all(moves: &[[[f32; 4]; 44]], times: &[f32], p: Point3f, answers: &mut [f32])
+fn fill_all(moves: &[[[f32; 4]; 45]], times: &[f32], p: Point3f, answers: &mut [f32])
     requires { ⌜ 0 < length (now moves) ⌝ }
     requires { ⌜ length (now answers) ≡ placesPerTime * length (now times) ⌝ }
     requires { ⌜ neverFalls (now times) ≡ true ⌝ }
@@ -95,7 +95,7 @@ fn fill_all(moves: &[[[f32; 4]; 44]], times: &[f32], p: Point3f, answers: &mut [
 // Where a point stands at each time of a list that never falls, three places a time. Refused with 6, 13 or 5, and with 12 where there are no moves; after a refusal the answers are as
 // they came. Accuracy: each operation but sine and cosine is correctly rounded.
 pub fn transform_points(
-    moves: &[[[f32; 4]; 44]],
+    moves: &[[[f32; 4]; 45]],
     times: &[f32],
     p: Point3f,
     answers: &mut [f32],

@@ -1,15 +1,17 @@
 -- A finer cover of a built move is never a wider one: `cover-finer`. A part of an interval of dt is accepted where the whole is, and its box lies in the
--- whole's (`piece-isotone`); so it is of a slice of a greater depth and the slice that it was cut from (`piece-finer`). What lies in the coarse cover, part by
+-- whole's (`piece-isotone`), grown by no greater pad; so it is of a slice of a greater depth and the slice that it was cut from (`piece-finer`). What lies in the coarse cover, part by
 -- part, has its union in it.
 use Prim.Native.Nat.{ℕ, zero, suc, _+_, _/_, _^_, _≤_, _<_}
 use mathlib.Core.Path.{_≡_, refl, sym, ap, subst}
 use mathlib.Core.Bool.{Bool, true, false}
 use native.Mathlib.Omega.{arith}
-use lib.Dec.{eqb}
+use lib.Dec.{T, eqb}
 use borrow.Author.Tests.{eqb-true, eqb-false, eq-eqb, le-ltb}
 use Rattle.bounds3.specs.declared.Bounds3f.{Bounds3f}
 use Rattle.bounds3.specs.Bounds3f.{Bounds3f·unionBounds}
+use Rattle.bounds3.specs.Finite.{Bounds3f·isFinite}
 use Rattle.bounds3.specs.Inside.{Subset}
+use Rattle.bounds3.proofs.Finite.{box-finite}
 use Rattle.bounds3.proofs.Union.{subset-trans, union-least, union-subset-left, union-subset-right}
 use Rattle.transform.specs.declared.BoundsAnswer.{BoundsAnswer}
 use Rattle.transform.specs.declared.BoundsAnswer.the-variants.{Bounds}
@@ -18,16 +20,25 @@ use Rattle.bounds_query.specs.Query.{Bounds3f·refusal, BoundsAnswer·unionBoun
 use Rattle.bounds_query.proofs.Union.{union-accepted}
 use Rattle.interval.specs.declared.Interval.{Interval}
 use Rattle.interval.specs.Contains as interval
+use Rattle.interval.specs.Contains.{Refines}
+use Rattle.interval.proofs.Contains.{subset-finite as interval-finite}
+use Rattle.formula.specs.Promise.{Pairwise}
 use Rattle.unit_interval.specs.Unit.{unitInterval, slice}
 use Rattle.unit_interval.proofs.Slices.{slice-unit, slice-finer, finer-lt}
+use Rattle.pose_steps.specs.declared.IntervalVector.{IntervalVector}
 use Rattle.pose_steps.specs.declared.JudgedVector.{JudgedVector}
-use Rattle.pose_steps.specs.Enclose.{Pose·enclosePoint, Bounds3f·intervals, IntervalVector·bounds}
+use Rattle.pose_steps.specs.Enclose.{IntervalVector·list, Pose·enclosePoint, Bounds3f·intervals, IntervalVector·bounds}
 use Rattle.pose_steps.proofs.Isotone.{point-isotone}
-use Rattle.pose_steps.proofs.Box.{refines-subset, order-refl}
+use Rattle.pose_steps.proofs.Box.{refines-subset, refines-order, order-refl}
 use Rattle.animated_transform.specs.declared.AnimatedTransform.{AnimatedTransform}
 use Rattle.animated_transform.specs.Built.{Built}
+use Rattle.animated_transform.proofs.Built.{built-judged}
 use Rattle.motion_point.specs.TransformPoint.{AnimatedTransform·constants}
 use Rattle.motion_point.proofs.Built.{built-valid, built-scales}
+use Rattle.motion_pad.specs.Pad.{Pad·enclose}
+use Rattle.motion_pad.specs.Grow.{Bounds3f·grow, BoundsAnswer·grow}
+use Rattle.motion_pad.proofs.Pad.{pad-high-within}
+use Rattle.motion_pad.proofs.Box.{grow-accepted, grow-isotone}
 use Rattle.motion_cover.specs.Cover.{BoundsAnswer·fromEnclosure, AnimatedTransform·encloseBounds, AnimatedTransform·encloseEnds, unionSlices, AnimatedTransform·encloseMotion, AnimatedTransform·cover}
 use Rattle.motion_cover.specs.Answer.{Proper}
 use Rattle.motion_cover.proofs.Contains.{from-enclosure-accepted, motion-stored, motion-slices, cover-accepted, cover-box}
@@ -77,6 +88,20 @@ from-enclosure-box : (j : JudgedVector) → j .refusal ≡ 0 → BoundsAnswer·f
 unfolding BoundsAnswer·fromEnclosure
 from-enclosure-box j e = rw (eq-eqb (j .refusal) 0 e)
 
+-- ---- boxes of intervals that lie in others
+wider-finite : (W W' : IntervalVector) → Pairwise Refines (IntervalVector·list W) (IntervalVector·list W') → T (Bounds3f·isFinite (IntervalVector·bounds W'))
+wider-finite W W' (x, (y, (z, e))) =
+    box-finite (IntervalVector·bounds W')
+    (record { x = x .finite .low; y = y .finite .low; z = z .finite .low })
+    (record { x = x .finite .high; y = y .finite .high; z = z .finite .high })
+
+refines-finite : (W W' : IntervalVector) → Pairwise Refines (IntervalVector·list W) (IntervalVector·list W') → T (Bounds3f·isFinite (IntervalVector·bounds W))
+refines-finite W W' (x, (y, (z, e))) =
+    let fx = interval-finite (x .finite) (x .subset) in
+    let fy = interval-finite (y .finite) (y .subset) in
+    let fz = interval-finite (z .finite) (z .subset) in
+    box-finite (IntervalVector·bounds W) (record { x = fx .low; y = fy .low; z = fz .low }) (record { x = fx .high; y = fy .high; z = fz .high })
+
 module _ {m : AnimatedTransform} (built : Built m) (b : Bounds3f) (r : BoxRefines b) where
   -- ---- a part of an interval of dt
   pub piece-isotone : (D D' : Interval) (c : Bounds3f) → interval.Subset D D' → interval.Subset D' unitInterval
@@ -86,13 +111,26 @@ module _ {m : AnimatedTransform} (built : Built m) (b : Bounds3f) (r : BoxRefine
   piece-isotone D D' c s u w =
       let B = Bounds3f·intervals b in
       let a = AnimatedTransform·constants m in
+      let j = built-judged built in
       let whole = Pose·enclosePoint a (m .s0) (m .s1) D' B in
       let part = Pose·enclosePoint a (m .s0) (m .s1) D B in
-      let g = from-enclosure-accepted whole (w .box) (w .accepted) in
+      let pad = Pad·enclose (m .pad0) (m .pad1) D in
+      let grown = grow-accepted (Pad·enclose (m .pad0) (m .pad1) D') (BoundsAnswer·fromEnclosure whole) (w .box) (w .accepted) in
+      let g = from-enclosure-accepted whole (grown .before) (grown .worked) in
       let (s0, s1) = built-scales built in
       let (z, e) = point-isotone (built-valid built) s0 s1 u s B B r (g .accepted) in
-      let inWhole = subst (Subset (IntervalVector·bounds (part .vector))) (g .bounds) (refines-subset (part .vector) (whole .vector) e) in
-      record { box = IntervalVector·bounds (part .vector); accepted = from-enclosure-box part z; subset = subset-trans inWhole (w .subset) }
+      let (k, within) = pad-high-within (m .pad0) (m .pad1) (j .pad0 .finite) (j .pad1 .finite) (j .pad0 .at-least-zero) (j .pad1 .at-least-zero) s u (grown .accepted) in
+      let box = IntervalVector·bounds (part .vector) in
+      let (accepted, inWhole) = grow-isotone pad (Pad·enclose (m .pad0) (m .pad1) D') box (IntervalVector·bounds (whole .vector)) (w .box) k within
+      (refines-order (part .vector) (whole .vector) e) (refines-finite (part .vector) (whole .vector) e) (wider-finite (part .vector) (whole .vector) e)
+      (refines-subset (part .vector) (whole .vector) e)
+      (subst (λ (x : Bounds3f). BoundsAnswer·grow (Pad·enclose (m .pad0) (m .pad1) D') (Bounds x) ≡ Bounds (w .box)) (sym (g .bounds))
+      (subst (λ (x : BoundsAnswer). BoundsAnswer·grow (Pad·enclose (m .pad0) (m .pad1) D') x ≡ Bounds (w .box)) (grown .worked) (w .accepted))) in
+      record {
+        box = Bounds3f·grow (pad .interval .high) box;
+        accepted = rw (from-enclosure-box part z) accepted;
+        subset = subset-trans inWhole (w .subset);
+      }
 
   -- a slice of a greater depth
   pub piece-finer : (d n k : ℕ) (c : Bounds3f) → k < 2 ^ (d + n)

@@ -1,4 +1,4 @@
--- No text is longer than that of 32 poses, so that 3,869 bytes hold what is printed for every file: `rewritten-length`.
+-- No text is longer than that of 32 poses, so that 4,161 bytes hold what is printed for every file: `rewritten-length`.
 use Prim.Native.Nat.{ℕ, _+_, _*_, _≤_}
 use native.Mathlib.Omega.{arith}
 use mathlib.Core.Path.{_≡_, refl, sym, ap}
@@ -14,14 +14,14 @@ use Rattle.bounds_query.specs.Query.{Bounds3f·refusal}
 use Rattle.motion_chain.specs.Chain.{Chain, ChainAnswer, built, refused, ChainAnswer·refusal, Chain·new}
 use Rattle.motion_chain.specs.Built.{Each}
 use Rattle.chain_poses.specs.Poses.{Poses·ofLists}
-use Rattle.built_poses.specs.Poses.{Poses·lists, Chain·poses}
+use Rattle.built_poses.specs.Poses.{placesPerPose, Poses·lists, Chain·poses}
 use Rattle.built_poses.proofs.Built.{built-poses}
 use Rattle.motion_file.specs.declared.MoveFile.{MoveFile}
 use Rattle.motion_file.specs.Layout.{MoveFile·read, MoveFile·poses}
 use Rattle.motion_text.specs.Answer.{zerosInFront, refusalText}
 use Rattle.motion_text.proofs.Written.{length-refusal}
 use Rattle.motion_answer.proofs.Posed.{built-count}
-use Rattle.file_text.specs.Text.{poseColumns, Chain·text}
+use Rattle.file_text.specs.Text.{Chain·text}
 use Rattle.file_text.specs.Theorem.{boxOf}
 use Rattle.file_text.proofs.Length.{move-text-length}
 use Rattle.file_rewrite.specs.Rewrite.{boxedText, ChainAnswer·text, rewrittenText}
@@ -34,7 +34,7 @@ refusal-length n =
     omega (arith, length-refusal n (zerosInFront n) refl few)
 
 -- ---- a chain's text
-each-long : (lists : List (List Float)) → Each (λ pose. poseColumns ≤ length pose) (Poses·lists (Poses·ofLists lists))
+each-long : (lists : List (List Float)) → Each (λ pose. placesPerPose ≤ length pose) (Poses·lists (Poses·ofLists lists))
 unfolding Poses·lists Poses·ofLists
 each-long [] = tt
 each-long (l ∷ lists) = (omega arith, each-long lists)

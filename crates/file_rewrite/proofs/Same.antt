@@ -1,8 +1,9 @@
 -- Rewritten files: `rewritten-form`, that of an accepted file is its written form; `rewritten-same`, what two of them tell; `rewritten-again`, what is read from one.
-use Prim.Native.Nat.{ℕ}
+use Prim.Native.Nat.{ℕ, _≤_}
 use mathlib.Core.Path.{_≡_, refl, sym, _∙_, ap}
 use mathlib.Core.Logic.{_↔_}
 use mathlib.Core.List.{List}
+use lib.ListN.{length}
 use borrow.Author.Tests.{eq-eqb}
 use Rattle.bounds3.specs.declared.Bounds3f.{Bounds3f}
 use Rattle.bounds3.specs.List.{Bounds3f·ofList}
@@ -12,7 +13,8 @@ use Rattle.chain_poses.specs.Poses.{Poses·ofLists}
 use Rattle.motion_file.specs.declared.MoveFile.{MoveFile}
 use Rattle.motion_file.specs.Layout.{MoveFile·read, MoveFile·poses}
 use Rattle.file_text.specs.Text.{Chain·text, MoveFile·text, MoveFile·written}
-use Rattle.file_text.specs.Theorem.{MoveFile·Accepted, HoldSame, boxOf}
+use Rattle.file_text.specs.Theorem.{maxPaddedLines, MoveFile·Accepted, HoldSame, boxOf}
+use Rattle.file_text.proofs.Written.{built-room}
 use Rattle.file_text.proofs.Same.{written-read, accepted-written, same-bits}
 use Rattle.file_rewrite.specs.Rewrite.{boxedText, ChainAnswer·text, rewrittenText}
 use Rattle.file_rewrite.specs.Theorem.{RewrittenSame, RewrittenAgain}
@@ -29,9 +31,12 @@ rewritten-same f g c d a b = rw (chain-form f c a, chain-form g d b) (same-bits 
 
 -- the written form of an accepted file is accepted
 module _ (f : List ℕ) (c : Chain) (a : MoveFile·Accepted f c) where
+  room : length (MoveFile·poses f) ≤ maxPaddedLines
+  room = built-room (MoveFile·poses f) c (a .chain)
+
   form-accepted : MoveFile·Accepted (MoveFile·written f) c
   form-accepted =
-      let w = written-read f in
+      let w = written-read f room in
       record {
         layout = w .0;
         chain = rw (w .1 .poses) (a .chain);
@@ -40,12 +45,12 @@ module _ (f : List ℕ) (c : Chain) (a : MoveFile·Accepted f c) where
 
   form-again : MoveFile·written (MoveFile·written f) ≡ MoveFile·written f
   unfolding MoveFile·written
-  form-again = let w = written-read f .1 in rw (w .poses, w .bounds)
+  form-again = let w = written-read f room .1 in rw (w .poses, w .bounds)
 
   pub rewritten-again : RewrittenAgain f
   rewritten-again =
       let e = rewritten-form f c a in
-      let w = written-read f in
+      let w = written-read f room in
       record {
         form = e;
         layout = rw e (w .0);

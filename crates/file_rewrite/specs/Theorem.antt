@@ -23,4 +23,4 @@ pub record RewrittenAgain (f : List ℕ) : Type 0 where
 
 -- how many bytes hold the text for any file (`rewritten-length`): that of 32 poses
 abbrev pub longestText : ℕ
-longestText = 3869
+longestText = 4161

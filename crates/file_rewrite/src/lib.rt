@@ -10,7 +10,7 @@ ghost use Rattle.chain_text.specs.Write.{Moves·text};
 ghost use Rattle.file_rewrite.specs.Rewrite.{boxedText, ChainAnswer·text, rewrittenText};
 
 // Writes a kept chain and the box as a file, or the refusal of the box.
-fn write_moves(moves: &[[[f32; 4]; 44]], b: Bounds3f, out: &mut [u8]) -> usize
+fn write_moves(moves: &[[[f32; 4]; 45]], b: Bounds3f, out: &mut [u8]) -> usize
     requires { ⌜ 0 < length (now moves) ⌝ }
     ensures value { λ r. ⌜ r ≡ lengthIn (boxedText b (Moves·text (now (moves .entry)) b)) (now (out .entry)) ⌝ }
     ensures text { λ _. ⌜ now (out .exit) ≡ front (boxedText b (Moves·text (now (moves .entry)) b)) (now (out .entry)) ⌝ }
@@ -26,12 +26,12 @@ fn write_moves(moves: &[[[f32; 4]; 44]], b: Bounds3f, out: &mut [u8]) -> usize
 }
 
 // Writes the poses and the box as a file, or the refusal of their chain or of the box.
-fn write_poses(poses: &[[f32; 17]], b: Bounds3f, out: &mut [u8]) -> usize
+fn write_poses(poses: &[[f32; 18]], b: Bounds3f, out: &mut [u8]) -> usize
     ensures value { λ r. ⌜ r ≡ lengthIn (ChainAnswer·text (Chain·new (Poses·ofLists (now (poses .entry)))) b) (now (out .entry)) ⌝ }
     ensures text { λ _. ⌜ now (out .exit) ≡ front (ChainAnswer·text (Chain·new (Poses·ofLists (now (poses .entry)))) b) (now (out .entry)) ⌝ }
     ensures counts { λ r. ⌜ (r ≤ length (now (out .exit))) × (r ≡ length (take r (now (out .exit)))) ⌝ }
 {
-    let mut moves = [[[0.0f32; 4]; 44]; 31];
+    let mut moves = [[[0.0f32; 4]; 45]; 31];
     let refusal = chain_build::build(poses, &mut moves);
     if refusal != 0 {
         return motion_text::write_refusal(refusal, out);
@@ -42,13 +42,13 @@ fn write_poses(poses: &[[f32; 17]], b: Bounds3f, out: &mut [u8]) -> usize
 }
 
 // Writes the one form of a move file, or its refusal: 11, then building's numbers, then 6 or 7 of the box, into the front of `out`, and gives the length of the text, at
-// most 3,869; where it doesn't fit, `out` is kept as it is and the answer is 0. Accuracy: exact.
+// most 4,161; where it doesn't fit, `out` is kept as it is and the answer is 0. Accuracy: exact.
 pub fn rewrite(bytes: &[u8], out: &mut [u8]) -> usize
     ensures value { λ r. ⌜ r ≡ lengthIn (rewrittenText (now (bytes .entry))) (now (out .entry)) ⌝ }
     ensures text { λ _. ⌜ now (out .exit) ≡ front (rewrittenText (now (bytes .entry))) (now (out .entry)) ⌝ }
     ensures counts { λ r. ⌜ (r ≤ length (now (out .exit))) × (r ≡ length (take r (now (out .exit)))) ⌝ }
 {
-    let mut poses = [[0.0f32; 17]; 559];
+    let mut poses = [[0.0f32; 18]; 559];
     let file = motion_file::read(bytes, &mut poses);
     if file.refusal != 0 {
         return motion_text::write_refusal(file.refusal, out);

@@ -13,7 +13,7 @@ use lib.Seq.{take-at, getD-append-add}
 use lib.Ieee.{Float}
 use Rattle.motion_chain.specs.Built.{Each}
 use Rattle.motion_file.specs.Text.{ascii, lineFeed, onFirst, split, singleSpaced, equal}
-use Rattle.motion_file.specs.Layout.{Line, names, values, boundsNames, layoutOf, conforms, fits, valuesOf}
+use Rattle.motion_file.specs.Layout.{Line, names, values, boundsNames, layout, conforms, fits, valuesOf}
 use Rattle.motion_text.specs.Answer.{boundsText}
 use Rattle.file_text.specs.Text.{valuesText, linesText, fileText}
 use Rattle.file_text.specs.RoundTrip.{Floats, NamesLine, TextHolds, RoundTrip}
@@ -118,7 +118,7 @@ module _ (text : List ℕ) (n : ℕ) (lines : List (List Float)) (bounds : List 
       split-line lineFeed text (linesText lines ++ boundsText bounds) (one-piece lineFeed text (named .one-line))
       ∙ ap (λ (ps : List (List ℕ)). text ∷ ps) (lines-pieces n lines (boundsText bounds) each ∙ rw (box-pieces bounds box))
 
-  file-conforms : conforms (layoutOf text (suc n) (length lines)) (text ∷ (map lineOf lines ++ behind)) ≡ true
+  file-conforms : conforms (layout text (suc n) (length lines)) (text ∷ (map lineOf lines ++ behind)) ≡ true
   unfolding conforms behind
   file-conforms =
       rw (names-fit text named)

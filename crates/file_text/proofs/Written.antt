@@ -1,16 +1,17 @@
 -- Poses and a box that were written are read back: `read-written`; those of a chain: `chain-read-written`; those that a chain was built from:
 -- `built-read-written`. Rests on `RoundTrip.antt` and `Length.antt`, and on `built-lists` of crates/built_poses.
-use Prim.Native.Nat.{ℕ, zero, suc, _≤_}
+use Prim.Native.Nat.{ℕ, zero, suc, _+_, _≤_}
 use native.Mathlib.Omega.{arith}
-use mathlib.Core.Path.{_≡_, refl, sym, ap, _∙_}
-use mathlib.Core.Bool.{true}
+use mathlib.Core.Path.{_≡_, refl, ap, _∙_}
+use mathlib.Core.Bool.{true, and-eq-true-iff, false≢true}
 use mathlib.Core.List.{List, [], _∷_, _++_, map}
 use borrow.Author.Tests.{le-leb}
 use lib.Dec.{T}
-use lib.ListN.{length, take, drop, length-map}
-use lib.Seq.{length-take-le}
-use lib.Ieee.{Float, binary32}
+use lib.ListN.{length, getD, take, drop, replicate, length-map, length-append}
+use lib.Seq.{length-take-le, take-at, getD-at}
+use lib.Ieee.{Float, binary32, ofBits}
 use lib.Ieee as ieee
+use lib.Ieee.Bits.{ofBits-fits}
 use lib.Ieee.Fits.{and-l, and-r, and-i}
 use Rattle.bounds3.specs.declared.Bounds3f.{Bounds3f}
 use Rattle.bounds3.specs.List.{Bounds3f·list}
@@ -22,14 +23,15 @@ use Rattle.chain_poses.specs.Poses.{Poses·ofLists}
 use Rattle.built_poses.specs.Poses.{placesPerPose, Chain·poses, Poses·lists}
 use Rattle.built_poses.proofs.Lists.{built-lists, poses-count}
 use Rattle.motion_file.specs.Text.{ascii, lineFeed, split, singleSpaced}
-use Rattle.motion_file.specs.Layout.{poseNames, maxBytes, maxPoseLines, keepsLayout, valuesOf, bottomRow, poseOf, MoveFile·read, MoveFile·poses}
+use Rattle.motion_file.specs.Layout.{names, values, paddedNames, boundsNames, layout, conforms, fits, maxBytes, keepsColumns, hasPads, keepsLayout, valuesOf, poseOfValues, poseOf}
+use Rattle.motion_file.specs.Layout.{MoveFile·read, MoveFile·poses}
 use Rattle.file_text.specs.Text.{poseColumns, poseValues, fileText, MoveFile·text, Chain·text}
 use Rattle.file_text.specs.RoundTrip.{Floats, NamesLine, TextHolds}
-use Rattle.file_text.specs.Theorem.{withBottomRow, ReadsAs, ReadWritten, ChainReadWritten, BuiltReadWritten}
+use Rattle.file_text.specs.Theorem.{withBottomRow, maxPaddedLines, ReadsAs, ReadWritten, ChainReadWritten, BuiltReadWritten}
 use Rattle.file_text.proofs.RoundTrip.{round-trip}
 use Rattle.file_text.proofs.Length.{text-length}
 
-pub pose-names : NamesLine poseNames
+pub pose-names : NamesLine paddedNames
 unfolding ascii split singleSpaced
 pose-names = record { one-line = refl; single-spaced = refl }
 
@@ -38,63 +40,85 @@ values-floats : (poses : List (List Float)) → Each (λ pose. Floats poseColumn
 values-floats [] hs = tt
 values-floats (pose ∷ poses) (h, hs) = (h, values-floats poses hs)
 
-values-counts : (lines : List (List Float)) → Each (Floats poseColumns) lines → Each (λ values. length values ≡ poseColumns) lines
+values-counts : (lines : List (List Float)) → Each (Floats poseColumns) lines → Each (λ xs. length xs ≡ poseColumns) lines
 values-counts [] hs = tt
-values-counts (values ∷ lines) (h, hs) = (h .count, values-counts lines hs)
+values-counts (xs ∷ lines) (h, hs) = (h .count, values-counts lines hs)
 
-lines-posed : (lines : List (List ℕ)) (poses : List (List Float)) → map valuesOf lines ≡ map poseValues poses → map poseOf lines ≡ map withBottomRow poses
+-- the pose of a pose's values
+pub values-posed : (pose : List Float) → Floats poseColumns (poseValues pose) → poseOfValues (poseValues pose) ≡ withBottomRow pose
+values-posed pose h =
+    let pad = getD pose 17 (ofBits binary32 0) in
+    let upper : length (take 13 pose) ≡ 13 = omega (arith, h .count, length-append (take 13 pose) (pad ∷ [])) in
+    let last : getD (poseValues pose) 13 (ofBits binary32 0) ≡ pad = getD-at (take 13 pose) pad [] (ofBits binary32 0) 13 upper in
+    rw (take-at (take 13 pose) (pad ∷ []) 13 upper, last)
+
+pub all-posed : (poses : List (List Float)) → Each (λ pose. Floats poseColumns (poseValues pose)) poses
+    → map poseOfValues (map poseValues poses) ≡ map withBottomRow poses
+all-posed [] hs = refl
+all-posed (pose ∷ poses) (h, hs) =
+    ap (λ (p : List Float). p ∷ map poseOfValues (map poseValues poses)) (values-posed pose h)
+    ∙ ap (λ (ps : List (List Float)). withBottomRow pose ∷ ps) (all-posed poses hs)
+
+pub lines-poses : (lines : List (List ℕ)) → map poseOf lines ≡ map poseOfValues (map valuesOf lines)
 unfolding poseOf
-lines-posed lines poses e = over lines ∙ ap (map (λ (values : List Float). values ++ bottomRow)) e ∙ sym (under poses)
-  where
-    over : (lines : List (List ℕ))
-        → map (λ (line : List ℕ). valuesOf line ++ bottomRow) lines ≡ map (λ (values : List Float). values ++ bottomRow) (map valuesOf lines)
-    over [] = refl
-    over (line ∷ lines) = rw (over lines)
+lines-poses [] = refl
+lines-poses (line ∷ lines) = rw (lines-poses lines)
 
-    under : (poses : List (List Float)) → map withBottomRow poses ≡ map (λ (values : List Float). values ++ bottomRow) (map poseValues poses)
-    under [] = refl
-    under (pose ∷ poses) = rw (under poses)
+-- the first line is the fourteen names
+names-first : (text : List ℕ) (n : ℕ) (lines : List (List ℕ)) → conforms (layout text poseColumns n) lines ≡ true → fits (names text) (getD lines 0 []) ≡ true
+unfolding conforms
+names-first text n [] h = absurd (false≢true h)
+names-first text n (line ∷ lines) h =
+    and-eq-true-iff (fits (names text) line) (conforms (replicate n (values poseColumns) ++ (names boundsNames ∷ values 6 ∷ [])) lines) .0 h .0
+
+pub text-held : (poses : List (List Float)) (bounds : List Float) → Each (λ pose. Floats poseColumns (poseValues pose)) poses → Floats 6 bounds
+    → TextHolds (MoveFile·text poses bounds) paddedNames poseColumns (map poseValues poses) bounds
+unfolding MoveFile·text
+text-held poses bounds each box = round-trip paddedNames poseColumns (map poseValues poses) bounds pose-names (omega arith) (values-floats poses each) box
 
 module _ (poses : List (List Float)) (bounds : List Float)
-    (each : Each (λ pose. Floats poseColumns (poseValues pose)) poses) (room : length poses ≤ maxPoseLines) (box : Floats 6 bounds) where
-  values : List (List Float)
-  values = map poseValues poses
+    (each : Each (λ pose. Floats poseColumns (poseValues pose)) poses) (room : length poses ≤ maxPaddedLines) (box : Floats 6 bounds) where
+  lists : List (List Float)
+  lists = map poseValues poses
 
   text : List ℕ
-  text = fileText poseNames values bounds
+  text = fileText paddedNames lists bounds
 
-  held : TextHolds text poseNames poseColumns values bounds
-  unfolding values text
-  held = round-trip poseNames poseColumns values bounds pose-names (omega arith) (values-floats poses each) box
+  held : TextHolds text paddedNames poseColumns lists bounds
+  unfolding lists text
+  held = round-trip paddedNames poseColumns lists bounds pose-names (omega arith) (values-floats poses each) box
 
-  many : length values ≡ length poses
-  unfolding values
+  many : length lists ≡ length poses
+  unfolding lists
   many = length-map poses poseValues
 
   bytes : length text ≤ maxBytes
-  unfolding values text ascii
+  unfolding lists text ascii
   bytes =
-      let size = text-length poseNames poseColumns values bounds (values-counts values (values-floats poses each)) (box .count) in
+      let size = text-length paddedNames poseColumns lists bounds (values-counts lists (values-floats poses each)) (box .count) in
       omega (arith, size, many, room)
 
   kept : keepsLayout text ≡ true
-  unfolding keepsLayout
-  kept = rw (le-leb (length text) maxBytes bytes, held .count) (held .kept)
+  unfolding keepsLayout hasPads keepsColumns
+  kept =
+      rw (names-first paddedNames (length lists) (split lineFeed text) (held .kept), le-leb (length text) maxBytes bytes, held .count) (held .kept)
 
   reads-as : ReadsAs text poses bounds
-  unfolding MoveFile·read MoveFile·poses values
+  unfolding MoveFile·read MoveFile·poses lists
   reads-as =
       record {
         said = rw (kept, held .count, held .box, many);
-        same-poses = rw (kept, held .count) (lines-posed (take (length values) (drop 1 (split lineFeed text))) poses (held .values));
+        same-poses =
+            rw (kept, held .count)
+            (lines-poses (take (length lists) (drop 1 (split lineFeed text))) ∙ ap (map poseOfValues) (held .values) ∙ all-posed poses each);
       }
 
 pub read-written : (poses : List (List Float)) (bounds : List Float) → ReadWritten poses bounds
-unfolding MoveFile·text values text
+unfolding MoveFile·text lists text
 read-written poses bounds each room box = reads-as poses bounds each room box
 
 -- ---- a chain
-every-take : (n : ℕ) (xs : List Float) → T (every (ieee.fits binary32) xs) → T (every (ieee.fits binary32) (take n xs))
+pub every-take : (n : ℕ) (xs : List Float) → T (every (ieee.fits binary32) xs) → T (every (ieee.fits binary32) (take n xs))
 unfolding every
 every-take zero xs h = tt
 every-take (suc n) [] h = tt
@@ -106,9 +130,29 @@ every-take (suc n) (x ∷ xs) h =
 pub floats-take : (n k : ℕ) (xs : List Float) → n ≤ k → Floats k xs → Floats n (take n xs)
 floats-take n k xs le h = record { count = length-take-le n xs (omega (arith, le, h .count)); each-binary32 = every-take n xs (h .each-binary32) }
 
+pub every-get : (n : ℕ) (xs : List Float) → T (every (ieee.fits binary32) xs) → T (ieee.fits binary32 (getD xs n (ofBits binary32 0)))
+unfolding every
+every-get n [] h = ofBits-fits binary32 0
+every-get zero (x ∷ xs) h = and-l (ieee.fits binary32 x) (every (ieee.fits binary32) xs) h
+every-get (suc n) (x ∷ xs) h = every-get n xs (and-r (ieee.fits binary32 x) (every (ieee.fits binary32) xs) h)
+
+-- one value more
+every-behind : (xs : List Float) (x : Float) → T (every (ieee.fits binary32) xs) → T (ieee.fits binary32 x) → T (every (ieee.fits binary32) (xs ++ (x ∷ [])))
+unfolding every
+every-behind [] x h f = and-i (ieee.fits binary32 x) true f tt
+every-behind (y ∷ ys) x h f =
+    and-i (ieee.fits binary32 y) (every (ieee.fits binary32) (ys ++ (x ∷ [])))
+    (and-l (ieee.fits binary32 y) (every (ieee.fits binary32) ys) h)
+    (every-behind ys x (and-r (ieee.fits binary32 y) (every (ieee.fits binary32) ys) h) f)
+
+pub floats-behind : (n : ℕ) (xs : List Float) (x : Float) → Floats n xs → T (ieee.fits binary32 x) → Floats (n + 1) (xs ++ (x ∷ []))
+floats-behind n xs x h f = record { count = length-append xs (x ∷ []) ∙ rw (h .count); each-binary32 = every-behind xs x (h .each-binary32) f }
+
 poses-floats : (poses : List (List Float)) → Each (Floats placesPerPose) poses → Each (λ pose. Floats poseColumns (poseValues pose)) poses
 poses-floats [] hs = tt
-poses-floats (pose ∷ poses) (h, hs) = (floats-take poseColumns placesPerPose pose (omega arith) h, poses-floats poses hs)
+poses-floats (pose ∷ poses) (h, hs) =
+    let pad = getD pose 17 (ofBits binary32 0) in
+    (floats-behind 13 (take 13 pose) pad (floats-take 13 placesPerPose pose (omega arith) h) (every-get 17 pose (h .each-binary32)), poses-floats poses hs)
 
 poses-places : (poses : List (List Float)) → Each (Floats placesPerPose) poses → Each (λ pose. length pose ≡ placesPerPose) poses
 poses-places [] hs = tt
@@ -120,7 +164,7 @@ chain-read-written c b each few box =
     read-written (Poses·lists (Chain·poses c)) (Bounds3f·list b) (poses-floats (Poses·lists (Chain·poses c)) each) (omega (arith, few, poses-count c)) box
 
 -- ---- a built chain has at most 32 poses
-built-room : (poses : List (List Float)) (c : Chain) → Chain·new (Poses·ofLists poses) ≡ built c → length poses ≤ maxPoseLines
+pub built-room : (poses : List (List Float)) (c : Chain) → Chain·new (Poses·ofLists poses) ≡ built c → length poses ≤ maxPaddedLines
 unfolding Poses·ofLists
 built-room poses c e =
     let passed = checks-passed (Poses·ofLists poses) (new-built (Poses·ofLists poses) c e .0) in

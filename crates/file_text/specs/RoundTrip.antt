@@ -10,7 +10,7 @@ use lib.Ieee.{Float, binary32, fits}
 use Rattle.motion_chain.specs.Chain.{every}
 use Rattle.motion_chain.specs.Built.{Each}
 use Rattle.motion_file.specs.Text.{lineFeed, split, singleSpaced}
-use Rattle.motion_file.specs.Layout.{layoutOf, conforms, poseLines, valuesOf}
+use Rattle.motion_file.specs.Layout.{layout, conforms, poseLines, valuesOf}
 use Rattle.file_text.specs.Text.{fileText}
 
 -- so many 32-bit floats
@@ -25,7 +25,7 @@ pub record NamesLine (text : List ℕ) : Type 0 where
 
 -- the bytes keep the layout with these names and so many columns, and hold these lines of values and this box
 pub record TextHolds (bytes text : List ℕ) (columns : ℕ) (lines : List (List Float)) (bounds : List Float) : Type 0 where
-  pub kept : conforms (layoutOf text columns (length lines)) (split lineFeed bytes) ≡ true
+  pub kept : conforms (layout text columns (length lines)) (split lineFeed bytes) ≡ true
   pub count : poseLines (split lineFeed bytes) ≡ length lines
   pub values : map valuesOf (take (length lines) (drop 1 (split lineFeed bytes))) ≡ lines
   pub box : valuesOf (getD (split lineFeed bytes) (length lines + 2) []) ≡ bounds

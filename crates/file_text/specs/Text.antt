@@ -3,14 +3,14 @@
 -- A NaN is written as 7fc00000. Definitions only.
 use Prim.Native.Nat.{ℕ}
 use mathlib.Core.List.{List, [], _∷_, _++_, map}
-use lib.ListN.{take}
-use lib.Ieee.{Float}
+use lib.ListN.{getD, take}
+use lib.Ieee.{Float, binary32, ofBits}
 use Rattle.bounds3.specs.declared.Bounds3f.{Bounds3f}
 use Rattle.bounds3.specs.List.{Bounds3f·list}
 use Rattle.motion_chain.specs.Chain.{Chain}
 use Rattle.built_poses.specs.Poses.{Chain·poses, Poses·lists}
 use Rattle.motion_file.specs.Text.{lineFeed}
-use Rattle.motion_file.specs.Layout.{poseNames, MoveFile·read, MoveFile·poses}
+use Rattle.motion_file.specs.Layout.{paddedNames, MoveFile·read, MoveFile·poses}
 use Rattle.motion_text.specs.Answer.{line, wordOf, boundsText}
 
 -- a line of values: "lower-case digits, single spaces, line feeds, no space at a line's end"
@@ -26,16 +26,17 @@ linesText (values ∷ lines) = valuesText values ++ linesText lines
 unfoldable pub fileText : List ℕ → List (List Float) → List Float → List ℕ
 fileText names lines bounds = names ++ (lineFeed ∷ (linesText lines ++ boundsText bounds))
 
--- what a file holds of a pose of 17 floats: its time and the upper three rows of its matrix; document 01, "File and program": "The bottom row is 0 0 0 1."
+-- what a file holds of a pose of 18 floats: its time and the upper three rows of its matrix, and its pad; document 01, "File and program": "The bottom row is
+-- 0 0 0 1."; document 02, "Pads for the spray": "the writer always writes fourteen"
 abbrev pub poseColumns : ℕ
-poseColumns = 13
+poseColumns = 14
 
 abbrev pub poseValues : List Float → List Float
-poseValues pose = take poseColumns pose
+poseValues pose = take 13 pose ++ (getD pose 17 (ofBits binary32 0) ∷ [])
 
 -- the text of poses and a box
 unfoldable pub MoveFile·text : List (List Float) → List Float → List ℕ
-MoveFile·text poses bounds = fileText poseNames (map poseValues poses) bounds
+MoveFile·text poses bounds = fileText paddedNames (map poseValues poses) bounds
 
 -- "Write any accepted chain and box back"
 unfoldable pub Chain·text : Chain → Bounds3f → List ℕ

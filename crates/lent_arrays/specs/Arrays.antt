@@ -14,7 +14,7 @@ use Rattle.transform.specs.declared.PointAnswer.the-variants as point
 use Rattle.transform.specs.declared.BoundsAnswer.{BoundsAnswer}
 use Rattle.transform.specs.declared.BoundsAnswer.the-variants as bounds
 
--- a pose of 17 floats: its time, then its matrix row by row
+-- a pose of 18 floats: its time, then its matrix row by row, then its pad
 abbrev pub Pose·ofList : List Float → Pose
 Pose·ofList l =
     record {
@@ -25,6 +25,7 @@ Pose·ofList l =
         r2 = getD l 9 nan ∷ getD l 10 nan ∷ getD l 11 nan ∷ getD l 12 nan ∷ [];
         r3 = getD l 13 nan ∷ getD l 14 nan ∷ getD l 15 nan ∷ getD l 16 nan ∷ [];
       };
+      pad = getD l 17 nan;
     }
 
 -- the matrix, row by row, and its inverse

@@ -50,8 +50,8 @@ pub fn bounds_values(b: Bounds3f) -> [f32; 6]
     [l.x, l.y, l.z, h.x, h.y, h.z]
 }
 
-// The pose of 17 floats: its time, then its matrix row by row. Accuracy: exact.
-pub fn pose(values: &[f32; 17]) -> Pose
+// The pose of 18 floats: its time, then its matrix row by row, then its pad. Accuracy: exact.
+pub fn pose(values: &[f32; 18]) -> Pose
     ensures value { λ r. ⌜ r ≡ Pose·ofList (now (values .entry)) ⌝ }
 {
     let r0 = [values[1], values[2], values[3], values[4]];
@@ -59,7 +59,11 @@ pub fn pose(values: &[f32; 17]) -> Pose
     let r2 = [values[9], values[10], values[11], values[12]];
     let r3 = [values[13], values[14], values[15], values[16]];
     let m = Matrix4x4 { r0, r1, r2, r3 };
-    Pose { time: values[0], m }
+    Pose {
+        time: values[0],
+        m,
+        pad: values[17],
+    }
 }
 
 // Puts a moved point into `out`, or after a refusal nothing, and gives the refusal's number, 0 for none. Accuracy: exact.

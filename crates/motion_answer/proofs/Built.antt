@@ -1,4 +1,4 @@
--- A file's poses, as far as building goes: their times are binary32 (`times-binary32`), their bottom rows are right (`poses-affine`), and where building's
+-- A file's poses, as far as building goes: their times and pads are binary32 (`poses-binary32`), their bottom rows are right (`poses-affine`), and where building's
 -- number is 0, a chain is built (`new-none`).
 use Prim.Native.Nat.{ℕ, _+_}
 use mathlib.Core.Path.{_≡_, refl}
@@ -8,45 +8,37 @@ use native.Mathlib.Omega.{arith}
 use borrow.Author.Tests.{eqb-false}
 use lib.Dec.{T, eqb}
 use lib.Ieee.{Float, binary32, fits, nan, eq, ofBits}
-use lib.Ieee.Bits.{is-true, ofBits-fits}
-use lib.ListN.{length, getD, take, drop}
+use lib.Ieee.Bits.{is-true}
+use lib.Ieee.Fits.{and-i}
+use lib.ListN.{length, getD, List·getD-append}
 use lib.Seq.{getD-append-add}
-use Rattle.hexadecimal.specs.Word.{number}
 use Rattle.animated_transform.specs.declared.AnimatedTransformAnswer.{AnimatedTransformAnswer}
 use Rattle.matrix4x4.specs.IsAffine.{Matrix4x4·isAffine}
 use Rattle.pose_pair.specs.declared.Pose.{Pose}
-use Rattle.pose_pair.specs.Pose.{Pose·isAffine}
+use Rattle.pose_pair.specs.Pose.{Pose·isBinary32, Pose·isAffine}
 use Rattle.motion_chain.specs.Chain.{neighbours, every, stage, chainRefusal, Chain, ChainAnswer, built, refused, ChainAnswer·refusal}
 use Rattle.motion_chain.specs.Chain.{ChainAnswer·fromMoves, Chain·new}
 use Rattle.lent_arrays.specs.Arrays.{Pose·ofList}
 use Rattle.chain_poses.specs.Poses.{Poses·ofLists}
-use Rattle.motion_file.specs.Text.{lineFeed, split}
-use Rattle.motion_file.specs.Layout.{words, valueOf, valuesOf, bottomRow, poseOf, poseLines, keepsLayout, MoveFile·poses}
-use Rattle.motion_file.proofs.Shapes.{AllShaped, poses-shaped}
+use Rattle.motion_file.specs.Layout.{bottomRow, MoveFile·poses}
+use Rattle.motion_file.proofs.Shapes.{Shaped, AllShaped, poses-shaped}
 
--- ---- the times
-first-fits : (ws : List (List ℕ)) → T (fits binary32 (getD (map valueOf ws ++ bottomRow) 0 nan))
-first-fits [] = ofBits-fits binary32 0
-first-fits (w ∷ ws) = ofBits-fits binary32 (number w)
+-- ---- the times and pads
+shaped-binary32 : (pose : List Float) → Shaped pose → T (Pose·isBinary32 (Pose·ofList pose))
+shaped-binary32 pose s =
+    let rest = bottomRow ++ (s .pad ∷ []) in
+    let time : getD (s .read ++ rest) 0 nan ≡ getD (s .read) 0 nan = List·getD-append (s .read) rest nan 0 (omega (arith, s .thirteen)) in
+    let place : (k : ℕ) → getD (s .read ++ rest) (13 + k) nan ≡ getD rest k nan = λ k. rw (← s .thirteen) (getD-append-add (s .read) rest k nan) in
+    let pad : getD (s .read ++ rest) 17 nan ≡ s .pad = place 4 in
+    rw (s .whole, time, pad) (and-i (fits binary32 (getD (s .read) 0 nan)) (fits binary32 (s .pad)) (s .time-binary32) (s .pad-binary32))
 
-abbrev timed : Pose → Bool
-timed p = fits binary32 (p .time)
+lists-binary32 : (lists : List (List Float)) → AllShaped lists → T (every Pose·isBinary32 (Poses·ofLists lists))
+unfolding every Poses·ofLists
+lists-binary32 [] h = tt
+lists-binary32 (pose ∷ lists) (s, h) = rw (is-true (Pose·isBinary32 (Pose·ofList pose)) (shaped-binary32 pose s)) (lists-binary32 lists h)
 
-lines-timed : (lines : List (List ℕ)) → T (every timed (Poses·ofLists (map poseOf lines)))
-unfolding every Poses·ofLists poseOf valuesOf
-lines-timed [] = tt
-lines-timed (line ∷ lines) = rw (is-true (fits binary32 (getD (map valueOf (words line) ++ bottomRow) 0 nan)) (first-fits (words line))) (lines-timed lines)
-
-pub times-binary32 : (bytes : List ℕ) → T (every timed (Poses·ofLists (MoveFile·poses bytes)))
-unfolding MoveFile·poses
-times-binary32 bytes = go (keepsLayout bytes)
-  where
-    lines : List (List ℕ)
-    lines = split lineFeed bytes
-
-    go : (b : Bool) → T (every timed (Poses·ofLists (cond b (map poseOf (take (poseLines lines) (drop 1 lines))) [])))
-    go true = lines-timed (take (poseLines lines) (drop 1 lines))
-    go false = lines-timed []
+pub poses-binary32 : (bytes : List ℕ) → T (every Pose·isBinary32 (Poses·ofLists (MoveFile·poses bytes)))
+poses-binary32 bytes = lists-binary32 (MoveFile·poses bytes) (poses-shaped bytes)
 
 -- ---- a number that was tested
 abbrev IsBuilt : ChainAnswer → Type 0
@@ -74,17 +66,17 @@ new-none poses e = tested-none (chainRefusal poses) _ (moves-none _) e
 -- ---- the bottom rows
 
 -- what stands behind 13 values is the bottom row
-shaped-affine : (values : List Float) → length values ≡ 13 → T (Pose·isAffine (Pose·ofList (values ++ bottomRow)))
+shaped-affine : (pose : List Float) → Shaped pose → T (Pose·isAffine (Pose·ofList pose))
 unfolding Pose·isAffine Matrix4x4·isAffine eq ofBits
-shaped-affine values h =
-    let place : (k : ℕ) → getD (values ++ bottomRow) (13 + k) nan ≡ getD bottomRow k nan = λ k. rw (← h) (getD-append-add values bottomRow k nan) in
-    rw (place 0, place 1, place 2, place 3) tt
+shaped-affine pose s =
+    let rest = bottomRow ++ (s .pad ∷ []) in
+    let place : (k : ℕ) → getD (s .read ++ rest) (13 + k) nan ≡ getD rest k nan = λ k. rw (← s .thirteen) (getD-append-add (s .read) rest k nan) in
+    rw (s .whole, place 0, place 1, place 2, place 3) tt
 
 lists-affine : (lists : List (List Float)) → AllShaped lists → T (every Pose·isAffine (Poses·ofLists lists))
 unfolding every Poses·ofLists
 lists-affine [] h = tt
-lists-affine (pose ∷ lists) (s, h) =
-    rw (s .whole, is-true (Pose·isAffine (Pose·ofList (s .read ++ bottomRow))) (shaped-affine (s .read) (s .thirteen))) (lists-affine lists h)
+lists-affine (pose ∷ lists) (s, h) = rw (is-true (Pose·isAffine (Pose·ofList pose)) (shaped-affine pose s)) (lists-affine lists h)
 
 pub poses-affine : (bytes : List ℕ) → T (every Pose·isAffine (Poses·ofLists (MoveFile·poses bytes)))
 poses-affine bytes = lists-affine (MoveFile·poses bytes) (poses-shaped bytes)

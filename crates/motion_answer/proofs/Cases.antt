@@ -10,7 +10,7 @@ use Rattle.hexadecimal.specs.Word.{digits, digitsOnly, number}
 use Rattle.motion_chain.specs.Computing as chain
 use Rattle.chain_poses.specs.Poses.{Poses·ofLists}
 use Rattle.motion_file.specs.Text.{ascii, split, singleSpaced, equal}
-use Rattle.motion_file.specs.Layout.{allValues, fits, valuesOf, conforms, keepsLayout, poseOf, MoveFile·read, MoveFile·poses}
+use Rattle.motion_file.specs.Layout.{allValues, fits, valuesOf, conforms, keepsColumns, hasPads, keepsLayout, poseOf, MoveFile·read, MoveFile·poses}
 use Rattle.motion_text.specs.Answer.{line, boundsText, refusalText}
 use Rattle.motion_answer.specs.Answer.{ChainAnswer·cover, MoveFile·chain, MoveFile·cover, BoundsAnswer·text, answerText}
 
@@ -86,7 +86,7 @@ rows =
     ∷ []
 
 unfoldable computing : Unit {0}
-unfolding ascii split singleSpaced equal allValues fits valuesOf conforms keepsLayout poseOf MoveFile·read MoveFile·poses digitsOnly number digitValue chain.computing Poses·ofLists line boundsText refusalText digits ofBits toBits ChainAnswer·cover MoveFile·chain MoveFile·cover BoundsAnswer·text answerText
+unfolding ascii split singleSpaced equal allValues fits valuesOf conforms keepsColumns hasPads keepsLayout poseOf MoveFile·read MoveFile·poses digitsOnly number digitValue chain.computing Poses·ofLists line boundsText refusalText digits ofBits toBits ChainAnswer·cover MoveFile·chain MoveFile·cover BoundsAnswer·text answerText
 computing = tt
 
 all-answered : map (λ (row : Row). answerText (ascii (row .bytes))) rows ≡ map (λ (row : Row). ascii (row .text)) rows

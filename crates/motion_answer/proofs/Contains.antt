@@ -15,7 +15,7 @@ use Rattle.transform.specs.declared.BoundsAnswer.{BoundsAnswer}
 use Rattle.transform.specs.declared.BoundsAnswer.the-variants.{Bounds, Refused}
 use Rattle.transform.specs.Answer.{BoundsAnswer·refusal, BoundsAnswer·bounds}
 use Rattle.motion_cover.specs.Theorem.{MovedInside}
-use Rattle.motion_chain.specs.Chain.{Chain, ChainAnswer, built, refused, ChainAnswer·refusal, Chain·transformPoint, Chain·cover}
+use Rattle.motion_chain.specs.Chain.{Chain, ChainAnswer, built, refused, ChainAnswer·refusal, Chain·transformPoint, Chain·padAt, Chain·cover}
 use Rattle.motion_chain.specs.Built.{BuiltChain}
 use Rattle.motion_chain.proofs.Cover.{chain-cover-answered, chain-contains}
 use Rattle.chain_poses.specs.Poses.{Poses·ofLists}
@@ -24,7 +24,7 @@ use Rattle.motion_text.specs.Answer.{front, lengthIn}
 use Rattle.motion_text.proofs.Pastes.{Wrote}
 use Rattle.motion_answer.specs.Answer.{coverDepth, ChainAnswer·cover, MoveFile·chain, MoveFile·box, MoveFile·cover, BoundsAnswer·text, answerText}
 use Rattle.motion_answer.specs.Theorem.{FileContainsMotion, AnswerContainsMotion, longestText}
-use Rattle.motion_answer.proofs.Built.{times-binary32, new-none}
+use Rattle.motion_answer.proofs.Built.{poses-binary32, new-none}
 use Rattle.motion_answer.proofs.Length.{answer-length}
 
 -- ---- where the number is 0
@@ -72,7 +72,7 @@ file-answered bytes e =
 
 file-built : (bytes : List ℕ) (c : Chain) → MoveFile·chain bytes ≡ built c → BuiltChain c
 unfolding MoveFile·chain
-file-built bytes c e = record { poses = Poses·ofLists (MoveFile·poses bytes); times-binary32 = times-binary32 bytes; accepted = e }
+file-built bytes c e = record { poses = Poses·ofLists (MoveFile·poses bytes); poses-binary32 = poses-binary32 bytes; accepted = e }
 
 pub file-contains : (bytes : List ℕ) → BoundsAnswer·refusal (MoveFile·cover bytes) ≡ 0 → FileContainsMotion bytes (BoundsAnswer·bounds (MoveFile·cover bytes))
 file-contains bytes e =
@@ -82,7 +82,7 @@ file-contains bytes e =
       chain = r .chain;
       from-file = r .from-file;
       is-built = is-built;
-      contains = λ time p n i. subst (λ (x : BoundsAnswer). MovedInside (BoundsAnswer·bounds x) (Chain·transformPoint (r .chain) time p)) (sym (r .same))
+      contains = λ time p n i. subst (λ (x : BoundsAnswer). MovedInside (BoundsAnswer·bounds x) (Chain·padAt (r .chain) time) (Chain·transformPoint (r .chain) time p)) (sym (r .same))
           (chain-contains (r .chain) (MoveFile·box bytes) coverDepth time p is-built (rw (r .same) at e) n i);
     }
 

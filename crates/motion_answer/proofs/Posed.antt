@@ -54,12 +54,12 @@ front-room items old = omega (arith, length-append items (drop (length items) ol
 abbrev zeros : ℕ → List Float
 zeros n = replicate n (ofBits binary32 0)
 
-pub moves-room : (a : ChainAnswer) (left : List Rows) → left ≡ ChainAnswer·left a (replicate 31 (replicate 44 (zeros 4))) → 31 ≤ length left
-moves-room (built c) left e = rw e (front-room (Chain·toRows c) (replicate 31 (replicate 44 (zeros 4))))
+pub moves-room : (a : ChainAnswer) (left : List Rows) → left ≡ ChainAnswer·left a (replicate 31 (replicate 45 (zeros 4))) → 31 ≤ length left
+moves-room (built c) left e = rw e (front-room (Chain·toRows c) (replicate 31 (replicate 45 (zeros 4))))
 moves-room (refused n) left e = rw e (omega arith)
 
-pub poses-room : (poses left : List (List Float)) → left ≡ front poses (replicate 559 (zeros 17)) → 559 ≤ length left
-poses-room poses left e = rw e (front-room poses (replicate 559 (zeros 17)))
+pub poses-room : (poses left : List (List Float)) → left ≡ front poses (replicate 559 (zeros 18)) → 559 ≤ length left
+poses-room poses left e = rw e (front-room poses (replicate 559 (zeros 18)))
 
 -- ---- a file
 module _ (bytes : List ℕ) (file : MoveFile) (e : file ≡ MoveFile·read bytes) where

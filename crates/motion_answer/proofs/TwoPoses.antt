@@ -9,21 +9,18 @@ use lib.Dec.{T, eqb}
 use lib.Ieee.{Float, eq, ofBits, lt}
 use lib.Ieee.Bits.{is-true}
 use lib.ListN.{length, take, drop}
-use Rattle.matrix4x4.specs.IsAffine.{Matrix4x4·isAffine}
 use Rattle.bounds3.specs.declared.Bounds3f.{Bounds3f}
 use Rattle.transform.specs.declared.BoundsAnswer.{BoundsAnswer}
 use Rattle.transform.specs.declared.BoundsAnswer.the-variants.{Refused}
 use Rattle.pose_pair.specs.declared.Pose.{Pose}
-use Rattle.pose_pair.specs.Pose.{Pose·isFinite, Pose·isAffine}
 use Rattle.animated_transform.specs.New.{AnimatedTransform·new}
-use Rattle.motion_chain.specs.Chain.{every, ChainAnswer, built, refused, Chain·new}
-use Rattle.motion_chain.specs.TwoPoses.{Chain·single}
+use Rattle.motion_chain.specs.Chain.{ChainAnswer, built, refused, Chain·new}
+use Rattle.motion_chain.specs.TwoPoses.{Chain·single, Checked}
 use Rattle.motion_chain.proofs.TwoPoses.{two-poses, single-move}
 use Rattle.lent_arrays.specs.Arrays.{Pose·ofList}
 use Rattle.chain_poses.specs.Poses.{Poses·ofLists}
 use Rattle.motion_file.specs.Text.{lineFeed, split}
-use Rattle.motion_file.specs.Layout.{bottomRow, poseLines, poseOf, keepsLayout, MoveFile·departs, MoveFile·contents, MoveFile·read, MoveFile·poses}
-use Rattle.motion_file.proofs.Shapes.{Shaped, AllShaped, poses-shaped}
+use Rattle.motion_file.specs.Layout.{poseLines, poseOf, keepsLayout, MoveFile·departs, MoveFile·contents, MoveFile·read, MoveFile·poses}
 use Rattle.motion_answer.specs.Answer.{coverDepth, ChainAnswer·cover, MoveFile·chain, MoveFile·box, MoveFile·cover}
 use Rattle.motion_answer.specs.TwoPoses.{moveCover, TwoPoseFile}
 use Rattle.motion_answer.proofs.Built.{poses-affine}
@@ -41,10 +38,10 @@ module _ (p q : Pose) (b : Bounds3f) where
       go true e = rw (two-poses p q .same-move h (eqb-true n 0 e), e) (single-move (AnimatedTransform·new p q .value) .cover b coverDepth)
       go false e = rw (two-poses p q .same-refusal h (eqb-false n 0 e), e)
 
-  falling-cover : T (every Pose·isFinite (p ∷ q ∷ [])) → T (every Pose·isAffine (p ∷ q ∷ [])) → T (not (lt (p .time) (q .time)))
+  falling-cover : Checked p q → T (not (lt (p .time) (q .time)))
       → ChainAnswer·cover (Chain·new (p ∷ q ∷ [])) b ≡ Refused 12
   unfolding ChainAnswer·cover
-  falling-cover f a h = rw (two-poses p q .not-rising f a h)
+  falling-cover checked h = rw (two-poses p q .not-rising checked h)
 
 -- ---- a file that has poses keeps the layout
 poses-kept : (bytes : List ℕ) (start : List Float) (poses : List (List Float)) → MoveFile·poses bytes ≡ start ∷ poses → MoveFile·read bytes .refusal ≡ 0
@@ -68,6 +65,6 @@ unfolding MoveFile·cover MoveFile·chain Poses·ofLists
 two-pose-file bytes start end =
     record {
       rising = λ e h. rw (poses-kept bytes start (end ∷ []) e, e) (rising-cover (Pose·ofList start) (Pose·ofList end) (MoveFile·box bytes) h);
-      not-rising = λ e f h. rw (poses-kept bytes start (end ∷ []) e, e)
-          (falling-cover (Pose·ofList start) (Pose·ofList end) (MoveFile·box bytes) f (rw e at (poses-affine bytes)) h);
+      not-rising = λ e f z h. rw (poses-kept bytes start (end ∷ []) e, e)
+          (falling-cover (Pose·ofList start) (Pose·ofList end) (MoveFile·box bytes) (record { finite = f; affine = rw e at (poses-affine bytes); padded = z }) h);
     }

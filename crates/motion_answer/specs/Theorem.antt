@@ -1,7 +1,7 @@
 -- The guarantee for a file: where the text that answers it is a box, the boom stands inside it at every time.
 --
 -- Whatever bytes are read, the printed text is that of a refusal, whose number is not 0, or that of a box such that the file's poses build a chain and, at
--- every time but NaN and for every point of the file's box, the chain's point query answers a moved point inside the printed box. The contract of `answer`
+-- every time but NaN and for every point of the file's box, the chain's point query answers a moved point inside the printed box, by itself and less and plus the pad at that time. The contract of `answer`
 -- says `AnswerContainsMotion` of the bytes that it is given and of the text that it leaves; it is `ChainContainsMotion` of
 -- crates/motion_chain/specs/Theorem.antt for the chain and the box that the file holds.
 use Prim.Native.Nat.{ℕ}
@@ -17,7 +17,7 @@ use Rattle.bounds3.specs.List.{Bounds3f·list}
 use Rattle.bounds3.specs.Inside.{Inside}
 use Rattle.transform.specs.Answer.{BoundsAnswer·refusal, BoundsAnswer·bounds}
 use Rattle.motion_cover.specs.Theorem.{MovedInside}
-use Rattle.motion_chain.specs.Chain.{Chain, built, Chain·transformPoint}
+use Rattle.motion_chain.specs.Chain.{Chain, built, Chain·transformPoint, Chain·padAt}
 use Rattle.motion_chain.specs.Built.{BuiltChain}
 use Rattle.motion_text.specs.Answer.{boundsText, refusalText}
 use Rattle.motion_answer.specs.Answer.{MoveFile·chain, MoveFile·box, MoveFile·cover}
@@ -28,7 +28,7 @@ pub record FileContainsMotion (bytes : List ℕ) (cover : Bounds3f) : Type 0 whe
   pub from-file : MoveFile·chain bytes ≡ built chain
   pub is-built : BuiltChain chain
   pub contains : (time : Float) (p : Point3f) → T (not (isNan time)) → Inside (MoveFile·box bytes) p
-      → MovedInside cover (Chain·transformPoint chain time p)
+      → MovedInside cover (Chain·padAt chain time) (Chain·transformPoint chain time p)
 
 pub record PrintsRefusal (bytes text : List ℕ) : Type 0 where
   pub refused : BoundsAnswer·refusal (MoveFile·cover bytes) ≡ 0 → ⊥

@@ -8,7 +8,7 @@ use lib.Ieee.{Float, lt}
 use Rattle.bounds3.specs.declared.Bounds3f.{Bounds3f}
 use Rattle.transform.specs.declared.BoundsAnswer.{BoundsAnswer}
 use Rattle.transform.specs.declared.BoundsAnswer.the-variants.{Refused}
-use Rattle.pose_pair.specs.Pose.{Pose·isFinite}
+use Rattle.pose_pair.specs.Pose.{Pose·isFinite, Pose·isPadded}
 use Rattle.animated_transform.specs.declared.AnimatedTransformAnswer.{AnimatedTransformAnswer}
 use Rattle.animated_transform.specs.New.{AnimatedTransform·new}
 use Rattle.motion_cover.specs.Cover.{AnimatedTransform·cover}
@@ -24,6 +24,6 @@ moveCover move b = cond (eqb (move .refusal) 0) (AnimatedTransform·cover (move 
 pub record TwoPoseFile (bytes : List ℕ) (start end : List Float) : Type 0 where
   pub rising : MoveFile·poses bytes ≡ start ∷ end ∷ [] → T (lt (Pose·ofList start .time) (Pose·ofList end .time))
       → MoveFile·cover bytes ≡ moveCover (AnimatedTransform·new (Pose·ofList start) (Pose·ofList end)) (MoveFile·box bytes)
-  -- "times that don't rise strictly are 12", once 1 is judged; a file's bottom rows are right
+  -- "times that don't rise strictly are 12", once 1 and 16 are judged; a file's bottom rows are right
   pub not-rising : MoveFile·poses bytes ≡ start ∷ end ∷ [] → T (every Pose·isFinite (Pose·ofList start ∷ Pose·ofList end ∷ []))
-      → T (not (lt (Pose·ofList start .time) (Pose·ofList end .time))) → MoveFile·cover bytes ≡ Refused 12
+      → T (every Pose·isPadded (Pose·ofList start ∷ Pose·ofList end ∷ [])) → T (not (lt (Pose·ofList start .time) (Pose·ofList end .time))) → MoveFile·cover bytes ≡ Refused 12

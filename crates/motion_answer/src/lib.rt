@@ -13,10 +13,10 @@ ghost use Rattle.motion_answer.specs.Answer.{ChainAnswer·cover, MoveFil
 const DEPTH: u32 = 10;
 
 // The cover of a box under the chain of the poses, refused by building, then by the query. Accuracy: encloses.
-fn poses_cover(poses: &[[f32; 17]], b: Bounds3f) -> BoundsAnswer
+fn poses_cover(poses: &[[f32; 18]], b: Bounds3f) -> BoundsAnswer
     ensures value { λ r. ⌜ r ≡ ChainAnswer·cover (Chain·new (Poses·ofLists (now (poses .entry)))) b ⌝ }
 {
-    let mut moves = [[[0.0f32; 4]; 44]; 31];
+    let mut moves = [[[0.0f32; 4]; 45]; 31];
     let refusal = chain_build::build(poses, &mut moves);
     if refusal != 0 {
         return BoundsAnswer::Refused(refusal);
@@ -30,7 +30,7 @@ fn poses_cover(poses: &[[f32; 17]], b: Bounds3f) -> BoundsAnswer
 fn file_cover(bytes: &[u8]) -> BoundsAnswer
     ensures value { λ r. ⌜ r ≡ MoveFile·cover (now (bytes .entry)) ⌝ }
 {
-    let mut poses = [[0.0f32; 17]; 559];
+    let mut poses = [[0.0f32; 18]; 559];
     let file = motion_file::read(bytes, &mut poses);
     if file.refusal != 0 {
         return BoundsAnswer::Refused(file.refusal);

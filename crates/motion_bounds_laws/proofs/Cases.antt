@@ -37,7 +37,7 @@ matrix x =
 
 -- from the identity at time 0 to the identity with m03 = x at time 1
 abbrev along : ℕ → AnimatedTransform
-along x = AnimatedTransform·new (record { time = f 0; m = matrix 0 }) (record { time = f 0x3f800000; m = matrix x }) .value
+along x = AnimatedTransform·new (record { time = f 0; m = matrix 0; pad = f 0 }) (record { time = f 0x3f800000; m = matrix x; pad = f 0 }) .value
 
 -- 1 2 3 to 4 5 6
 abbrev box : Bounds3f

@@ -8,24 +8,16 @@ use native.Mathlib.Omega.{arith}
 use borrow.Author.Tests.{eqb-true, eqb-false}
 use lib.Dec.{T, eqb, ltb, nltb→le}
 use lib.ListN.{length}
-use lib.Ieee.{Float, binary32, fits, lt}
+use lib.Ieee.{Float, lt}
 use lib.Ieee.Bits.{is-true}
 use lib.Ieee.Fits.{and-l, and-r}
-use Rattle.matrix4x4.specs.Rows.{Matrix4x4·toRows}
-use Rattle.transform.specs.declared.Transform.{Transform}
-use Rattle.transform.specs.Transform.{Transform·fromMatrix}
-use Rattle.quaternion.specs.Quaternion.{Quaternion·dot}
-use Rattle.quaternion.specs.Slerp.{slerpThreshold}
-use Rattle.decomposition.specs.declared.Decomposition.{Decomposition}
-use Rattle.decomposition.specs.Decompose.{Matrix4x4·decompose}
-use Rattle.rotation_arc.specs.ShorterArc.{flip, dotsRefusal}
-use Rattle.rotation_arc.specs.ArcCoefficients.{pairCoefficients}
 use Rattle.pose_pair.specs.declared.Pose.{Pose}
-use Rattle.pose_pair.specs.Pose.{Pose·isFinite, Pose·isAffine, timesRefusal, posesRefusal}
+use Rattle.pose_pair.specs.Pose.{Pose·isFinite, Pose·isBinary32, Pose·isAffine, Pose·isPadded, timesRefusal, posesRefusal}
 use Rattle.animated_transform.specs.declared.AnimatedTransform.{AnimatedTransform}
 use Rattle.animated_transform.specs.declared.AnimatedTransformAnswer.{AnimatedTransformAnswer}
-use Rattle.animated_transform.specs.New.{firstRefusal, AnimatedTransformAnswer·refused, assembled, between, work, AnimatedTransform·new}
+use Rattle.animated_transform.specs.New.{firstRefusal, work, AnimatedTransform·new}
 use Rattle.animated_transform.specs.Built.{Built}
+use Rattle.animated_transform.proofs.Kept.{new-kept}
 use Rattle.motion_chain.specs.Chain.{minPoses, maxPoses, neighbours, every, firstNumber, stage, Pose·number, Pair·number, chainStages, chainRefusal}
 use Rattle.motion_chain.specs.Chain.{Chain, ChainAnswer, built, refused, ChainAnswer·fromMoves, Chain·new}
 use Rattle.motion_chain.specs.Built.{BuiltChain, Each, Contiguous, BuiltMoves, PairsWorked}
@@ -84,6 +76,7 @@ tested-built n a c = go (eqb n 0) (eqb-true n 0)
 pub record Passed (poses : List Pose) : Type 0 where
   pub finite : Each (λ p. T (Pose·isFinite p)) poses
   pub affine : Each (λ p. T (Pose·isAffine p)) poses
+  pub padded : Each (λ p. T (Pose·isPadded p)) poses
   pub least : minPoses ≤ length poses
   pub greatest : length poses ≤ maxPoses
   pub rise : Each (λ (p, q). T (lt (p .time) (q .time))) (neighbours poses)
@@ -92,12 +85,13 @@ pub record Passed (poses : List Pose) : Type 0 where
 pub checks-passed : (poses : List Pose) → chainRefusal poses ≡ 0 → Passed poses
 unfolding chainRefusal Pose·number Pair·number
 checks-passed poses e =
-    let (finite, (affine, (count, (rise, (times, _))))) = first-each (chainStages poses) e in
+    let (finite, (affine, (padded, (count, (rise, (times, _)))))) = first-each (chainStages poses) e in
     let (least, greatest) =
     counted (ltb (length poses) minPoses) (ltb maxPoses (length poses)) (nltb→le (length poses) minPoses) (nltb→le maxPoses (length poses)) count in
     record {
       finite = tested-each Pose·isFinite 0 poses finite;
       affine = tested-each Pose·isAffine 1 poses affine;
+      padded = tested-each Pose·isPadded 15 poses padded;
       least = least;
       greatest = greatest;
       rise = tested-each (λ (p, q). lt (p .time) (q .time)) 11 (neighbours poses) rise;
@@ -110,56 +104,38 @@ checks-passed poses e =
     counted false true l g e = absurd (omega (arith, e))
     counted true many l g e = absurd (omega (arith, e))
 
-pub pair-worked : (p q : Pose) → T (Pose·isFinite p) → T (Pose·isFinite q) → T (Pose·isAffine p) → T (Pose·isAffine q) → timesRefusal (p .time) (q .time) ≡ 0
-    → AnimatedTransform·new p q ≡ work p q
+-- what is asked of a pose by itself
+pub record PosePassed (p : Pose) : Type 0 where
+  pub finite : T (Pose·isFinite p)
+  pub affine : T (Pose·isAffine p)
+  pub padded : T (Pose·isPadded p)
+
+pub pair-worked : (p q : Pose) → PosePassed p → PosePassed q → timesRefusal (p .time) (q .time) ≡ 0 → AnimatedTransform·new p q ≡ work p q
 unfolding AnimatedTransform·new posesRefusal
-pair-worked p q f g a b e = rw (is-true (Pose·isFinite p) f, is-true (Pose·isFinite q) g, is-true (Pose·isAffine p) a, is-true (Pose·isAffine q) b, e)
+pair-worked p q h k e =
+    rw (
+      is-true (Pose·isFinite p) (h .finite),
+      is-true (Pose·isFinite q) (k .finite),
+      is-true (Pose·isAffine p) (h .affine),
+      is-true (Pose·isAffine q) (k .affine),
+      is-true (Pose·isPadded p) (h .padded),
+      is-true (Pose·isPadded q) (k .padded),
+      e,
+    )
 
 pub pairs-worked : (poses : List Pose) → PairsWorked poses
 unfolding neighbours
-pairs-worked poses e = let h = checks-passed poses e in go poses (h .finite) (h .affine) (h .times)
+pairs-worked poses e = let h = checks-passed poses e in go poses (each poses (h .finite) (h .affine) (h .padded)) (h .times)
   where
-    go : (xs : List Pose) → Each (λ p. T (Pose·isFinite p)) xs → Each (λ p. T (Pose·isAffine p)) xs
+    each : (xs : List Pose) → Each (λ p. T (Pose·isFinite p)) xs → Each (λ p. T (Pose·isAffine p)) xs → Each (λ p. T (Pose·isPadded p)) xs → Each PosePassed xs
+    each [] fs bs ps = tt
+    each (x ∷ xs) (f, fs) (b, bs) (p, ps) = (record { finite = f; affine = b; padded = p }, each xs fs bs ps)
+
+    go : (xs : List Pose) → Each PosePassed xs
         → Each (λ (p, q). timesRefusal (p .time) (q .time) ≡ 0) (neighbours xs) → Each (λ (p, q). AnimatedTransform·new p q ≡ work p q) (neighbours xs)
-    go [] fs ns ts = tt
-    go (p ∷ []) fs ns ts = tt
-    go (p ∷ q ∷ xs) (f, (g, fs)) (a, (b, ns)) (t, ts) = (pair-worked p q f g a b t, go (q ∷ xs) (g, fs) (b, ns) ts)
-
--- ---- one pair
-pub record NewTimes (start end : Float) (a : AnimatedTransformAnswer) : Type 0 where
-  pub start-time : a .refusal ≡ 0 → a .value .«start_time» ≡ start
-  pub end-time : a .refusal ≡ 0 → a .value .«end_time» ≡ end
-
--- behind a number that was tested
-tested-times : {start end : Float} (n : ℕ) (a : AnimatedTransformAnswer) → NewTimes start end a → NewTimes start end (cond (eqb n 0) a (AnimatedTransformAnswer·refused n))
-tested-times {start} {end} n a h = go (eqb n 0) (eqb-false n 0)
-  where
-    go : (b : Bool) → (b ≡ false → n ≡ 0 → ⊥) → NewTimes start end (cond b a (AnimatedTransformAnswer·refused n))
-    go true f = h
-    go false f = record { start-time = λ e. absurd (f refl e); end-time = λ e. absurd (f refl e) }
-
-between-times : (p q : Pose) (a b : Transform) (d e : Decomposition) → NewTimes (p .time) (q .time) (between p q a b d e)
-unfolding between
-between-times p q a b d e =
-    let r1 = flip (d .r) (e .r) in
-    let cosθ = Quaternion·dot (d .r) r1 in
-    let c = pairCoefficients (lt cosθ slerpThreshold) (d .t) (e .t) (d .r) r1 (d .s) (e .s) cosθ in
-    tested-times (firstRefusal (dotsRefusal (Quaternion·dot (d .r) (e .r)) cosθ) (c .refusal)) (record { value = assembled p q a b d e r1 (c .value); refusal = 0 })
-    (record { start-time = λ _. refl; end-time = λ _. refl })
-
-work-times : (p q : Pose) → NewTimes (p .time) (q .time) (work p q)
-unfolding work
-work-times p q =
-    let a = Transform·fromMatrix (Matrix4x4·toRows (p .m)) in
-    let b = Transform·fromMatrix (Matrix4x4·toRows (q .m)) in
-    let d = Matrix4x4·decompose (Matrix4x4·toRows (p .m)) in
-    let e = Matrix4x4·decompose (Matrix4x4·toRows (q .m)) in
-    tested-times (firstRefusal (firstRefusal (a .refusal) (b .refusal)) (firstRefusal (d .refusal) (e .refusal))) (between p q (a .transform) (b .transform) d e)
-    (between-times p q (a .transform) (b .transform) d e)
-
-pub new-times : (p q : Pose) → NewTimes (p .time) (q .time) (AnimatedTransform·new p q)
-unfolding AnimatedTransform·new
-new-times p q = tested-times (posesRefusal p q) (work p q) (work-times p q)
+    go [] hs ts = tt
+    go (p ∷ []) hs ts = tt
+    go (p ∷ q ∷ xs) (h, (k, hs)) (t, ts) = (pair-worked p q h k t, go (q ∷ xs) (k, hs) ts)
 
 -- ---- the pairs, from a pose on
 abbrev answers : List Pose → List AnimatedTransformAnswer
@@ -175,7 +151,7 @@ record Worked (time : Float) (moves : List AnimatedTransform) : Type 0 where
   each : Each Built moves
   contiguous : Contiguous time moves
 
-moves-worked : (p : Pose) (poses : List Pose) → T (every (λ x. fits binary32 (x .time)) (p ∷ poses))
+moves-worked : (p : Pose) (poses : List Pose) → T (every Pose·isBinary32 (p ∷ poses))
     → Each (λ (p, q). T (lt (p .time) (q .time))) (neighbours (p ∷ poses))
     → firstNumber (numbers (answers (p ∷ poses))) ≡ 0 → Worked (p .time) (values (answers (p ∷ poses)))
 unfolding neighbours every
@@ -184,22 +160,22 @@ moves-worked p (q ∷ poses) f (r, rs) n =
     let a = AnimatedTransform·new p q in
     let rest = answers (q ∷ poses) in
     let (z, n') = first-none (a .refusal) (numbers rest) n in
-    let f' = and-r (fits binary32 (p .time)) (every (λ x. fits binary32 (x .time)) (q ∷ poses)) f in
-    let t = new-times p q in
+    let f' = and-r (Pose·isBinary32 p) (every Pose·isBinary32 (q ∷ poses)) f in
+    let t = new-kept p q z in
     let w = moves-worked q poses f' rs n' in
     let move : Built (a .value) = record {
       start = p;
       end = q;
-      start-binary32 = and-l (fits binary32 (p .time)) (every (λ x. fits binary32 (x .time)) (q ∷ poses)) f;
-      end-binary32 = and-l (fits binary32 (q .time)) (every (λ x. fits binary32 (x .time)) poses) f';
+      start-binary32 = and-l (Pose·isBinary32 p) (every Pose·isBinary32 (q ∷ poses)) f;
+      end-binary32 = and-l (Pose·isBinary32 q) (every Pose·isBinary32 poses) f';
       accepted = ap (λ (k : ℕ). record { value = a .value; refusal = k }) z;
     } in
     record {
       each = (move, w .each);
       contiguous = (
-        t .start-time z,
-        rw (t .start-time z, t .end-time z) r,
-        rw (t .end-time z) (w .contiguous),
+        t .start-time,
+        rw (t .start-time, t .end-time) r,
+        rw (t .end-time) (w .contiguous),
       );
     }
 
@@ -229,9 +205,9 @@ from-moves-built p q poses c e =
 
 pub built-moves : {c : Chain} → BuiltChain c → BuiltMoves c
 unfolding ChainAnswer·fromMoves neighbours
-built-moves {c} b = go (b .poses) (b .times-binary32) (b .accepted)
+built-moves {c} b = go (b .poses) (b .poses-binary32) (b .accepted)
   where
-    go : (poses : List Pose) → T (every (λ p. fits binary32 (p .time)) poses) → Chain·new poses ≡ built c → BuiltMoves c
+    go : (poses : List Pose) → T (every Pose·isBinary32 poses) → Chain·new poses ≡ built c → BuiltMoves c
     go [] f e = absurd (refused-built 12 c (new-built [] c e .1))
     go (p ∷ []) f e = absurd (refused-built 12 c (new-built (p ∷ []) c e .1))
     go (p ∷ q ∷ poses) f e =

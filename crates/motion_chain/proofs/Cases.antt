@@ -15,7 +15,7 @@ use Rattle.pose_pair.specs.declared.Pose.{Pose}
 use Rattle.animated_transform.specs.declared.AnimatedTransform.{AnimatedTransform}
 use Rattle.animated_transform.specs.New.{AnimatedTransform·new}
 use Rattle.motion_cover.specs.Theorem.{MovedInside}
-use Rattle.motion_chain.specs.Chain.{chainRefusal, Chain, built, refused, Chain·new, Chain·transformPoint, Chain·cover}
+use Rattle.motion_chain.specs.Chain.{chainRefusal, Chain, built, refused, Chain·new, Chain·transformPoint, Chain·padAt, Chain·cover}
 use Rattle.motion_chain.specs.Built.{BuiltChain}
 use Rattle.motion_chain.specs.MoveAt.{indexFrom, Chain·indexAt}
 use Rattle.motion_chain.specs.Times as times
@@ -46,7 +46,7 @@ far = fraction (3 * 10 ^ 38) 1
 abbrev pose : Float → Float → Float → Pose
 pose time d x =
     let m : Matrix4x4 = record { r0 = d ∷ o ∷ o ∷ x ∷ []; r1 = o ∷ d ∷ o ∷ o ∷ []; r2 = o ∷ o ∷ d ∷ o ∷ []; r3 = o ∷ o ∷ o ∷ one ∷ [] } in
-    record { time = time; m = m }
+    record { time = time; m = m; pad = o }
 
 abbrev identityAt : Float → Pose
 identityAt time = pose time one o
@@ -113,16 +113,16 @@ pub record HypothesesMet : Type 0 where
 
 pub hypotheses-met : HypothesesMet
 unfolding fits computing
-hypotheses-met = record { built = record { poses = poses; times-binary32 = tt; accepted = refl }; accepted = refl; box = refl }
+hypotheses-met = record { built = record { poses = poses; poses-binary32 = tt; accepted = refl }; accepted = refl; box = refl }
 
 zero-refl : o ≼ o
 unfolding computing
 zero-refl = record { holds = tt }
 
-pub way-back-covered : MovedInside (segment o one) (Chain·transformPoint chain (fraction 3 2) (onX o))
+pub way-back-covered : MovedInside (segment o one) (Chain·padAt chain (fraction 3 2)) (Chain·transformPoint chain (fraction 3 2) (onX o))
 unfolding computing
 way-back-covered =
-    subst (λ (box : Bounds3f). MovedInside box (Chain·transformPoint chain (fraction 3 2) (onX o))) (hypotheses-met .box)
+    subst (λ (box : Bounds3f). MovedInside box (Chain·padAt chain (fraction 3 2)) (Chain·transformPoint chain (fraction 3 2) (onX o))) (hypotheses-met .box)
     (chain-contains chain (segment o o) 1 (fraction 3 2) (onX o) (hypotheses-met .built) (hypotheses-met .accepted) tt
     (record { x = (zero-refl, zero-refl); y = (zero-refl, zero-refl); z = (zero-refl, zero-refl) }))
 

@@ -10,24 +10,24 @@ use lib.Ieee.{Float, isNan, le}
 use Rattle.bounds3.specs.declared.Point3f.{Point3f}
 use Rattle.bounds3.specs.declared.Bounds3f.{Bounds3f}
 use Rattle.bounds3.specs.Inside.{Inside}
-use Rattle.bounds3.proofs.Union.{subset-inside}
 use Rattle.transform.specs.declared.BoundsAnswer.{BoundsAnswer}
 use Rattle.transform.specs.declared.BoundsAnswer.the-variants.{Bounds}
-use Rattle.transform.specs.Answer.{PointAnswer·point, BoundsAnswer·refusal, BoundsAnswer·bounds}
+use Rattle.transform.specs.Answer.{BoundsAnswer·refusal, BoundsAnswer·bounds}
 use Rattle.animated_transform.specs.declared.AnimatedTransform.{AnimatedTransform}
 use Rattle.animated_transform.specs.Built.{Built}
 use Rattle.motion_point.specs.TransformPoint.{AnimatedTransform·transformPoint}
 use Rattle.bounds_query.specs.Query.{maxDepth}
+use Rattle.motion_point.specs.PadAt.{AnimatedTransform·padAt}
 use Rattle.motion_cover.specs.Cover.{AnimatedTransform·cover}
 use Rattle.motion_cover.specs.Theorem.{MovedInside}
 use Rattle.motion_cover.specs.Answer.{Proper}
-use Rattle.motion_cover.proofs.Contains.{cover-contains}
+use Rattle.motion_cover.proofs.Contains.{moved-wider, cover-contains}
 use Rattle.motion_cover.proofs.NonZero.{BoundsAnswer·NonZero, nonzero-box, cover-nonzero}
 use Rattle.motion_cover.proofs.Proper.{cover-proper}
 use Rattle.cover_depth.specs.Finer.{Within}
 use Rattle.cover_depth.proofs.Finer.{BoxWithin, box-within, within-subset, cover-box-finer}
 use Rattle.bounds_answers.proofs.UnionAll.{each-map, each-unmap, each-of, union-all-proper, union-all-nonzero, union-all-within, union-all-parts}
-use Rattle.motion_chain.specs.Chain.{Chain, Chain·moves, moveFrom, Chain·moveAt, Chain·transformPoint, unionCovers, Chain·cover}
+use Rattle.motion_chain.specs.Chain.{Chain, Chain·moves, moveFrom, Chain·moveAt, Chain·transformPoint, Chain·padAt, unionCovers, Chain·cover}
 use Rattle.motion_chain.specs.Built.{BuiltChain, Each}
 use Rattle.motion_chain.specs.Theorem.{ChainContainsMotion, ChainCoverFiner}
 use Rattle.motion_chain.proofs.Built.{built-moves}
@@ -83,17 +83,16 @@ module _ (b : Bounds3f) (d : ℕ) where
 -- ---- the guarantee
 pub moves-contain : (c : Chain) (b : Bounds3f) (d : ℕ) (time : Float) (p : Point3f)
     → Each Built (Chain·moves c) → BoundsAnswer·refusal (Chain·cover c b d) ≡ 0 → T (not (isNan time)) → Inside b p
-    → MovedInside (BoundsAnswer·bounds (Chain·cover c b d)) (Chain·transformPoint c time p)
-unfolding Chain·transformPoint
+    → MovedInside (BoundsAnswer·bounds (Chain·cover c b d)) (Chain·padAt c time) (Chain·transformPoint c time p)
+unfolding Chain·transformPoint Chain·padAt
 moves-contain c b d time p built e n i =
     let m = Chain·moveAt c time in
     let box = BoundsAnswer·bounds (Chain·cover c b d) in
     let w = each-move-at (λ (x : AnimatedTransform). BoxWithin (AnimatedTransform·cover x b d) box) time c
     (moves-within b d c built box (chain-cover-answered b d c e)) in
     let a = cover-contains m b d time p (each-move-at Built time c built) (ap BoundsAnswer·refusal (w .accepted)) n i in
-    let moved = PointAnswer·point (AnimatedTransform·transformPoint m time p) in
-    let inside = subst (λ (x : Bounds3f). Inside x moved) (ap BoundsAnswer·bounds (w .accepted)) (a .inside) in
-    record { accepted = a .accepted; inside = subset-inside (w .subset) inside }
+    moved-wider (w .subset)
+    (subst (λ (x : Bounds3f). MovedInside x (AnimatedTransform·padAt m time) (AnimatedTransform·transformPoint m time p)) (ap BoundsAnswer·bounds (w .accepted)) a)
 
 pub chain-contains : (c : Chain) (b : Bounds3f) (d : ℕ) → ChainContainsMotion c b (Chain·cover c b d)
 chain-contains c b d time p built e n i = moves-contain c b d time p (built-moves built .each) e n i

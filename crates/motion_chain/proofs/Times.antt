@@ -17,7 +17,6 @@ use lib.Ieee.Fits.{and-l, and-r}
 use Rattle.bounds3.specs.declared.Point3f.{Point3f}
 use Rattle.bounds3.specs.declared.Bounds3f.{Bounds3f}
 use Rattle.bounds3.specs.Finite.{Point3f·isFinite}
-use Rattle.bounds3.specs.Inside.{Inside}
 use Rattle.bounds3.specs.List.{Point3f·list}
 use Rattle.transform.specs.declared.PointAnswer.{PointAnswer}
 use Rattle.transform.specs.declared.PointAnswer.the-variants.{Moved, Refused}
@@ -28,8 +27,10 @@ use Rattle.motion_point.specs.Answer.{PointAnswer·Numbered}
 use Rattle.motion_point.proofs.Query.{moved-point-judged, transform-point-accepted}
 use Rattle.motion_point.proofs.NonZero.{transform-point-numbered}
 use Rattle.motion_cover.specs.Theorem.{MovedInside}
-use Rattle.motion_chain.specs.Chain.{every, Chain, Chain·moveAt, Chain·transformPoint, Chain·cover}
-use Rattle.motion_chain.specs.Built.{BuiltChain, Each}
+use Rattle.formula.specs.Promise.{Pairwise}
+use Rattle.motion_pad.specs.Grow.{PaddedInside}
+use Rattle.motion_chain.specs.Chain.{every, Chain, Chain·moveAt, Chain·transformPoint, Chain·padAt, Chain·cover}
+use Rattle.motion_chain.specs.Built.{BuiltChain}
 use Rattle.motion_chain.specs.Times.{timesAreNumbers, neverFalls, placesPerTime, listRefusal, PointsAnswer, moved, refused, PointsAnswer·refusal, PointsAnswer·points, PointsAnswer·cons, pointsAt, Chain·transformPoints, Points·list, PointsAnswer·left, Chain·pointsLeft}
 use Rattle.motion_chain.specs.TimesAnswer.{EachMoved, FirstRefused, TimesAnswered, PointsAnswer·Numbered, TimesNumbers, TimesLeft, PointsInside, ChainContainsTimes}
 use Rattle.motion_chain.proofs.Cover.{chain-contains}
@@ -270,39 +271,38 @@ answered-finite c time p =
     go true false a g e = absurd (omega (arith, e))
     go false false a g e = absurd (omega (arith, e))
 
-record MovedPoints (box : Bounds3f) (times : List Float) (answer : PointsAnswer) : Type 0 where
+record MovedPoints (box : Bounds3f) (padAt : Float → Float) (times : List Float) (answer : PointsAnswer) : Type 0 where
   points : List Point3f
   answered : answer ≡ moved points
-  count : length points ≡ length times
-  inside : Each (Inside box) points
+  inside : Pairwise (λ t q. PaddedInside box (padAt t) q) times points
 
-cons-inside : (box : Bounds3f) (a : PointAnswer) (q : Point3f) (r : PointsAnswer) (t : Float) (times : List Float)
-    → a ≡ Moved q → Inside box q → MovedPoints box times r → MovedPoints box (t ∷ times) (PointsAnswer·cons a r)
+cons-inside : (box : Bounds3f) (padAt : Float → Float) (a : PointAnswer) (q : Point3f) (r : PointsAnswer) (t : Float) (times : List Float)
+    → a ≡ Moved q → PaddedInside box (padAt t) q → MovedPoints box padAt times r → MovedPoints box padAt (t ∷ times) (PointsAnswer·cons a r)
 unfolding PointsAnswer·cons
-cons-inside box a q r t times e i h =
-    record { points = q ∷ h .points; answered = rw (e, h .answered); count = ap suc (h .count); inside = (i, h .inside) }
+cons-inside box padAt a q r t times e i h = record { points = q ∷ h .points; answered = rw (e, h .answered); inside = (i, h .inside) }
 
-each-inside : (c : Chain) (box : Bounds3f) (p : Point3f) → ((t : Float) → T (not (isNan t)) → MovedInside box (Chain·transformPoint c t p)) → (times : List Float) → T (timesAreNumbers times)
-    → MovedPoints box times (pointsAt (λ t. Chain·transformPoint c t p) times)
+each-inside : (c : Chain) (box : Bounds3f) (p : Point3f) → ((t : Float) → T (not (isNan t)) → MovedInside box (Chain·padAt c t) (Chain·transformPoint c t p))
+    → (times : List Float) → T (timesAreNumbers times)
+    → MovedPoints box (Chain·padAt c) times (pointsAt (λ t. Chain·transformPoint c t p) times)
 unfolding pointsAt timesAreNumbers every
-each-inside c box p f [] n = record { points = []; answered = refl; count = refl; inside = tt }
+each-inside c box p f [] n = record { points = []; answered = refl; inside = tt }
 each-inside c box p f (t ∷ times) n =
     let a = Chain·transformPoint c t p in
     let m = f t (and-l (not (isNan t)) (timesAreNumbers times) n) in
-    cons-inside box a (PointAnswer·point a) (pointsAt (λ t. Chain·transformPoint c t p) times) t times
+    cons-inside box (Chain·padAt c) a (PointAnswer·point a) (pointsAt (λ t. Chain·transformPoint c t p) times) t times
     (chain-point-numbered c t p .none (m .accepted)) (m .inside)
     (each-inside c box p f times (and-r (not (isNan t)) (timesAreNumbers times) n))
 
 -- Where each time is answered inside a box, so is the list.
 pub times-inside : (c : Chain) (box : Bounds3f) (times : List Float) (p : Point3f)
-    → ((t : Float) → T (not (isNan t)) → MovedInside box (Chain·transformPoint c t p)) → T (timesAreNumbers times) → T (neverFalls times)
-    → PointsInside box times (Chain·transformPoints c times p (placesPerTime * length times))
+    → ((t : Float) → T (not (isNan t)) → MovedInside box (Chain·padAt c t) (Chain·transformPoint c t p)) → T (timesAreNumbers times) → T (neverFalls times)
+    → PointsInside box (Chain·padAt c) times (Chain·transformPoints c times p (placesPerTime * length times))
 unfolding isNan
 times-inside c box times p each numbers rises =
     let z = list-accepted times p numbers (answered-finite c (inf false) p (each (inf false) tt .accepted)) rises in
     let h = each-inside c box p each times numbers in
     let answered = query-accepted c times p (placesPerTime * length times) z ∙ h .answered in
-    subst (PointsInside box times) (sym answered) (record { accepted = refl; count = h .count; inside = h .inside })
+    subst (PointsInside box (Chain·padAt c) times) (sym answered) (record { accepted = refl; inside = h .inside })
 
 pub chain-contains-times : (c : Chain) (b : Bounds3f) (d : ℕ) → ChainContainsTimes c b (Chain·cover c b d)
 chain-contains-times c b d times p built e numbers rises i =

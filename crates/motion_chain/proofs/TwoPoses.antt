@@ -21,39 +21,42 @@ use Rattle.unit_interval.proofs.DtUnit.{zero-finite, zero-rounds, sub-nonnegati
 use Rattle.matrix4x4.specs.Rows.{Matrix4x4·toRows}
 use Rattle.matrix4x4.specs.IsFinite.{Matrix4x4·isFinite}
 use Rattle.pose_pair.specs.declared.Pose.{Pose}
-use Rattle.pose_pair.specs.Pose.{Pose·isFinite, Pose·isAffine, timesRefusal, posesRefusal}
+use Rattle.pose_pair.specs.Pose.{Pose·isFinite, Pose·isAffine, Pose·isPadded, timesRefusal, posesRefusal}
 use Rattle.animated_transform.specs.declared.AnimatedTransform.{AnimatedTransform}
 use Rattle.animated_transform.specs.declared.AnimatedTransformAnswer.{AnimatedTransformAnswer}
 use Rattle.animated_transform.specs.New.{AnimatedTransformAnswer·refused, work, AnimatedTransform·new}
 use Rattle.motion_chain.specs.Chain.{neighbours, every, firstNumber, Pose·number, Pair·number, chainRefusal, built, refused, ChainAnswer·fromMoves, Chain·new}
 use Rattle.motion_chain.specs.Chain.{moveFrom, Chain·moveAt, Chain·transformPoint, unionCovers, Chain·cover}
-use Rattle.motion_chain.specs.TwoPoses.{Chain·single, TwoPoses, SingleMove}
-use Rattle.motion_chain.proofs.Built.{first-only, pair-worked}
+use Rattle.motion_chain.specs.TwoPoses.{Chain·single, Checked, TwoPoses, SingleMove}
+use Rattle.motion_chain.proofs.Built.{first-only, PosePassed, pair-worked}
 
 -- ---- the checks
--- The stages of two poses, of which f and g are finite, a and b affine, where the times rise.
-stages-same : (f g a b : Bool) (n : ℕ)
+-- The stages of two poses, of which f and g are finite, a and b affine, c and d padded, where the times rise.
+stages-same : (f g a b c d : Bool) (n : ℕ)
     → firstNumber (
     firstNumber (cond f 0 1 ∷ cond g 0 1 ∷ [])
     ∷ firstNumber (cond a 0 2 ∷ cond b 0 2 ∷ [])
+    ∷ firstNumber (cond c 0 16 ∷ cond d 0 16 ∷ [])
     ∷ 0
     ∷ firstNumber (0 ∷ [])
     ∷ firstNumber (n ∷ [])
     ∷ []
     )
-    ≡ cond (not (f && g)) 1 (cond (not (a && b)) 2 n)
+    ≡ cond (not (f && g)) 1 (cond (not (a && b)) 2 (cond (not (c && d)) 16 n))
 unfolding firstNumber
-stages-same true true true true n = first-only (cond (eqb n 0) 0 n) ∙ first-only n
-stages-same true true true false n = refl
-stages-same true true false b n = refl
-stages-same true false a b n = refl
-stages-same false g a b n = refl
+stages-same true true true true true true n = first-only (cond (eqb n 0) 0 n) ∙ first-only n
+stages-same true true true true true false n = refl
+stages-same true true true true false d n = refl
+stages-same true true true false c d n = refl
+stages-same true true false b c d n = refl
+stages-same true false a b c d n = refl
+stages-same false g a b c d n = refl
 
 checks-same : (p q : Pose) → T (lt (p .time) (q .time)) → chainRefusal (p ∷ q ∷ []) ≡ posesRefusal p q
 unfolding chainRefusal posesRefusal Pose·number Pair·number neighbours
 checks-same p q l =
     rw (is-true (lt (p .time) (q .time)) l)
-    (stages-same (Pose·isFinite p) (Pose·isFinite q) (Pose·isAffine p) (Pose·isAffine q) (timesRefusal (p .time) (q .time)))
+    (stages-same (Pose·isFinite p) (Pose·isFinite q) (Pose·isAffine p) (Pose·isAffine q) (Pose·isPadded p) (Pose·isPadded q) (timesRefusal (p .time) (q .time)))
 
 -- ---- one move's answer as a chain's
 module _ (a : AnimatedTransformAnswer) where
@@ -80,16 +83,31 @@ rising-same p q l = rw (checks-same p q l) (go (eqb (posesRefusal p q) 0) (eqb-f
     go false f = sym (from-move-refused (AnimatedTransformAnswer·refused (posesRefusal p q)) (f refl))
 
 -- ---- times that don't rise
-not-rising-refused : (p q : Pose) → T (every Pose·isFinite (p ∷ q ∷ [])) → T (every Pose·isAffine (p ∷ q ∷ [])) → T (not (lt (p .time) (q .time))) → Chain·new (p ∷ q ∷ []) ≡ refused 12
-unfolding Chain·new chainRefusal Pose·number Pair·number every neighbours firstNumber
-not-rising-refused p q f a l =
-    let (f0, f1) = both Pose·isFinite f in
-    let (a0, a1) = both Pose·isAffine a in
+both : (test : Pose → Bool) (p q : Pose) → T (every test (p ∷ q ∷ [])) → T (test p) × T (test q)
+unfolding every
+both test p q h = (and-l (test p) (test q && true) h, and-l (test q) true (and-r (test p) (test q && true) h))
+
+passed : (p q : Pose) → Checked p q → PosePassed p × PosePassed q
+passed p q h =
+    let (f, f') = both Pose·isFinite p q (h .finite) in
+    let (a, a') = both Pose·isAffine p q (h .affine) in
+    let (z, z') = both Pose·isPadded p q (h .padded) in
+    (record { finite = f; affine = a; padded = z }, record { finite = f'; affine = a'; padded = z' })
+
+not-rising-refused : (p q : Pose) → Checked p q → T (not (lt (p .time) (q .time))) → Chain·new (p ∷ q ∷ []) ≡ refused 12
+unfolding Chain·new chainRefusal Pose·number Pair·number neighbours firstNumber
+not-rising-refused p q checked l =
+    let (h, k) = passed p q checked in
     let falls = is-false (lt (p .time) (q .time)) l in
-    rw (is-true (Pose·isFinite p) f0, is-true (Pose·isFinite q) f1, is-true (Pose·isAffine p) a0, is-true (Pose·isAffine q) a1, falls)
-  where
-    both : (test : Pose → Bool) → T (test p && (test q && true)) → T (test p) × T (test q)
-    both test h = (and-l (test p) (test q && true) h, and-l (test q) true (and-r (test p) (test q && true) h))
+    rw (
+      is-true (Pose·isFinite p) (h .finite),
+      is-true (Pose·isFinite q) (k .finite),
+      is-true (Pose·isAffine p) (h .affine),
+      is-true (Pose·isAffine q) (k .affine),
+      is-true (Pose·isPadded p) (h .padded),
+      is-true (Pose·isPadded q) (k .padded),
+      falls,
+    )
 
 lt-irrefl : (x : Float) → lt x x ≡ false
 unfolding lt
@@ -112,13 +130,16 @@ times-passed : (x : Float) → T (finite x) → timesRefusal x x ≡ 0
 unfolding timesRefusal
 times-passed x f = rw (lt-irrefl x, is-true (finite (x ⊖ x)) (sub-same-finite x f))
 
-equal-times-worked : (p q : Pose) → T (every Pose·isFinite (p ∷ q ∷ [])) → T (every Pose·isAffine (p ∷ q ∷ [])) → p .time ≡ q .time → AnimatedTransform·new p q ≡ work p q
-unfolding every Pose·isFinite
-equal-times-worked p q f a e =
-    let f0 = and-l (Pose·isFinite p) (Pose·isFinite q && true) f in
-    let t = times-passed (p .time) (and-l (finite (p .time)) (Matrix4x4·isFinite (Matrix4x4·toRows (p .m))) f0) in
-    pair-worked p q f0 (and-l (Pose·isFinite q) true (and-r (Pose·isFinite p) (Pose·isFinite q && true) f))
-    (and-l (Pose·isAffine p) (Pose·isAffine q && true) a) (and-l (Pose·isAffine q) true (and-r (Pose·isAffine p) (Pose·isAffine q && true) a)) (rw (← e) t)
+time-finite : (p : Pose) → T (Pose·isFinite p) → T (finite (p .time))
+unfolding Pose·isFinite
+time-finite p f =
+    let matrix = Matrix4x4·isFinite (Matrix4x4·toRows (p .m)) in
+    and-l (finite (p .time)) matrix (and-l (finite (p .time) && matrix) (finite (p .pad)) f)
+
+equal-times-worked : (p q : Pose) → Checked p q → p .time ≡ q .time → AnimatedTransform·new p q ≡ work p q
+equal-times-worked p q checked e =
+    let (h, k) = passed p q checked in
+    pair-worked p q h k (rw (← e) (times-passed (p .time) (time-finite p (h .finite))))
 
 pub two-poses : (p q : Pose) → TwoPoses p q
 two-poses p q = record {

@@ -5,18 +5,19 @@ use mathlib.Core.Path.{_≡_}
 use mathlib.Core.List.{List, [], _∷_}
 use lib.Dec.{T}
 use lib.ListN.{length}
-use lib.Ieee.{Float, binary32, fits, lt}
+use lib.Ieee.{Float, lt}
 pub use Rattle.bounds_answers.specs.UnionAll.{Each}
 use Rattle.pose_pair.specs.declared.Pose.{Pose}
+use Rattle.pose_pair.specs.Pose.{Pose·isBinary32}
 use Rattle.animated_transform.specs.declared.AnimatedTransform.{AnimatedTransform}
 use Rattle.animated_transform.specs.New.{work, AnimatedTransform·new}
 use Rattle.animated_transform.specs.Built.{Built}
 use Rattle.motion_chain.specs.Chain.{maxPoses, neighbours, every, chainRefusal, Chain, Chain·moves, built, Chain·new}
 
--- as a built move of document 01: building gives no refusal, and the times are 32-bit floats
+-- as a built move of document 01: building gives no refusal, and the times and pads are 32-bit floats
 pub record BuiltChain (c : Chain) : Type 0 where
   pub poses : List Pose
-  pub times-binary32 : T (every (λ p. fits binary32 (p .time)) poses)
+  pub poses-binary32 : T (every Pose·isBinary32 poses)
   pub accepted : Chain·new poses ≡ built c
 
 -- Each move's times rise strictly, the first starts at the given time, and every other at the end time of the one before it.

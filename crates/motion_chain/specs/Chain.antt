@@ -12,11 +12,12 @@ use Rattle.transform.specs.declared.PointAnswer.{PointAnswer}
 use Rattle.transform.specs.declared.BoundsAnswer.{BoundsAnswer}
 use Rattle.bounds_answers.specs.UnionAll.{BoundsAnswer·unionAll}
 use Rattle.pose_pair.specs.declared.Pose.{Pose}
-use Rattle.pose_pair.specs.Pose.{Pose·isFinite, Pose·isAffine, timesRefusal}
+use Rattle.pose_pair.specs.Pose.{Pose·isFinite, Pose·isAffine, Pose·isPadded, timesRefusal}
 use Rattle.animated_transform.specs.declared.AnimatedTransform.{AnimatedTransform}
 use Rattle.animated_transform.specs.declared.AnimatedTransformAnswer.{AnimatedTransformAnswer}
 use Rattle.animated_transform.specs.New.{firstRefusal, AnimatedTransform·new}
 use Rattle.motion_point.specs.TransformPoint.{AnimatedTransform·transformPoint}
+use Rattle.motion_point.specs.PadAt.{AnimatedTransform·padAt}
 use Rattle.motion_cover.specs.Cover.{AnimatedTransform·cover}
 
 -- ---- the poses
@@ -51,11 +52,13 @@ stage number items = firstNumber (map number items)
 -- What the stage of number k asks of a pose by itself: its number where it isn't so, or 0.
 unfoldable pub Pose·number : ℕ → Pose → ℕ
 Pose·number k p =
-    -- document 01: "a matrix entry or time is not finite"
+    -- document 01: "a matrix entry or time is not finite"; document 02: nor a pad
     cond (eqb k 1) (cond (Pose·isFinite p) 0 1)
     -- document 01: "a bottom row isn't 0, 0, 0, 1"
     (cond (eqb k 2) (cond (Pose·isAffine p) 0 2)
-    0)
+    -- document 02, "Pads for the spray": "A pad below zero is 16"
+    (cond (eqb k 16) (cond (Pose·isPadded p) 0 16)
+    0))
 
 -- What the stage of number k asks of two neighbouring poses.
 unfoldable pub Pair·number : ℕ → Pose × Pose → ℕ
@@ -71,6 +74,8 @@ abbrev pub chainStages : List Pose → List ℕ
 chainStages poses =
     stage (Pose·number 1) poses
     ∷ stage (Pose·number 2) poses
+    -- document 02, "Pads for the spray": 16 is "judged for each chain or move just after 2"
+    ∷ stage (Pose·number 16) poses
     -- "Fewer than 2 poses, more than 32 or times that don't rise strictly are 12, judged after 2 and before 3"
     ∷ cond (ltb (length poses) minPoses || ltb maxPoses (length poses)) 12 0
     ∷ stage (Pair·number 12) (neighbours poses)
@@ -127,6 +132,10 @@ Chain·moveAt c time = moveFrom (c .first) (c .rest) time
 -- document 01's point query, of the move that the time belongs to
 unfoldable pub Chain·transformPoint : Chain → Float → Point3f → PointAnswer
 Chain·transformPoint c time p = AnimatedTransform·transformPoint (Chain·moveAt c time) time p
+
+-- document 02, "Pads for the spray": the pad of that move at the time
+unfoldable pub Chain·padAt : Chain → Float → Float
+Chain·padAt c time = AnimatedTransform·padAt (Chain·moveAt c time) time
 
 -- r and then the covers of the moves, in rising order; the first refusal stands.
 unfoldable pub unionCovers : Bounds3f → ℕ → BoundsAnswer → List AnimatedTransform → BoundsAnswer

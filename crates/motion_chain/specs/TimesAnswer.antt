@@ -11,8 +11,10 @@ use Rattle.bounds3.specs.declared.Bounds3f.{Bounds3f}
 use Rattle.bounds3.specs.Inside.{Inside}
 use Rattle.transform.specs.declared.BoundsAnswer.{BoundsAnswer}
 use Rattle.transform.specs.Answer.{OneOf, PointAnswer·refusal, PointAnswer·point, BoundsAnswer·refusal, BoundsAnswer·bounds}
-use Rattle.motion_chain.specs.Chain.{Chain, Chain·transformPoint}
-use Rattle.motion_chain.specs.Built.{BuiltChain, Each}
+use Rattle.formula.specs.Promise.{Pairwise}
+use Rattle.motion_pad.specs.Grow.{PaddedInside}
+use Rattle.motion_chain.specs.Chain.{Chain, Chain·transformPoint, Chain·padAt}
+use Rattle.motion_chain.specs.Built.{BuiltChain}
 use Rattle.motion_chain.specs.Times.{timesAreNumbers, neverFalls, placesPerTime, listRefusal, PointsAnswer, moved, PointsAnswer·refusal, PointsAnswer·points, Chain·transformPoints, Chain·pointsLeft}
 
 -- ---- each time
@@ -58,15 +60,14 @@ abbrev pub TimesLeft : Chain → List Float → Point3f → List Float → Type 
 TimesLeft c times p old = length (Chain·pointsLeft c times p old) ≡ length old
 
 -- ---- the guarantee
--- The answer is not refused: a point for each time, all inside the box.
-pub record PointsInside (box : Bounds3f) (times : List Float) (answer : PointsAnswer) : Type 0 where
+-- The answer is not refused: a point for each time, inside the box by itself and less and plus the pad at that time.
+pub record PointsInside (box : Bounds3f) (padAt : Float → Float) (times : List Float) (answer : PointsAnswer) : Type 0 where
   pub accepted : PointsAnswer·refusal answer ≡ 0
-  pub count : length (PointsAnswer·points answer) ≡ length times
-  pub inside : Each (Inside box) (PointsAnswer·points answer)
+  pub inside : Pairwise (λ t q. PaddedInside box (padAt t) q) times (PointsAnswer·points answer)
 
 -- c is the chain, b the box of points, r what the cover query answered.
 abbrev pub ChainContainsTimes : Chain → Bounds3f → BoundsAnswer → Type 0
 ChainContainsTimes c b r =
     (times : List Float) (p : Point3f)
     → BuiltChain c → BoundsAnswer·refusal r ≡ 0 → T (timesAreNumbers times) → T (neverFalls times) → Inside b p
-    → PointsInside (BoundsAnswer·bounds r) times (Chain·transformPoints c times p (placesPerTime * length times))
+    → PointsInside (BoundsAnswer·bounds r) (Chain·padAt c) times (Chain·transformPoints c times p (placesPerTime * length times))

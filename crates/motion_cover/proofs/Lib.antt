@@ -5,5 +5,6 @@ pub mod Number
 pub mod Proper
 pub mod Stored
 pub mod Slices
+mod Values
 mod Borders
 mod Cases

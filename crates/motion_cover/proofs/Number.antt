@@ -6,9 +6,12 @@ use mathlib.Core.Bool.{Bool, true, false, not, cond}
 use mathlib.Core.Logic.{inl, inr}
 use mathlib.Core.List.{[], _∷_}
 use lib.Dec.{eqb, ltb}
+use lib.Ieee.{Float}
+use Rattle.float32.specs.MinMax.{maxNum}
 use Rattle.bounds3.specs.declared.Bounds3f.{Bounds3f}
 use Rattle.bounds3.specs.Finite.{Bounds3f·isFinite}
 use Rattle.interval.specs.declared.Interval.{Interval}
+use Rattle.interval.specs.declared.Judged.{Judged}
 use Rattle.transform.specs.declared.Transform.{Transform}
 use Rattle.transform.specs.declared.BoundsAnswer.{BoundsAnswer}
 use Rattle.transform.specs.declared.BoundsAnswer.the-variants.{Bounds, Refused}
@@ -23,7 +26,11 @@ use Rattle.pose_steps.proofs.Number.{transformPoint-number, point-number}
 use Rattle.stored_box.specs.EnclosePoints.{Transform·enclosePoints}
 use Rattle.animated_transform.specs.declared.AnimatedTransform.{AnimatedTransform}
 use Rattle.motion_point.specs.TransformPoint.{AnimatedTransform·constants}
-use Rattle.motion_cover.specs.Cover.{BoundsAnswer·fromEnclosure, Transform·encloseBounds, AnimatedTransform·encloseBounds, AnimatedTransform·encloseEnds, unionSlices, AnimatedTransform·encloseMotion, AnimatedTransform·cover}
+use Rattle.motion_pad.specs.Pad.{Pad·enclose, Pad·stored}
+use Rattle.motion_pad.specs.Grow.{BoundsAnswer·grow}
+use Rattle.motion_pad.proofs.Pad.{PadNumber, pad-number}
+use Rattle.motion_pad.proofs.Box.{grow-cases}
+use Rattle.motion_cover.specs.Cover.{BoundsAnswer·fromEnclosure, Transform·encloseBounds, Transform·enclosePadded, AnimatedTransform·encloseBounds, AnimatedTransform·encloseEnds, unionSlices, AnimatedTransform·encloseMotion, AnimatedTransform·cover}
 use Rattle.motion_cover.specs.Answer.{CoverNumber, BoundsAnswer·Numbered}
 use Rattle.motion_cover.proofs.NonZero.{bounds-numbered, cover-nonzero}
 
@@ -35,15 +42,24 @@ enclosure-number j n = go (eqb (j .refusal) 0)
     go true = inl refl
     go false = n
 
-stored-number : (t : Transform) (b : Bounds3f) → SliceNumber (BoundsAnswer·refusal (Transform·encloseBounds t b))
-unfolding Transform·encloseBounds
-stored-number t b =
-    enclosure-number (Transform·enclosePoints t b)
-    (transformPoint-number 0 (IntervalMatrix·point (t .m)) (Bounds3f·intervals b) (inl refl))
+grow-number : (pad : Judged) (r : BoundsAnswer) → PadNumber (pad .refusal) → SliceNumber (BoundsAnswer·refusal r) → SliceNumber (BoundsAnswer·refusal (BoundsAnswer·grow pad r))
+grow-number pad r i n = grow-cases (λ s. SliceNumber (BoundsAnswer·refusal s)) pad r n (λ b. inl refl) (inr (inl refl)) (λ _. widen i)
+  where
+    widen : {n : ℕ} → PadNumber n → SliceNumber n
+    widen (inl e) = inl e
+    widen (inr e) = inr (inl e)
+
+stored-number : (pad : Float) (t : Transform) (b : Bounds3f) → SliceNumber (BoundsAnswer·refusal (Transform·enclosePadded pad t b))
+unfolding Transform·enclosePadded Transform·encloseBounds
+stored-number pad t b =
+    grow-number (Pad·stored pad) _ (inl refl)
+    (enclosure-number (Transform·enclosePoints t b) (transformPoint-number 0 (IntervalMatrix·point (t .m)) (Bounds3f·intervals b) (inl refl)))
 
 piece-number : (m : AnimatedTransform) (a : PoseConstants) (D : Interval) (b : Bounds3f) → SliceNumber (BoundsAnswer·refusal (AnimatedTransform·encloseBounds m a D b))
 unfolding AnimatedTransform·encloseBounds
-piece-number m a D b = enclosure-number (Pose·enclosePoint a (m .s0) (m .s1) D (Bounds3f·intervals b)) (point-number a (m .s0) (m .s1) D (Bounds3f·intervals b))
+piece-number m a D b =
+    grow-number (Pad·enclose (m .pad0) (m .pad1) D) _ (pad-number (m .pad0) (m .pad1) D)
+    (enclosure-number (Pose·enclosePoint a (m .s0) (m .s1) D (Bounds3f·intervals b)) (point-number a (m .s0) (m .s1) D (Bounds3f·intervals b)))
 
 union-number : (r s : BoundsAnswer) → SliceNumber (BoundsAnswer·refusal r) → SliceNumber (BoundsAnswer·refusal s) → SliceNumber (BoundsAnswer·refusal (BoundsAnswer·unionBounds r s))
 unfolding BoundsAnswer·unionBounds
@@ -62,12 +78,13 @@ pub motion-number : (m : AnimatedTransform) (b : Bounds3f) (d : ℕ) → SliceNu
 unfolding AnimatedTransform·encloseMotion AnimatedTransform·encloseEnds
 motion-number m b d = go (m .«actually_animated»)
   where
-    go : (c : Bool) → SliceNumber (BoundsAnswer·refusal (cond c (unionSlices m (AnimatedTransform·constants m) b d (AnimatedTransform·encloseEnds m b) (2 ^ d)) (Transform·encloseBounds (m .«start_transform») b)))
+    go : (c : Bool) → SliceNumber (BoundsAnswer·refusal (cond c (unionSlices m (AnimatedTransform·constants m) b d (AnimatedTransform·encloseEnds m b) (2 ^ d)) (Transform·enclosePadded (maxNum (m .pad0) (m .pad1)) (m .«start_transform») b)))
     go true =
         slices-number m (AnimatedTransform·constants m) b d (AnimatedTransform·encloseEnds m b)
-        (union-number (Transform·encloseBounds (m .«start_transform») b) (Transform·encloseBounds (m .«end_transform») b) (stored-number (m .«start_transform») b) (stored-number (m .«end_transform») b))
+        (union-number (Transform·enclosePadded (m .pad0) (m .«start_transform») b) (Transform·enclosePadded (m .pad1) (m .«end_transform») b)
+        (stored-number (m .pad0) (m .«start_transform») b) (stored-number (m .pad1) (m .«end_transform») b))
         (2 ^ d)
-    go false = stored-number (m .«start_transform») b
+    go false = stored-number (maxNum (m .pad0) (m .pad1)) (m .«start_transform») b
 
 arguments-number : (b : Bounds3f) (d : ℕ) → CoverNumber (coverRefusal b d)
 unfolding coverRefusal Bounds3f·refusal

@@ -1,15 +1,17 @@
 -- The corners of an accepted cover of a built move are finite and in order on each axis: `cover-proper`. An interval step narrows from its own intervals to themselves, so that
--- what it gives is not empty; a union of boxes in order is in order.
+-- what it gives is not empty; a box in order grows to one in order, and a union of such boxes is in order.
 use Prim.Native.Nat.{ℕ, zero, suc, _≤_, _^_}
 use mathlib.Core.Path.{_≡_, refl, sym, ap, subst}
 use mathlib.Core.Bool.{Bool, true, false, cond}
 use native.Mathlib.Omega.{arith}
 use lib.Dec.{T, eqb}
 use borrow.Author.Tests.{eqb-true, eqb-false}
+use lib.Ieee.{Float}
 use lib.Ieee.Scale.{finite}
 use Rattle.rounding.specs.Order.{_≼_}
 use Rattle.rounding.proofs.Order.{≼-trans, ≼-refl, number-left, number-right, finite-number}
 use Rattle.interval.specs.declared.Interval.{Interval}
+use Rattle.interval.specs.declared.Judged.{Judged}
 use Rattle.interval.specs.Contains.{Subset, Refines}
 use Rattle.bounds3.specs.declared.Bounds3f.{Bounds3f}
 use Rattle.bounds3.specs.Bounds3f.{Bounds3f·unionBounds}
@@ -37,13 +39,17 @@ use Rattle.pose_steps.proofs.Finite.{matrix-each}
 use Rattle.pose_steps.proofs.Isotone.{transformPoint-isotone, point-isotone}
 use Rattle.pose_steps.proofs.Box.{subset-refines, refines-order, order-refl}
 use Rattle.animated_transform.specs.declared.AnimatedTransform.{AnimatedTransform}
-use Rattle.animated_transform.specs.Built.{StoredPose, Built}
+use Rattle.animated_transform.specs.Built.{StoredPose, Pad·Judged, Built}
 use Rattle.animated_transform.proofs.Built.{built-judged}
 use Rattle.motion_point.specs.TransformPoint.{AnimatedTransform·constants}
 use Rattle.motion_point.proofs.Built.{built-valid, built-scales}
-use Rattle.motion_cover.specs.Cover.{BoundsAnswer·fromEnclosure, Transform·encloseBounds, AnimatedTransform·encloseBounds, AnimatedTransform·encloseEnds, unionSlices, AnimatedTransform·encloseMotion, AnimatedTransform·cover}
+use Rattle.motion_pad.specs.Pad.{Pad·enclose, Pad·stored}
+use Rattle.motion_pad.specs.Grow.{Bounds3f·grow, BoundsAnswer·grow}
+use Rattle.motion_pad.proofs.Pad.{pad-high-within}
+use Rattle.motion_pad.proofs.Box.{PadWithin, grow-order}
+use Rattle.motion_cover.specs.Cover.{BoundsAnswer·fromEnclosure, Transform·encloseBounds, Transform·enclosePadded, AnimatedTransform·encloseBounds, AnimatedTransform·encloseEnds, unionSlices, AnimatedTransform·encloseMotion, AnimatedTransform·cover}
 use Rattle.motion_cover.specs.Answer.{Proper}
-use Rattle.motion_cover.proofs.Contains.{motion-stored, motion-slices, cover-box}
+use Rattle.motion_cover.proofs.Contains.{pad-itself, larger-judged, motion-stored, motion-slices, cover-box}
 
 -- ---- a box, and a number that was tested
 box-proper : (b : Bounds3f) → T (Bounds3f·isFinite b) → InOrder b → Proper (Bounds b)
@@ -73,6 +79,26 @@ unfolding BoundsAnswer·fromEnclosure
 enclosure-proper j f =
     let box = IntervalVector·bounds (j .vector) in
     tested (j .refusal) (Bounds box) (λ e. box-proper box (refines-finite (j .vector) (f e)) (refines-order (j .vector) (j .vector) (f e)))
+
+-- ---- a box that has grown
+refused-proper : (n : ℕ) → (n ≡ 0 → ⊥) → Proper (Refused n)
+refused-proper n h = record { finite = λ e. absurd (h e); order = λ e. absurd (h e) }
+
+grow-proper : (pad : Judged) (r : BoundsAnswer) {here : Float} → (pad .refusal ≡ 0 → PadWithin here (pad .interval .high)) → Proper r → Proper (BoundsAnswer·grow pad r)
+unfolding BoundsAnswer·grow
+grow-proper pad (Refused n) w p = p
+grow-proper pad (Bounds b) w p = go (eqb (pad .refusal) 0) (Bounds3f·isFinite grown) (eqb-true (pad .refusal) 0) (eqb-false (pad .refusal) 0) refl
+  where
+    grown : Bounds3f
+    grown = Bounds3f·grow (pad .interval .high) b
+
+    go : (s t : Bool) → (s ≡ true → pad .refusal ≡ 0) → (s ≡ false → pad .refusal ≡ 0 → ⊥) → Bounds3f·isFinite grown ≡ t
+        → Proper (cond s (cond t (Bounds grown) (Refused 5)) (Refused (pad .refusal)))
+    go true true f g e =
+        let h = w (f refl) in
+        box-proper grown (rw e tt) (grow-order (h .high-finite) (≼-trans (h .from-zero) (h .most)) (p .finite refl) (p .order refl))
+    go true false f g e = refused-proper 5 (λ z. absurd (omega (arith, z)))
+    go false t f g e = refused-proper (pad .refusal) (g refl)
 
 -- ---- unions
 union-order : (a b : Bounds3f) → T (Bounds3f·isFinite a) → InOrder a → InOrder (Bounds3f·unionBounds a b)
@@ -113,12 +139,13 @@ stored-refines m h =
     let (p, q, r) = matrix-each m h in
     record { r0 = points-refine (entries (m .r0)) p; r1 = points-refine (entries (m .r1)) q; r2 = points-refine (entries (m .r2)) r }
 
-stored-proper : (t : Transform) → StoredPose t → (b : Bounds3f) → BoxRefines b → Proper (Transform·encloseBounds t b)
-unfolding Transform·encloseBounds
-stored-proper t s b r =
+stored-proper : {pad : Float} → Pad·Judged pad → (t : Transform) → StoredPose t → (b : Bounds3f) → BoxRefines b → Proper (Transform·enclosePadded pad t b)
+unfolding Transform·enclosePadded Transform·encloseBounds
+stored-proper {pad} w t s b r =
     let B = Bounds3f·intervals b in
     let M = IntervalMatrix·point (t .m) in
-    enclosure-proper (Pose·encloseTransformPoint 0 M B) (λ z. transformPoint-isotone 0 refl B B (stored-refines (t .m) (s .matrix)) r z .1)
+    grow-proper (Pad·stored pad) _ (λ _. pad-itself w)
+    (enclosure-proper (Pose·encloseTransformPoint 0 M B) (λ z. transformPoint-isotone 0 refl B B (stored-refines (t .m) (s .matrix)) r z .1))
 
 module _ {m : AnimatedTransform} (built : Built m) (b : Bounds3f) (r : BoxRefines b) where
   pub piece-proper : (D : Interval) → Subset D unitInterval → Subset D D → Proper (AnimatedTransform·encloseBounds m (AnimatedTransform·constants m) D b)
@@ -126,14 +153,17 @@ module _ {m : AnimatedTransform} (built : Built m) (b : Bounds3f) (r : BoxRefine
   piece-proper D u w =
       let B = Bounds3f·intervals b in
       let (s0, s1) = built-scales built in
-      enclosure-proper (Pose·enclosePoint (AnimatedTransform·constants m) (m .s0) (m .s1) D B) (λ z. point-isotone (built-valid built) s0 s1 u w B B r z .1)
+      let j = built-judged built in
+      grow-proper (Pad·enclose (m .pad0) (m .pad1) D) _
+      (λ e. pad-high-within (m .pad0) (m .pad1) (j .pad0 .finite) (j .pad1 .finite) (j .pad0 .at-least-zero) (j .pad1 .at-least-zero) w u e .1)
+      (enclosure-proper (Pose·enclosePoint (AnimatedTransform·constants m) (m .s0) (m .s1) D B) (λ z. point-isotone (built-valid built) s0 s1 u w B B r z .1))
 
   pub ends-proper : Proper (AnimatedTransform·encloseEnds m b)
   unfolding AnimatedTransform·encloseEnds
   ends-proper =
       let j = built-judged built in
-      union-proper (Transform·encloseBounds (m .«start_transform») b) (Transform·encloseBounds (m .«end_transform») b)
-      (stored-proper (m .«start_transform») (j .start) b r) (stored-proper (m .«end_transform») (j .end) b r)
+      union-proper (Transform·enclosePadded (m .pad0) (m .«start_transform») b) (Transform·enclosePadded (m .pad1) (m .«end_transform») b)
+      (stored-proper (j .pad0) (m .«start_transform») (j .start) b r) (stored-proper (j .pad1) (m .«end_transform») (j .end) b r)
 
   pub slices-proper : (d n : ℕ) → n ≤ 2 ^ d → Proper (unionSlices m (AnimatedTransform·constants m) b d (AnimatedTransform·encloseEnds m b) n)
   unfolding unionSlices
@@ -147,7 +177,9 @@ module _ {m : AnimatedTransform} (built : Built m) (b : Bounds3f) (r : BoxRefine
   motion-proper d = go (m .«actually_animated») refl
     where
       go : (x : Bool) → m .«actually_animated» ≡ x → Proper (AnimatedTransform·encloseMotion m b d)
-      go false e = subst Proper (sym (motion-stored m b d e)) (stored-proper (m .«start_transform») (built-judged built .start) b r)
+      go false e =
+          let j = built-judged built in
+          subst Proper (sym (motion-stored m b d e)) (stored-proper (larger-judged (j .pad0) (j .pad1)) (m .«start_transform») (j .start) b r)
       go true e = subst Proper (sym (motion-slices m b d e)) (slices-proper d (2 ^ d) (omega arith))
 
 pub cover-proper : {m : AnimatedTransform} → Built m → (b : Bounds3f) (d : ℕ) → Proper (AnimatedTransform·cover m b d)

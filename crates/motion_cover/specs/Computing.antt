@@ -2,9 +2,10 @@
 use Rattle.pose_steps.specs.Computing as pose
 use Rattle.unit_interval.specs.Computing as slice
 use Rattle.bounds_query.specs.Computing as query
-use Rattle.motion_cover.specs.Cover.{BoundsAnswer·fromEnclosure, Transform·encloseBounds, AnimatedTransform·encloseBounds, AnimatedTransform·encloseEnds, unionSlices, AnimatedTransform·encloseMotion, AnimatedTransform·cover}
+use Rattle.motion_pad.specs.Computing as pad
+use Rattle.motion_cover.specs.Cover.{BoundsAnswer·fromEnclosure, Transform·encloseBounds, Transform·enclosePadded, AnimatedTransform·encloseBounds, AnimatedTransform·encloseEnds, unionSlices, AnimatedTransform·encloseMotion, AnimatedTransform·cover}
 use Rattle.pose_steps.specs.Pose.{PoseConstants·new}
 
 unfoldable pub computing : Unit {0}
-unfolding pose.computing slice.computing query.computing PoseConstants·new BoundsAnswer·fromEnclosure Transform·encloseBounds AnimatedTransform·encloseBounds AnimatedTransform·encloseEnds unionSlices AnimatedTransform·encloseMotion AnimatedTransform·cover
+unfolding pose.computing slice.computing query.computing pad.computing PoseConstants·new BoundsAnswer·fromEnclosure Transform·encloseBounds Transform·enclosePadded AnimatedTransform·encloseBounds AnimatedTransform·encloseEnds unionSlices AnimatedTransform·encloseMotion AnimatedTransform·cover
 computing = tt

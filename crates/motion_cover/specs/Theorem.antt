@@ -1,11 +1,14 @@
 -- The guarantee: at which moments may the boom stand outside its reserved box? At none.
 --
 -- Take any two poses and times from which a move is built, any box, and any depth at which the cover of the box is accepted. Then at every time but NaN, both infinities
--- included, and for every point of the box, the point query answers a moved point, and that point is inside the cover on all three axes.
+-- included, and for every point of the box, the point query answers a moved point, and that point is inside the cover on all three axes, by itself and less and plus
+-- the pad at that time, each rounded.
 --
 --   Built m                          m is what building gives, unrefused, for two poses whose times are binary32 crates/animated_transform/specs/Built.antt
 --   BoundsAnswer·refusal c ≡ 0       the cover is accepted, and `BoundsAnswer·bounds c` is its box               crates/transform/specs/Answer.antt
 --   AnimatedTransform·transformPoint the point query, whose answer has a number and a point likewise             crates/motion_point/specs/TransformPoint.antt
+--   AnimatedTransform·padAt          the pad at a time                                                           crates/motion_point/specs/PadAt.antt
+--   PaddedInside                     the point, and it less and plus the pad, inside                             crates/motion_pad/specs/Grow.antt
 --   Inside                           low ≤ value ≤ high on all three axes                                        crates/bounds3/specs/Inside.antt
 --
 -- The contract of `cover` says `CoverContainsMotion m b r` of what it returns, beside `r ≡ AnimatedTransform·cover m b depth`.
@@ -22,15 +25,17 @@ use Rattle.transform.specs.Answer.{PointAnswer·refusal, PointAnswer·point, Bo
 use Rattle.animated_transform.specs.declared.AnimatedTransform.{AnimatedTransform}
 use Rattle.animated_transform.specs.Built.{Built}
 use Rattle.motion_point.specs.TransformPoint.{AnimatedTransform·transformPoint}
+use Rattle.motion_point.specs.PadAt.{AnimatedTransform·padAt}
+use Rattle.motion_pad.specs.Grow.{PaddedInside}
 
--- The answer is not refused, and its point is inside the box.
-pub record MovedInside (box : Bounds3f) (answer : PointAnswer) : Type 0 where
+-- The answer is not refused, and its point is inside the box, by itself and less and plus the pad.
+pub record MovedInside (box : Bounds3f) (pad : Float) (answer : PointAnswer) : Type 0 where
   pub accepted : PointAnswer·refusal answer ≡ 0
-  pub inside : Inside box (PointAnswer·point answer)
+  pub inside : PaddedInside box pad (PointAnswer·point answer)
 
 -- m is the move, b the box of points, c what the cover query answered.
 abbrev pub CoverContainsMotion : AnimatedTransform → Bounds3f → BoundsAnswer → Type 0
 CoverContainsMotion m b c =
     (time : Float) (p : Point3f)
     → Built m → BoundsAnswer·refusal c ≡ 0 → T (not (isNan time)) → Inside b p
-    → MovedInside (BoundsAnswer·bounds c) (AnimatedTransform·transformPoint m time p)
+    → MovedInside (BoundsAnswer·bounds c) (AnimatedTransform·padAt m time) (AnimatedTransform·transformPoint m time p)

@@ -1,5 +1,5 @@
 // The cover query of a move, document 01's 'Cover (added)': an interval enclosure of a box's motion, from the steps of a pose read in intervals.
-// Start box, end box and slices of dt are computed in rising order, up to the first refusal that is met.
+// Start box, end box and slices of dt are computed in rising order, up to the first refusal that is met; each grows by its pad as soon as it is computed.
 use animated_transform::AnimatedTransform;
 use bounds3::Bounds3f;
 use bounds3::Point3f;
@@ -21,7 +21,7 @@ ghost use Rattle.pose_steps.specs.Enclose.{Pose·encloseSlerp, Bounds3f·interv
 ghost use Rattle.pose_slerp.specs.Unjudged.{Perpendicular·of};
 ghost use Rattle.motion_point.specs.TransformPoint.{AnimatedTransform·constants};
 ghost use Rattle.bounds_query.specs.Query.{maxDepth};
-ghost use Rattle.motion_cover.specs.Cover.{BoundsAnswer·fromEnclosure, Transform·encloseBounds, AnimatedTransform·encloseBounds, AnimatedTransform·encloseEnds, unionSlices, AnimatedTransform·encloseMotion, AnimatedTransform·cover};
+ghost use Rattle.motion_cover.specs.Cover.{BoundsAnswer·fromEnclosure, Transform·encloseBounds, Transform·enclosePadded, AnimatedTransform·encloseBounds, AnimatedTransform·encloseEnds, unionSlices, AnimatedTransform·encloseMotion, AnimatedTransform·cover};
 ghost use Rattle.motion_cover.specs.Border.{Border·at};
 ghost use Rattle.motion_cover.specs.Theorem.{CoverContainsMotion};
 
@@ -91,13 +91,20 @@ fn transform_enclosure(t: Transform, b: Bounds3f) -> BoundsAnswer
     ))
 }
 
-// The boxes of the start transform and of the end transform. Accuracy: encloses.
+// The same, grown by a pad. Accuracy: encloses, for a pad from 0 on.
+fn transform_padded(pad: f32, t: Transform, b: Bounds3f) -> BoundsAnswer
+    ensures value { λ r. ⌜ r ≡ Transform·enclosePadded pad t b ⌝ }
+{
+    motion_pad::grow(motion_pad::stored_pad(pad), transform_enclosure(t, b))
+}
+
+// The boxes of the start transform and of the end transform, each grown by its own pad. Accuracy: encloses.
 fn ends_enclosure(m: AnimatedTransform, b: Bounds3f) -> BoundsAnswer
     ensures value { λ r. ⌜ r ≡ AnimatedTransform·encloseEnds m b ⌝ }
 {
     bounds_query::union_bounds(
-        transform_enclosure(m.start_transform, b),
-        transform_enclosure(m.end_transform, b),
+        transform_padded(m.pad0, m.start_transform, b),
+        transform_padded(m.pad1, m.end_transform, b),
     )
 }
 
@@ -162,7 +169,7 @@ fn slerp_enclosure(
     }
 }
 
-// The poses from a border to another over a box, with the move's constants at hand. Accuracy: encloses.
+// The poses from a border to another over a box, with the move's constants at hand, grown by the high end of their pad interval. Accuracy: encloses.
 fn slice_enclosure(
     m: AnimatedTransform,
     a: PoseConstants,
@@ -181,7 +188,12 @@ fn slice_enclosure(
     let trans = pose_parts::translation_enclosure(0, a.t0, a.t1, dt);
     let rotate = slerp_enclosure(trans.refusal, a, perp, from, to);
     let pose = pose::composition_enclosure(trans.vector, rotate, m.s0, m.s1, dt);
-    from_enclosure(pose_point::transform_point_enclosure(pose.refusal, pose.matrix, intervals(b)))
+    let moved = from_enclosure(pose_point::transform_point_enclosure(
+        pose.refusal,
+        pose.matrix,
+        intervals(b),
+    ));
+    motion_pad::grow(motion_pad::pad_enclosure(m.pad0, m.pad1, dt), moved)
 }
 
 // The box `first` and those of the 2^d slices of dt. A slice ends at the border where the next one begins. Accuracy: encloses.
@@ -217,7 +229,7 @@ fn motion_enclosure(m: AnimatedTransform, b: Bounds3f, d: u32) -> BoundsAnswer
     ensures value { λ r. ⌜ r ≡ AnimatedTransform·encloseMotion m b d ⌝ }
 {
     if !m.actually_animated {
-        return transform_enclosure(m.start_transform, b);
+        return transform_padded(float32::max(m.pad0, m.pad1), m.start_transform, b);
     }
     let ends = ends_enclosure(m, b);
     match ends {

@@ -1,4 +1,4 @@
--- The layout's definition on files written out: `all-read` lists files that keep the layout, with no poses, one, two and three, `all-depart` files that don't.
+-- The layout's definition on files written out: `all-read` lists files that keep the layout, with no poses, one, two and three, and with pads, `all-depart` files that don't.
 -- antt computes each.
 use Prim.Native.String.{String, _++_}
 use mathlib.Core.Path.{_≡_, refl}
@@ -9,12 +9,15 @@ use lib.Ieee.{Float, binary32, ofBits}
 use Rattle.hexadecimal.specs.Digit.{digitValue}
 use Rattle.hexadecimal.specs.Word.{digitsOnly, number}
 use Rattle.motion_file.specs.Text.{ascii, split, singleSpaced, equal}
-use Rattle.motion_file.specs.Layout.{allValues, fits, valuesOf, conforms, keepsLayout, poseOf, MoveFile·departs, MoveFile·read, MoveFile·poses}
+use Rattle.motion_file.specs.Layout.{allValues, fits, valuesOf, conforms, keepsColumns, hasPads, keepsLayout, poseOf, MoveFile·departs, MoveFile·read, MoveFile·poses}
 use Rattle.motion_file.specs.declared.MoveFile.{MoveFile}
 
 -- a line of names, a pose that leaves everything in its place at time 0 and at time 1, a box from 1 2 3 to 4 5 6
 abbrev poseNames : String
 poseNames = "time m00 m01 m02 m03 m10 m11 m12 m13 m20 m21 m22 m23\n"
+
+abbrev paddedNames : String
+paddedNames = "time m00 m01 m02 m03 m10 m11 m12 m13 m20 m21 m22 m23 pad\n"
 
 abbrev start : String
 start = "00000000 3f800000 00000000 00000000 00000000 00000000 3f800000 00000000 00000000 00000000 00000000 3f800000 00000000\n"
@@ -32,7 +35,7 @@ abbrev floats : List ℕ → List Float
 floats ns = map (ofBits binary32) ns
 
 unfoldable computing : Unit {0}
-unfolding ascii split singleSpaced equal allValues fits valuesOf conforms keepsLayout poseOf MoveFile·read MoveFile·poses digitsOnly number digitValue
+unfolding ascii split singleSpaced equal allValues fits valuesOf conforms keepsColumns hasPads keepsLayout poseOf MoveFile·read MoveFile·poses digitsOnly number digitValue
 computing = tt
 
 -- a file by its lines of poses; one by its last two lines
@@ -46,9 +49,12 @@ file names values = poseNames ++ start ++ end ++ names ++ values
 abbrev kept : ℕ → MoveFile
 kept n = record { count = n; bounds = floats (0x3f800000 ∷ 0x40000000 ∷ 0x40400000 ∷ 0x40800000 ∷ 0x40a00000 ∷ 0x40c00000 ∷ []); refusal = 0 }
 
--- the identity at a time
+-- the identity at a time, with a pad
+abbrev padded : ℕ → ℕ → List Float
+padded t pad = floats (t ∷ 0x3f800000 ∷ 0 ∷ 0 ∷ 0 ∷ 0 ∷ 0x3f800000 ∷ 0 ∷ 0 ∷ 0 ∷ 0 ∷ 0x3f800000 ∷ 0 ∷ 0 ∷ 0 ∷ 0 ∷ 0x3f800000 ∷ pad ∷ [])
+
 abbrev pose : ℕ → List Float
-pose t = floats (t ∷ 0x3f800000 ∷ 0 ∷ 0 ∷ 0 ∷ 0 ∷ 0x3f800000 ∷ 0 ∷ 0 ∷ 0 ∷ 0 ∷ 0x3f800000 ∷ 0 ∷ 0 ∷ 0 ∷ 0 ∷ 0x3f800000 ∷ [])
+pose t = padded t 0
 
 abbrev said : String → MoveFile × List (List Float)
 said text = (MoveFile·read (ascii text), MoveFile·poses (ascii text))
@@ -71,6 +77,12 @@ rows =
       text = file "x0   y0 z0  x1 y1    z1\n" "3f800000  40000000 40400000   40800000 40a00000 40c00000\n";
       file = kept 2;
       poses = pose 0 ∷ pose 0x3f800000 ∷ [];
+    }
+    -- fourteen names
+    ∷ record {
+      text = paddedNames ++ "00000000 3f800000 00000000 00000000 00000000 00000000 3f800000 00000000 00000000 00000000 00000000 3f800000 00000000 40000000\n" ++ boundsNames ++ bounds;
+      file = kept 1;
+      poses = padded 0 0x40000000 ∷ [];
     }
     ∷ []
 
@@ -112,8 +124,11 @@ departing =
     ∷ file boundsNames "3f800000 40000000 40400000 40800000 40a00000 40c0000\n"
     ∷ file boundsNames "3f800000 40000000 40400000 40800000 40a00000 40c000000\n"
     ∷ file boundsNames "3f80000g 40000000 40400000 40800000 40a00000 40c00000\n"
+    -- thirteen values under fourteen names; a pad before m23
+    ∷ (paddedNames ++ start ++ boundsNames ++ bounds)
+    ∷ ("time m00 m01 m02 m03 m10 m11 m12 m13 m20 m21 m22 pad m23\n" ++ boundsNames ++ bounds)
     ∷ []
 
-all-depart : map said departing ≡ replicate 23 (MoveFile·departs, [])
+all-depart : map said departing ≡ replicate 25 (MoveFile·departs, [])
 unfolding computing departing
 all-depart = refl

@@ -1,5 +1,6 @@
 -- How many bytes the lines of a layout take at least, `conforms-room`, so that no file has room for more than 559 poses: `poses-room`.
 use Prim.Native.Nat.{ℕ, zero, suc, _+_, _*_, _≤_, _<_}
+use native.Mathlib.Nat.{mul-le-mul-right}
 use native.Mathlib.Omega.{arith}
 use mathlib.Core.Path.{_≡_, refl, sym, ap}
 use mathlib.Core.Bool.{Bool, true, false, cond, _&&_, and-eq-true-iff, false≢true}
@@ -10,7 +11,7 @@ use borrow.Author.Tests.{eqb-true, leb-true}
 use Rattle.hexadecimal.specs.Word.{digitsOnly}
 use Rattle.motion_file.specs.Text.{ascii, lineFeed, space, split, onFirst, startsWith, singleSpaced, equal}
 use Rattle.motion_file.specs.Layout.{Line, names, values, boundsNames, layout, words, isValue, allValues, fits, conforms, maxBytes, poseLines}
-use Rattle.motion_file.specs.Layout.{maxPoseLines, keepsLayout}
+use Rattle.motion_file.specs.Layout.{maxPoseLines, keepsColumns}
 use Rattle.motion_file.proofs.Pieces.{split-first}
 
 -- the bytes of pieces, with one behind each
@@ -83,15 +84,16 @@ unfolding room
 room-values k zero kinds = omega arith
 room-values k (suc n) kinds = omega (arith, room-values k n kinds)
 
-layout-room : (n : ℕ) → room (layout n) ≡ 53 + (n * 117 + 72)
+layout-room : (text : List ℕ) (columns n : ℕ) → room (layout text columns n) ≡ suc (length text) + (n * (9 * columns) + 72)
 unfolding room ascii
-layout-room n = ap (λ (r : ℕ). 53 + r) (room-values 13 n (names boundsNames ∷ values 6 ∷ []))
+layout-room text columns n = ap (λ (r : ℕ). suc (length text) + r) (room-values columns n (names boundsNames ∷ values 6 ∷ []))
 
-pub poses-room : (s : List ℕ) → keepsLayout s ≡ true → poseLines (split lineFeed s) ≤ maxPoseLines
-unfolding keepsLayout
-poses-room s h =
+pub poses-room : (text : List ℕ) (columns : ℕ) (s : List ℕ) → 13 ≤ columns → keepsColumns text columns s ≡ true → poseLines (split lineFeed s) ≤ maxPoseLines
+unfolding keepsColumns
+poses-room text columns s least h =
     let lines = split lineFeed s in
     let n = poseLines lines in
-    let both = and-eq-true-iff (leb (length s) maxBytes) (conforms (layout n) lines) .0 h in
-    let taken = conforms-room (layout n) lines (both .1) in
-    omega (arith, leb-true (length s) maxBytes (both .0), taken, layout-room n, split-spanned lineFeed s)
+    let both = and-eq-true-iff (leb (length s) maxBytes) (conforms (layout text columns n) lines) .0 h in
+    let taken = conforms-room (layout text columns n) lines (both .1) in
+    let each : 117 * n ≤ 9 * columns * n = mul-le-mul-right n (omega (arith, least)) in
+    omega (arith, leb-true (length s) maxBytes (both .0), taken, layout-room text columns n, split-spanned lineFeed s, each)

@@ -17,20 +17,20 @@ pub data Line : Type 0 where
   names : List ℕ → Line
   values : ℕ → Line
 
--- the names of a pose's values and of a box's, least corner and greatest corner
+-- the names of a pose's values; document 02, "Pads for the spray": "a fourteenth column `pad` after m23"; those of a box's, least corner and greatest corner
 abbrev pub poseNames : List ℕ
 poseNames = ascii "time m00 m01 m02 m03 m10 m11 m12 m13 m20 m21 m22 m23"
+
+abbrev pub paddedNames : List ℕ
+paddedNames = ascii "time m00 m01 m02 m03 m10 m11 m12 m13 m20 m21 m22 m23 pad"
 
 abbrev pub boundsNames : List ℕ
 boundsNames = ascii "x0 y0 z0 x1 y1 z1"
 
--- the lines of a file with these names, so many values under them in each of n lines, and a box
-abbrev pub layoutOf : List ℕ → ℕ → ℕ → List Line
-layoutOf text columns n = names text ∷ (replicate n (values columns) ++ (names boundsNames ∷ values 6 ∷ []))
-
--- the lines of a move file with n poses, and a box; document 02, "Poses in a chain": "A file's pose lines, however many, are a chain."
-abbrev pub layout : ℕ → List Line
-layout n = layoutOf poseNames 13 n
+-- the lines of a move file with n poses, of so many values with those names, and a box; document 02, "Poses in a chain": "A file's pose lines, however many,
+-- are a chain."
+abbrev pub layout : List ℕ → ℕ → ℕ → List Line
+layout text columns n = names text ∷ (replicate n (values columns) ++ (names boundsNames ∷ values 6 ∷ []))
 
 -- what stands between runs of spaces; a space before the first word or after the last makes an empty word, which is no name and no value
 abbrev pub words : List ℕ → List (List ℕ)
@@ -74,10 +74,19 @@ maxBytes = 65536
 abbrev pub poseLines : List (List ℕ) → ℕ
 poseLines lines = length lines - 4
 
-unfoldable pub keepsLayout : List ℕ → Bool
-keepsLayout bytes =
+-- whether a file has poses of so many values with those names
+unfoldable pub keepsColumns : List ℕ → ℕ → List ℕ → Bool
+keepsColumns text columns bytes =
     let lines = split lineFeed bytes in
-    leb (length bytes) maxBytes && conforms (layout (poseLines lines)) lines
+    leb (length bytes) maxBytes && conforms (layout text columns (poseLines lines)) lines
+
+-- whether a file's first line is the fourteen names
+unfoldable pub hasPads : List ℕ → Bool
+hasPads bytes = fits (names paddedNames) (getD (split lineFeed bytes) 0 [])
+
+-- fourteen names, or the "old thirteen"
+unfoldable pub keepsLayout : List ℕ → Bool
+keepsLayout bytes = cond (hasPads bytes) (keepsColumns paddedNames 14 bytes) (keepsColumns poseNames 13 bytes)
 
 -- no file has room for more poses (`read-count`)
 abbrev pub maxPoseLines : ℕ
@@ -109,9 +118,13 @@ MoveFile·read bytes = cond (keepsLayout bytes) (MoveFile·contents (split lineF
 abbrev pub bottomRow : List Float
 bottomRow = ofBits binary32 0 ∷ ofBits binary32 0 ∷ ofBits binary32 0 ∷ ofBits binary32 0x3f800000 ∷ []
 
--- the pose of a line: its time and the four rows of its matrix, one after the other
+-- the pose of a line's values: its time, the four rows of its matrix, and its pad; document 02, "Pads for the spray": "A file with the old thirteen names has
+-- pads of +0"
+abbrev pub poseOfValues : List Float → List Float
+poseOfValues read = take 13 read ++ (bottomRow ++ (getD read 13 (ofBits binary32 0) ∷ []))
+
 unfoldable pub poseOf : List ℕ → List Float
-poseOf line = valuesOf line ++ bottomRow
+poseOf line = poseOfValues (valuesOf line)
 
 -- a file's poses, those of the lines behind the first; none where it departs from the layout
 unfoldable pub MoveFile·poses : List ℕ → List (List Float)

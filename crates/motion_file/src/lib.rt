@@ -6,8 +6,9 @@ ghost use Prim.Native.Nat.{_+_, _≤_, _<_};
 ghost use lib.Dec.{eqb, ltb};
 ghost use lib.ListN.{length, replicate};
 ghost use Rattle.motion_file.specs.Text.{lineFeed, split};
-ghost use Rattle.motion_file.specs.Layout.{names, values, fits, valuesOf, maxBytes, maxPoseLines, poseLines, poseOf, MoveFile·departs};
+ghost use Rattle.motion_file.specs.Layout.{names, values, fits, valuesOf, maxBytes, maxPoseLines, poseLines, hasPads, poseOfValues, poseOf, MoveFile·departs};
 ghost use Rattle.motion_file.specs.Layout.{MoveFile·poses, MoveFile·read};
+ghost use Rattle.motion_file.specs.Columns.{MoveFile·readAs, MoveFile·posesAs};
 ghost use Rattle.motion_file.specs.Front.{front};
 ghost use Rattle.motion_file.specs.Place.{lineLength, lineAt, pastEnd, afterLine, through, linesThrough, NextByte};
 use hexadecimal::Word;
@@ -23,33 +24,67 @@ pub struct MoveFile {
     pub refusal: u8,
 }
 
-// Puts the poses that a file's bytes hold into the front of `poses`, each its time and its matrix row by row, and gives their number and the box; refused
+// Puts the poses that a file's bytes hold into the front of `poses`, each its time, its matrix row by row and its pad, and gives their number and the box; refused
 // with 11, and `poses` kept as it is, where the bytes depart from the layout. Accuracy: exact; every pattern of a NaN gives NaN.
-pub fn read(bytes: &[u8], poses: &mut [[f32; 17]; 559]) -> MoveFile
+pub fn read(bytes: &[u8], poses: &mut [[f32; 18]; 559]) -> MoveFile
     ensures value { λ r. ⌜ r ≡ MoveFile·read (now (bytes .entry)) ⌝ }
     ensures left { λ _. ⌜ now (poses .exit) ≡ front (MoveFile·poses (now (bytes .entry))) (now (poses .entry)) ⌝ }
+    ensures count { λ r. ⌜ r .count ≤ maxPoseLines ⌝ }
+{
+    if has_pads(bytes) {
+        return read_columns(
+            bytes,
+            b"time m00 m01 m02 m03 m10 m11 m12 m13 m20 m21 m22 m23 pad",
+            14,
+            poses,
+        );
+    }
+    read_columns(
+        bytes,
+        b"time m00 m01 m02 m03 m10 m11 m12 m13 m20 m21 m22 m23",
+        13,
+        poses,
+    )
+}
+
+// Whether the first line is the fourteen names.
+fn has_pads(s: &[u8]) -> bool
+    ensures { λ r. ⌜ r ≡ hasPads (now (s .entry)) ⌝ }
+{
+    let end = line_end(s, 0);
+    if end <= s.len() {
+        return is_names(
+            &s[0..end],
+            b"time m00 m01 m02 m03 m10 m11 m12 m13 m20 m21 m22 m23 pad",
+        );
+    }
+    false
+}
+
+// Reads a file whose poses have so many values with those names.
+fn read_columns(bytes: &[u8], text: &[u8], columns: usize, poses: &mut [[f32; 18]; 559]) -> MoveFile
+    requires { ⌜ 13 ≤ columns ⌝ }
+    requires { ⌜ columns ≤ 14 ⌝ }
+    ensures value { λ r. ⌜ r ≡ MoveFile·readAs (now (text .entry)) columns (now (bytes .entry)) ⌝ }
+    ensures left { λ _. ⌜ now (poses .exit) ≡ front (MoveFile·posesAs (now (text .entry)) columns (now (bytes .entry))) (now (poses .entry)) ⌝ }
     ensures count { λ r. ⌜ r .count ≤ maxPoseLines ⌝ }
 {
     if 65536 < bytes.len() {
         return departs();
     }
-    let mut pose = [0.0f32; 13];
+    let mut pose = [0.0f32; 14];
     let mut bounds = [0.0f32; 6];
     // Each line begins where the one before it ends; behind a line that departs from the layout none stands.
     let count = pose_lines(bytes);
-    let first = names_line(
-        bytes,
-        0,
-        b"time m00 m01 m02 m03 m10 m11 m12 m13 m20 m21 m22 m23",
-    );
-    let behind = after_values(bytes, first, count, &mut pose);
+    let first = names_line(bytes, 0, text);
+    let behind = after_values(bytes, first, count, &mut pose[..columns]);
     let values = names_line(bytes, behind, b"x0 y0 z0 x1 y1 z1");
     let end = values_line(bytes, values, &mut bounds);
     if end != bytes.len() {
         return departs();
     }
     // Only now is anything put into the lent array.
-    *poses = with_poses(bytes, first, count, *poses);
+    *poses = with_poses(bytes, first, count, columns, *poses);
     MoveFile {
         count,
         bounds,
@@ -111,25 +146,57 @@ fn after_values(s: &[u8], at: usize, count: usize, scratch: &mut [f32]) -> usize
 }
 
 // The array with the `count` poses whose lines begin at `at` in its front.
-fn with_poses(s: &[u8], at: usize, count: usize, poses: [[f32; 17]; 559]) -> [[f32; 17]; 559]
+fn with_poses(
+    s: &[u8],
+    at: usize,
+    count: usize,
+    columns: usize,
+    poses: [[f32; 18]; 559],
+) -> [[f32; 18]; 559]
     requires { ⌜ length (now s) ≤ maxBytes ⌝ }
     requires { ⌜ count ≤ maxPoseLines ⌝ }
-    requires { ⌜ through (replicate count (values 13)) (now s) at ≤ length (now s) ⌝ }
-    ensures { λ r. ⌜ r ≡ front (map poseOf (linesThrough (replicate count (values 13)) (now (s .entry)) at)) poses ⌝ }
+    requires { ⌜ 13 ≤ columns ⌝ }
+    requires { ⌜ columns ≤ 14 ⌝ }
+    requires { ⌜ through (replicate count (values columns)) (now s) at ≤ length (now s) ⌝ }
+    ensures { λ r. ⌜ r ≡ front (map poseOf (linesThrough (replicate count (values columns)) (now (s .entry)) at)) poses ⌝ }
 {
     let mut filled = poses;
     let mut place = at;
     let mut i = 0;
     while i < count {
-        // The bottom row is 0 0 0 1.
-        let mut pose = [0.0f32; 17];
-        pose[16] = 1.0;
-        let next = values_line(s, place, &mut pose[..13]);
-        filled[i] = pose;
+        let mut line = [0.0f32; 14];
+        let next = values_line(s, place, &mut line[..columns]);
+        filled[i] = pose_of(line);
         place = next;
         i += 1;
     }
     filled
+}
+
+// The pose of a line: behind its matrix's three rows stand the bottom row 0 0 0 1 and the pad, +0 where the line has none.
+fn pose_of(line: [f32; 14]) -> [f32; 18]
+    ensures { λ r. ⌜ r ≡ poseOfValues line ⌝ }
+{
+    [
+        line[0],
+        line[1],
+        line[2],
+        line[3],
+        line[4],
+        line[5],
+        line[6],
+        line[7],
+        line[8],
+        line[9],
+        line[10],
+        line[11],
+        line[12],
+        0.0,
+        0.0,
+        0.0,
+        1.0,
+        line[13],
+    ]
 }
 
 // Where the next line begins if the names `text` stand at `at`, and past the end otherwise.

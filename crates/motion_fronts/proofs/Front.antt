@@ -13,8 +13,8 @@ use Rattle.bounds3.specs.List.{Bounds3f·list, Bounds3f·ofList}
 use Rattle.transform.specs.declared.BoundsAnswer.{BoundsAnswer}
 use Rattle.transform.specs.declared.BoundsAnswer.the-variants.{Bounds, Refused}
 use Rattle.bounds_query.specs.Query.{BoundsAnswer·unionBounds}
-use Rattle.pose_steps.specs.declared.JudgedMatrix.{JudgedMatrix}
-use Rattle.motion_piece.specs.Piece.{JudgedMatrix·encloseBounds}
+use Rattle.motion_piece.specs.declared.PaddedPose.{PaddedPose}
+use Rattle.motion_piece.specs.Piece.{PaddedPose·encloseBounds}
 use Rattle.box_front.specs.declared.Front.{Front}
 use Rattle.box_front.specs.Front.{boxAt, Put, Taken}
 use Rattle.motion_fronts.specs.Worked.{Holding, FrontOf, Worked}
@@ -63,10 +63,10 @@ pub worked-trans : {f g : Bounds3f → BoundsAnswer} {boxes first old new : List
     → Worked f boxes first old from → Worked g boxes old new to → Worked g boxes first new to
 worked-trans v w = record { size = w .size ∙ v .size; behind = λ i h. w .behind i h ∙ v .behind i h; reached = w .reached }
 
-module _ {fresh : Bool} {answer : Bounds3f → BoundsAnswer} {pose : JudgedMatrix} {boxes old new : List (List Float)} {from to : Front}
+module _ {fresh : Bool} {answer : Bounds3f → BoundsAnswer} {pose : PaddedPose} {boxes old new : List (List Float)} {from to : Front}
     (r : FrontOf fresh answer boxes old from) (t : Taken fresh pose boxes old new from to) where
   abbrev answerAt : Bounds3f → BoundsAnswer
-  answerAt b = joined fresh (answer b) (JudgedMatrix·encloseBounds pose b)
+  answerAt b = joined fresh (answer b) (PaddedPose·encloseBounds pose b)
 
   not-above : to .count ≤ from .count
   not-above = ⊎-elim (λ e. let c : to .count ≡ from .count = ap (λ (f : Front). f .count) e in omega (arith, c)) (λ s. let l = s .0 in omega (arith, l)) (t .stop)
@@ -78,10 +78,10 @@ module _ {fresh : Bool} {answer : Bounds3f → BoundsAnswer} {pose : JudgedMatri
       same e =
           let l : from .count < length boxes = subst (λ (f : Front). f .count < length boxes) e h in
           let k : answerAt (boxAt boxes (from .count)) ≡ Refused (from .refusal) =
-          rw (r .stopped l) (joined-refused fresh (from .refusal) (JudgedMatrix·encloseBounds pose (boxAt boxes (from .count)))) in
+          rw (r .stopped l) (joined-refused fresh (from .refusal) (PaddedPose·encloseBounds pose (boxAt boxes (from .count)))) in
           subst (λ (f : Front). answerAt (boxAt boxes (f .count)) ≡ Refused (f .refusal)) (sym e) k
 
-      less : (to .count < from .count) × (JudgedMatrix·encloseBounds pose (boxAt boxes (to .count)) ≡ Refused (to .refusal))
+      less : (to .count < from .count) × (PaddedPose·encloseBounds pose (boxAt boxes (to .count)) ≡ Refused (to .refusal))
           → answerAt (boxAt boxes (to .count)) ≡ Refused (to .refusal)
       less (l, e) =
           let k = r .held (to .count) l in

@@ -9,18 +9,20 @@ use borrow.Author.Tests.{eq-eqb, ne-eqb}
 use lib.Dec.{eqb}
 use lib.ListN.{length}
 use lib.Ieee.{Float}
+use Rattle.float32.specs.MinMax.{maxNum}
 use Rattle.bounds3.specs.declared.Bounds3f.{Bounds3f}
 use Rattle.transform.specs.declared.BoundsAnswer.{BoundsAnswer}
 use Rattle.transform.specs.declared.BoundsAnswer.the-variants.{Bounds, Refused}
 use Rattle.bounds_query.specs.Query.{BoundsAnswer·unionBounds, maxDepth, coverRefusal}
 use Rattle.animated_transform.specs.declared.AnimatedTransform.{AnimatedTransform}
 use Rattle.motion_point.specs.TransformPoint.{AnimatedTransform·constants}
-use Rattle.motion_cover.specs.Cover.{Transform·encloseBounds, AnimatedTransform·encloseEnds, unionSlices, AnimatedTransform·encloseMotion, AnimatedTransform·cover}
+use Rattle.motion_cover.specs.Cover.{AnimatedTransform·encloseEnds, unionSlices, AnimatedTransform·encloseMotion, AnimatedTransform·cover}
 use Rattle.motion_cover.proofs.Contains.{cover-depth, motion-stored, motion-slices}
 use Rattle.motion_cover.proofs.Slices.{refused-first}
-use Rattle.pose_steps.specs.declared.JudgedMatrix.{JudgedMatrix}
-use Rattle.motion_piece.specs.Piece.{JudgedMatrix·encloseBounds, JudgedMatrix·stored}
+use Rattle.motion_piece.specs.declared.PaddedPose.{PaddedPose}
+use Rattle.motion_piece.specs.Piece.{PaddedPose·encloseBounds, PaddedPose·stored}
 use Rattle.motion_piece.proofs.Piece.{stored-composition}
+use Rattle.motion_pad.specs.Pad.{Pad·start}
 use Rattle.box_front.specs.declared.Front.{Front}
 use Rattle.box_front.specs.Front.{placeCount, boxAt, Judged, Takes}
 use Rattle.motion_fronts.specs.Worked.{FrontOf, Worked}
@@ -64,15 +66,18 @@ none-passed {boxes} {d} {front} m places j z =
 -- ---- the move
 module _ (m : AnimatedTransform) (d : ℕ) (b : Bounds3f) where
   abbrev start : BoundsAnswer
-  start = JudgedMatrix·encloseBounds (JudgedMatrix·stored (m .«start_transform»)) b
+  start = PaddedPose·encloseBounds (PaddedPose·stored (Pad·start (m .«actually_animated») (m .pad0) (m .pad1)) (m .«start_transform»)) b
 
   abbrev end : BoundsAnswer
-  end = JudgedMatrix·encloseBounds (JudgedMatrix·stored (m .«end_transform»)) b
+  end = PaddedPose·encloseBounds (PaddedPose·stored (m .pad1) (m .«end_transform»)) b
 
   pub moved-stored : m .«actually_animated» ≡ false → joined true (tested d b) start ≡ AnimatedTransform·cover m b d
   unfolding AnimatedTransform·cover
-  moved-stored s = rw (motion-stored m b d s, stored-composition (m .«start_transform») b) (go (eqb (coverRefusal b d) 0))
+  moved-stored s = rw (motion-stored m b d s, stored-composition (maxNum (m .pad0) (m .pad1)) (m .«start_transform») b, ← start-equal) (go (eqb (coverRefusal b d) 0))
     where
+      start-equal : start ≡ PaddedPose·encloseBounds (PaddedPose·stored (maxNum (m .pad0) (m .pad1)) (m .«start_transform»)) b
+      start-equal = rw s
+
       go : (t : Bool) → joined true (cond t (Bounds b) (Refused (coverRefusal b d))) start ≡ cond t start (Refused (coverRefusal b d))
       go true = refl
       go false = refl
@@ -81,8 +86,12 @@ module _ (m : AnimatedTransform) (d : ℕ) (b : Bounds3f) where
       → unionSlices m (AnimatedTransform·constants m) b d (joined false (joined true (tested d b) start) end) (2 ^ d) ≡ AnimatedTransform·cover m b d
   unfolding AnimatedTransform·cover AnimatedTransform·encloseEnds
   moved-slices s =
-      rw (motion-slices m b d s, stored-composition (m .«start_transform») b, stored-composition (m .«end_transform») b) (go (eqb (coverRefusal b d) 0))
+      rw (motion-slices m b d s, stored-composition (m .pad0) (m .«start_transform») b, stored-composition (m .pad1) (m .«end_transform») b, ← start-own)
+      (go (eqb (coverRefusal b d) 0))
     where
+      start-own : start ≡ PaddedPose·encloseBounds (PaddedPose·stored (m .pad0) (m .«start_transform»)) b
+      start-own = rw s
+
       slices : BoundsAnswer → BoundsAnswer
       slices r = unionSlices m (AnimatedTransform·constants m) b d r (2 ^ d)
 
@@ -93,21 +102,21 @@ module _ (m : AnimatedTransform) (d : ℕ) (b : Bounds3f) where
 
 -- ---- the steps of the code, each by the clause of its call
 module _ (m : AnimatedTransform) (d : ℕ) {boxes : List (List Float)} (count : length boxes ≤ placeCount) where
-  pub start-worked : {front to : Front} {places new : List (List Float)} {pose : JudgedMatrix} → Judged boxes d front → length places ≡ placeCount
-      → pose ≡ JudgedMatrix·stored (m .«start_transform»)
+  pub start-worked : {front to : Front} {places new : List (List Float)} {pose : PaddedPose} → Judged boxes d front → length places ≡ placeCount
+      → pose ≡ PaddedPose·stored (Pad·start (m .«actually_animated») (m .pad0) (m .pad1)) (m .«start_transform»)
       → Takes true pose boxes places new front to
       → Worked (λ b. joined true (tested d b) (start m d b)) boxes places new to
   start-worked {front} {to} {places} {new} {pose} j h e t =
       let c = j .count in
-      subst (λ (x : JudgedMatrix). Worked (λ b. joined true (tested d b) (JudgedMatrix·encloseBounds x b)) boxes places new to) e
+      subst (λ (x : PaddedPose). Worked (λ b. joined true (tested d b) (PaddedPose·encloseBounds x b)) boxes places new to) e
       (take-worked (judged-front places j) (t c (omega (arith, c, count)) h) refl (λ i l. refl))
 
-  pub end-worked : {f : Bounds3f → BoundsAnswer} {from to : Front} {first old new : List (List Float)} {pose : JudgedMatrix}
+  pub end-worked : {f : Bounds3f → BoundsAnswer} {from to : Front} {first old new : List (List Float)} {pose : PaddedPose}
       → Worked f boxes first old from → length first ≡ placeCount
-      → pose ≡ JudgedMatrix·stored (m .«end_transform»)
+      → pose ≡ PaddedPose·stored (m .pad1) (m .«end_transform»)
       → Takes false pose boxes old new from to
       → Worked (λ b. joined false (f b) (end m d b)) boxes first new to
   end-worked {f} {from} {to} {first} {old} {new} {pose} w h e t =
       let c = w .reached .count in
-      subst (λ (x : JudgedMatrix). Worked (λ b. joined false (f b) (JudgedMatrix·encloseBounds x b)) boxes first new to) e
+      subst (λ (x : PaddedPose). Worked (λ b. joined false (f b) (PaddedPose·encloseBounds x b)) boxes first new to) e
       (take-worked (w .reached) (t c (omega (arith, c, count)) (w .size ∙ h)) (w .size) (w .behind))

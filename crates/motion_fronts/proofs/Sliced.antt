@@ -12,12 +12,11 @@ use Rattle.transform.specs.declared.BoundsAnswer.{BoundsAnswer}
 use Rattle.bounds_query.specs.Query.{BoundsAnswer·unionBounds}
 use Rattle.unit_interval.specs.Unit.{slice}
 use Rattle.pose_steps.specs.declared.PoseConstants.{PoseConstants}
-use Rattle.pose_steps.specs.declared.JudgedMatrix.{JudgedMatrix}
-use Rattle.pose_steps.specs.Enclose.{Pose·encloseMatrix}
+use Rattle.motion_piece.specs.declared.PaddedPose.{PaddedPose}
 use Rattle.animated_transform.specs.declared.AnimatedTransform.{AnimatedTransform}
 use Rattle.motion_point.specs.TransformPoint.{AnimatedTransform·constants}
 use Rattle.motion_cover.specs.Cover.{unionSlices}
-use Rattle.motion_piece.specs.Piece.{JudgedMatrix·encloseBounds}
+use Rattle.motion_piece.specs.Piece.{PaddedPose·encloseBounds, PaddedPose·over}
 use Rattle.motion_piece.proofs.Piece.{piece-composition}
 use Rattle.box_front.specs.declared.Front.{Front}
 use Rattle.box_front.specs.Front.{placeCount, Takes}
@@ -32,13 +31,13 @@ module _ (m : AnimatedTransform) (a : PoseConstants) (boxes : List (List Float))
   unfolding unionSlices
   sliced-first = record { worked = λ answer h f. record { size = refl; behind = λ i l. refl; reached = f } }
 
-  pub sliced-next : {k : ℕ} {new next : List (List Float)} {to then : Front} {pose : JudgedMatrix} → Sliced k new to → length boxes ≤ placeCount
-      → pose ≡ Pose·encloseMatrix a (m .s0) (m .s1) (slice d k)
+  pub sliced-next : {k : ℕ} {new next : List (List Float)} {to then : Front} {pose : PaddedPose} → Sliced k new to → length boxes ≤ placeCount
+      → pose ≡ PaddedPose·over a (m .s0) (m .s1) (m .pad0) (m .pad1) (slice d k)
       → Takes false pose boxes new next to then → Sliced (k + 1) next then
   sliced-next {k} {new} {next} {to} {then} {pose} s l e t = record { worked = λ answer h f. go answer h (s .worked answer h f) }
     where
       one-more : (answer : Bounds3f → BoundsAnswer) (b : Bounds3f)
-          → BoundsAnswer·unionBounds (unionSlices m a b d (answer b) k) (JudgedMatrix·encloseBounds pose b) ≡ unionSlices m a b d (answer b) (k + 1)
+          → BoundsAnswer·unionBounds (unionSlices m a b d (answer b) k) (PaddedPose·encloseBounds pose b) ≡ unionSlices m a b d (answer b) (k + 1)
       one-more answer b = unfold unionSlices in rw (add-one, e, piece-composition m a (slice d k) b)
 
       go : (answer : Bounds3f → BoundsAnswer) → length old ≡ placeCount → Worked (λ b. unionSlices m a b d (answer b) k) boxes old new to

@@ -1,4 +1,4 @@
-// The covers of many boxes over one move: each pose is enclosed once and taken over all boxes in front.
+// The covers of many boxes over one move: each pose is enclosed once, with its pad, and taken over all boxes in front.
 use animated_transform::AnimatedTransform;
 use box_front::Front;
 use interval::Interval;
@@ -43,7 +43,7 @@ fn take_slices(
     let mut reached = front;
     let mut k = 0u64;
     while k < slices {
-        let pose = motion_piece::pose_enclosure(a, m.s0, m.s1, slice(d, k));
+        let pose = motion_piece::padded_enclosure(a, m.s0, m.s1, m.pad0, m.pad1, slice(d, k));
         let next = box_front::take_pose(false, pose, boxes, reached, places);
         reached = next;
         k += 1;
@@ -71,12 +71,13 @@ pub fn covers(
     if front.count == 0 {
         return front;
     }
-    let start = motion_piece::stored_enclosure(m.start_transform);
+    let pad = motion_pad::start_pad(m.actually_animated, m.pad0, m.pad1);
+    let start = motion_piece::stored_enclosure(pad, m.start_transform);
     let started = box_front::take_pose(true, start, boxes, front, places);
     if !m.actually_animated {
         return started;
     }
-    let end = motion_piece::stored_enclosure(m.end_transform);
+    let end = motion_piece::stored_enclosure(m.pad1, m.end_transform);
     let ended = box_front::take_pose(false, end, boxes, started, places);
     take_slices(m, boxes, depth, ended, places)
 }

@@ -28,7 +28,7 @@ at-most-greatest (n ∷ ns) (suc k) =
     let e : getD (n ∷ ns) (suc k) 0 ≡ getD ns k 0 = refl in
     omega (arith, g, e, at-most-greatest ns k)
 
-pub rows-below : (k : ℕ) → getD partRows k 0 < 44
+pub rows-below : (k : ℕ) → getD partRows k 0 < 45
 unfolding greatest
 rows-below k =
     let g : greatest partRows ≡ 42 = refl in

@@ -1,4 +1,4 @@
--- The parts of a move that is kept as 44 rows: `partsPieces`, their pieces of text. Rests on the pieces of `question_lines`.
+-- The parts of a move that is kept as 45 rows: `partsPieces`, their pieces of text. Rests on the pieces of `question_lines`.
 use Prim.Native.Nat.{ℕ}
 use mathlib.Core.Bool.{cond, _||_}
 use mathlib.Core.List.{List, [], _∷_, _++_, map}

@@ -1,7 +1,8 @@
-// A piece of a cover in two steps: the poses over any interval of dt as one judged matrix, and the box that such a matrix moves a box to. Many boxes then share
+// A piece of a cover in two steps: the poses over any interval of dt as one judged matrix with their pad, and the box that they move a box to. Many boxes then share
 // the first step. Nothing is asked of dt or of the constants: what isn't finite is refused.
 use bounds3::Bounds3f;
 use interval::Interval;
+use interval::Judged;
 use matrix4x4::Matrix4x4;
 use pose_steps::JudgedMatrix;
 use pose_steps::JudgedQuaternion;
@@ -10,7 +11,13 @@ use transform::BoundsAnswer;
 use transform::Transform;
 ghost use mathlib.Core.Path.{_≡_};
 ghost use Rattle.pose_steps.specs.Enclose.{Pose·encloseSlerp, Pose·encloseMatrix};
-ghost use Rattle.motion_piece.specs.Piece.{JudgedMatrix·encloseBounds, JudgedMatrix·stored};
+ghost use Rattle.motion_piece.specs.Piece.{PaddedPose·encloseBounds, PaddedPose·over, PaddedPose·stored};
+
+// Poses as one judged matrix, with their pad.
+pub struct PaddedPose {
+    pub matrix: JudgedMatrix,
+    pub pad: Judged,
+}
 
 // The rotation over an interval of dt, with m the refusal number met before; refused with 5 or 10. Accuracy: encloses, for an angle from 0 to a quarter turn and
 // dt from 0 to 1.
@@ -33,23 +40,44 @@ pub fn pose_enclosure(a: PoseConstants, s0: Matrix4x4, s1: Matrix4x4, dt: Interv
     pose::composition_enclosure(trans.vector, rotate, s0, s1, dt)
 }
 
-// A stored transform's matrix, with equal ends. Accuracy: exact.
-pub fn stored_enclosure(t: Transform) -> JudgedMatrix
-    ensures value { λ r. ⌜ r ≡ JudgedMatrix·stored t ⌝ }
+// The same with the pad over that interval. Accuracy: encloses, for an angle from 0 to a quarter turn and dt from 0 to 1.
+pub fn padded_enclosure(
+    a: PoseConstants,
+    s0: Matrix4x4,
+    s1: Matrix4x4,
+    pad0: f32,
+    pad1: f32,
+    dt: Interval,
+) -> PaddedPose
+    ensures value { λ r. ⌜ r ≡ PaddedPose·over a s0 s1 pad0 pad1 dt ⌝ }
 {
-    JudgedMatrix {
-        matrix: pose_point::matrix_point(t.m),
-        refusal: 0,
-    }
+    let matrix = pose_enclosure(a, s0, s1, dt);
+    let pad = motion_pad::pad_enclosure(pad0, pad1, dt);
+    PaddedPose { matrix, pad }
 }
 
-// The box that a judged matrix moves a box to; refused with the matrix's number, or with 5. Accuracy: encloses.
-pub fn box_enclosure(pose: JudgedMatrix, b: Bounds3f) -> BoundsAnswer
-    ensures value { λ r. ⌜ r ≡ JudgedMatrix·encloseBounds pose b ⌝ }
+// A stored transform's matrix and a pad, with equal ends. Accuracy: exact.
+pub fn stored_enclosure(own: f32, t: Transform) -> PaddedPose
+    ensures value { λ r. ⌜ r ≡ PaddedPose·stored own t ⌝ }
 {
-    motion_cover::from_enclosure(pose_point::transform_point_enclosure(
-        pose.refusal,
-        pose.matrix,
+    let entries = pose_point::matrix_point(t.m);
+    let pad = motion_pad::stored_pad(own);
+    let matrix = JudgedMatrix {
+        matrix: entries,
+        refusal: 0,
+    };
+    PaddedPose { matrix, pad }
+}
+
+// The box that a judged matrix moves a box to, grown by the high end of the pad; refused with the matrix's number, or with 5. Accuracy: encloses.
+pub fn box_enclosure(pose: PaddedPose, b: Bounds3f) -> BoundsAnswer
+    ensures value { λ r. ⌜ r ≡ PaddedPose·encloseBounds pose b ⌝ }
+{
+    let matrix = pose.matrix;
+    let moved = motion_cover::from_enclosure(pose_point::transform_point_enclosure(
+        matrix.refusal,
+        matrix.matrix,
         motion_cover::intervals(b),
-    ))
+    ));
+    motion_pad::grow(pose.pad, moved)
 }

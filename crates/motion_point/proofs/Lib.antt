@@ -1,3 +1,4 @@
 pub mod Built
 pub mod Query
 pub mod NonZero
+pub mod PadAt

@@ -1,3 +1,4 @@
 pub mod TransformPoint
+pub mod PadAt
 pub mod Answer
 pub mod Computing

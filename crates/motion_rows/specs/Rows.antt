@@ -1,6 +1,7 @@
--- A move as 44 rows of four floats, `AnimatedTransform·toRows`, and the move in 44 rows, `AnimatedTransform·fromRows`, for all rows. Definitions only.
+-- A move as 45 rows of four floats, `AnimatedTransform·toRows`, and the move in 45 rows, `AnimatedTransform·fromRows`, for all rows. Definitions only.
 -- The rows in order: the start's matrix and inverse, the end's matrix and inverse (0 to 15); the translations, each with its time (16, 17); the rotations (18, 19); the scale
--- matrices (20 to 27); c1 to c5 of x, of y and of z (28 to 42); the two yes or no, 1 for yes, with the dot product of the rotations and the angle between them (43).
+-- matrices (20 to 27); c1 to c5 of x, of y and of z (28 to 42); the two yes or no, 1 for yes, with the dot product of the rotations and the angle between them (43); the
+-- two pads, and +0 twice (44).
 use Prim.Native.Nat.{ℕ, _+_}
 use mathlib.Core.Bool.{Bool, cond}
 use mathlib.Core.List.{[], _∷_, _++_}
@@ -42,14 +43,17 @@ constantsRow m =
     let a = AnimatedTransform·constants m in
     flag (m .«actually_animated») ∷ flag (m .«has_rotation») ∷ a .«cos_theta» ∷ a .theta ∷ []
 
+abbrev pub padsRow : AnimatedTransform → Row
+padsRow m = m .pad0 ∷ m .pad1 ∷ positiveZero ∷ positiveZero ∷ []
+
 unfoldable pub fieldsRows : AnimatedTransform → Row → Rows
-fieldsRows m last =
+fieldsRows m constants =
     let c = m .coefficients in
     transformRows (m .«start_transform») ++ transformRows (m .«end_transform»)
     ++ (vectorRow (m .t0) (m .«start_time») ∷ vectorRow (m .t1) (m .«end_time») ∷ quaternionRow (m .r0) ∷ quaternionRow (m .r1) ∷ [])
     ++ Matrix4x4·toRows (m .s0) ++ Matrix4x4·toRows (m .s1)
     ++ derivativeRows (c .x) ++ derivativeRows (c .y) ++ derivativeRows (c .z)
-    ++ (last ∷ [])
+    ++ (constants ∷ padsRow m ∷ [])
 
 unfoldable pub AnimatedTransform·toRows : AnimatedTransform → Rows
 AnimatedTransform·toRows m = fieldsRows m (constantsRow m)
@@ -96,6 +100,8 @@ AnimatedTransform·fromRows rows =
       s0 = matrixAt rows 20;
       s1 = matrixAt rows 24;
       coefficients = coefficientsAt rows 28;
+      pad0 = at rows 44 0;
+      pad1 = at rows 44 1;
     }
 
 -- the constants of the pose between, which stand beside the move

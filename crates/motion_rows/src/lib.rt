@@ -1,4 +1,4 @@
-// A move as 44 rows of four floats, and back: the form in which a caller of the library keeps a built move, with the constants that a point query needs,
+// A move as 45 rows of four floats, and back: the form in which a caller of the library keeps a built move, with the constants that a point query needs,
 // computed once.
 use animated_transform::AnimatedTransform;
 use animated_transform::AnimatedTransformAnswer;
@@ -37,9 +37,9 @@ fn constants_row(m: AnimatedTransform) -> [f32; 4]
     ]
 }
 
-// The fields of a move, row by row, and a last row.
-fn fields_rows(m: AnimatedTransform, last: [f32; 4]) -> [[f32; 4]; 44]
-    ensures value { λ r. ⌜ r ≡ fieldsRows m last ⌝ }
+// The fields of a move, row by row, with the row of its constants before the last.
+fn fields_rows(m: AnimatedTransform, constants: [f32; 4]) -> [[f32; 4]; 45]
+    ensures value { λ r. ⌜ r ≡ fieldsRows m constants ⌝ }
 {
     let start = m.start_transform;
     let end = m.end_transform;
@@ -142,12 +142,13 @@ fn fields_rows(m: AnimatedTransform, last: [f32; 4]) -> [[f32; 4]; 44]
         [z3.kc, z3.kx, z3.ky, z3.kz],
         [z4.kc, z4.kx, z4.ky, z4.kz],
         [z5.kc, z5.kx, z5.ky, z5.kz],
-        last,
+        constants,
+        [m.pad0, m.pad1, 0.0, 0.0],
     ]
 }
 
 // The rows of a move and of its constants.
-fn to_rows(m: AnimatedTransform) -> [[f32; 4]; 44]
+fn to_rows(m: AnimatedTransform) -> [[f32; 4]; 45]
     ensures value { λ r. ⌜ r ≡ AnimatedTransform·toRows m ⌝ }
 {
     fields_rows(m, constants_row(m))
@@ -155,7 +156,7 @@ fn to_rows(m: AnimatedTransform) -> [[f32; 4]; 44]
 
 // Puts a built move into `out`, or after a refusal nothing, and gives the refusal's number, 0 for none.
 // Accuracy: exact but for the constants of the pose between, which are those of `motion_point`.
-pub fn put_motion(answer: AnimatedTransformAnswer, out: &mut [[f32; 4]; 44]) -> u8
+pub fn put_motion(answer: AnimatedTransformAnswer, out: &mut [[f32; 4]; 45]) -> u8
     ensures refusal { λ r. ⌜ r ≡ answer .refusal ⌝ }
     ensures left { λ _. ⌜ now (out .exit) ≡ AnimatedTransformAnswer·left answer (now (out .entry)) ⌝ }
 {
@@ -165,8 +166,8 @@ pub fn put_motion(answer: AnimatedTransformAnswer, out: &mut [[f32; 4]; 44]) -> 
     answer.refusal
 }
 
-fn vector_at(rows: &[[f32; 4]; 44], i: usize) -> Vector3f
-    requires { ⌜ i < 44 ⌝ }
+fn vector_at(rows: &[[f32; 4]; 45], i: usize) -> Vector3f
+    requires { ⌜ i < 45 ⌝ }
     ensures value { λ r. ⌜ r ≡ vectorAt (now (rows .entry)) i ⌝ }
 {
     let r = rows[i];
@@ -177,8 +178,8 @@ fn vector_at(rows: &[[f32; 4]; 44], i: usize) -> Vector3f
     }
 }
 
-fn quaternion_at(rows: &[[f32; 4]; 44], i: usize) -> Quaternion
-    requires { ⌜ i < 44 ⌝ }
+fn quaternion_at(rows: &[[f32; 4]; 45], i: usize) -> Quaternion
+    requires { ⌜ i < 45 ⌝ }
     ensures value { λ r. ⌜ r ≡ quaternionAt (now (rows .entry)) i ⌝ }
 {
     let r = rows[i];
@@ -190,8 +191,8 @@ fn quaternion_at(rows: &[[f32; 4]; 44], i: usize) -> Quaternion
     Quaternion { v, w: r[3] }
 }
 
-fn matrix_at(rows: &[[f32; 4]; 44], i: usize) -> Matrix4x4
-    requires { ⌜ i + 3 < 44 ⌝ }
+fn matrix_at(rows: &[[f32; 4]; 45], i: usize) -> Matrix4x4
+    requires { ⌜ i + 3 < 45 ⌝ }
     ensures value { λ r. ⌜ r ≡ matrixAt (now (rows .entry)) i ⌝ }
 {
     let r0 = rows[i];
@@ -201,8 +202,8 @@ fn matrix_at(rows: &[[f32; 4]; 44], i: usize) -> Matrix4x4
     Matrix4x4 { r0, r1, r2, r3 }
 }
 
-fn transform_at(rows: &[[f32; 4]; 44], i: usize) -> Transform
-    requires { ⌜ i + 7 < 44 ⌝ }
+fn transform_at(rows: &[[f32; 4]; 45], i: usize) -> Transform
+    requires { ⌜ i + 7 < 45 ⌝ }
     ensures value { λ r. ⌜ r ≡ transformAt (now (rows .entry)) i ⌝ }
 {
     let m = matrix_at(rows, i);
@@ -210,8 +211,8 @@ fn transform_at(rows: &[[f32; 4]; 44], i: usize) -> Transform
     Transform { m, m_inv }
 }
 
-fn term_at(rows: &[[f32; 4]; 44], i: usize) -> DerivativeTerm
-    requires { ⌜ i < 44 ⌝ }
+fn term_at(rows: &[[f32; 4]; 45], i: usize) -> DerivativeTerm
+    requires { ⌜ i < 45 ⌝ }
     ensures value { λ r. ⌜ r ≡ termAt (now (rows .entry)) i ⌝ }
 {
     let r = rows[i];
@@ -223,8 +224,8 @@ fn term_at(rows: &[[f32; 4]; 44], i: usize) -> DerivativeTerm
     }
 }
 
-fn derivative_at(rows: &[[f32; 4]; 44], i: usize) -> Derivative
-    requires { ⌜ i + 4 < 44 ⌝ }
+fn derivative_at(rows: &[[f32; 4]; 45], i: usize) -> Derivative
+    requires { ⌜ i + 4 < 45 ⌝ }
     ensures value { λ r. ⌜ r ≡ derivativeAt (now (rows .entry)) i ⌝ }
 {
     let c1 = term_at(rows, i);
@@ -235,8 +236,8 @@ fn derivative_at(rows: &[[f32; 4]; 44], i: usize) -> Derivative
     Derivative { c1, c2, c3, c4, c5 }
 }
 
-fn coefficients_at(rows: &[[f32; 4]; 44], i: usize) -> Coefficients
-    requires { ⌜ i + 14 < 44 ⌝ }
+fn coefficients_at(rows: &[[f32; 4]; 45], i: usize) -> Coefficients
+    requires { ⌜ i + 14 < 45 ⌝ }
     ensures value { λ r. ⌜ r ≡ coefficientsAt (now (rows .entry)) i ⌝ }
 {
     let x = derivative_at(rows, i);
@@ -246,12 +247,13 @@ fn coefficients_at(rows: &[[f32; 4]; 44], i: usize) -> Coefficients
 }
 
 // The move that its rows hold. Accuracy: exact.
-pub fn from_rows(rows: &[[f32; 4]; 44]) -> AnimatedTransform
+pub fn from_rows(rows: &[[f32; 4]; 45]) -> AnimatedTransform
     ensures value { λ r. ⌜ r ≡ AnimatedTransform·fromRows (now (rows .entry)) ⌝ }
 {
     let start = rows[16];
     let end = rows[17];
-    let last = rows[43];
+    let constants = rows[43];
+    let pads = rows[44];
     let start_transform = transform_at(rows, 0);
     let end_transform = transform_at(rows, 8);
     let t0 = vector_at(rows, 16);
@@ -266,8 +268,8 @@ pub fn from_rows(rows: &[[f32; 4]; 44]) -> AnimatedTransform
         end_transform,
         start_time: start[3],
         end_time: end[3],
-        actually_animated: last[0] == 1.0,
-        has_rotation: last[1] == 1.0,
+        actually_animated: constants[0] == 1.0,
+        has_rotation: constants[1] == 1.0,
         t0,
         t1,
         r0,
@@ -275,14 +277,16 @@ pub fn from_rows(rows: &[[f32; 4]; 44]) -> AnimatedTransform
         s0,
         s1,
         coefficients,
+        pad0: pads[0],
+        pad1: pads[1],
     }
 }
 
 // The constants of the pose between, which are kept beside the move.
-fn constants_from_rows(rows: &[[f32; 4]; 44]) -> PoseConstants
+fn constants_from_rows(rows: &[[f32; 4]; 45]) -> PoseConstants
     ensures value { λ r. ⌜ r ≡ PoseConstants·fromRows (now (rows .entry)) ⌝ }
 {
-    let last = rows[43];
+    let constants = rows[43];
     let t0 = vector_at(rows, 16);
     let t1 = vector_at(rows, 17);
     let r0 = quaternion_at(rows, 18);
@@ -292,20 +296,20 @@ fn constants_from_rows(rows: &[[f32; 4]; 44]) -> PoseConstants
         t1,
         r0,
         r1,
-        cos_theta: last[2],
-        theta: last[3],
+        cos_theta: constants[2],
+        theta: constants[3],
     }
 }
 
 // `motion_point::moved_point` of a kept move, which reads the rows that it needs and no others; refused with 5 where a finished value isn't finite.
 // Accuracy: each operation but sine and cosine is correctly rounded.
-pub fn moved_point(rows: &[[f32; 4]; 44], time: f32, p: Point3f) -> PointAnswer
+pub fn moved_point(rows: &[[f32; 4]; 45], time: f32, p: Point3f) -> PointAnswer
     ensures value { λ r. ⌜ r ≡ AnimatedTransform·movedPoint (AnimatedTransform·fromRows (now (rows .entry))) (PoseConstants·fromRows (now (rows .entry))) time p ⌝ }
 {
     let start = rows[16];
     let end = rows[17];
-    let last = rows[43];
-    if !(last[0] == 1.0) | (time <= start[3]) {
+    let constants = rows[43];
+    if !(constants[0] == 1.0) | (time <= start[3]) {
         return transform_at(rows, 0).transform_point(p);
     }
     if time >= end[3] {
@@ -321,7 +325,7 @@ pub fn moved_point(rows: &[[f32; 4]; 44], time: f32, p: Point3f) -> PointAnswer
 }
 
 // Where a point stands at a time of a kept move. Refused with 5 or 6. Accuracy: each operation but sine and cosine is correctly rounded.
-pub fn transform_point(rows: &[[f32; 4]; 44], time: f32, p: Point3f) -> PointAnswer
+pub fn transform_point(rows: &[[f32; 4]; 45], time: f32, p: Point3f) -> PointAnswer
     ensures value { λ r. ⌜ r ≡ Rows·transformPoint (now (rows .entry)) time p ⌝ }
 {
     if (time != time) | !p.is_finite() {

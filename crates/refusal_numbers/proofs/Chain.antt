@@ -12,7 +12,7 @@ use lib.Ieee.{lt}
 use lib.Ieee.Scale.{finite}
 use Rattle.float32.specs.Operators.{_⊖_}
 use Rattle.pose_pair.specs.declared.Pose.{Pose}
-use Rattle.pose_pair.specs.Pose.{Pose·isFinite, Pose·isAffine, timesRefusal}
+use Rattle.pose_pair.specs.Pose.{Pose·isFinite, Pose·isAffine, Pose·isPadded, timesRefusal}
 use Rattle.animated_transform.specs.declared.AnimatedTransformAnswer.{AnimatedTransformAnswer}
 use Rattle.animated_transform.specs.New.{AnimatedTransform·new}
 use Rattle.transform.specs.Answer.{OneOf}
@@ -24,7 +24,7 @@ use Rattle.refusal_numbers.proofs.Building.{building-number}
 
 -- ---- the numbers of building, 0 being none
 abbrev numbers : List ℕ
-numbers = 0 ∷ 1 ∷ 2 ∷ 3 ∷ 4 ∷ 5 ∷ 12 ∷ []
+numbers = 0 ∷ 1 ∷ 2 ∷ 3 ∷ 4 ∷ 5 ∷ 12 ∷ 16 ∷ []
 
 abbrev Number : ℕ → Type 0
 Number n = OneOf n numbers
@@ -42,15 +42,20 @@ map-each : {A : Type 0} (f : A → ℕ) (xs : List A) → ((x : A) → Number (f
 map-each f [] h = tt
 map-each f (x ∷ xs) h = (h x, map-each f xs h)
 
+twelve : Number 12
+twelve = inr (inr (inr (inr (inr (inr (inl refl))))))
+
+sixteen : Number 16
+sixteen = inr (inr (inr (inr (inr (inr (inr (inl refl)))))))
+
 pose-number : (k : ℕ) (p : Pose) → Number (Pose·number k p)
 unfolding Pose·number
 pose-number k p =
     let finite = chosen (Pose·isFinite p) 0 1 (inl refl) (inr (inl refl)) in
     let affine = chosen (Pose·isAffine p) 0 2 (inl refl) (inr (inr (inl refl))) in
-    chosen (eqb k 1) (cond (Pose·isFinite p) 0 1) _ finite (chosen (eqb k 2) (cond (Pose·isAffine p) 0 2) 0 affine (inl refl))
-
-twelve : Number 12
-twelve = inr (inr (inr (inr (inr (inr (inl refl))))))
+    let padded = chosen (Pose·isPadded p) 0 16 (inl refl) sixteen in
+    chosen (eqb k 1) (cond (Pose·isFinite p) 0 1) _ finite
+    (chosen (eqb k 2) (cond (Pose·isAffine p) 0 2) _ affine (chosen (eqb k 16) (cond (Pose·isPadded p) 0 16) 0 padded (inl refl)))
 
 pair-number : (k : ℕ) (pair : Pose × Pose) → Number (Pair·number k pair)
 unfolding Pair·number timesRefusal
@@ -68,15 +73,20 @@ checks-number poses =
     let pose-stage : (k : ℕ) → Number (stage (Pose·number k) poses) = λ k. stage-number (Pose·number k) poses (pose-number k) in
     let pair-stage : (k : ℕ) → Number (stage (Pair·number k) (neighbours poses)) = λ k. stage-number (Pair·number k) (neighbours poses) (pair-number k) in
     let count = chosen (ltb (length poses) minPoses || ltb maxPoses (length poses)) 12 0 twelve (inl refl) in
-    first-number (chainStages poses) (pose-stage 1, (pose-stage 2, (count, (pair-stage 12, (pair-stage 3, tt)))))
+    first-number (chainStages poses) (pose-stage 1, (pose-stage 2, (pose-stage 16, (count, (pair-stage 12, (pair-stage 3, tt))))))
 
 pub more : (n : ℕ) (ns ks : List ℕ) → OneOf n ns → OneOf n (ns ++ ks)
 more n [] ks h = absurd h
 more n (k ∷ ns) ks (inl e) = inl e
 more n (k ∷ ns) ks (inr h) = inr (more n ns ks h)
 
+inserted : (n : ℕ) (ns : List ℕ) (k : ℕ) (ks : List ℕ) → OneOf n (ns ++ ks) → OneOf n (ns ++ (k ∷ ks))
+inserted n [] k ks h = inr h
+inserted n (m ∷ ns) k ks (inl e) = inl e
+inserted n (m ∷ ns) k ks (inr h) = inr (inserted n ns k ks h)
+
 new-number : (p q : Pose) → Number (AnimatedTransform·new p q .refusal)
-new-number p q = more (AnimatedTransform·new p q .refusal) (0 ∷ 1 ∷ 2 ∷ 3 ∷ 4 ∷ 5 ∷ []) (12 ∷ []) (building-number p q)
+new-number p q = inserted (AnimatedTransform·new p q .refusal) (0 ∷ 1 ∷ 2 ∷ 3 ∷ 4 ∷ 5 ∷ []) 12 (16 ∷ []) (building-number p q)
 
 -- A number that was tested.
 tested : (n : ℕ) (a : ChainAnswer) → Number n → ChainAnswer·Numbered numbers a → ChainAnswer·Numbered numbers (cond (eqb n 0) a (refused n))

@@ -7,17 +7,20 @@ use Rattle.box_set.proofs.Contains.{chain-set-numbered}
 use Rattle.chain_covers.proofs.Number.{kept-set-numbered}
 use Rattle.refusal_numbers.specs.Chain.{EveryChainAnswer}
 use Rattle.refusal_numbers.proofs.Chain.{building-numbered}
+use Rattle.refusal_numbers.proofs.Pad.{chain-pad-numbered, kept-pad-numbered}
 use Rattle.refusal_numbers.proofs.KeptChain.{rows-point-numbered, rows-points-numbered, rows-cover-numbered}
 
 pub every-chain-answer : EveryChainAnswer
 every-chain-answer = record {
   building = building-numbered;
   point = chain-point-numbered;
+  pad = chain-pad-numbered;
   points = λ c times p places. times-numbers c times p places .query;
   cover = chain-cover-numbered;
   proper = λ built b depth. chain-cover-proper b depth built;
   set = chain-set-numbered;
   rows-point = rows-point-numbered;
+  rows-pad = kept-pad-numbered;
   rows-points = rows-points-numbered;
   rows-cover = rows-cover-numbered;
   rows-set = kept-set-numbered;

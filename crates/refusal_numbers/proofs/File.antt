@@ -1,4 +1,4 @@
--- The numbers of the answer to a file: `file-numbered`. 11 is reading's (`read-refusals`); 1, 12, 3, 4 and 5 are building's, which has no 2, since a file's
+-- The numbers of the answer to a file: `file-numbered`. 11 is reading's (`read-refusals`); 1, 16, 12, 3, 4 and 5 are building's, which has no 2, since a file's
 -- bottom rows are right (`chain-affine`); depth 10 is below the greatest, so that the cover gives no 8.
 use Prim.Native.Nat.{ℕ}
 use mathlib.Core.Path.{_≡_, refl, ap}
@@ -22,7 +22,7 @@ use Rattle.transform.specs.Answer.{OneOf, BoundsAnswer·refusal}
 use Rattle.bounds_query.specs.Query.{Bounds3f·isOrdered, Bounds3f·refusal, BoundsAnswer·unionBounds, maxDepth, coverRefusal}
 use Rattle.pose_steps.specs.Promise.{SliceNumber}
 use Rattle.pose_pair.specs.declared.Pose.{Pose}
-use Rattle.pose_pair.specs.Pose.{Pose·isFinite, Pose·isAffine, timesRefusal}
+use Rattle.pose_pair.specs.Pose.{Pose·isFinite, Pose·isAffine, Pose·isPadded, timesRefusal}
 use Rattle.animated_transform.specs.declared.AnimatedTransform.{AnimatedTransform}
 use Rattle.animated_transform.specs.declared.AnimatedTransformAnswer.{AnimatedTransformAnswer}
 use Rattle.animated_transform.specs.New.{AnimatedTransform·new}
@@ -43,7 +43,7 @@ use Rattle.motion_answer.proofs.Contains.{file-answered}
 use Rattle.refusal_numbers.proofs.Chain.{building-numbered}
 
 abbrev numbers : List ℕ
-numbers = 0 ∷ 1 ∷ 3 ∷ 4 ∷ 5 ∷ 6 ∷ 7 ∷ 10 ∷ 11 ∷ 12 ∷ []
+numbers = 0 ∷ 1 ∷ 3 ∷ 4 ∷ 5 ∷ 6 ∷ 7 ∷ 10 ∷ 11 ∷ 12 ∷ 16 ∷ []
 
 abbrev Number : ℕ → Type 0
 Number n = OneOf n numbers
@@ -98,6 +98,10 @@ finite-not : (p : Pose) → Not2 (Pose·number 1 p)
 unfolding Pose·number
 finite-not p = chosen (Pose·isFinite p) 0 1 zero-not (λ e. absurd (omega (arith, e)))
 
+padded-not : (p : Pose) → Not2 (Pose·number 16 p)
+unfolding Pose·number
+padded-not p = chosen (Pose·isPadded p) 0 16 zero-not (λ e. absurd (omega (arith, e)))
+
 twelve-not : Not2 12
 twelve-not e = absurd (omega (arith, e))
 
@@ -118,7 +122,8 @@ checks-not poses h =
     let times = stage-not (Pair·number 3) pairs (all pairs times-not) in
     let finite = stage-not (Pose·number 1) poses (all poses finite-not) in
     let affine = stage-not (Pose·number 2) poses (affine-not poses h) in
-    first-not (chainStages poses) (finite, (affine, (count, (rise, (times, tt)))))
+    let padded = stage-not (Pose·number 16) poses (all poses padded-not) in
+    first-not (chainStages poses) (finite, (affine, (padded, (count, (rise, (times, tt))))))
 
 moves-not : (poses : List Pose) → Each (λ p. Pose·isAffine p ≡ true) poses
     → Each (λ a. Not2 (a .refusal)) (map (λ (p, q). AnimatedTransform·new p q) (neighbours poses))
@@ -143,7 +148,7 @@ pub chain-affine : (poses : List Pose) → T (every Pose·isAffine poses) → No
 unfolding Chain·new
 chain-affine poses h = let each = affine-each poses h in tested-not (chainRefusal poses) _ (checks-not poses each) (from-moves-not _ (moves-not poses each))
 
-building-number : {n : ℕ} → OneOf n (0 ∷ 1 ∷ 2 ∷ 3 ∷ 4 ∷ 5 ∷ 12 ∷ []) → Not2 n → Number n
+building-number : {n : ℕ} → OneOf n (0 ∷ 1 ∷ 2 ∷ 3 ∷ 4 ∷ 5 ∷ 12 ∷ 16 ∷ []) → Not2 n → Number n
 building-number (inl e) h = inl e
 building-number (inr (inl e)) h = inr (inl e)
 building-number (inr (inr (inl e))) h = absurd (h e)
@@ -151,6 +156,7 @@ building-number (inr (inr (inr (inl e)))) h = inr (inr (inl e))
 building-number (inr (inr (inr (inr (inl e))))) h = inr (inr (inr (inl e)))
 building-number (inr (inr (inr (inr (inr (inl e)))))) h = inr (inr (inr (inr (inl e))))
 building-number (inr (inr (inr (inr (inr (inr (inl e))))))) h = inr (inr (inr (inr (inr (inr (inr (inr (inr (inl e)))))))))
+building-number (inr (inr (inr (inr (inr (inr (inr (inl e)))))))) h = inr (inr (inr (inr (inr (inr (inr (inr (inr (inr (inl e))))))))))
 
 -- ---- the cover at depth 10
 abbrev CoverNumber : BoundsAnswer → Type 0

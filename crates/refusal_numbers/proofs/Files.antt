@@ -71,12 +71,12 @@ write-number rows b room = go (eqb (Moves·writeRefusal rows b room) 0)
 
 -- ---- a file
 abbrev Printed : List ℕ → Type 0
-Printed = Rewritten·Numbered (1 ∷ 3 ∷ 4 ∷ 5 ∷ 6 ∷ 7 ∷ 11 ∷ 12 ∷ [])
+Printed = Rewritten·Numbered (1 ∷ 3 ∷ 4 ∷ 5 ∷ 6 ∷ 7 ∷ 11 ∷ 12 ∷ 16 ∷ [])
 
 abbrev FileNumber : ℕ → Type 0
-FileNumber n = OneOf n (1 ∷ 3 ∷ 4 ∷ 5 ∷ 6 ∷ 7 ∷ 11 ∷ 12 ∷ [])
+FileNumber n = OneOf n (1 ∷ 3 ∷ 4 ∷ 5 ∷ 6 ∷ 7 ∷ 11 ∷ 12 ∷ 16 ∷ [])
 
-of-building : {n : ℕ} → OneOf n (0 ∷ 1 ∷ 2 ∷ 3 ∷ 4 ∷ 5 ∷ 12 ∷ []) → (n ≡ 0 → ⊥) → Not2 n → FileNumber n
+of-building : {n : ℕ} → OneOf n (0 ∷ 1 ∷ 2 ∷ 3 ∷ 4 ∷ 5 ∷ 12 ∷ 16 ∷ []) → (n ≡ 0 → ⊥) → Not2 n → FileNumber n
 of-building (inl e) z t = absurd (z e)
 of-building (inr (inl e)) z t = inl e
 of-building (inr (inr (inl e))) z t = absurd (t e)
@@ -84,6 +84,7 @@ of-building (inr (inr (inr (inl e)))) z t = inr (inl e)
 of-building (inr (inr (inr (inr (inl e))))) z t = inr (inr (inl e))
 of-building (inr (inr (inr (inr (inr (inl e)))))) z t = inr (inr (inr (inl e)))
 of-building (inr (inr (inr (inr (inr (inr (inl e))))))) z t = inr (inr (inr (inr (inr (inr (inr (inl e)))))))
+of-building (inr (inr (inr (inr (inr (inr (inr (inl e)))))))) z t = inr (inr (inr (inr (inr (inr (inr (inr (inl e))))))))
 
 of-box : {n : ℕ} → OneOf n (0 ∷ 6 ∷ 7 ∷ []) → (n ≡ 0 → ⊥) → FileNumber n
 of-box (inl e) z = absurd (z e)

@@ -1,6 +1,7 @@
 mod NonZero
 mod Building
 mod File
+mod Pad
 pub mod Numbers
 pub mod Chain
 pub mod KeptChain

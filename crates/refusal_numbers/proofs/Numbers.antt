@@ -27,6 +27,7 @@ use Rattle.refusal_numbers.specs.Numbers.{EveryAnswer}
 use Rattle.refusal_numbers.proofs.Building.{building-number}
 use Rattle.refusal_numbers.proofs.NonZero.{counted-numbered, point-motion-nonzero, motion-nonzero}
 use Rattle.refusal_numbers.proofs.File.{file-numbered}
+use Rattle.refusal_numbers.proofs.Pad.{pad-numbered, rows-pad-numbered}
 
 interpolate-number : {n : ℕ} → InterpolationNumber n → OneOf n (0 ∷ 4 ∷ 5 ∷ 6 ∷ [])
 interpolate-number (inl e) = inl e
@@ -50,6 +51,8 @@ every-answer = record {
   building = λ start end. record { number = building-number start end; refused = new-refused start end };
   point = transform-point-numbered;
   rows-point = λ rows time p. point-numbered (Rows·transformPoint rows time p) (rows-point-nonzero rows time p) (rows-point-number rows time p);
+  pad = pad-numbered;
+  rows-pad = rows-pad-numbered;
   interpolate = λ m time. record { number = interpolate-number (interpolate-refusal m time); refused = interpolate-refused m time };
   point-motion = λ m p. counted-numbered _ _ (point-motion-nonzero m p) (bound-point-motion-numbers m p .number);
   motion = λ m b. counted-numbered _ _ (motion-nonzero m b) (motion-bounds-numbers m b .number);

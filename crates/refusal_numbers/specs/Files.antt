@@ -20,4 +20,4 @@ pub record EveryFileAnswer : Type 0 where
   -- no moves are 12
   pub writing : (rows : List Rows) (b : Bounds3f) (room : ℕ) → OneOf (TextAnswer·refusal (Moves·write rows b room)) (0 ∷ 6 ∷ 7 ∷ 12 ∷ 15 ∷ [])
   -- a file's bottom rows are 0 0 0 1, so that 2 is not among its numbers
-  pub rewriting : (bytes : List ℕ) → Rewritten·Numbered (1 ∷ 3 ∷ 4 ∷ 5 ∷ 6 ∷ 7 ∷ 11 ∷ 12 ∷ []) bytes
+  pub rewriting : (bytes : List ℕ) → Rewritten·Numbered (1 ∷ 3 ∷ 4 ∷ 5 ∷ 6 ∷ 7 ∷ 11 ∷ 12 ∷ 16 ∷ []) bytes

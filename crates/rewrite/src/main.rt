@@ -3,7 +3,7 @@
 fn main() {
     let mut input = [0u8; 65537];
     let read = io::read_full(libc::STDIN_FILENO, &mut input);
-    let mut out = [0u8; 3869];
+    let mut out = [0u8; 4161];
     let written = file_rewrite::rewrite(&input[..read], &mut out);
     io::write_all(libc::STDOUT_FILENO, &out[..written]);
 }

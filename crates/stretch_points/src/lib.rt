@@ -1,4 +1,4 @@
-// A stretch of times asked of its own move, which is kept as 44 rows: one pass for the first refusal, and one that puts the points into the stretch's part of the answers.
+// A stretch of times asked of its own move, which is kept as 45 rows: one pass for the first refusal, and one that puts the points into the stretch's part of the answers.
 use bounds3::Point3f;
 use transform::PointAnswer;
 ghost use Prim.Native.Nat.{_+_, _*_, _<_};
@@ -12,7 +12,7 @@ ghost use Rattle.motion_chain.specs.Times.{placesPerTime, PointsAnswer·refusal
 ghost use Rattle.stretch_points.specs.Points.{Rows·transformPoints, floatsAt, Rows·pointsPut};
 
 // The number of the first time at which a kept move refuses a point; 0 for none. Accuracy: exact.
-pub fn first_refusal(motion: &[[f32; 4]; 44], times: &[f32], p: Point3f) -> u8
+pub fn first_refusal(motion: &[[f32; 4]; 45], times: &[f32], p: Point3f) -> u8
     ensures value { λ r. ⌜ r ≡ PointsAnswer·refusal (Rows·transformPoints (now (motion .entry)) (now (times .entry)) p) ⌝ }
 {
     let n = times.len();
@@ -54,7 +54,7 @@ fn put_three(out: &mut [f32], n: usize, q: Point3f)
     out[n + 2] = q.z;
 }
 
-fn fill_stretch(motion: &[[f32; 4]; 44], times: &[f32], p: Point3f, answers: &mut [f32])
+fn fill_stretch(motion: &[[f32; 4]; 45], times: &[f32], p: Point3f, answers: &mut [f32])
     requires { ⌜ length (now answers) ≡ placesPerTime * length (now times) ⌝ }
     ensures left { λ _. ⌜ now (answers .exit) ≡ floatsAt (λ t. Rows·transformPoint (now (motion .entry)) t p) (now (times .entry)) ⌝ }
 {
@@ -70,7 +70,7 @@ fn fill_stretch(motion: &[[f32; 4]; 44], times: &[f32], p: Point3f, answers: &mu
 
 // Where a point stands at each time of a kept move, put into answers of three places a time, the origin where a time is refused. Other answers stay as they came.
 // Accuracy: each operation but sine and cosine is correctly rounded.
-pub fn put_points(motion: &[[f32; 4]; 44], times: &[f32], p: Point3f, answers: &mut [f32])
+pub fn put_points(motion: &[[f32; 4]; 45], times: &[f32], p: Point3f, answers: &mut [f32])
     ensures left { λ _. ⌜ now (answers .exit) ≡ Rows·pointsPut (now (motion .entry)) (now (times .entry)) p (now (answers .entry)) ⌝ }
 {
     if answers.len() == 3 * times.len() {

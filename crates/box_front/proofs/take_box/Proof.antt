@@ -2,7 +2,7 @@
 use mathlib.Core.Path.{ap, _∙_}
 use Rattle.transform.specs.declared.BoundsAnswer.the-variants.{Bounds}
 use Rattle.bounds_query.specs.Query.{BoundsAnswer·unionBounds}
-use Rattle.motion_piece.specs.Piece.{JudgedMatrix·encloseBounds}
+use Rattle.motion_piece.specs.Piece.{PaddedPose·encloseBounds}
 use Rattle.box_front.proofs.Taken.{put-first, put-joined}
 use borrow.Author.Needs.{needs}
 use Rattle.box_front.proofs.take_box.Statement.{statement}
@@ -27,7 +27,7 @@ returns : tie.Need-returns
 returns c =
     let moved = c .before .before .before in
     let a = moved .before .before .before .args in
-    let e = moved .box-enclosure .ensures ∙ ap (JudgedMatrix·encloseBounds (a .pose)) (moved .before .bounds .ensures) in
+    let e = moved .box-enclosure .ensures ∙ ap (PaddedPose·encloseBounds (a .pose)) (moved .before .bounds .ensures) in
     put-first (a .first) _ _ _ _ _ (c .before .before .if1 .taken) e (c .put-bounds .ensures .0) (c .put-bounds .ensures .1)
 
 bounds-requires-2 : tie.Need-bounds-requires-2
@@ -43,7 +43,7 @@ returns-2 : tie.Need-returns-2
 returns-2 c =
     let moved = c .before .before .before .before .before .before in
     let a = moved .before .before .before .args in
-    let e = moved .box-enclosure .ensures ∙ ap (JudgedMatrix·encloseBounds (a .pose)) (moved .before .bounds .ensures) in
+    let e = moved .box-enclosure .ensures ∙ ap (PaddedPose·encloseBounds (a .pose)) (moved .before .bounds .ensures) in
     let old = c .before .before .before .bounds2 .ensures in
     let u = c .before .before .union-bounds .ensures ∙ ap (λ x. BoundsAnswer·unionBounds (Bounds x) (moved .box-enclosure .result)) old in
     put-joined (a .first) _ _ _ _ _ _ (c .before .before .before .before .before .if1 .left) e u (c .put-bounds2 .ensures .0) (c .put-bounds2 .ensures .1)

@@ -27,9 +27,24 @@ returns-4 : tie.Need-returns-4
 unfolding Pose·number
 returns-4 c = rw (ne-eqb _ 1 (c .before .before .before .if1 .left), eq-eqb _ 2 (c .before .before .if3 .taken), ← c .before .is-affine .ensures, c .if4 .left)
 
+is-padded-requires : tie.Need-is-padded-requires
+is-padded-requires c κs = search needs
+
 returns-5 : tie.Need-returns-5
 unfolding Pose·number
-returns-5 c = rw (ne-eqb _ 1 (c .before .if1 .left), ne-eqb _ 2 (c .if3 .left))
+returns-5 c =
+    let k = c .before .before in
+    rw (ne-eqb _ 1 (k .before .before .if1 .left), ne-eqb _ 2 (k .before .if3 .left), eq-eqb _ 16 (k .if5 .taken), ← c .before .is-padded .ensures, c .if6 .taken)
+
+returns-6 : tie.Need-returns-6
+unfolding Pose·number
+returns-6 c =
+    let k = c .before .before in
+    rw (ne-eqb _ 1 (k .before .before .if1 .left), ne-eqb _ 2 (k .before .if3 .left), eq-eqb _ 16 (k .if5 .taken), ← c .before .is-padded .ensures, c .if6 .left)
+
+returns-7 : tie.Need-returns-7
+unfolding Pose·number
+returns-7 c = rw (ne-eqb _ 1 (c .before .before .if1 .left), ne-eqb _ 2 (c .before .if3 .left), ne-eqb _ 16 (c .if5 .left))
 
 pub pose-number-spec : {M : Type 1} → statement M
 pose-number-spec =
@@ -41,4 +56,7 @@ pose-number-spec =
     is-affine-requires
     returns-3
     returns-4
-    returns-5)
+    is-padded-requires
+    returns-5
+    returns-6
+    returns-7)

@@ -13,6 +13,9 @@ pose-stage-requires c κs = search needs
 pose-stage-requires-2 : tie.Need-pose-stage-requires-2
 pose-stage-requires-2 c κs = search needs
 
+pose-stage-requires-3 : tie.Need-pose-stage-requires-3
+pose-stage-requires-3 c κs = search needs
+
 count-number-requires : tie.Need-count-number-requires
 count-number-requires c κs = search needs
 
@@ -34,21 +37,26 @@ first-refusal-requires-3 c κs = search needs
 first-refusal-requires-4 : tie.Need-first-refusal-requires-4
 first-refusal-requires-4 c κs = search needs
 
+first-refusal-requires-5 : tie.Need-first-refusal-requires-5
+first-refusal-requires-5 c κs = search needs
+
 returns : tie.Need-returns
 unfolding chainRefusal firstNumber
 returns c =
-    let times = c .before .before .before .before in
-    let a = times .before .before .before .before .before .args in
+    let times = c .before .before .before .before .before in
+    let a = times .before .before .before .before .before .before .args in
     rw (
-      c .first-refusal4 .ensures,
-      c .before .first-refusal3 .ensures,
-      c .before .before .first-refusal2 .ensures,
-      c .before .before .before .first-refusal .ensures,
+      c .first-refusal5 .ensures,
+      c .before .first-refusal4 .ensures,
+      c .before .before .first-refusal3 .ensures,
+      c .before .before .before .first-refusal2 .ensures,
+      c .before .before .before .before .first-refusal .ensures,
       times .pair-stage2 .ensures,
       times .before .pair-stage .ensures,
       times .before .before .count-number .ensures,
-      times .before .before .before .pose-stage2 .ensures,
-      times .before .before .before .before .pose-stage .ensures,
+      times .before .before .before .pose-stage3 .ensures,
+      times .before .before .before .before .pose-stage2 .ensures,
+      times .before .before .before .before .before .pose-stage .ensures,
       poses-length (a .poses .now),
       first-only (stage (Pair·number 3) (neighbours (Poses·ofLists (a .poses .now)))),
     )
@@ -59,6 +67,7 @@ refusal-spec =
     (tie.spec
     pose-stage-requires
     pose-stage-requires-2
+    pose-stage-requires-3
     count-number-requires
     pair-stage-requires
     pair-stage-requires-2
@@ -66,4 +75,5 @@ refusal-spec =
     first-refusal-requires-2
     first-refusal-requires-3
     first-refusal-requires-4
+    first-refusal-requires-5
     returns)

@@ -19,6 +19,12 @@ element-copy-out-pose-values-2 c = search needs
 element-copy-out-pose-values-3 : tie.Need-element-copy-out-pose-values-3
 element-copy-out-pose-values-3 c = search needs
 
+index-1-pose-values-2 : tie.Need-index-1-pose-values-2
+index-1-pose-values-2 c = search needs
+
+index-2-pose-values-2 : tie.Need-index-2-pose-values-2
+index-2-pose-values-2 c = search needs
+
 pose-values-requires : tie.Need-pose-values-requires
 pose-values-requires c κs = search needs
 
@@ -35,5 +41,7 @@ end-values-spec =
     element-copy-out-pose-values
     element-copy-out-pose-values-2
     element-copy-out-pose-values-3
+    index-1-pose-values-2
+    index-2-pose-values-2
     pose-values-requires
     returns)

@@ -11,7 +11,7 @@ use Rattle.chain_text.proofs.put_ends.Statement.{statement}
 use Rattle.chain_text.proofs.put_ends.Tie as tie
 
 abbrev Inv-loop : tie.InvT-loop
-Inv-loop moves out₀ i₀ out i = (i ≤ length moves) × (length out ≡ length out₀) × (out ≡ paste out₀ 170 (endsText moves) (117 * i))
+Inv-loop moves out₀ i₀ out i = (i ≤ length moves) × (length out ≡ length out₀) × (out ≡ paste out₀ 183 (endsText moves) (126 * i))
 
 abbrev μ-loop : tie.MeasureT-loop
 μ-loop moves out₀ i₀ out i = length moves - i
@@ -19,7 +19,7 @@ abbrev μ-loop : tie.MeasureT-loop
 loop-holds : tie.Need-loop-holds Inv-loop μ-loop
 loop-holds c =
     let a = c .before .args in
-    (omega arith, refl, paste-zero (a .out .now) 170 (endsText (a .moves .now)))
+    (omega arith, refl, paste-zero (a .out .now) 183 (endsText (a .moves .now)))
 
 mul-end-values : tie.Need-mul-end-values Inv-loop μ-loop
 mul-end-values c = search needs

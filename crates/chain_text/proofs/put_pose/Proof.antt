@@ -30,9 +30,9 @@ same-length c = search needs
 returns : tie.Need-returns
 returns c =
     let a = c .before .before .before .before .before .before .args in
-    let thirteen : length (a .t1) ≡ 13 = search needs in
+    let fourteen : length (a .t1) ≡ 14 = search needs in
     rw (c .before .before .write-values .ensures .1)
-    (part-front (valuesText (a .t1)) (a .out .now) (a .at) 117 (omega (arith, length-values (a .t1), thirteen)) (c .before .before .before .before .before .before .pre))
+    (part-front (valuesText (a .t1)) (a .out .now) (a .at) 126 (omega (arith, length-values (a .t1), fourteen)) (c .before .before .before .before .before .before .pre))
 
 pub put-pose-spec : {M : Type 1} → statement M
 put-pose-spec =

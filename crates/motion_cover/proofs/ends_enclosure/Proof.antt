@@ -4,11 +4,11 @@ use borrow.Author.Needs.{needs}
 use Rattle.motion_cover.proofs.ends_enclosure.Statement.{statement}
 use Rattle.motion_cover.proofs.ends_enclosure.Tie as tie
 
-transform-enclosure-requires : tie.Need-transform-enclosure-requires
-transform-enclosure-requires c κs = search needs
+transform-padded-requires : tie.Need-transform-padded-requires
+transform-padded-requires c κs = search needs
 
-transform-enclosure-requires-2 : tie.Need-transform-enclosure-requires-2
-transform-enclosure-requires-2 c κs = search needs
+transform-padded-requires-2 : tie.Need-transform-padded-requires-2
+transform-padded-requires-2 c κs = search needs
 
 union-bounds-requires : tie.Need-union-bounds-requires
 union-bounds-requires c κs = search needs
@@ -21,7 +21,7 @@ pub ends-enclosure-spec : {M : Type 1} → statement M
 ends-enclosure-spec =
     tie.close
     (tie.spec
-    transform-enclosure-requires
-    transform-enclosure-requires-2
+    transform-padded-requires
+    transform-padded-requires-2
     union-bounds-requires
     returns)

@@ -6,12 +6,17 @@ use Rattle.motion_cover.proofs.Slices.{refused-first}
 use Rattle.motion_cover.proofs.motion_enclosure.Statement.{statement}
 use Rattle.motion_cover.proofs.motion_enclosure.Tie as tie
 
-transform-enclosure-requires : tie.Need-transform-enclosure-requires
-transform-enclosure-requires c κs = search needs
+max-requires : tie.Need-max-requires
+max-requires c κs = search needs
+
+transform-padded-requires : tie.Need-transform-padded-requires
+transform-padded-requires c κs = search needs
 
 returns : tie.Need-returns
 unfolding AnimatedTransform·encloseMotion
-returns c = rw (not-true (c .before .before .before .args .m .«actually_animated») (c .before .if1 .taken), c .transform-enclosure .ensures)
+returns c =
+    rw
+    (not-true (c .before .before .before .before .args .m .«actually_animated») (c .before .before .if1 .taken), c .transform-padded .ensures, c .before .max .ensures)
 
 ends-enclosure-requires : tie.Need-ends-enclosure-requires
 ends-enclosure-requires c κs = search needs
@@ -41,7 +46,8 @@ pub motion-enclosure-spec : {M : Type 1} → statement M
 motion-enclosure-spec =
     tie.close
     (tie.spec
-    transform-enclosure-requires
+    max-requires
+    transform-padded-requires
     returns
     ends-enclosure-requires
     enum-known-ends

@@ -10,13 +10,15 @@ slerp-enclosure-requires c κs = c .before .pre
 returns : tie.Need-returns
 unfolding AnimatedTransform·encloseBounds Pose·enclosePoint Pose·encloseMatrix
 returns c = rw (
-  c .from-enclosure .ensures,
-  c .before .transform-point-enclosure .ensures,
-  c .before .before .intervals .ensures,
-  c .before .before .before .composition-enclosure .ensures,
-  c .before .before .before .before .slerp-enclosure .ensures,
-  c .before .before .before .before .before .translation-enclosure .ensures,
+  c .grow .ensures,
+  c .before .pad-enclosure .ensures,
+  c .before .before .from-enclosure .ensures,
+  c .before .before .before .transform-point-enclosure .ensures,
+  c .before .before .before .before .intervals .ensures,
+  c .before .before .before .before .before .composition-enclosure .ensures,
+  c .before .before .before .before .before .before .slerp-enclosure .ensures,
+  c .before .before .before .before .before .before .before .translation-enclosure .ensures,
 )
 
 pub slice-enclosure-spec : {M : Type 1} → statement M
-slice-enclosure-spec = tie.close (tie.spec (λ c κs. tt) slerp-enclosure-requires (λ c κs. tt) (λ c κs. tt) (λ c κs. tt) (λ c κs. tt) returns)
+slice-enclosure-spec = tie.close (tie.spec (λ c κs. tt) slerp-enclosure-requires (λ c κs. tt) (λ c κs. tt) (λ c κs. tt) (λ c κs. tt) (λ c κs. tt) (λ c κs. tt) returns)

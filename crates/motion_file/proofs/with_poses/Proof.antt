@@ -1,45 +1,51 @@
 -- `with_poses` puts a pose at each place in turn. The invariant: once those of the lines from the i-th on are put from place i on, all are. That there are
 -- 559 places is known of an array by value.
-use Prim.Native.Nat.{_+_, _-_, _≤_}
+use Prim.Native.Nat.{ℕ, _+_, _-_, _≤_, _<_}
 use native.Mathlib.Nat.{sub-zero}
 use native.Mathlib.Omega.{arith}
-use mathlib.Core.Path.{_≡_, refl, sym, ap, _∙_}
+use mathlib.Core.Path.{_≡_, refl, sym, ap, subst, _∙_}
 use mathlib.Core.List.{map}
 use lib.ListN.{length, replicate}
-use lib.Seq.{sets}
+use lib.Ieee.{binary32, ofBits}
+use lib.Seq.{length-take-le, sets}
 use borrow.Author.Needs.{needs}
 use Rattle.motion_file.specs.Layout.{values, maxBytes, poseOf}
 use Rattle.motion_file.specs.Place.{afterLine, linesThrough}
 use Rattle.motion_file.proofs.Lines.{placeFrom, linesFrom, place-next, lines-from-end, through-begins}
-use Rattle.motion_file.proofs.Files.{pose-put, poses-put}
+use Rattle.motion_file.proofs.Files.{line-length, read-pose, pose-put, poses-put}
 use Rattle.motion_file.proofs.with_poses.Statement.{statement}
 use Rattle.motion_file.proofs.with_poses.Tie as tie
 
 abbrev Inv-loop : tie.InvT-loop
-Inv-loop s at count filled₀ place₀ i₀ filled place i =
+Inv-loop s at count columns filled₀ place₀ i₀ filled place i =
     (i ≤ count)
-    × ((placeFrom (values 13) s count i place ≤ length s)
-    × (sets filled i (map poseOf (linesFrom (values 13) s count i place)) ≡ sets filled₀ 0 (map poseOf (linesThrough (replicate count (values 13)) s at))))
+    × ((placeFrom (values columns) s count i place ≤ length s)
+    × (sets filled i (map poseOf (linesFrom (values columns) s count i place)) ≡ sets filled₀ 0 (map poseOf (linesThrough (replicate count (values columns)) s at))))
 
 abbrev μ-loop : tie.MeasureT-loop
-μ-loop s at count filled₀ place₀ i₀ filled place i = count - i
+μ-loop s at count columns filled₀ place₀ i₀ filled place i = count - i
 
 loop-holds : tie.Need-loop-holds Inv-loop μ-loop
 loop-holds c =
     let all = sub-zero (c .before .args .count) in
-    (omega arith, (rw all (c .before .pre .1 .1), rw all))
+    (omega arith, (rw all (c .before .pre .1 .1 .1 .1), rw all))
 
-array-write-pose : tie.Need-array-write-pose Inv-loop μ-loop
-array-write-pose c = search needs
-
-array-borrow-prefix-pose : tie.Need-array-borrow-prefix-pose Inv-loop μ-loop
-array-borrow-prefix-pose c = search needs
+array-borrow-prefix-line : tie.Need-array-borrow-prefix-line Inv-loop μ-loop
+array-borrow-prefix-line c = search needs
 
 slice-aggregate-values-line : tie.Need-slice-aggregate-values-line Inv-loop μ-loop
-slice-aggregate-values-line c = search needs
+slice-aggregate-values-line c =
+    let start = c .before .before .before .before in
+    sym (length-take-le (start .args .columns) _ (start .pre .1 .1 .1 .0))
 
 values-line-requires : tie.Need-values-line-requires Inv-loop μ-loop
-values-line-requires c κs = search needs
+values-line-requires c κs =
+    let start = c .before .before .before .before in
+    let n = length-take-le (start .args .columns) (replicate 14 (ofBits binary32 0)) (start .pre .1 .1 .1 .0) in
+    (omega arith, omega (arith, n, start .pre .1 .1 .0))
+
+pose-of-requires : tie.Need-pose-of-requires Inv-loop μ-loop
+pose-of-requires c κs = search needs
 
 mul-filled : tie.Need-mul-filled Inv-loop μ-loop
 mul-filled c = search needs
@@ -55,24 +61,33 @@ loop-less c = search needs
 
 loop-again : tie.Need-loop-again Inv-loop μ-loop
 loop-again c =
-    let l = c .before .before .before .before .loop in
-    let a = c .before .before .before .before .before .before .args in
+    let l = c .before .before .before .before .before .loop in
+    let start = c .before .before .before .before .before .before .before in
+    let a = start .args in
     let s = a .s .now in
-    let line = c .before .values-line in
-    let next : line .result ≡ afterLine (values 13) s (l .place) = line .ensures .0 in
-    let led : placeFrom (values 13) s (a .count) (l .i + 1) (line .result) ≤ length s =
-    rw (next, ← place-next (values 13) s (a .count) (l .i) (l .place) (omega arith)) (l .inv .1 .0) in
+    let line = c .before .before .values-line in
+    let kind = values (a .columns) in
+    let least = start .pre .1 .1 .0 in
+    let most = start .pre .1 .1 .1 .0 in
+    let part = length-take-le (a .columns) (replicate 14 (ofBits binary32 0)) most in
+    let next = subst (λ (n : ℕ). line .result ≡ afterLine (values n) s (l .place)) part (line .ensures .0) in
+    let led : placeFrom kind s (a .count) (l .i + 1) (line .result) ≤ length s =
+    rw (next, ← place-next kind s (a .count) (l .i) (l .place) (omega arith)) (l .inv .1 .0) in
     let size : length s ≤ maxBytes = omega arith in
-    let read = line .ensures .1 (through-begins s size _ (line .result) led) in
-    (omega arith, (led, pose-put s (a .count) (l .i) (l .place) (line .result) (l .filled) _ (omega arith) next read ∙ l .inv .1 .1))
+    let begins = through-begins s size _ (line .result) led in
+    let read = line .ensures .1 begins in
+    let count = line-length (a .columns) s (l .place) size (rw (← next) begins) in
+    let pose = c .pose-of .ensures ∙ read-pose (a .columns) least most read count in
+    let more : l .i < a .count = omega arith in
+    (omega arith, (led, pose-put (a .columns) least most s (a .count) (l .i) (l .place) (line .result) (l .filled) more next pose ∙ l .inv .1 .1))
 
 returns : tie.Need-returns Inv-loop μ-loop
 returns c =
     let l = c .before .loop in
     let a = c .before .before .before .args in
-    let places = c .before .before .before .good .1 .1 .1 .0 .1 .0 .1 in
-    rw (lines-from-end (values 13) (a .s .now) (a .count) (l .i) (l .place) (omega arith)) at (l .inv .1 .1)
-    ∙ poses-put (a .s .now) (a .count) (a .at) (a .poses) (omega (arith, places))
+    let places = c .before .before .before .good .1 .1 .1 .1 .0 .1 .0 .1 in
+    rw (lines-from-end (values (a .columns)) (a .s .now) (a .count) (l .i) (l .place) (omega arith)) at (l .inv .1 .1)
+    ∙ poses-put (a .columns) (a .s .now) (a .count) (a .at) (a .poses) (omega (arith, places))
 
 pub with-poses-spec : {M : Type 1} → statement M
 with-poses-spec =
@@ -81,10 +96,10 @@ with-poses-spec =
     Inv-loop
     μ-loop
     loop-holds
-    array-write-pose
-    array-borrow-prefix-pose
+    array-borrow-prefix-line
     slice-aggregate-values-line
     values-line-requires
+    pose-of-requires
     mul-filled
     array-set-from-filled
     add-i

@@ -1,7 +1,8 @@
 -- `covers` meets its contract: the tests, the start transform, the end transform and the slices, each joined to those before it.
-use mathlib.Core.Path.{_∙_}
+use mathlib.Core.Path.{ap, _∙_}
 use native.Mathlib.Omega.{arith}
 use borrow.Author.Tests.{not-true, not-false}
+use Rattle.motion_piece.specs.Piece.{PaddedPose·stored}
 use Rattle.motion_fronts.proofs.Front.{worked-same, worked-trans}
 use Rattle.motion_fronts.proofs.Moved.{judged-depth, none-passed, moved-stored, moved-slices, start-worked, end-worked}
 use borrow.Author.Needs.{needs}
@@ -19,6 +20,9 @@ returns-2 c =
     let a = c .before .before .before .before .args in
     λ l h. none-passed (a .m) (a .places .now) (c .before .before .judged .ensures) (c .if2 .taken)
 
+start-pad-requires : tie.Need-start-pad-requires
+start-pad-requires c κs = search needs
+
 stored-enclosure-requires : tie.Need-stored-enclosure-requires
 stored-enclosure-requires c κs = search needs
 
@@ -28,11 +32,12 @@ take-pose-requires c κs = search needs
 returns-3 : tie.Need-returns-3
 returns-3 c =
     let started = c .before .before in
-    let judged = started .before .before .before .before .before in
+    let judged = started .before .before .before .before .before .before in
     let a = judged .before .before .args in
+    let start = started .before .before .stored-enclosure .ensures ∙ ap (λ p. PaddedPose·stored p (a .m .«start_transform»)) (started .before .before .before .start-pad .ensures) in
     let s = not-true (a .m .«actually_animated») (c .if3 .taken) in
     λ l h. worked-same (λ b. moved-stored (a .m) (a .depth) b s)
-    (start-worked (a .m) (a .depth) l (judged .judged .ensures) h (started .before .before .stored-enclosure .ensures) (started .take-pose .ensures))
+    (start-worked (a .m) (a .depth) l (judged .judged .ensures) h start (started .take-pose .ensures))
 
 stored-enclosure-requires-2 : tie.Need-stored-enclosure-requires-2
 stored-enclosure-requires-2 c κs = search needs
@@ -42,19 +47,20 @@ take-pose-requires-2 c κs = search needs
 
 take-slices-requires : tie.Need-take-slices-requires
 take-slices-requires c κs =
-    let judged = c .before .before .before .before .before .before .before .before .before .before .before in
-    (judged-depth (judged .judged .ensures) (c .before .before .before .before .before .before .before .before .before .if2 .left), judged .before .if1 .left)
+    let judged = c .before .before .before .before .before .before .before .before .before .before .before .before in
+    (judged-depth (judged .judged .ensures) (c .before .before .before .before .before .before .before .before .before .before .if2 .left), judged .before .if1 .left)
 
 returns-4 : tie.Need-returns-4
 returns-4 c =
     let ended = c .before .before in
     let else3 = ended .before .before .before in
     let started = else3 .before .before in
-    let judged = started .before .before .before .before .before in
+    let judged = started .before .before .before .before .before .before in
     let a = judged .before .before .args in
+    let start = started .before .before .stored-enclosure .ensures ∙ ap (λ p. PaddedPose·stored p (a .m .«start_transform»)) (started .before .before .before .start-pad .ensures) in
     let s = not-false (a .m .«actually_animated») (else3 .if3 .left) in
     λ l h.
-    let v = start-worked (a .m) (a .depth) l (judged .judged .ensures) h (started .before .before .stored-enclosure .ensures) (started .take-pose .ensures) in
+    let v = start-worked (a .m) (a .depth) l (judged .judged .ensures) h start (started .take-pose .ensures) in
     let w = end-worked (a .m) (a .depth) l v h (ended .before .before .stored-enclosure2 .ensures) (ended .take-pose2 .ensures) in
     worked-same (λ b. moved-slices (a .m) (a .depth) b s) (worked-trans w (c .take-slices .ensures _ (w .size ∙ h) (w .reached)))
 
@@ -65,6 +71,7 @@ covers-spec =
     returns
     judged-requires
     returns-2
+    start-pad-requires
     stored-enclosure-requires
     take-pose-requires
     returns-3

@@ -5,7 +5,7 @@ use native.Mathlib.Omega.{arith}
 use lib.Pow.{pow-lt}
 use borrow.Author.Needs.{needs}
 use Rattle.bounds_query.specs.Query.{maxDepth}
-use Rattle.pose_steps.specs.Enclose.{Pose·encloseMatrix}
+use Rattle.motion_piece.specs.Piece.{PaddedPose·over}
 use Rattle.motion_cover.proofs.Slices.{slice-count}
 use Rattle.motion_fronts.proofs.Sliced.{Sliced, sliced-first, sliced-next, sliced-last}
 use Rattle.motion_fronts.proofs.take_slices.Statement.{statement}
@@ -32,8 +32,8 @@ slice-requires c κs =
     let h : d ≤ maxDepth = c .before .before .before .pre .0 in
     (h, omega (arith, slice-count d h, c .loop-test .taken))
 
-pose-enclosure-requires : tie.Need-pose-enclosure-requires Inv-loop μ-loop
-pose-enclosure-requires c κs = search needs
+padded-enclosure-requires : tie.Need-padded-enclosure-requires Inv-loop μ-loop
+padded-enclosure-requires c κs = search needs
 
 take-pose-requires : tie.Need-take-pose-requires Inv-loop μ-loop
 take-pose-requires c κs = search needs
@@ -53,7 +53,7 @@ loop-again c =
     let a = l .before .before .args in
     let t = c .before .before .before .before .loop-test .taken in
     let slice = c .before .before .before .slice .ensures in
-    let e = c .before .before .pose-enclosure .ensures ∙ ap (Pose·encloseMatrix (l .before .constants .result) (a .m .s0) (a .m .s1)) slice in
+    let e = c .before .before .padded-enclosure .ensures ∙ ap (PaddedPose·over (l .before .constants .result) (a .m .s0) (a .m .s1) (a .m .pad0) (a .m .pad1)) slice in
     (omega (arith, t), sliced-next _ _ _ _ _ _ (l .loop .inv .1) (l .before .before .pre .1) e (c .take-pose .ensures))
 
 returns : tie.Need-returns Inv-loop μ-loop
@@ -73,7 +73,7 @@ take-slices-spec =
     shl-slices
     loop-holds
     slice-requires
-    pose-enclosure-requires
+    padded-enclosure-requires
     take-pose-requires
     add-k
     loop-less

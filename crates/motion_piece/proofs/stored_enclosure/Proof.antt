@@ -1,13 +1,9 @@
--- `stored_enclosure` meets its contract: one call.
-use borrow.Author.Needs.{needs}
+-- `stored_enclosure` meets its contract: two calls.
 use Rattle.motion_piece.proofs.stored_enclosure.Statement.{statement}
 use Rattle.motion_piece.proofs.stored_enclosure.Tie as tie
 
-matrix-point-requires : tie.Need-matrix-point-requires
-matrix-point-requires c κs = search needs
-
 returns : tie.Need-returns
-returns c = cc
+returns c = rw (c .stored-pad .ensures, c .before .matrix-point .ensures)
 
 pub stored-enclosure-spec : {M : Type 1} → statement M
-stored-enclosure-spec = tie.close (tie.spec matrix-point-requires returns)
+stored-enclosure-spec = tie.close (tie.spec (λ c κs. tt) (λ c κs. tt) returns)

@@ -4,8 +4,8 @@ use borrow.Author.Needs.{needs}
 use Rattle.motion_rows.proofs.constants_from_rows.Statement.{statement}
 use Rattle.motion_rows.proofs.constants_from_rows.Tie as tie
 
-element-copy-out-last : tie.Need-element-copy-out-last
-element-copy-out-last c = search needs
+element-copy-out-constants : tie.Need-element-copy-out-constants
+element-copy-out-constants c = search needs
 
 vector-at-requires : tie.Need-vector-at-requires
 vector-at-requires c κs = search needs
@@ -33,7 +33,7 @@ pub constants-from-rows-spec : {M : Type 1} → statement M
 constants-from-rows-spec =
     tie.close
     (tie.spec
-    element-copy-out-last
+    element-copy-out-constants
     vector-at-requires
     vector-at-requires-2
     quaternion-at-requires

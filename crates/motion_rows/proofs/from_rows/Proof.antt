@@ -1,4 +1,7 @@
--- `from_rows` meets its contract.
+-- `from_rows` meets its contract, field by field.
+use lib.Ieee.{eq}
+use Rattle.float32.specs.Operators.{one}
+use Rattle.matrix4x4.specs.Rows.{at}
 use Rattle.motion_rows.specs.Rows.{AnimatedTransform·fromRows}
 use borrow.Author.Needs.{needs}
 use Rattle.motion_rows.proofs.from_rows.Statement.{statement}
@@ -10,8 +13,11 @@ element-copy-out-start c = search needs
 element-copy-out-end : tie.Need-element-copy-out-end
 element-copy-out-end c = search needs
 
-element-copy-out-last : tie.Need-element-copy-out-last
-element-copy-out-last c = search needs
+element-copy-out-constants : tie.Need-element-copy-out-constants
+element-copy-out-constants c = search needs
+
+element-copy-out-pads : tie.Need-element-copy-out-pads
+element-copy-out-pads c = search needs
 
 transform-at-requires : tie.Need-transform-at-requires
 transform-at-requires c κs = search needs
@@ -40,23 +46,49 @@ matrix-at-requires-2 c κs = search needs
 coefficients-at-requires : tie.Need-coefficients-at-requires
 coefficients-at-requires c κs = search needs
 
-array-read-t23 : tie.Need-array-read-t23
-array-read-t23 c = search needs
-
 array-read-t26 : tie.Need-array-read-t26
 array-read-t26 c = search needs
 
 array-read-t29 : tie.Need-array-read-t29
 array-read-t29 c = search needs
 
-array-read-t33 : tie.Need-array-read-t33
-array-read-t33 c = search needs
+array-read-t32 : tie.Need-array-read-t32
+array-read-t32 c = search needs
+
+array-read-t36 : tie.Need-array-read-t36
+array-read-t36 c = search needs
+
+array-read-t40 : tie.Need-array-read-t40
+array-read-t40 c = search needs
+
+array-read-t43 : tie.Need-array-read-t43
+array-read-t43 c = search needs
 
 returns : tie.Need-returns
 unfolding AnimatedTransform·fromRows
 returns c =
-    rw
-    (c .coefficients-at .ensures, c .before .matrix-at2 .ensures, c .before .before .matrix-at .ensures, c .before .before .before .quaternion-at2 .ensures, c .before .before .before .before .quaternion-at .ensures, c .before .before .before .before .before .vector-at2 .ensures, c .before .before .before .before .before .before .vector-at .ensures, c .before .before .before .before .before .before .before .transform-at2 .ensures, c .before .before .before .before .before .before .before .before .transform-at .ensures)
+    let matrix = c .before .before in
+    let rotation = matrix .before .before in
+    let vector = rotation .before .before in
+    let transform = vector .before .before in
+    let rows = transform .before .before .before .before .before .args .rows .now in
+    λ i. record {
+      «start_transform» = transform .transform-at .ensures i;
+      «end_transform» = vector .before .transform-at2 .ensures i;
+      «start_time» = at rows 16 3;
+      «end_time» = at rows 17 3;
+      «actually_animated» = eq (at rows 43 0) one;
+      «has_rotation» = eq (at rows 43 1) one;
+      t0 = vector .vector-at .ensures i;
+      t1 = rotation .before .vector-at2 .ensures i;
+      r0 = rotation .quaternion-at .ensures i;
+      r1 = matrix .before .quaternion-at2 .ensures i;
+      s0 = matrix .matrix-at .ensures i;
+      s1 = c .before .matrix-at2 .ensures i;
+      coefficients = c .coefficients-at .ensures i;
+      pad0 = at rows 44 0;
+      pad1 = at rows 44 1;
+    }
 
 pub from-rows-spec : {M : Type 1} → statement M
 from-rows-spec =
@@ -64,7 +96,8 @@ from-rows-spec =
     (tie.spec
     element-copy-out-start
     element-copy-out-end
-    element-copy-out-last
+    element-copy-out-constants
+    element-copy-out-pads
     transform-at-requires
     transform-at-requires-2
     vector-at-requires
@@ -74,8 +107,10 @@ from-rows-spec =
     matrix-at-requires
     matrix-at-requires-2
     coefficients-at-requires
-    array-read-t23
     array-read-t26
     array-read-t29
-    array-read-t33
+    array-read-t32
+    array-read-t36
+    array-read-t40
+    array-read-t43
     returns)

@@ -14,8 +14,8 @@ element-copy-out-start c = search needs
 element-copy-out-end : tie.Need-element-copy-out-end
 element-copy-out-end c = search needs
 
-element-copy-out-last : tie.Need-element-copy-out-last
-element-copy-out-last c = search needs
+element-copy-out-constants : tie.Need-element-copy-out-constants
+element-copy-out-constants c = search needs
 
 array-read-if1 : tie.Need-array-read-if1
 array-read-if1 c = search needs
@@ -89,7 +89,7 @@ moved-point-spec =
     (tie.spec
     element-copy-out-start
     element-copy-out-end
-    element-copy-out-last
+    element-copy-out-constants
     array-read-if1
     array-read-if1-2
     transform-at-requires

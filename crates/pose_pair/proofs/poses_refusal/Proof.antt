@@ -10,26 +10,64 @@ is-finite-requires c κs = search needs
 is-finite-requires-2 : tie.Need-is-finite-requires-2
 is-finite-requires-2 c κs = search needs
 
-returns : tie.Need-returns
-unfolding posesRefusal
-returns c = rw (rw (c .before .before .is-finite .ensures, c .before .is-finite2 .ensures) at (c .if1 .taken))
-
 is-affine-requires : tie.Need-is-affine-requires
 is-affine-requires c κs = search needs
 
 is-affine-requires-2 : tie.Need-is-affine-requires-2
 is-affine-requires-2 c κs = search needs
 
+is-padded-requires : tie.Need-is-padded-requires
+is-padded-requires c κs = search needs
+
+is-padded-requires-2 : tie.Need-is-padded-requires-2
+is-padded-requires-2 c κs = search needs
+
+returns : tie.Need-returns
+unfolding posesRefusal
+returns c =
+    let calls = c .before in
+    let affine = calls .before .before in
+    let finite = affine .before .before in
+    rw (rw (finite .before .is-finite .ensures, finite .is-finite2 .ensures) at (c .if1 .taken))
+
 returns-2 : tie.Need-returns-2
 unfolding posesRefusal
-returns-2 c = rw (rw (c .before .before .before .before .before .is-finite .ensures, c .before .before .before .before .is-finite2 .ensures) at (c .before .before .before .if1 .left), rw (c .before .before .is-affine .ensures, c .before .is-affine2 .ensures) at (c .if2 .taken))
+returns-2 c =
+    let calls = c .before .before in
+    let affine = calls .before .before in
+    let finite = affine .before .before in
+    rw (
+      rw (finite .before .is-finite .ensures, finite .is-finite2 .ensures) at (c .before .if1 .left),
+      rw (affine .before .is-affine .ensures, affine .is-affine2 .ensures) at (c .if2 .taken),
+    )
+
+returns-3 : tie.Need-returns-3
+unfolding posesRefusal
+returns-3 c =
+    let calls = c .before .before .before in
+    let affine = calls .before .before in
+    let finite = affine .before .before in
+    rw (
+      rw (finite .before .is-finite .ensures, finite .is-finite2 .ensures) at (c .before .before .if1 .left),
+      rw (affine .before .is-affine .ensures, affine .is-affine2 .ensures) at (c .before .if2 .left),
+      rw (calls .before .is-padded .ensures, calls .is-padded2 .ensures) at (c .if3 .taken),
+    )
 
 times-refusal-requires : tie.Need-times-refusal-requires
 times-refusal-requires c κs = search needs
 
-returns-3 : tie.Need-returns-3
+returns-4 : tie.Need-returns-4
 unfolding posesRefusal
-returns-3 c = rw (rw (c .before .before .before .before .before .before .is-finite .ensures, c .before .before .before .before .before .is-finite2 .ensures) at (c .before .before .before .before .if1 .left), rw (c .before .before .before .is-affine .ensures, c .before .before .is-affine2 .ensures) at (c .before .if2 .left)) (c .times-refusal .ensures)
+returns-4 c =
+    let calls = c .before .before .before .before in
+    let affine = calls .before .before in
+    let finite = affine .before .before in
+    rw (
+      rw (finite .before .is-finite .ensures, finite .is-finite2 .ensures) at (c .before .before .before .if1 .left),
+      rw (affine .before .is-affine .ensures, affine .is-affine2 .ensures) at (c .before .before .if2 .left),
+      rw (calls .before .is-padded .ensures, calls .is-padded2 .ensures) at (c .before .if3 .left),
+    )
+    (c .times-refusal .ensures)
 
 pub poses-refusal-spec : {M : Type 1} → statement M
 poses-refusal-spec =
@@ -37,9 +75,12 @@ poses-refusal-spec =
     (tie.spec
     is-finite-requires
     is-finite-requires-2
-    returns
     is-affine-requires
     is-affine-requires-2
+    is-padded-requires
+    is-padded-requires-2
+    returns
     returns-2
+    returns-3
     times-refusal-requires
-    returns-3)
+    returns-4)

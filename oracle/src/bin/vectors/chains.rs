@@ -36,7 +36,7 @@ impl<W: Write> Questions<W> {
     pub fn ask_poses(&mut self, question: &str, slot: usize, poses: &[Pose]) -> bool {
         let values: Vec<f32> = poses.iter().flat_map(|p| [&[p.time], p.matrix.as_slice(), &[p.pad]].concat()).collect();
         self.ask(&format!("{question} {slot} plain"), &[&values]);
-        let poses: Vec<chain::Pose> = poses.iter().map(|p| chain::Pose { time: p.time, matrix: Matrix4x4::from_row_slice(&p.matrix) }).collect();
+        let poses: Vec<chain::Pose> = poses.iter().map(|p| chain::Pose { time: p.time, matrix: Matrix4x4::from_row_slice(&p.matrix), pad: p.pad }).collect();
         match (question, <[chain::Pose; 2]>::try_from(poses.as_slice())) {
             ("lone", Ok(pair)) => chain::Chain::lone(&pair).is_ok(),
             _ => chain::Chain::build(&poses).is_ok(),
@@ -57,10 +57,59 @@ impl<W: Write> Questions<W> {
     }
 }
 
+/// Pads at, beside and between the poses' times; covers that grow by them, and that they refuse; the order of 1, 2, 16, 12 and 3.
+fn fixed_pads<W: Write>(q: &mut Questions<W>) {
+    let pads = [0.0, 2.0, -0.0, 1.5, 0.25, 3.0];
+    let mut chain = swing_of_six();
+    chain.iter_mut().zip(pads).for_each(|(pose, pad)| pose.pad = pad);
+    q.new_case();
+    q.ask_chain(1, &chain);
+    for time in all_times(&chain).iter().chain(&[NAN]) {
+        q.ask("cpad 1", &[&[*time]]);
+    }
+    for b in BOXES {
+        for depth in [0, 1, 4] {
+            q.ask(&format!("ccover 1 {depth}"), &[b]);
+        }
+    }
+    // So great that lerp, its interval or a grown box leaves the format; equal poses keep the larger.
+    for [start, end] in [[f32::MAX; 2], [f32::MAX, 0.0], [3e38, f32::MAX], [1e-45, 2e-45], [1e30, 1.0]] {
+        for moves in [at_whole_times(&[IDENTITY, translated(1., 0., 0.)]), at_whole_times(&[IDENTITY, IDENTITY]), of_move(&quarter_turn())] {
+            let mut pair = moves;
+            (pair[0].pad, pair[1].pad) = (start, end);
+            q.ask_poses("lone", 2, &pair);
+            for time in [-1.0, 0.0, 0.25, 0.3, 0.5, 0.7, 1.0, 2.0] {
+                q.ask("cpad 2", &[&[time]]);
+            }
+            for depth in [0, 1, 3] {
+                q.ask(&format!("ccover 2 {depth}"), &[&BOXES[1]]);
+            }
+        }
+    }
+    for fault in [-1.0, -f32::from_bits(1), -0.0, NAN, INFINITY, -INFINITY] {
+        for (place, other) in [(0, 1), (1, 0)] {
+            for kind in 0..5 {
+                let mut pair = at_whole_times(&[IDENTITY, translated(1., 0., 0.)]);
+                pair[place].pad = fault;
+                match kind {
+                    0 => (),
+                    1 => pair[other].matrix[12] = 1.0,
+                    2 => pair[1].time = -1.0,
+                    3 => pair[1].time = 0.0,
+                    _ => (pair[0].time, pair[1].time) = (-3e38, 3e38),
+                }
+                q.ask_chain(3, &pair);
+                q.ask_poses("lone", 3, &pair);
+            }
+        }
+    }
+}
+
 /// Each question about a slot's first move or chain.
 fn ask_each<W: Write>(q: &mut Questions<W>, slot: usize) {
     q.ask(&format!("cpoint {slot}"), &[&[0.5, 0.0, 0.0, 0.0]]);
     q.ask_times(slot, 3, &[0.0; 3], &[0.5]);
+    q.ask(&format!("cpad {slot}"), &[&[0.5]]);
     q.ask(&format!("ccover {slot} 1"), &[&ORIGIN]);
     q.ask(&format!("cinterp {slot} 0"), &[&[0.5]]);
     q.line(&format!("cparts {slot} 0"));
@@ -348,6 +397,7 @@ pub fn fixed<W: Write>(q: &mut Questions<W>) {
     fixed_slots(q);
     fixed_refusals(q);
     fixed_queries(q);
+    fixed_pads(q);
     fixed_zeros(q);
     fixed_lengths(q);
 }
@@ -480,19 +530,23 @@ impl Random {
         poses
     }
 
-    /// Read and not looked at.
+    /// Of either zero, small, great, or so great that lerp or a grown box may overflow.
     fn pad(&mut self) -> f32 {
-        if self.one_in(2) {
-            0.0
-        } else {
-            self.number()
+        match self.below(40) {
+            0..16 => 0.0,
+            16 => -0.0,
+            17 => self.size(-149, -100).abs(),
+            18 => self.pick(&[f32::MAX, f32::MAX.next_down(), 3e38, 1e30]),
+            _ => self.size(-8, 6).abs(),
         }
     }
 
     /// A fault at any place.
     fn spoil(&mut self, chain: &mut Chain) {
         let place = self.below(chain.len());
-        match self.below(10) {
+        match self.below(12) {
+            10 => chain[place].pad = -self.size(-149, 100).abs(),
+            11 => chain[place].pad = self.pick(&[NAN, INFINITY, -INFINITY, -1.0, -0.0]),
             0 => chain[place].matrix[self.below(12)] = self.edge(),
             1 => chain[place].matrix[12 + self.below(4)] = self.edge(),
             2 => chain[place].time = self.pick(&[NAN, INFINITY, -INFINITY]),
@@ -642,6 +696,9 @@ fn ask_of_chain<W: Write>(q: &mut Questions<W>, r: &mut Random, slot: usize, cha
         let p = if r.one_in(2) { p } else { r.point() };
         q.ask(&format!("cpoint {slot}"), &[&[r.time_in(chain)], &p]);
     }
+    for _ in 0..r.below(3) {
+        q.ask(&format!("cpad {slot}"), &[&[r.time_in(chain)]]);
+    }
     // A move by itself has no list of times.
     let lists = if is_lone { usize::from(r.one_in(8)) } else { r.below(3) };
     for _ in 0..lists {
@@ -675,7 +732,16 @@ pub fn random<W: Write>(q: &mut Questions<W>, r: &mut Random) {
         return ask_nine_zeros(q, r);
     }
     let (slot, is_lone) = (r.below(SLOTS), r.one_in(8));
-    let poses = if is_lone { of_move(&r.any_move()) } else { r.chain() };
+    let poses = if is_lone {
+        let mut pair = of_move(&r.any_move());
+        pair.iter_mut().for_each(|pose| pose.pad = r.pad());
+        if r.one_in(16) {
+            r.spoil(&mut pair);
+        }
+        pair
+    } else {
+        r.chain()
+    };
     let is_built = q.ask_poses(if is_lone { "lone" } else { "chain" }, slot, &poses);
     if r.one_in(16) {
         // Another slot is filled, or the same again.

@@ -9,8 +9,16 @@ use oracle::file::File;
 const MOST_BYTES: usize = 3997;
 
 fn text_of(poses: &[Pose], bounds: &[f32; 6]) -> Vec<u8> {
-    let poses = poses.iter().map(|p| chain::Pose { time: p.time, matrix: Matrix4x4::from_row_slice(&p.matrix) }).collect();
+    let poses = poses.iter().map(|p| chain::Pose { time: p.time, matrix: Matrix4x4::from_row_slice(&p.matrix), pad: p.pad }).collect();
     File { poses, bounds: *bounds }.write().into_bytes()
+}
+
+/// The same file with the old thirteen names, whatever the pads were.
+fn without_pads(text: &[u8]) -> Vec<u8> {
+    let lines: Vec<&[u8]> = text.split(|byte| *byte == b'\n').collect();
+    let poses = lines.len() - 3;
+    let cut = |(i, line): (usize, &&[u8])| if i < poses { line[..line.len() - if i == 0 { 4 } else { 9 }].to_vec() } else { line.to_vec() };
+    lines.iter().enumerate().map(cut).collect::<Vec<_>>().join(&b'\n')
 }
 
 impl<W: Write> Questions<W> {
@@ -36,7 +44,7 @@ pub fn fixed<W: Write>(q: &mut Questions<W>) {
     q.ask_chain(0, &chain);
     let text = text_of(&chain, &b);
     let length = text.len() as u64;
-    for room in [0, 1, 53, 359, length - 1, length, length + 1, 4095, 4096, 4097, 1 << 32, u64::MAX] {
+    for room in [0, 1, 57, 381, length - 1, length, length + 1, 4199, 4200, 4201, 1 << 32, u64::MAX] {
         q.ask_write(0, room, &b);
     }
     // 6 and 7 before 15.
@@ -66,9 +74,13 @@ pub fn fixed<W: Write>(q: &mut Questions<W>) {
         q.ask_write(1, length, &b);
         q.ask_write(1, length - 1, &b);
     }
-    for count in [0, 1, 2, 32, 33] {
+    for count in [0, 1, 2, 30] {
         let many: Chain = (0..count).map(|i| chain[i % 6]).collect();
         q.ask_read(&text_of(&many, &b));
+    }
+    for count in [0, 1, 2, 32, 33] {
+        let many: Chain = (0..count).map(|i| chain[i % 6]).collect();
+        q.ask_read(&without_pads(&text_of(&many, &b)));
     }
     for line in ["read", "read ", "read 0", "read 0g", "read 0A", "read 0a 0a", "read 0a ", "Read 0a"] {
         q.line(line);
@@ -87,6 +99,10 @@ pub fn fixed<W: Write>(q: &mut Questions<W>) {
         ("time", " time"),
         ("m23", "m24"),
         ("m22 m23", "m23 m22"),
+        ("pad", "Pad"),
+        (" pad", ""),
+        (" pad", " pad pad"),
+        ("m23 pad", "pad m23"),
         ("x0", "X0"),
         ("x0 y0", "y0 x0"),
         ("40a00000", "40A00000"),
@@ -104,7 +120,7 @@ pub fn fixed<W: Write>(q: &mut Questions<W>) {
     ] {
         q.ask_read(&replaced(&text, from, to));
     }
-    for size in [0, 1, 52, 53, text.len() - 1] {
+    for size in [0, 1, 56, 57, text.len() - 1] {
         q.ask_read(&text[..size]);
     }
 }
@@ -194,7 +210,8 @@ pub fn random<W: Write>(q: &mut Questions<W>, r: &mut Random) {
         return;
     }
     for _ in 0..1 + r.below(3) {
-        let mut file = if r.one_in(4) { text.clone() } else { r.respelt(&text) };
+        let text = if r.one_in(3) { without_pads(&text) } else { text.clone() };
+        let mut file = if r.one_in(4) { text } else { r.respelt(&text) };
         if r.one_in(2) {
             file = r.damaged(&file);
         }

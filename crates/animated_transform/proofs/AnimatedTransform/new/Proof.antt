@@ -16,7 +16,9 @@ returns : tie.Need-returns
 unfolding AnimatedTransform·new
 returns c =
     let s = c .before .before .before in
-    new-clauses (s .args .start) (s .args .end) (s .good .0 .1 .1 .0 .1) (s .good .1 .0 .1 .1 .0 .1)
+    let start = s .good .0 .1 .1 in
+    let end = s .good .1 .0 .1 .1 in
+    new-clauses (s .args .start) (s .args .end) (start .0 .1) (start .1 .1 .0 .1) (end .0 .1) (end .1 .1 .0 .1)
     (rw (← c .before .before .poses-refusal .ensures, ne-eqb _ 0 (c .before .if1 .taken)) (c .refused .ensures))
 
 work-requires : tie.Need-work-requires
@@ -26,7 +28,9 @@ returns-2 : tie.Need-returns-2
 unfolding AnimatedTransform·new
 returns-2 c =
     let s = c .before .before .before in
-    new-clauses (s .args .start) (s .args .end) (s .good .0 .1 .1 .0 .1) (s .good .1 .0 .1 .1 .0 .1)
+    let start = s .good .0 .1 .1 in
+    let end = s .good .1 .0 .1 .1 in
+    new-clauses (s .args .start) (s .args .end) (start .0 .1) (start .1 .1 .0 .1) (end .0 .1) (end .1 .1 .0 .1)
     (rw (← c .before .before .poses-refusal .ensures, eq-eqb _ 0 (c .before .if1 .left)) (c .work .ensures))
 
 pub new-spec : {M : Type 1} → statement M

@@ -5,10 +5,10 @@ use Rattle.chain_answers.proofs.chains.pose_at.Statement.{statement}
 use Rattle.chain_answers.proofs.chains.pose_at.Tie as tie
 
 abbrev Inv-loop : tie.InvT-loop
-Inv-loop x i pose₀ k₀ pose k = k ≤ 17
+Inv-loop x i pose₀ k₀ pose k = k ≤ 18
 
 abbrev μ-loop : tie.MeasureT-loop
-μ-loop x i pose₀ k₀ pose k = 17 - k
+μ-loop x i pose₀ k₀ pose k = 18 - k
 
 loop-holds : tie.Need-loop-holds Inv-loop μ-loop
 loop-holds c = search needs

@@ -5,22 +5,19 @@ use Rattle.chain_answers.proofs.files.put_poses.Statement.{statement}
 use Rattle.chain_answers.proofs.files.put_poses.Tie as tie
 
 abbrev Inv-loop : tie.InvT-loop
-Inv-loop text count poses out₀ at end₀ i₀ t9 out end i = i ≤ 559
+Inv-loop text padded count poses out₀ at end₀ i₀ t10 out end i = i ≤ 559
 
 abbrev μ-loop : tie.MeasureT-loop
-μ-loop text count poses out₀ at end₀ i₀ t9 out end i = 559 - i
+μ-loop text padded count poses out₀ at end₀ i₀ t10 out end i = 559 - i
 
 loop-holds : tie.Need-loop-holds Inv-loop μ-loop
 loop-holds c = search needs
 
+words-before-requires : tie.Need-words-before-requires Inv-loop μ-loop
+words-before-requires c κs = search needs
+
 mul-put-pose : tie.Need-mul-put-pose Inv-loop μ-loop
 mul-put-pose c = search needs
-
-add-put-pose : tie.Need-add-put-pose Inv-loop μ-loop
-add-put-pose c = search needs
-
-mul-put-pose-2 : tie.Need-mul-put-pose-2 Inv-loop μ-loop
-mul-put-pose-2 c = search needs
 
 index-1-put-pose : tie.Need-index-1-put-pose Inv-loop μ-loop
 index-1-put-pose c = search needs
@@ -53,9 +50,8 @@ put-poses-spec =
     Inv-loop
     μ-loop
     loop-holds
+    words-before-requires
     mul-put-pose
-    add-put-pose
-    mul-put-pose-2
     index-1-put-pose
     put-pose-requires
     add-i

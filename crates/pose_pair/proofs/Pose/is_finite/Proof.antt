@@ -1,4 +1,4 @@
--- `is_finite` meets its contract: the tests of the time and of the matrix.
+-- `is_finite` meets its contract: the tests of the time, of the matrix and of the pad.
 use Rattle.pose_pair.specs.Pose.{Pose·isFinite}
 use borrow.Author.Needs.{needs}
 use Rattle.pose_pair.proofs.Pose.is_finite.Statement.{statement}
@@ -14,10 +14,13 @@ to-rows-requires c κs = search needs
 is-finite-requires-2 : tie.Need-is-finite-requires-2
 is-finite-requires-2 c κs = search needs
 
+is-finite-requires-3 : tie.Need-is-finite-requires-3
+is-finite-requires-3 c κs = search needs
+
 returns : tie.Need-returns
 unfolding Pose·isFinite
-returns c = rw (c .is-finite2 .ensures, c .before .to-rows .ensures, c .before .before .is-finite .ensures)
+returns c = rw (c .is-finite3 .ensures, c .before .is-finite2 .ensures, c .before .before .to-rows .ensures, c .before .before .before .is-finite .ensures)
 
 pub is-finite-spec : {M : Type 1} → statement M
 is-finite-spec =
-    tie.close (tie.spec is-finite-requires to-rows-requires is-finite-requires-2 returns)
+    tie.close (tie.spec is-finite-requires to-rows-requires is-finite-requires-2 is-finite-requires-3 returns)

@@ -1,0 +1,4 @@
+pub mod Pad
+pub mod Box
+mod Tested
+mod Unjudged

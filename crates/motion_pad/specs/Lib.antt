@@ -1,0 +1,4 @@
+pub mod Pad
+pub mod Grow
+pub mod Unjudged
+pub mod Computing

@@ -1,0 +1,23 @@
+-- `pad` meets its contract: `time != time` is the test for NaN (`differs-nan`).
+use Rattle.rounding.proofs.Order.{differs-nan}
+use Rattle.pad_query.specs.PadQuery.{AnimatedTransform·pad, Rows·pad}
+use borrow.Author.Needs.{needs}
+use Rattle.pad_query.proofs.pad.Statement.{statement}
+use Rattle.pad_query.proofs.pad.Tie as tie
+
+returns : tie.Need-returns
+unfolding AnimatedTransform·pad Rows·pad
+returns c = rw (← differs-nan (c .before .args .time), c .if1 .taken)
+
+pad-at-requires : tie.Need-pad-at-requires
+pad-at-requires c κs = search needs
+
+judged-requires : tie.Need-judged-requires
+judged-requires c κs = search needs
+
+returns-2 : tie.Need-returns-2
+unfolding AnimatedTransform·pad Rows·pad
+returns-2 c = rw (← differs-nan (c .before .before .before .args .time), c .before .before .if1 .left, ← c .before .pad-at .ensures, c .judged .ensures)
+
+pub pad-spec : {M : Type 1} → statement M
+pad-spec = tie.close (tie.spec returns pad-at-requires judged-requires returns-2)

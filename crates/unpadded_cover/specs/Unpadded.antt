@@ -1,0 +1,44 @@
+-- Document 01's cover as it was without pads, `AnimatedTransform·coverUnpadded`, and that a cover with pads of +0 is the same, bit for bit but a zero's sign: `CoverUnpadded`,
+-- the statement of `cover-unpadded`.
+use Prim.Native.Nat.{ℕ, zero, suc, _^_}
+use mathlib.Core.Path.{_≡_}
+use mathlib.Core.Bool.{cond}
+use lib.Dec.{eqb}
+use Rattle.float32.specs.Operators.{positiveZero}
+use Rattle.bounds3.specs.declared.Bounds3f.{Bounds3f}
+use Rattle.bounds3.specs.Inside.{Subset}
+use Rattle.transform.specs.declared.BoundsAnswer.{BoundsAnswer}
+use Rattle.transform.specs.declared.BoundsAnswer.the-variants.{Bounds, Refused}
+use Rattle.bounds_query.specs.Query.{BoundsAnswer·unionBounds, coverRefusal}
+use Rattle.unit_interval.specs.Unit.{slice}
+use Rattle.pose_steps.specs.declared.PoseConstants.{PoseConstants}
+use Rattle.pose_steps.specs.Enclose.{Pose·enclosePoint, Bounds3f·intervals}
+use Rattle.animated_transform.specs.declared.AnimatedTransform.{AnimatedTransform}
+use Rattle.animated_transform.specs.Built.{Built}
+use Rattle.motion_point.specs.TransformPoint.{AnimatedTransform·constants}
+use Rattle.motion_cover.specs.Cover.{BoundsAnswer·fromEnclosure, Transform·encloseBounds, AnimatedTransform·cover}
+
+-- r and the first k slices, in rising order.
+unfoldable pub unionUnpadded : AnimatedTransform → PoseConstants → Bounds3f → ℕ → BoundsAnswer → ℕ → BoundsAnswer
+unionUnpadded m a b d r zero = r
+unionUnpadded m a b d r (suc k) =
+    BoundsAnswer·unionBounds (unionUnpadded m a b d r k) (BoundsAnswer·fromEnclosure (Pose·enclosePoint a (m .s0) (m .s1) (slice d k) (Bounds3f·intervals b)))
+
+unfoldable pub AnimatedTransform·coverUnpadded : AnimatedTransform → Bounds3f → ℕ → BoundsAnswer
+AnimatedTransform·coverUnpadded m b d =
+    let start = Transform·encloseBounds (m .«start_transform») b in
+    let end = Transform·encloseBounds (m .«end_transform») b in
+    let n = coverRefusal b d in
+    cond (eqb n 0)
+    (cond (m .«actually_animated») (unionUnpadded m (AnimatedTransform·constants m) b d (BoundsAnswer·unionBounds start end) (2 ^ d)) start)
+    (Refused n)
+
+-- The same number, or boxes that are equal as numbers, either zero being zero.
+abbrev pub BoundsAnswer·Same : BoundsAnswer → BoundsAnswer → Type 0
+BoundsAnswer·Same (Bounds a) (Bounds b) = Subset a b × Subset b a
+BoundsAnswer·Same (Bounds a) (Refused n) = ⊥
+BoundsAnswer·Same (Refused n) (Bounds b) = ⊥
+BoundsAnswer·Same (Refused n) (Refused k) = n ≡ k
+
+abbrev pub CoverUnpadded : AnimatedTransform → Bounds3f → ℕ → Type 0
+CoverUnpadded m b d = Built m → m .pad0 ≡ positiveZero → m .pad1 ≡ positiveZero → BoundsAnswer·Same (AnimatedTransform·cover m b d) (AnimatedTransform·coverUnpadded m b d)
