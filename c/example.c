@@ -1,4 +1,4 @@
-/* A move by one metre along x, and a chain that goes there and back, asked from C. In the repository's root:
+/* A move by one metre along x, and a chain that goes there and back, as plain and as rigid, asked from C. In the repository's root:
  *     rt staticlib api && cc -Wall -Wextra -I c c/example.c target/staticlib/libapi.a -o target/example && target/example
  */
 #include <stdio.h>
@@ -27,7 +27,7 @@ int main(void)
         return 1;
     }
 
-    uint8_t refusal = jellyplain_build(&start, &end, &move);
+    uint8_t refusal = jellyplain_build(false, &start, &end, &move);
     if (refusal != JELLYPLAIN_NONE) {
         printf("refused with %d\n", refusal);
         return 1;
@@ -40,7 +40,7 @@ int main(void)
         printf("its motion box: x from %g to %g, %u interval examined on x\n", bounds[0], bounds[3], (unsigned)examined[0]);
     if (jellyplain_cover(&move, boom, 10, bounds) == JELLYPLAIN_NONE)
         printf("reserved: %g %g %g to %g %g %g\n", bounds[0], bounds[1], bounds[2], bounds[3], bounds[4], bounds[5]);
-    if (jellyplain_build_chain(there_and_back, 3, &chain) == JELLYPLAIN_NONE
+    if (jellyplain_build_chain(false, there_and_back, 3, &chain) == JELLYPLAIN_NONE
         && jellyplain_chain_points(&chain, times, 3, origin, points, 9) == JELLYPLAIN_NONE)
         printf("there and back: x is %g, %g and %g\n", points[0], points[3], points[6]);
     if (jellyplain_chain_cover(&chain, boom, 10, bounds) == JELLYPLAIN_NONE)
@@ -53,9 +53,14 @@ int main(void)
     jellyplain_file_read read = jellyplain_read_file(text, written.length, poses, bounds);
     if (read.refusal == JELLYPLAIN_NONE)
         printf("in which %zu poses are read, the last at %g\n", read.count, poses[read.count - 1].time);
-    if (jellyplain_build(&start, &wide_spray, &spraying) == JELLYPLAIN_NONE && jellyplain_pad(&spraying, 0.5f, pad) == JELLYPLAIN_NONE
+    if (jellyplain_build(false, &start, &wide_spray, &spraying) == JELLYPLAIN_NONE && jellyplain_pad(&spraying, 0.5f, pad) == JELLYPLAIN_NONE
         && jellyplain_cover(&spraying, boom, 12, bounds) == JELLYPLAIN_NONE)
         printf("with a pad from 0 to 2, %g at 0.5: x from %g to %g\n", pad[0], bounds[0], bounds[3]);
+    jellyplain_pose longer = end;
+    longer.matrix[1][1] = 1.1f;
+    printf("a boom that grows by a tenth, as rigid: refused with %d\n", jellyplain_build(true, &start, &longer, &move));
+    if (jellyplain_build_chain(true, there_and_back, 3, &chain) == JELLYPLAIN_NONE && jellyplain_chain_cover(&chain, boom, 10, bounds) == JELLYPLAIN_NONE)
+        printf("reserved as rigid: %g %g %g to %g %g %g\n", bounds[0], bounds[1], bounds[2], bounds[3], bounds[4], bounds[5]);
     printf("at depth 13: refused with %d\n", jellyplain_cover(&move, boom, 13, bounds));
     return 0;
 }

@@ -10,6 +10,7 @@
 #ifndef JELLYPLAIN_H
 #define JELLYPLAIN_H
 
+#include <stdbool.h>
 #include <stddef.h>
 #include <stdint.h>
 
@@ -44,7 +45,7 @@ typedef struct {
 } jellyplain_chain;
 
 /* The layout of these structs. The archive has been built with the same where jellyplain_layout() is this number. */
-#define JELLYPLAIN_LAYOUT 2
+#define JELLYPLAIN_LAYOUT 3
 uint32_t jellyplain_layout(void);
 
 enum jellyplain_refusal {
@@ -64,11 +65,14 @@ enum jellyplain_refusal {
     JELLYPLAIN_TIME_LIST = 13,      /* a list of times falls, or the answers aren't three places a time */
     JELLYPLAIN_SET = 14,            /* a set has no box or more than 16 */
     JELLYPLAIN_ROOM = 15,           /* a buffer is too short for the text of a move file */
-    JELLYPLAIN_PAD = 16             /* a pad is below zero */
+    JELLYPLAIN_PAD = 16,            /* a pad is below zero */
+    JELLYPLAIN_NOT_RIGID = 17,      /* a pose of a rigid move or chain scales or shears */
+    JELLYPLAIN_DETERMINANT = 18     /* a pose of a rigid move or chain mirrors: its determinant isn't above zero */
 };
 
-/* The move from one pose to another. Numbers 1 to 5 and 16. */
-uint8_t jellyplain_build(const jellyplain_pose *start, const jellyplain_pose *end, jellyplain_move *motion);
+/* The move from one pose to another. A boom that neither stretches nor shears may be built as rigid: between the poses a turn and a shift alone, so that its covers are tighter.
+ * Numbers 1 to 5 and 16; of a rigid one also 17 and 18, pose by pose, after 3. */
+uint8_t jellyplain_build(bool rigid, const jellyplain_pose *start, const jellyplain_pose *end, jellyplain_move *motion);
 
 /* Where the point p stands at a time. Numbers 5 and 6. */
 uint8_t jellyplain_point(const jellyplain_move *motion, float time, const float p[3], float moved[3]);
@@ -93,8 +97,9 @@ uint8_t jellyplain_cover(const jellyplain_move *motion, const float b[6], uint32
 
 /* ---- chains, by their moves; the inline functions below take the struct */
 
-/* The moves of a chain of poses whose times rise strictly, one fewer than poses, into the front of `moves`; those behind them stay. Numbers 1, 2, 16, 12, 3, 4 and 5. */
-uint8_t jellyplain_build_moves(const jellyplain_pose *poses, size_t count, jellyplain_move moves[JELLYPLAIN_MOVES]);
+/* The moves of a chain of poses whose times rise strictly, one fewer than poses, into the front of `moves`; those behind them stay. Numbers 1, 2, 16, 12, 3, of a rigid
+ * chain 17 and 18, pose by pose, then 4 and 5. */
+uint8_t jellyplain_build_moves(bool rigid, const jellyplain_pose *poses, size_t count, jellyplain_move moves[JELLYPLAIN_MOVES]);
 
 /* Where the point p stands at a time: a time equal to an inner pose's belongs to the earlier move. Numbers 5 and 6, and 12 for no moves. */
 uint8_t jellyplain_moves_point(const jellyplain_move *moves, size_t count, float time, const float p[3], float moved[3]);
@@ -140,9 +145,9 @@ jellyplain_file_read jellyplain_read_file(const uint8_t *bytes, size_t size, jel
  * into the front of `out`, and the bytes behind it stay. Numbers 6 and 7, then 15 where `size` is too small, and 12 for no moves; all bytes then stay. */
 jellyplain_written jellyplain_write_file(const jellyplain_move *moves, size_t count, const float b[6], uint8_t *out, size_t size);
 
-static inline uint8_t jellyplain_build_chain(const jellyplain_pose *poses, size_t count, jellyplain_chain *chain)
+static inline uint8_t jellyplain_build_chain(bool rigid, const jellyplain_pose *poses, size_t count, jellyplain_chain *chain)
 {
-    uint8_t refusal = jellyplain_build_moves(poses, count, chain->moves);
+    uint8_t refusal = jellyplain_build_moves(rigid, poses, count, chain->moves);
     if (refusal == JELLYPLAIN_NONE)
         chain->count = count - 1;
     return refusal;

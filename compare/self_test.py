@@ -28,6 +28,7 @@ WORDS = {
     "motion": "motion pmotion zeros",
     "covers": "cover",
     "chains": "chain lone cpoint ctimes ccover cpad cinterp cparts cmotion cpmotion",
+    "rigid": "chain lone cpoint ctimes ccover cinterp cparts cmotion cpmotion",
     "sets": "chain cset ccover",
     "texts": "chain write read",
     "arcs": "acosn",
@@ -128,6 +129,8 @@ def changed(change, question, answer):
         return b"refused 5"
     if change == "sixteen" and word in ("chain", "lone") and answer == b"refused 16":
         return b"ok 2" if first_time(change) else answer
+    if (change, answer) in (("seventeen", b"refused 17"), ("eighteen", b"refused 18")):
+        return b"ok 2" if first_time(change) else answer
     if change == "nan_bits":
         return answer.replace(b"7fc00000", b"ffc12345")
     if change == "many_boxes" and word == "cset" and answer == b"refused 14" and len(values) == 3 + 17 * 6:
@@ -168,6 +171,8 @@ def asked_otherwise(changes, asked, given):
             words[1] = b"4"
         if "last_refused" in changes and words[0] == b"cset" and answer.startswith(b"refused"):
             words[3:] = [word for i in range(len(words) - 6, 2, -6) for word in words[i:i + 6]]
+        if "all_plain" in changes and words[0] in (b"chain", b"lone") and answer.startswith(b"ok"):
+            words[2] = b"plain"
         if "one_slot" in changes and len(words) > 1 and words[1] in (b"0", b"1", b"2", b"3"):
             words[1] = b"0"
         question = b" ".join(words)
@@ -184,7 +189,7 @@ def asked_otherwise(changes, asked, given):
     return stream, places
 
 
-CHAIN_CHANGES = {"covers_unpadded", "slots_kept", "one_slot", "first_move_points", "first_move_covers", "last_refused"}
+CHAIN_CHANGES = {"all_plain", "covers_unpadded", "slots_kept", "one_slot", "first_move_points", "first_move_covers", "last_refused"}
 
 
 def answers_to(questions, arguments=()):
@@ -251,7 +256,7 @@ def trial(title, kind, changes, different, shown=(), sides=None, cases=40):
     """`different` is how many differences are to be told; None for some. The changes are on some sides, or on the project's alone."""
     if len(sys.argv) > 1 and not set(kind.split(",")) & set(sys.argv[1:]):
         return None
-    is_of_chains = kind in ("chains", "sets", "texts", "arcs", "files")
+    is_of_chains = kind in ("chains", "rigid", "sets", "texts", "arcs", "files")
     sides = sides or ("--chain-answers" if is_of_chains else "--answers",)
     with tempfile.TemporaryDirectory() as folder:
         command = [os.path.join(HERE, "run"), "--no-build", "--kinds", kind, "--moves", str(cases), "--chains", str(cases), "--files", str(cases), "--show", "100"]
@@ -313,6 +318,14 @@ def main():
         trial("covers that don't grow by the pads, on both sides", "chains", ["covers_unpadded"], None, ["guarantee: a point leaves"], BOTH_OF_CHAINS),
         trial("pads that are wider than the covers' own, on both sides", "chains", ["wide_pad"], None, ["guarantee: a point leaves"], BOTH_OF_CHAINS),
         trial("pads refused, on both sides", "chains", ["pad_unanswered"], None, ["guarantee: a pad of an accepted cover is not answered"], BOTH_OF_CHAINS),
+        trial("rigid chains as they are", "rigid", [], 0, cases=200),
+        trial("a built rigid chain refused", "rigid", ["built"], 1, ["chain"]),
+        trial("another number of one rigid chain's refusal", "rigid", ["refusal"], 1),
+        trial("a pose that scales accepted", "rigid", ["seventeen"], 1),
+        trial("a pose that mirrors accepted", "rigid", ["eighteen"], 1),
+        trial("rigid chains built as plain", "rigid", ["all_plain"], None, ["cparts"], cases=200),
+        trial("covers of rigid chains too small, on both sides", "rigid", ["narrow"], None, ["guarantee: a point leaves"], BOTH_OF_CHAINS),
+        trial("covers of rigid chains that grow with the depth, on both sides", "rigid", ["growing"], None, ["a finer cover is wider"], BOTH_OF_CHAINS),
         trial("sets as they are", "sets", [], 0, cases=200),
         trial("17 boxes accepted", "sets", ["many_boxes"], 1, ["cset"]),
         trial("another number of one set's refusal", "sets", ["refusal"], 1),

@@ -55,6 +55,15 @@ const EDITS: &[(&str, Change, &str)] = &[
         Replace("    type I = Interval;\n", "    type I = Interval;\n    crate::log::examined();\n", 1),
         "`interval_find_zeros` notes each of its calls, so each interval that it examines",
     ),
+    (
+        TRANSFORM,
+        Replace(
+            "        // Flip R1[1] if needed to select shortest path\n",
+            "        if crate::log::rigid() {\n            res.s = [Matrix4x4::default(); 2];\n        }\n        // Flip R1[1] if needed to select shortest path\n",
+            1,
+        ),
+        "a rigid move has the identity in place of both S in its coefficients, of which only the original has the formulas; no plain move comes here",
+    ),
     // Parts that need modules which are missing here and are not ported.
     (TRANSFORM, Replace("use crate::core::geometry::ray::*;\n", "", 1), "rays are not ported"),
     (TRANSFORM, Replace("use crate::core::interaction::SurfaceInteraction;\n", "", 1), "surface interactions are not ported"),

@@ -86,9 +86,10 @@ pub fn cases(kind: Kind, count: usize, random: &mut Random) -> Vec<Case> {
         let start = random.between(0.0, 100.0);
         let times = [start, start + random.between(1.0, 60.0)];
         let poses = [0, 1].map(|i| Pose { time: times[i], matrix: matrices[i], pad: 0.0 });
-        let (Ok(port), Ok(original)) =
-            (Move::new(&poses[0], &poses[1]), judged::build(times[0], &original_matrix(&matrices[0]), times[1], &original_matrix(&matrices[1])))
-        else {
+        let (Ok(port), Ok(original)) = (
+            Move::new(&poses[0], &poses[1]),
+            judged::build(judged::Kind::Plain, times[0], &original_matrix(&matrices[0]), times[1], &original_matrix(&matrices[1])),
+        ) else {
             continue;
         };
         let corner: [f32; 3] = random.array(-10.0, 10.0);
@@ -123,7 +124,7 @@ impl Case {
         };
         assert_eq!(array(&port.bounds), judged::bounds_values(&original.bounds), "the motion box of {:?}", self.bounds);
         assert_eq!(port.examined, original.examined, "the intervals examined for {:?}", self.bounds);
-        let (Ok(port), Ok(second)) = (self.port.cover(&self.bounds, 8), cover(&self.original.fields, &array(&self.bounds), 8)) else { return false };
+        let (Ok(port), Ok(second)) = (self.port.cover(&self.bounds, 8), cover(&self.original, &array(&self.bounds), 8)) else { return false };
         assert_eq!(array(&port), second, "the cover of {:?}", self.bounds);
         true
     }

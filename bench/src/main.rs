@@ -2,12 +2,14 @@
 //! one run, one thread. A round asks every side, and the next starts with another, so that what else the machine does falls on all; what is printed are medians over the rounds.
 //!
 //!     bench                      every comparison, and how the cover's cost grows with its depth
+//!     bench rigid                rigid moves beside plain ones alone
 //!     bench profile OP SECONDS   the port alone, for a profiler: OP is build, point, interpolate, motion or cover
 
 #[cfg(boost)]
 mod boost;
 mod chains;
 mod inputs;
+mod rigid;
 
 use inputs::{array, cases, original_bounds, original_matrix, original_point, Case, Kind, Random, CALLS};
 use jellyplain::Bounds;
@@ -151,7 +153,7 @@ fn port_cover(cases: &[Case], depth: u32) {
 
 fn second_cover(cases: &[Case], depth: u32) {
     for case in cases {
-        black_box(cover(&case.original.fields, black_box(&array(&case.bounds)), u64::from(depth))).ok();
+        black_box(cover(&case.original, black_box(&array(&case.bounds)), u64::from(depth))).ok();
     }
 }
 
@@ -227,6 +229,9 @@ fn main() {
         return profile(op, seconds.parse().expect("seconds"), &turning);
     }
     let shifting = cases(Kind::Shifting, 32, &mut random);
+    if arguments == ["rigid"] {
+        return compare_rigid(&turning, &shifting);
+    }
     println!("{:32} {:>12} {:>12} {:>8}   quartiles", "nanoseconds a call, medians", "port", "other", "ratio");
     compare_all("turning", &turning);
     compare_all("shifting", &shifting);
@@ -234,4 +239,16 @@ fn main() {
     growth("turning", &turning[..2]);
     println!("\n{:32} {:>12} {:>12} {:>8}   quartiles", "a chain, nanoseconds a call", "chain", "moves", "ratio");
     chains::compare_chains(&mut random);
+    compare_rigid(&turning, &shifting);
+}
+
+fn compare_rigid(turning: &[Case], shifting: &[Case]) {
+    println!("\n{:32} {:>12} {:>12} {:>8}   quartiles", "rigid, nanoseconds a call", "rigid", "plain", "ratio");
+    rigid::compare_kinds("turning", turning);
+    rigid::compare_kinds("shifting", shifting);
+    println!("\n{:32} {:>12} {:>12}   quartiles", "volume, rigid to plain", "moves", "median");
+    rigid::compare_volumes("turning", turning);
+    rigid::compare_volumes("shifting", shifting);
+    println!("\n{:32} {:>12} {:>12} {:>8}", "swings of examples/, cubic metres", "rigid", "plain", "ratio");
+    rigid::compare_examples();
 }

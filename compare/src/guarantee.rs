@@ -25,6 +25,7 @@ struct Cover<'a> {
     /// The slot of a chain or of a move built by itself.
     slot: Option<char>,
     is_chain: bool,
+    is_rigid: bool,
     is_set: bool,
 }
 
@@ -71,7 +72,8 @@ fn accepted_covers<'a>(asked: &'a [u8], answers: &'a [u8]) -> Vec<Cover<'a>> {
             // A cover of what was refused, or not one for each box; the comparison tells.
             continue;
         }
-        all.push(Cover { built, question, answer, times, depth, boxes, covers, union, slot, is_chain: built.starts_with(b"chain"), is_set });
+        let (is_chain, is_rigid) = (built.starts_with(b"chain"), words(built).nth(2) == Some(b"rigid"));
+        all.push(Cover { built, question, answer, times, depth, boxes, covers, union, slot, is_chain, is_rigid, is_set });
     }
     all
 }
@@ -203,6 +205,8 @@ fn told<'a>(cover: &Cover<'a>, question: &'a [u8], answer: &'a [u8]) -> [(&'stat
 fn guarantee<'a>(cover: &Cover, report: &'a mut Report) -> &'a mut Guarantee {
     if cover.is_set {
         &mut report.set_guarantee
+    } else if cover.is_rigid {
+        &mut report.rigid_guarantee
     } else if cover.slot.is_some() {
         &mut report.chain_guarantee
     } else {

@@ -79,6 +79,8 @@ pub struct Report {
     pub guarantee: Guarantee,
     /// That of chains.
     pub chain_guarantee: Guarantee,
+    /// That of rigid chains and moves, but for sets.
+    pub rigid_guarantee: Guarantee,
     /// That of sets of boxes: a cover for each box.
     pub set_guarantee: Guarantee,
     rows: Vec<(&'static str, Count)>,
@@ -181,7 +183,7 @@ impl Report {
     }
 
     pub fn different(&self) -> u64 {
-        let guarantees = [&self.guarantee, &self.chain_guarantee, &self.set_guarantee];
+        let guarantees = [&self.guarantee, &self.chain_guarantee, &self.rigid_guarantee, &self.set_guarantee];
         self.rows.iter().map(|(_, count)| count.different).sum::<u64>() + guarantees.iter().map(|g| g.different()).sum::<u64>()
     }
 
@@ -204,6 +206,7 @@ impl Report {
         }
         self.guarantee.add(&other.guarantee);
         self.chain_guarantee.add(&other.chain_guarantee);
+        self.rigid_guarantee.add(&other.rigid_guarantee);
         self.set_guarantee.add(&other.set_guarantee);
         self.moves += other.moves;
         self.chains += other.chains;
@@ -220,7 +223,7 @@ impl Report {
             let (answers, malformed, different) = (grouped(count.answers), grouped(count.malformed), grouped(count.different));
             writeln!(out, "| {name} | {answers} | {} | {malformed} | {different} |", numbers.join(", ")).unwrap();
         }
-        let all = [("moves", &self.guarantee), ("chains", &self.chain_guarantee), ("sets", &self.set_guarantee)];
+        let all = [("moves", &self.guarantee), ("chains", &self.chain_guarantee), ("rigid chains", &self.rigid_guarantee), ("sets", &self.set_guarantee)];
         let tested: Vec<_> = all.into_iter().filter(|(_, g)| g.covers > 0).collect();
         if !tested.is_empty() {
             out += "\n| of | accepted covers | points of them, at a time | with a pad above zero | on a face of the cover | not answered | outside |\n|---|---|---|---|---|---|---|\n";

@@ -4,7 +4,7 @@
 use crate::core::geometry::point::Point3f;
 use crate::core::transform::Matrix4x4;
 use crate::cover;
-use crate::judged::{self, check_bottom_row, finite, finite_matrix, point_values, Judged, Move};
+use crate::judged::{self, check_bottom_row, check_rigid, finite, finite_matrix, point_values, Judged, Kind, Move};
 use crate::refusal::*;
 
 pub const MOST_POSES: usize = 32;
@@ -21,6 +21,7 @@ pub struct Pose {
 /// A chain that was built: a move for each neighbouring pair of its poses.
 #[derive(Debug, Clone)]
 pub struct Chain {
+    pub kind: Kind,
     pub poses: Vec<Pose>,
     pub moves: Vec<Move>,
 }
@@ -38,8 +39,8 @@ fn check_poses(poses: &[Pose]) -> Judged<()> {
     Ok(())
 }
 
-/// Each over the whole chain before the next: 1, 2, 16, 12, 3.
-fn check(poses: &[Pose]) -> Judged<()> {
+/// Each over the whole chain before the next: 1, 2, 16, 12, 3. Of a rigid chain then 17 and 18, pose by pose.
+fn check(kind: Kind, poses: &[Pose]) -> Judged<()> {
     check_poses(poses)?;
     let pairs = || poses.windows(2).map(|pair| (pair[0].time, pair[1].time));
     if poses.len() < 2 || poses.len() > MOST_POSES || !pairs().all(|(start, end)| start < end) {
@@ -48,26 +49,29 @@ fn check(poses: &[Pose]) -> Judged<()> {
     if !pairs().all(|(start, end)| (end - start).is_finite()) {
         return Err(TIMES);
     }
+    if kind == Kind::Rigid {
+        poses.iter().try_for_each(|pose| check_rigid(&pose.matrix))?;
+    }
     Ok(())
 }
 
-fn build_move(start: &Pose, end: &Pose) -> Judged<Move> {
-    let built = judged::build(start.time, &start.matrix, end.time, &end.matrix)?;
+fn build_move(kind: Kind, start: &Pose, end: &Pose) -> Judged<Move> {
+    let built = judged::build(kind, start.time, &start.matrix, end.time, &end.matrix)?;
     Ok(Move { pads: [start.pad, end.pad], ..built })
 }
 
 impl Chain {
     /// The whole chain's checks, then its moves in rising order, each built by the original.
-    pub fn build(poses: &[Pose]) -> Judged<Chain> {
-        check(poses)?;
-        let moves: Judged<Vec<Move>> = poses.windows(2).map(|pair| build_move(&pair[0], &pair[1])).collect();
-        Ok(Chain { poses: poses.to_vec(), moves: moves? })
+    pub fn build(kind: Kind, poses: &[Pose]) -> Judged<Chain> {
+        check(kind, poses)?;
+        let moves: Judged<Vec<Move>> = poses.windows(2).map(|pair| build_move(kind, &pair[0], &pair[1])).collect();
+        Ok(Chain { kind, poses: poses.to_vec(), moves: moves? })
     }
 
-    /// A move built by itself, with document 01's rule for its times: 1, 2, 16, then 3.
-    pub fn lone(poses: &[Pose; 2]) -> Judged<Chain> {
+    /// A move built by itself, with document 01's rule for its times: 1, 2, 16, then 3, and of a rigid one 17 and 18, pose by pose.
+    pub fn lone(kind: Kind, poses: &[Pose; 2]) -> Judged<Chain> {
         check_poses(poses)?;
-        Ok(Chain { poses: poses.to_vec(), moves: vec![build_move(&poses[0], &poses[1])?] })
+        Ok(Chain { kind, poses: poses.to_vec(), moves: vec![build_move(kind, &poses[0], &poses[1])?] })
     }
 
     /// The move that a time belongs to: the first that isn't over before it, else the last. Any, for a NaN, which each refuses.
@@ -132,11 +136,11 @@ mod tests {
     }
 
     fn number(poses: &[Pose]) -> Option<u8> {
-        Chain::build(poses).err()
+        Chain::build(Kind::Plain, poses).err()
     }
 
     fn chain() -> Chain {
-        Chain::build(&[shifted(0.0, 0.0), shifted(1.0, 1.0), shifted(2.0, 1.0), shifted(4.0, 3.0)]).unwrap()
+        Chain::build(Kind::Plain, &[shifted(0.0, 0.0), shifted(1.0, 1.0), shifted(2.0, 1.0), shifted(4.0, 3.0)]).unwrap()
     }
 
     fn x_at(chain: &Chain, time: f32) -> f32 {
@@ -175,7 +179,7 @@ mod tests {
         let (start, end) = (shifted(0.0, 0.0), shifted(1.0, 1.0));
         let mut bent = end;
         bent.matrix.m[3][0] = 1.0;
-        let number_of = |poses: [Pose; 2]| (number(&poses), Chain::lone(&poses).err());
+        let number_of = |poses: [Pose; 2]| (number(&poses), Chain::lone(Kind::Plain, &poses).err());
         assert_eq!(number_of([padded(start, -0.0), padded(end, 2.0)]), (None, None));
         assert_eq!(number_of([start, padded(end, -1e-40)]), (Some(PAD), Some(PAD)));
         assert_eq!(number_of([padded(start, -1.0), bent]), (Some(BOTTOM_ROW), Some(BOTTOM_ROW)));
@@ -185,7 +189,7 @@ mod tests {
 
     #[test]
     fn pads_at_times() {
-        let pad_of = |poses: [Pose; 2], time: f32| Chain::lone(&poses).unwrap().pad(time);
+        let pad_of = |poses: [Pose; 2], time: f32| Chain::lone(Kind::Plain, &poses).unwrap().pad(time);
         let moving = [padded(shifted(0.0, 0.0), 1.0), padded(shifted(1.0, 1.0), 3.0)];
         let still = [padded(shifted(0.0, 0.0), 1.0), padded(shifted(1.0, 0.0), 3.0)];
         for (time, pad) in [(f32::NEG_INFINITY, 1.0), (0.0, 1.0), (0.5, 2.0), (1.0, 3.0), (2.0, 3.0)] {
@@ -194,19 +198,19 @@ mod tests {
         }
         assert_eq!(pad_of(moving, f32::NAN), Err(QUERY));
         // The cover grows by the pads: an end box by its own, the one box of equal poses by the larger.
-        let cover = Chain::lone(&moving).unwrap().cover(&[0.0; 6], 12).unwrap();
+        let cover = Chain::lone(Kind::Plain, &moving).unwrap().cover(&[0.0; 6], 12).unwrap();
         assert!(cover[0] <= -1.0 && cover[3] >= 4.0 && cover[1] <= -3.0 && cover[4] >= 3.0);
-        assert_eq!(Chain::lone(&still).unwrap().cover(&[0.0; 6], 0), Ok([-3.0, -3.0, -3.0, 3.0, 3.0, 3.0]));
+        assert_eq!(Chain::lone(Kind::Plain, &still).unwrap().cover(&[0.0; 6], 0), Ok([-3.0, -3.0, -3.0, 3.0, 3.0, 3.0]));
     }
 
     #[test]
     fn a_move_by_itself_keeps_its_rule() {
         let equal = [shifted(1.0, 0.0), shifted(1.0, 2.0)];
         assert_eq!(number(&equal), Some(CHAIN));
-        let lone = Chain::lone(&equal).unwrap();
+        let lone = Chain::lone(Kind::Plain, &equal).unwrap();
         assert_eq!(x_at(&lone, 1.0), 0.0);
         assert_eq!(x_at(&lone, 1.0f32.next_up()), 2.0);
-        assert_eq!(Chain::lone(&[equal[1], shifted(0.0, 0.0)]).err(), Some(TIMES));
+        assert_eq!(Chain::lone(Kind::Plain, &[equal[1], shifted(0.0, 0.0)]).err(), Some(TIMES));
     }
 
     #[test]
@@ -223,7 +227,7 @@ mod tests {
     /// At an inner pose's time the earlier move answers by its stored end; the later move's own start is the same matrix, but for zeros.
     #[test]
     fn an_inner_time_is_the_earlier_moves() {
-        let chain = Chain::build(&[shifted(0.0, 0.0), turned(1.0), shifted(2.0, 5.0)]).unwrap();
+        let chain = Chain::build(Kind::Plain, &[shifted(0.0, 0.0), turned(1.0), shifted(2.0, 5.0)]).unwrap();
         let end = chain.transform_point(1.0, &Point3f::new(1.0, 2.0, 3.0)).unwrap();
         assert_eq!(point_values(&end), [-2.0, 1.0, 3.0]);
         assert!(std::ptr::eq(chain.move_at(1.0), &chain.moves[0]));
@@ -255,7 +259,7 @@ mod tests {
             pose.matrix.m[0][1] = x;
             pose
         };
-        let growing = Chain::build(&[sheared(0.0, 0.0), sheared(1.0, 4.0)]).unwrap();
+        let growing = Chain::build(Kind::Plain, &[sheared(0.0, 0.0), sheared(1.0, 4.0)]).unwrap();
         let mut answers = [7.0; 6];
         assert_eq!(growing.transform_points(&[0.0, 1.0], &Point3f::new(0.0, f32::MAX, 0.0), &mut answers), Err(NOT_FINITE));
         assert_eq!(answers, [7.0; 6]);
@@ -263,14 +267,14 @@ mod tests {
 
     #[test]
     fn covers_are_united() {
-        let there_and_back = Chain::build(&[shifted(0.0, 0.0), shifted(1.0, 1.0), shifted(2.0, 0.0), shifted(3.0, -1.0)]).unwrap();
+        let there_and_back = Chain::build(Kind::Plain, &[shifted(0.0, 0.0), shifted(1.0, 1.0), shifted(2.0, 0.0), shifted(3.0, -1.0)]).unwrap();
         assert_eq!(there_and_back.cover(&[0.0; 6], 1), Ok([-1.0, 0.0, 0.0, 1.0, 0.0, 0.0]));
         let b = [0.0, 0.0, 0.0, 0.5, 0.0, 0.0];
         assert_eq!(chain().cover(&b, 0), Err(SQUARED_LENGTH));
         assert_eq!(chain().cover(&b, 13), Err(DEPTH));
         assert_eq!(chain().cover(&[1.0, 0.0, 0.0, 0.5, 0.0, 0.0], 13), Err(CORNERS));
         // The moves' own covers: each inside the union, and each end of it is one of theirs.
-        let chain = Chain::build(&[shifted(0.0, 0.0), turned(1.0), shifted(2.0, 5.0)]).unwrap();
+        let chain = Chain::build(Kind::Plain, &[shifted(0.0, 0.0), turned(1.0), shifted(2.0, 5.0)]).unwrap();
         let all = chain.cover(&b, 6).unwrap();
         let covers: Vec<[f32; 6]> = chain.moves.iter().map(|m| m.cover(&b, 6).unwrap()).collect();
         for i in 0..6 {
@@ -281,7 +285,7 @@ mod tests {
 
     #[test]
     fn sets_of_boxes() {
-        let chain = Chain::build(&[shifted(0.0, 0.0), turned(1.0), shifted(2.0, 5.0)]).unwrap();
+        let chain = Chain::build(Kind::Plain, &[shifted(0.0, 0.0), turned(1.0), shifted(2.0, 5.0)]).unwrap();
         let boxes: Vec<[f32; 6]> = (0..17).map(|i| [i as f32, 0.0, 0.0, i as f32 + 0.5, 1.0, 0.0]).collect();
         assert_eq!(chain.covers(&[], 6).err(), Some(SET));
         assert_eq!(chain.covers(&boxes, 13).err(), Some(SET));
@@ -299,5 +303,33 @@ mod tests {
         assert_eq!(chain.covers(&[boxes[0], nan], 13).err(), Some(DEPTH));
         assert_eq!(chain.covers(&[crossed, nan], 13).err(), Some(CORNERS));
         assert_eq!(self::chain().covers(&[boxes[0], nan], 0).err(), Some(SQUARED_LENGTH));
+    }
+
+    /// 17 and 18 are judged pose by pose, after the 3 of the whole chain and before the 4 of the first move.
+    #[test]
+    fn rigid_chains() {
+        let scaled = |pose: Pose, x: f32| {
+            let mut pose = pose;
+            pose.matrix.m[0][0] *= x;
+            pose
+        };
+        let number = |poses: &[Pose]| Chain::build(Kind::Rigid, poses).err();
+        let rising = [shifted(0.0, 0.0), turned(1.0), shifted(2.0, 5.0)];
+        assert_eq!(number(&rising), None);
+        assert_eq!(number(&[scaled(rising[0], 0.0), rising[1], rising[2]]), Some(NOT_RIGID));
+        assert_eq!(number(&[rising[0], rising[1], scaled(rising[2], -1.0)]), Some(DETERMINANT));
+        assert_eq!(number(&[scaled(rising[0], -1.0), rising[1], scaled(rising[2], 2.0)]), Some(DETERMINANT));
+        assert_eq!(number(&[scaled(rising[0], 2.0), rising[1], scaled(rising[2], -1.0)]), Some(NOT_RIGID));
+        assert_eq!(number(&[shifted(f32::MIN, 0.0), scaled(shifted(0.0, 0.0), 2.0), shifted(f32::MAX, 0.0)]), Some(NOT_RIGID));
+        assert_eq!(number(&[scaled(shifted(f32::MIN, 0.0), 2.0), shifted(f32::MAX, 0.0)]), Some(TIMES));
+        assert_eq!(number(&[scaled(rising[1], 2.0), rising[0]]), Some(CHAIN));
+        assert_eq!(Chain::lone(Kind::Rigid, &[padded(rising[0], -1.0), scaled(rising[1], 2.0)]).err(), Some(PAD));
+        // A scale that passes, and so far that S overflows: no S is worked out for a rigid move.
+        let mut far = shifted(1.0, 0.0);
+        let (c, s) = (0.913074, 0.40878612);
+        (far.matrix.m[0], far.matrix.m[1]) = ([c, -s, 0.0, 3.1061793e38], [s, c, 0.0, 1.3906398e38]);
+        far.matrix.m[2][2] = 1.0004;
+        assert_eq!(Chain::build(Kind::Rigid, &[rising[0], far]).err(), None);
+        assert_eq!(Chain::build(Kind::Plain, &[rising[0], far]).err(), Some(NOT_FINITE));
     }
 }

@@ -4,7 +4,7 @@ use crate::angles;
 use crate::chain::{Chain, Pose};
 use crate::core::geometry::point::Point3f;
 use crate::file::File;
-use crate::judged::{point_values, Judged, Move};
+use crate::judged::{point_values, Judged, Kind, Move};
 use crate::lines::{bounds, bytes, counted, float, floats, matrix, matrix_floats, parts, read, whole, Answer, Session, Values};
 
 /// The words of a question behind its name.
@@ -104,11 +104,12 @@ fn slot(words: Words) -> Option<(usize, Words)> {
     (slot < SLOTS).then_some((slot, rest))
 }
 
-/// A slot, and a kind of chain; for now `plain` alone is one.
-fn slot_and_kind(words: Words) -> Option<(usize, Words)> {
+/// A slot, and a kind of chain.
+fn slot_and_kind(words: Words) -> Option<(usize, Kind, Words)> {
     let (slot, words) = slot(words)?;
     match words.split_first()? {
-        (&b"plain", rest) => Some((slot, rest)),
+        (&b"plain", rest) => Some((slot, Kind::Plain, rest)),
+        (&b"rigid", rest) => Some((slot, Kind::Rigid, rest)),
         _ => None,
     }
 }
@@ -140,15 +141,15 @@ fn move_of<'a, 'w>(slots: &'a Slots, words: Words<'w>) -> Option<(&'a Move, Word
 
 /// chain S KIND P*
 fn chain(slots: &mut Slots, words: Words) -> Answer {
-    let (slot, words) = slot_and_kind(words)?;
-    slots.keep(slot, Chain::build(&poses(words)?), false)
+    let (slot, kind, words) = slot_and_kind(words)?;
+    slots.keep(slot, Chain::build(kind, &poses(words)?), false)
 }
 
 /// lone S KIND P P
 fn lone(slots: &mut Slots, words: Words) -> Answer {
-    let (slot, words) = slot_and_kind(words)?;
+    let (slot, kind, words) = slot_and_kind(words)?;
     let poses: [Pose; 2] = poses(words)?.try_into().ok()?;
-    slots.keep(slot, Chain::lone(&poses), true)
+    slots.keep(slot, Chain::lone(kind, &poses), true)
 }
 
 /// cpoint S T X Y Z
@@ -317,6 +318,18 @@ mod tests {
     }
 
     #[test]
+    fn kinds() {
+        let build = |kind: &str, end: &str| format!("chain 0 {kind} {} {}", pose("00000000", "00000000"), pose("3f800000", end));
+        let scaled = build("rigid", "40000000").replacen("3f800000", "40000000", 1);
+        let mirrored = build("rigid", "40000000").replacen("3f800000", "bf800000", 1);
+        let session = answers(&[&build("plain", "40000000"), "cparts 0 0", &build("rigid", "40000000"), "cparts 0 0", &scaled, "cparts 0 0", &mirrored]);
+        assert_eq!((&*session[0], &*session[2], &*session[4], &*session[5], &*session[6]), ("ok 2", "ok 2", "refused 17", "error", "refused 18"));
+        // Only the S of the end differs: a plain one has the translation in its fourth column, which nothing reads.
+        let differing = session[1].split(' ').zip(session[3].split(' ')).filter(|(plain, rigid)| plain != rigid);
+        assert_eq!(differing.collect::<Vec<_>>(), [("40000000", "00000000")]);
+    }
+
+    #[test]
     fn files() {
         let build = format!("chain 2 plain {}", three_poses());
         let write = |room: usize| format!("write 2 {room} {ORIGIN} {ORIGIN}");
@@ -338,7 +351,6 @@ mod tests {
     #[test]
     fn malformed_lines() {
         let build = format!("chain 0 plain {}", three_poses());
-        let rigid = format!("chain 0 rigid {}", three_poses());
         let one_more = format!("{build} 00000000");
         for line in [
             "chain",
@@ -346,7 +358,8 @@ mod tests {
             "chain 4 plain",
             "chain -1 plain",
             "chain 0 Plain",
-            &rigid,
+            "chain 0 Rigid",
+            "chain 0 0",
             &one_more,
             "lone 0 plain",
             "cparts 0",
@@ -378,7 +391,6 @@ mod tests {
         ] {
             assert_eq!(answers(&[&build, line]), ["ok 3", "error"], "{line:?}");
         }
-        assert_eq!(answers(&[&build, &rigid, "cparts 0 0"])[2].split(' ').count(), 141);
         assert_eq!(answers(&[&format!("chain {:08000} plain", 0)]), ["error"]);
         assert_eq!(Slots::any_length().answer(format!("chain {:08000} plain", 0).as_bytes()).unwrap(), "refused 12");
     }

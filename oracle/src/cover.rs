@@ -2,8 +2,8 @@
 //! the steps, the order and the refusals are its own, written from document 01 and from the steps of `interpolate` and `transform_point`.
 
 use crate::angles::{acos, cos, sin, units, QUARTER_TURN};
-use crate::core::transform::fields::Fields;
-use crate::judged::{finite, quaternion_values, vector_values, Judged};
+use crate::core::transform::Matrix4x4;
+use crate::judged::{finite, quaternion_values, vector_values, Judged, Kind, Move};
 use crate::refusal::*;
 use std::ops::{Add, Div, Mul, Sub};
 
@@ -205,15 +205,19 @@ fn rotation(q: &Quaternion) -> Judged<Matrix> {
     Ok(m)
 }
 
-/// What the poses of an interval of dt make of a box: translation, slerp, scale, the matrices, two products, the moved point.
-fn slice(f: &Fields, dt: Interval, b: &[Interval; 3]) -> Judged<[f32; 6]> {
+/// What the poses of an interval of dt make of a box: translation, slerp, scale (of a rigid move the identity), the matrices, two products, the moved point.
+fn slice(m: &Move, dt: Interval, b: &[Interval; 3]) -> Judged<[f32; 6]> {
+    let f = &m.fields;
     let t = [vector_values(&f.t[0]), vector_values(&f.t[1])];
     let translated: [Interval; 3] = std::array::from_fn(|i| constant(t[0][i]) * (ONE - dt) + constant(t[1][i]) * dt);
     judge(&translated)?;
     let q = slerp(&quaternion_values(&f.r[0]), &quaternion_values(&f.r[1]), dt)?;
     let scaled = |i: usize, j: usize| (ONE - dt) * constant(f.s[0].m[i][j]) + dt * constant(f.s[1].m[i][j]);
     let row = |i: usize| [scaled(i, 0), scaled(i, 1), scaled(i, 2), ZERO];
-    let scale = [row(0), row(1), row(2), [ZERO, ZERO, ZERO, ONE]];
+    let scale = match m.kind {
+        Kind::Plain => [row(0), row(1), row(2), [ZERO, ZERO, ZERO, ONE]],
+        Kind::Rigid => matrix(&Matrix4x4::default().m),
+    };
     judge(scale.as_flattened())?;
     let [x, y, z] = translated;
     let translation = [[ONE, ZERO, ZERO, x], [ZERO, ONE, ZERO, y], [ZERO, ZERO, ONE, z], [ZERO, ZERO, ZERO, ONE]];
@@ -241,12 +245,13 @@ enum Part {
 }
 
 /// The union of a cover's boxes at a depth: 6, 7, 8, then start box, end box, slices in rising order, each handed to `grow` as soon as it is worked out.
-fn union_of_boxes(f: &Fields, b: &[f32; 6], depth: u64, grow: impl Fn(Part, [f32; 6]) -> Judged<[f32; 6]>) -> Judged<[f32; 6]> {
+fn union_of_boxes(m: &Move, b: &[f32; 6], depth: u64, grow: impl Fn(Part, [f32; 6]) -> Judged<[f32; 6]>) -> Judged<[f32; 6]> {
     check_box(b)?;
     if depth > MAX_DEPTH {
         return Err(DEPTH);
     }
     let b: [Interval; 3] = std::array::from_fn(|i| Interval { low: b[i], high: b[i + 3], refusal: 0 });
+    let f = &m.fields;
     let start = moved(&matrix(&f.start.m.m), &b)?;
     if f.start == f.end {
         return grow(Part::EqualPoses, start);
@@ -257,14 +262,14 @@ fn union_of_boxes(f: &Fields, b: &[f32; 6], depth: u64, grow: impl Fn(Part, [f32
     for k in 0..slices {
         let end = |k: u32| k as f32 / slices as f32;
         let dt = Interval { low: end(k), high: end(k + 1), refusal: 0 };
-        covered = union(covered, grow(Part::Slice(dt), slice(f, dt, &b)?)?);
+        covered = union(covered, grow(Part::Slice(dt), slice(m, dt, &b)?)?);
     }
     Ok(covered)
 }
 
-/// Document 01's cover of a box x0 y0 z0 x1 y1 z1, which knows no pads.
-pub fn cover(f: &Fields, b: &[f32; 6], depth: u64) -> Judged<[f32; 6]> {
-    union_of_boxes(f, b, depth, |_, moved| Ok(moved))
+/// Document 01's cover of a box x0 y0 z0 x1 y1 z1, which knows no pads; of a rigid move the same with the identity for S.
+pub fn cover(m: &Move, b: &[f32; 6], depth: u64) -> Judged<[f32; 6]> {
+    union_of_boxes(m, b, depth, |_, moved| Ok(moved))
 }
 
 /// A box with each face moved outwards by a pad.
@@ -275,8 +280,9 @@ fn grown(b: [f32; 6], pad: f32) -> Judged<[f32; 6]> {
 }
 
 /// Document 02's cover: an end box grows by its own pad, that of equal poses by the larger, a slice's by the high end of the pad over it.
-pub fn padded_cover(f: &Fields, [start, end]: [f32; 2], b: &[f32; 6], depth: u64) -> Judged<[f32; 6]> {
-    union_of_boxes(f, b, depth, |part, moved| match part {
+pub fn padded_cover(m: &Move, b: &[f32; 6], depth: u64) -> Judged<[f32; 6]> {
+    let [start, end] = m.pads;
+    union_of_boxes(m, b, depth, |part, moved| match part {
         Part::Start => grown(moved, start),
         Part::End => grown(moved, end),
         Part::EqualPoses => grown(moved, greatest(start, end)),
@@ -293,8 +299,7 @@ mod tests {
     use super::*;
     use crate::core::geometry::bounds::Bounds3f;
     use crate::core::geometry::point::Point3f;
-    use crate::core::transform::Matrix4x4;
-    use crate::judged::{bounds_values, build, point_values, Move};
+    use crate::judged::{bounds_values, build, point_values};
 
     /// splitmix64, as numbers from -1 to 1.
     struct Random(u64);
@@ -325,7 +330,7 @@ mod tests {
                 let start = self.matrix(&Matrix4x4::default(), 2.0);
                 let spread = if moves.len() % 2 == 0 { 0.01 } else { 2.0 };
                 let end = self.matrix(&start, spread);
-                moves.extend(build(0.0, &start, 1.0, &end));
+                moves.extend(build(Kind::Plain, 0.0, &start, 1.0, &end));
             }
             moves
         }
@@ -334,24 +339,24 @@ mod tests {
     fn a() -> Move {
         let mut end = Matrix4x4::default();
         end.m[0][3] = 1.0;
-        build(0.0, &Matrix4x4::default(), 1.0, &end).unwrap()
+        build(Kind::Plain, 0.0, &Matrix4x4::default(), 1.0, &end).unwrap()
     }
 
     #[test]
     fn worked_cases() {
         let origin = [0.0; 6];
-        assert_eq!(cover(&a().fields, &origin, 0), Err(SQUARED_LENGTH));
-        assert_eq!(cover(&a().fields, &origin, 1), Ok([0.0, 0.0, 0.0, 1.0, 0.0, 0.0]));
-        assert_eq!(cover(&a().fields, &origin, 13), Err(DEPTH));
-        let still = build(0.0, &Matrix4x4::default(), 1.0, &Matrix4x4::default()).unwrap();
-        assert_eq!(cover(&still.fields, &[1.0, 2.0, 3.0, 4.0, 5.0, 6.0], 10), Ok([1.0, 2.0, 3.0, 4.0, 5.0, 6.0]));
+        assert_eq!(cover(&a(), &origin, 0), Err(SQUARED_LENGTH));
+        assert_eq!(cover(&a(), &origin, 1), Ok([0.0, 0.0, 0.0, 1.0, 0.0, 0.0]));
+        assert_eq!(cover(&a(), &origin, 13), Err(DEPTH));
+        let still = build(Kind::Plain, 0.0, &Matrix4x4::default(), 1.0, &Matrix4x4::default()).unwrap();
+        assert_eq!(cover(&still, &[1.0, 2.0, 3.0, 4.0, 5.0, 6.0], 10), Ok([1.0, 2.0, 3.0, 4.0, 5.0, 6.0]));
     }
 
     #[test]
     fn query_checks_in_order() {
-        assert_eq!(cover(&a().fields, &[2.0, 0.0, 0.0, 1.0, f32::NAN, 0.0], 13), Err(QUERY));
-        assert_eq!(cover(&a().fields, &[2.0, 0.0, 0.0, 1.0, 0.0, 0.0], 13), Err(CORNERS));
-        assert_eq!(cover(&a().fields, &[2.0, 0.0, 0.0, 2.0, 0.0, 0.0], 13), Err(DEPTH));
+        assert_eq!(cover(&a(), &[2.0, 0.0, 0.0, 1.0, f32::NAN, 0.0], 13), Err(QUERY));
+        assert_eq!(cover(&a(), &[2.0, 0.0, 0.0, 1.0, 0.0, 0.0], 13), Err(CORNERS));
+        assert_eq!(cover(&a(), &[2.0, 0.0, 0.0, 2.0, 0.0, 0.0], 13), Err(DEPTH));
     }
 
     /// With equal ends the interval steps are the float steps: the same operations in the same order as the original's.
@@ -362,7 +367,7 @@ mod tests {
         for m in random.moves(2000) {
             for _ in 0..4 {
                 let (time, p) = (0.5 + 0.5 * random.unit(), [random.unit(), random.unit(), random.unit()].map(|x| 10.0 * x));
-                let ours = slice(&m.fields, constant(time), &p.map(constant));
+                let ours = slice(&m, constant(time), &p.map(constant));
                 let original = m.transform_point(time, &Point3f::new(p[0], p[1], p[2]));
                 if let (Ok(ours), Ok(original)) = (ours, original) {
                     let original = point_values(&original);
@@ -400,7 +405,7 @@ mod tests {
             let b = [-1.0, -2.0, 0.0, 1.0, 0.5, 0.0];
             let m = Move { pads: [random.unit().abs(), 3.0 * random.unit().abs()], ..m };
             for depth in [0, 2, 5] {
-                let (Ok(cover), Ok(padded)) = (cover(&m.fields, &b, depth), m.cover(&b, depth)) else { continue };
+                let (Ok(cover), Ok(padded)) = (cover(&m, &b, depth), m.cover(&b, depth)) else { continue };
                 for _ in 0..50 {
                     let p = Point3f::new(random.unit(), -2.0 + 2.5 * random.unit().abs(), 0.0);
                     let time = 0.5 + 0.55 * random.unit();
@@ -420,7 +425,7 @@ mod tests {
         for m in random.moves(300) {
             let b = [-1.0, -2.0, 0.0, 1.0, 0.5, 0.0];
             for (depth, pads) in [(0, [0.0, 0.0]), (3, [0.0, 0.0]), (3, [-0.0, 0.0]), (4, [-0.0, -0.0])] {
-                assert_eq!(padded_cover(&m.fields, pads, &b, depth), cover(&m.fields, &b, depth));
+                assert_eq!(padded_cover(&Move { pads, ..m.clone() }, &b, depth), cover(&m, &b, depth));
             }
         }
     }

@@ -15,9 +15,18 @@ use std::sync::Arc;
 /// A value, or a refusal number.
 pub type Judged<T> = Result<T, u8>;
 
+/// How a move or a chain is built.
+#[derive(Debug, Clone, Copy, PartialEq, Eq)]
+pub enum Kind {
+    Plain,
+    /// With the identity in place of S. The original has no such kind: of a rigid move it gives the coefficients alone.
+    Rigid,
+}
+
 /// A built move: the original's own, and its fields.
 #[derive(Debug, Clone)]
 pub struct Move {
+    pub kind: Kind,
     pub original: AnimatedTransform,
     pub fields: Fields,
     /// Of the start and the end: the original knows none.
@@ -137,8 +146,8 @@ impl Parts {
     }
 }
 
-/// Each polar round's inverse and matrix, the inverse inside `from_matrix`, the quaternion, the inverse for S, S.
-pub fn decompose(m: &Matrix4x4) -> Judged<Parts> {
+/// Each polar round's inverse and matrix, the inverse inside `from_matrix`, the quaternion, the inverse for S, S; of a rigid move no S, but the identity.
+pub fn decompose(kind: Kind, m: &Matrix4x4) -> Judged<Parts> {
     let mut r = Matrix4x4::default();
     for i in 0..3 {
         r.m[i][..3].copy_from_slice(&m.m[i][..3]);
@@ -166,12 +175,18 @@ pub fn decompose(m: &Matrix4x4) -> Judged<Parts> {
     }
     let rotation = Quaternion::from(Transform::from_matrices(&r, &inverse(&r)?));
     finite(&quaternion_values(&rotation))?;
-    let scale = Matrix4x4::mul(&inverse(&r)?, m);
+    let scale = match kind {
+        Kind::Plain => Matrix4x4::mul(&inverse(&r)?, m),
+        Kind::Rigid => Matrix4x4::default(),
+    };
     finite_matrix(&scale)?;
 
     let ours = Parts { t: Vector3f::new(m.m[0][3], m.m[1][3], m.m[2][3]), r: rotation, s: scale };
     let mut original = Parts { t: Vector3f::default(), r: Quaternion::default(), s: Matrix4x4::default() };
     AnimatedTransform::decompose(m, &mut original.t, &mut original.r, &mut original.s);
+    if kind == Kind::Rigid {
+        original.s = scale;
+    }
     assert!(ours.same(&original), "the parts of {m:?}: {ours:?}, the original {original:?}");
     Ok(original)
 }
@@ -185,8 +200,26 @@ pub fn check_bottom_row(m: &Matrix4x4) -> Judged<()> {
     }
 }
 
-/// 1, 2, 3; both inverses; start parts, end parts; the dot product before and after the flip; with rotation, the perpendicular quaternion and the coefficients.
-pub fn build(start_time: f32, start: &Matrix4x4, end_time: f32, end: &Matrix4x4) -> Judged<Move> {
+/// Of a matrix of a rigid move 17, then 18.
+pub fn check_rigid(m: &Matrix4x4) -> Judged<()> {
+    let column = |j: usize| Vector3f::new(m.m[0][j], m.m[1][j], m.m[2][j]);
+    let near_zero = |i: usize, j: usize| column(i).dot(&column(j)).abs() <= 0.001;
+    let has_scale = Transform::from_matrices(m, &Matrix4x4::default()).has_scale();
+    if has_scale || !(near_zero(0, 1) && near_zero(0, 2) && near_zero(1, 2)) {
+        return Err(NOT_RIGID);
+    }
+    let [[a, b, c, _], [d, e, f, _], [g, h, i, _], _] = m.m;
+    let determinant = a * (e * i - f * h) - b * (d * i - f * g) + c * (d * h - e * g);
+    if determinant > 0.0 {
+        Ok(())
+    } else {
+        Err(DETERMINANT)
+    }
+}
+
+/// 1, 2, 3; of a rigid move 17 and 18, pose by pose; both inverses; start parts, end parts; the dot product before and after the flip; with rotation, the
+/// perpendicular quaternion and the coefficients.
+pub fn build(kind: Kind, start_time: f32, start: &Matrix4x4, end_time: f32, end: &Matrix4x4) -> Judged<Move> {
     if finite(&[start_time, end_time]).and(finite_matrix(start)).and(finite_matrix(end)).is_err() {
         return Err(POSE_NOT_FINITE);
     }
@@ -194,8 +227,11 @@ pub fn build(start_time: f32, start: &Matrix4x4, end_time: f32, end: &Matrix4x4)
     if end_time < start_time || !(end_time - start_time).is_finite() {
         return Err(TIMES);
     }
+    if kind == Kind::Rigid {
+        check_rigid(start).and_then(|()| check_rigid(end))?;
+    }
     let inverses = [inverse(start)?, inverse(end)?];
-    let mut parts = [decompose(start)?, decompose(end)?];
+    let mut parts = [decompose(kind, start)?, decompose(kind, end)?];
     let dot = parts[0].r.dot(&parts[1].r);
     finite(&[dot])?;
     if dot < 0.0 {
@@ -205,7 +241,7 @@ pub fn build(start_time: f32, start: &Matrix4x4, end_time: f32, end: &Matrix4x4)
     finite(&[dot])?;
 
     let poses = [start, end].map(|m| Arc::new(Transform::from_matrix(m)));
-    let original = AnimatedTransform::new(poses[0].clone(), poses[1].clone(), start_time, end_time);
+    let original = log::telling(kind == Kind::Rigid, || AnimatedTransform::new(poses[0].clone(), poses[1].clone(), start_time, end_time));
     let fields = original.fields();
     for i in 0..2 {
         let theirs = Parts { t: fields.t[i], r: fields.r[i], s: fields.s[i] };
@@ -219,7 +255,7 @@ pub fn build(start_time: f32, start: &Matrix4x4, end_time: f32, end: &Matrix4x4)
         finite(&quaternion_values(&perpendicular))?;
     }
     finite(fields.c.as_flattened().as_flattened())?;
-    Ok(Move { original, fields, pads: [0.0; 2] })
+    Ok(Move { kind, original, fields, pads: [0.0; 2] })
 }
 
 impl Move {
@@ -266,14 +302,14 @@ impl Move {
     /// Document 02's cover of a box. With pads of +0 document 01's is asked for, which grows nothing: it must be the same.
     pub fn cover(&self, b: &[f32; 6], depth: u64) -> Judged<[f32; 6]> {
         if self.pads.iter().all(|pad| pad.to_bits() == 0) {
-            cover::cover(&self.fields, b, depth)
+            cover::cover(self, b, depth)
         } else {
-            cover::padded_cover(&self.fields, self.pads, b, depth)
+            cover::padded_cover(self, b, depth)
         }
     }
 
     /// The steps of `interpolate` between the end times: quaternion, scale, translation, rotation, first product, the scale's inverse, last product.
-    /// Without `inverse_half` that half is not judged and stays as it is.
+    /// The scale of a rigid move is the identity. Without `inverse_half` that half is not judged and stays as it is.
     fn interpolated(&self, time: f32, inverse_half: bool) -> Judged<Transform> {
         let Fields { t, r, s, start_time, end_time, .. } = &self.fields;
         let dt = (time - start_time) / (end_time - start_time);
@@ -281,9 +317,11 @@ impl Move {
         let rotation = slerp(&r[0], &r[1], dt);
         finite(&quaternion_values(&rotation))?;
         let mut scale = Matrix4x4::default();
-        for i in 0..3 {
-            for j in 0..3 {
-                scale.m[i][j] = lerp(dt, s[0].m[i][j], s[1].m[i][j]);
+        if self.kind == Kind::Plain {
+            for i in 0..3 {
+                for j in 0..3 {
+                    scale.m[i][j] = lerp(dt, s[0].m[i][j], s[1].m[i][j]);
+                }
             }
         }
         finite_matrix(&scale)?;
@@ -314,6 +352,9 @@ impl Move {
             Some(transform) => *transform,
             None => self.interpolated(time, true)?,
         };
+        if self.kind == Kind::Rigid {
+            return Ok(ours);
+        }
         let mut original = Transform::default();
         self.original.interpolate(time, &mut original);
         assert!(same_matrix(&ours.m, &original.m) && same_matrix(&ours.m_inv, &original.m_inv), "the pose at {time:?}");
@@ -328,6 +369,9 @@ impl Move {
         };
         let ours = ours.transform_point(p);
         finite(&point_values(&ours))?;
+        if self.kind == Kind::Rigid {
+            return Ok(ours);
+        }
         let original = self.original.transform_point(time, p);
         assert!(same(&point_values(&ours), &point_values(&original)), "{p:?} moved at {time:?}");
         Ok(original)
@@ -341,7 +385,7 @@ impl Move {
     }
 
     /// The moved points in the original's order, each judged as it is met; a ninth zero as its axis is searched.
-    /// The original's own run must examine as many intervals.
+    /// The original's own run, of a plain move, must examine as many intervals.
     fn point_motion(&self, p: &Point3f) -> Judged<MotionBounds> {
         let f = &self.fields;
         let mut examined = [0; 3];
@@ -362,12 +406,15 @@ impl Move {
                 }
             }
         }
-        log::take_examined();
-        let original = self.original.bound_point_motion(p);
-        assert_eq!(log::take_examined(), examined.iter().sum::<u32>(), "the intervals examined for {p:?}");
-        assert_eq!(ours, original, "the motion of {p:?}");
+        if self.kind == Kind::Plain {
+            log::take_examined();
+            let original = self.original.bound_point_motion(p);
+            assert_eq!(log::take_examined(), examined.iter().sum::<u32>(), "the intervals examined for {p:?}");
+            assert_eq!(ours, original, "the motion of {p:?}");
+            ours = original;
+        }
         assert!(!log::take_out_of_range(), "a range assertion fails for {p:?} of {f:?}");
-        Ok(MotionBounds { bounds: original, examined })
+        Ok(MotionBounds { bounds: ours, examined })
     }
 
     pub fn bound_point_motion(&self, p: &Point3f) -> Judged<MotionBounds> {
@@ -403,11 +450,14 @@ impl Move {
                 }
             });
         }
-        log::take_examined();
-        let original = self.original.motion_bounds(b);
-        assert_eq!(log::take_examined(), examined.iter().sum::<u32>(), "the intervals examined for {b:?}");
-        assert_eq!(ours, original, "the motion of {b:?}");
-        Ok(MotionBounds { bounds: original, examined })
+        if self.kind == Kind::Plain {
+            log::take_examined();
+            let original = self.original.motion_bounds(b);
+            assert_eq!(log::take_examined(), examined.iter().sum::<u32>(), "the intervals examined for {b:?}");
+            assert_eq!(ours, original, "the motion of {b:?}");
+            ours = original;
+        }
+        Ok(MotionBounds { bounds: ours, examined })
     }
 }
 
@@ -468,7 +518,7 @@ mod tests {
     fn ninth_zero() {
         let one = 0x3f80_0000;
         let end = rows([0x3f7f20ae, 0xbd2ea87d, 0, 0x3ea238f7, 0x3dae7ac6, 0x3f7fd34d, 0, 0, 0, 0, one, 0]);
-        let m = build(0.0, &Matrix4x4::default(), 1.0, &end).unwrap();
+        let m = build(Kind::Plain, 0.0, &Matrix4x4::default(), 1.0, &end).unwrap();
         let p = Point3f::new(0.0, f32::from_bits(0x40ed_cb23), 0.0);
         assert_eq!(m.bound_point_motion(&p).unwrap_err(), NINTH_ZERO);
         let ended = std::panic::catch_unwind(|| m.original.bound_point_motion(&p)).unwrap_err();
@@ -495,7 +545,7 @@ mod tests {
         first.m[3][0] = 1.0;
         let mut second = diagonal(0.0, 0.0, 0.0);
         second.m[3][3] = 2.0;
-        let number = |t0, m0: &Matrix4x4, t1, m1: &Matrix4x4| build(t0, m0, t1, m1).err();
+        let number = |t0, m0: &Matrix4x4, t1, m1: &Matrix4x4| build(Kind::Plain, t0, m0, t1, m1).err();
         assert_eq!(number(0.0, &first, -1.0, &second), Some(POSE_NOT_FINITE));
         assert_eq!(number(0.0, &identity, -1.0, &second), Some(BOTTOM_ROW));
         second.m[3] = [-0.0, 0.0, -0.0, 1.0];
@@ -513,9 +563,61 @@ mod tests {
         let end = rows([
             0x5a4f052f, 0xd8c2f967, 0xd9bcebc1, 0x3f400000, 0xbf639b01, 0x415e971e, 0xc0b136c6, 0xbf800000, 0x40ca9f61, 0x40ac0cd1, 0x4147d6d8, 0x40800000,
         ]);
-        let m = build(0.0, &start, 1.0, &end).unwrap();
+        let m = build(Kind::Plain, 0.0, &start, 1.0, &end).unwrap();
         let time = 0.6575561;
         assert_eq!(m.interpolate(time).unwrap_err(), ZERO_PIVOT);
         assert!(m.transform_point(time, &Point3f::new(1.0, 2.0, 3.0)).is_ok());
+    }
+
+    fn turned(angle: f32) -> Matrix4x4 {
+        let (sin, cos) = (angles::sin(angle), angles::cos(angle));
+        let mut m = Matrix4x4::default();
+        (m.m[0], m.m[1]) = ([cos, -sin, 0.0, 0.0], [sin, cos, 0.0, 0.0]);
+        m
+    }
+
+    /// Squares from 0.999 to 1.001 and a dot product of 0.001 pass, each with its end.
+    #[test]
+    fn rigid_poses() {
+        assert_eq!(check_rigid(&turned(0.7)), Ok(()));
+        assert_eq!(check_rigid(&diagonal(1.001, 1.0, 1.0)), Err(NOT_RIGID));
+        assert_eq!(check_rigid(&diagonal(1.0, 0.999, 1.0)), Err(NOT_RIGID));
+        assert_eq!(check_rigid(&diagonal(-1.0, 1.0, 1.0)), Err(DETERMINANT));
+        assert_eq!(check_rigid(&diagonal(-1.0, 1.0, 2.0)), Err(NOT_RIGID));
+        assert_eq!(check_rigid(&diagonal(-1.0, -1.0, 1.0)), Ok(()));
+        for (i, j) in [(0, 1), (0, 2), (1, 2), (1, 0), (2, 0), (2, 1)] {
+            let mut sheared = Matrix4x4::default();
+            for sign in [1.0, -1.0] {
+                sheared.m[i][j] = sign * 0.001;
+                assert_eq!(check_rigid(&sheared), Ok(()));
+                sheared.m[i][j] = sign * 0.001f32.next_up();
+                assert_eq!(check_rigid(&sheared), Err(NOT_RIGID));
+            }
+        }
+    }
+
+    /// 17 and 18 are judged pose by pose, after 3 and before 4; a rigid move has the identity for S wherever it has one.
+    #[test]
+    fn rigid_moves() {
+        let number = |t1: f32, start: &Matrix4x4, end: &Matrix4x4| build(Kind::Rigid, 0.0, start, t1, end).err();
+        let (mirror, flat) = (diagonal(-1.0, 1.0, 1.0), diagonal(1.0, 1.0, 0.0));
+        assert_eq!(number(1.0, &mirror, &flat), Some(DETERMINANT));
+        assert_eq!(number(1.0, &flat, &mirror), Some(NOT_RIGID));
+        assert_eq!(number(-1.0, &flat, &mirror), Some(TIMES));
+        let mut end = turned(0.7);
+        end.m[0][1] += 0.0005;
+        end.m[0][3] = 3.0;
+        let [plain, rigid] = [Kind::Plain, Kind::Rigid].map(|kind| build(kind, 0.0, &turned(0.1), 1.0, &end).unwrap());
+        assert!(!same_matrix(&plain.fields.s[1], &Matrix4x4::default()));
+        assert!(rigid.fields.s.iter().all(|s| same_matrix(s, &Matrix4x4::default())));
+        assert!(same_matrix(&rigid.fields.end.m, &end));
+        assert_ne!(plain.fields.c, rigid.fields.c);
+        // Nearly a rotation in between, and the stored poses at the ends.
+        let half = rigid.interpolate(0.5).unwrap();
+        assert_eq!(check_rigid(&half.m), Ok(()));
+        assert!(same_matrix(&rigid.interpolate(1.0).unwrap().m, &end));
+        let cover = rigid.cover(&[1.0, 0.0, 0.0, 1.0, 0.0, 0.0], 6).unwrap();
+        let p = point_values(&rigid.transform_point(0.5, &Point3f::new(1.0, 0.0, 0.0)).unwrap());
+        assert!((0..3).all(|i| cover[i] <= p[i] && p[i] <= cover[i + 3]));
     }
 }

@@ -6,7 +6,7 @@ use crate::core::geometry::point::Point3f;
 use crate::core::pbrt::{clamp, lerp};
 use crate::core::quaternion::slerp;
 use crate::core::transform::{Matrix4x4, Transform};
-use crate::judged::{self, bounds_values, point_values, quaternion_values, vector_values, Move};
+use crate::judged::{self, bounds_values, point_values, quaternion_values, vector_values, Kind, Move};
 use crate::lines::{bounds, counted, floats, matrix, matrix_floats, parts, quaternion, quaternion_floats, read, whole, Answer, Session, Values};
 use crate::num::Float;
 
@@ -41,7 +41,7 @@ impl Session for Moves {
         match question {
             b"move" => {
                 let values: [f32; 34] = read(words)?;
-                let built = judged::build(values[0], &matrix(&values[1..17]), values[17], &matrix(&values[18..]));
+                let built = judged::build(Kind::Plain, values[0], &matrix(&values[1..17]), values[17], &matrix(&values[18..]));
                 let answer = built.as_ref().map(|_| Values::default()).map_err(|number| *number);
                 self.kept = built.ok();
                 Some(answer)
@@ -129,7 +129,7 @@ impl Session for Moves {
             }
             b"decompose" => {
                 let m: [f32; 16] = read(words)?;
-                let parts = judged::decompose(&matrix(&m));
+                let parts = judged::decompose(Kind::Plain, &matrix(&m));
                 Some(parts.map(|p| floats(&vector_values(&p.t)).floats(&quaternion_values(&p.r)).floats(p.s.m.as_flattened())))
             }
             _ => None,

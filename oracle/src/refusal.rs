@@ -32,3 +32,7 @@ pub const SET: u8 = 14;
 pub const ROOM: u8 = 15;
 /// A pose's pad is below zero.
 pub const PAD: u8 = 16;
+/// A pose of a rigid chain or move scales or shears.
+pub const NOT_RIGID: u8 = 17;
+/// A pose of a rigid chain or move has a determinant that isn't above zero.
+pub const DETERMINANT: u8 = 18;

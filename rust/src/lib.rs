@@ -78,7 +78,7 @@ pub struct Transform {
     pub inverse: Matrix,
 }
 
-/// A built move. It is only made by [`Move::new`] and [`Chain::new`], so that the guarantee of [`Move::cover`] holds of every value of this type.
+/// A built move. It is only made by [`Move::new`], [`Move::rigid`] and the moves of a [`Chain`], so that the guarantee of [`Move::cover`] holds of every value of this type.
 #[derive(Clone, Copy, Debug)]
 pub struct Move {
     rows: library::Rows,
@@ -95,9 +95,30 @@ fn answered<T>(number: u8, value: T) -> Result<T, Refusal> {
 impl Move {
     /// The move from one pose to another: pbrt's `AnimatedTransform::new`. Refused with numbers 1 to 5 and 16.
     pub fn new(start: &Pose, end: &Pose) -> Result<Move, Refusal> {
+        Move::build(false, start, end)
+    }
+
+    /// The move of a boom that neither stretches nor shears: between the poses a turn and a shift alone, so that its covers are tighter. Refused as [`Move::new`] and, pose by
+    /// pose, with [`Refusal::NotRigid`] and [`Refusal::Determinant`].
+    ///
+    /// ```
+    /// use jellyplain::{Move, Pose, Refusal, IDENTITY};
+    ///
+    /// let mut end = IDENTITY;
+    /// (end[0], end[1]) = ([0.0, -1.0, 0.0, 3.0], [1.0, 0.0, 0.0, 0.0]); // a quarter turn and three metres
+    /// let pose = |time, matrix| Pose { time, matrix, pad: 0.0 };
+    /// assert!(Move::rigid(&pose(0.0, IDENTITY), &pose(1.0, end)).is_ok());
+    /// end[2][2] = 1.1; // longer by a tenth
+    /// assert_eq!(Move::rigid(&pose(0.0, IDENTITY), &pose(1.0, end)).err(), Some(Refusal::NotRigid));
+    /// ```
+    pub fn rigid(start: &Pose, end: &Pose) -> Result<Move, Refusal> {
+        Move::build(true, start, end)
+    }
+
+    fn build(rigid: bool, start: &Pose, end: &Pose) -> Result<Move, Refusal> {
         library::check_layout();
         let mut rows = library::EMPTY;
-        let number = unsafe { library::jellyplain_build(start, end, &mut rows) };
+        let number = unsafe { library::jellyplain_build(rigid, start, end, &mut rows) };
         answered(number, Move { rows })
     }
 
@@ -156,7 +177,7 @@ pub struct Covers {
     pub union: Bounds,
 }
 
-/// A built chain: the moves between neighbouring poses. It is only made by [`Chain::new`], so that the guarantee of [`Chain::cover`] holds of every value of this type.
+/// A built chain: the moves between neighbouring poses. It is only made by [`Chain::new`] and [`Chain::rigid`], so that the guarantee of [`Chain::cover`] holds of every value of this type.
 #[derive(Clone, Debug)]
 pub struct Chain {
     moves: Vec<library::Rows>,
@@ -165,9 +186,19 @@ pub struct Chain {
 impl Chain {
     /// The chain of 2 to 32 poses whose times rise strictly. Refused with numbers 1, 2, 16, 12, 3, 4 and 5, in this order.
     pub fn new(poses: &[Pose]) -> Result<Chain, Refusal> {
+        Chain::build(false, poses)
+    }
+
+    /// The chain of a boom that neither stretches nor shears, each of its moves as [`Move::rigid`] builds it. Refused as [`Chain::new`] and, after 3 and before 4 and 5, pose by
+    /// pose, with [`Refusal::NotRigid`] and [`Refusal::Determinant`]. A file doesn't hold how a chain was built: what [`Chain::write`] writes may be read and built either way.
+    pub fn rigid(poses: &[Pose]) -> Result<Chain, Refusal> {
+        Chain::build(true, poses)
+    }
+
+    fn build(rigid: bool, poses: &[Pose]) -> Result<Chain, Refusal> {
         library::check_layout();
         let mut moves = [library::EMPTY; library::MOVES];
-        let number = unsafe { library::jellyplain_build_moves(poses.as_ptr(), poses.len(), &mut moves) };
+        let number = unsafe { library::jellyplain_build_moves(rigid, poses.as_ptr(), poses.len(), &mut moves) };
         let count = if number == 0 { poses.len() - 1 } else { 0 };
         answered(number, Chain { moves: moves[..count].to_vec() })
     }
@@ -230,7 +261,7 @@ impl Chain {
     }
 }
 
-/// What a move file holds: any number of poses, and a box. Whether a chain can be built of the poses is asked by [`Chain::new`].
+/// What a move file holds: any number of poses, and a box. Whether a chain can be built of the poses is asked by [`Chain::new`] and [`Chain::rigid`].
 #[derive(Clone, Debug, PartialEq)]
 pub struct MoveFile {
     pub poses: Vec<Pose>,

@@ -34,7 +34,7 @@ pub struct Written {
 }
 
 extern "C" {
-    pub fn jellyplain_build(start: &Pose, end: &Pose, motion: &mut Rows) -> u8;
+    pub fn jellyplain_build(rigid: bool, start: &Pose, end: &Pose, motion: &mut Rows) -> u8;
     pub fn jellyplain_point(motion: &Rows, time: f32, p: &[f32; 3], moved: &mut [f32; 3]) -> u8;
     pub fn jellyplain_pad(motion: &Rows, time: f32, pad: &mut [f32; 1]) -> u8;
     pub fn jellyplain_interpolate(motion: &Rows, time: f32, transform: &mut [[f32; 4]; 8]) -> u8;
@@ -42,7 +42,7 @@ extern "C" {
     pub fn jellyplain_motion_bounds(motion: &Rows, b: &[f32; 6], out: &mut [f32; 6], examined: &mut [u32; 3]) -> u8;
     pub fn jellyplain_cover(motion: &Rows, b: &[f32; 6], depth: u32, out: &mut [f32; 6]) -> u8;
     pub fn jellyplain_layout() -> u32;
-    pub fn jellyplain_build_moves(poses: *const Pose, count: usize, moves: &mut [Rows; MOVES]) -> u8;
+    pub fn jellyplain_build_moves(rigid: bool, poses: *const Pose, count: usize, moves: &mut [Rows; MOVES]) -> u8;
     pub fn jellyplain_moves_point(moves: *const Rows, count: usize, time: f32, p: &[f32; 3], moved: &mut [f32; 3]) -> u8;
     pub fn jellyplain_moves_pad(moves: *const Rows, count: usize, time: f32, pad: &mut [f32; 1]) -> u8;
     pub fn jellyplain_moves_points(
@@ -69,7 +69,7 @@ extern "C" {
 }
 
 /// The layout in which poses, moves and chains cross to the archive.
-pub const LAYOUT: u32 = 2;
+pub const LAYOUT: u32 = 3;
 
 /// The archive that was linked has this package's layout, or the program stops here.
 pub fn check_layout() {
@@ -86,7 +86,10 @@ mod tests {
         let mut end = IDENTITY;
         end[0][3] = 1.0;
         let mut rows = EMPTY;
-        assert_eq!(unsafe { jellyplain_build(&Pose { time: 0.0, matrix: IDENTITY, pad: 0.0 }, &Pose { time: 1.0, matrix: end, pad: 0.0 }, &mut rows) }, 0);
+        assert_eq!(
+            unsafe { jellyplain_build(false, &Pose { time: 0.0, matrix: IDENTITY, pad: 0.0 }, &Pose { time: 1.0, matrix: end, pad: 0.0 }, &mut rows) },
+            0
+        );
         rows
     }
 
@@ -96,7 +99,11 @@ mod tests {
         let mut kept = rows;
         let mut flat = IDENTITY;
         flat[2] = [0.0; 4];
-        assert_eq!(unsafe { jellyplain_build(&Pose { time: 0.0, matrix: flat, pad: 0.0 }, &Pose { time: 1.0, matrix: IDENTITY, pad: 0.0 }, &mut kept) }, 4);
+        let flat = Pose { time: 0.0, matrix: flat, pad: 0.0 };
+        let (start, end) = (Pose { time: 0.0, matrix: IDENTITY, pad: 0.0 }, Pose { time: 1.0, matrix: IDENTITY, pad: 0.0 });
+        assert_eq!(unsafe { jellyplain_build(false, &flat, &end, &mut kept) }, 4);
+        assert_eq!(unsafe { jellyplain_build(true, &flat, &end, &mut kept) }, 17);
+        assert_eq!(unsafe { jellyplain_build(true, &end, &start, &mut kept) }, 3);
         assert_eq!(kept, rows);
 
         let (origin, mut three, mut six, mut eight, mut counts) = ([0.0; 3], [7.0; 3], [7.0; 6], [[7.0; 4]; 8], [7; 3]);
@@ -116,9 +123,9 @@ mod tests {
         let at = |time: f32| Pose { time, matrix: IDENTITY, pad: 0.0 };
         let mut moves = [[[7.0f32; 4]; 45]; MOVES];
         let poses = [at(0.0), at(1.0), at(1.0)];
-        assert_eq!(unsafe { jellyplain_build_moves(poses.as_ptr(), 3, &mut moves) }, 12);
+        assert_eq!(unsafe { jellyplain_build_moves(true, poses.as_ptr(), 3, &mut moves) }, 12);
         assert_eq!(moves, [[[7.0; 4]; 45]; MOVES]);
-        assert_eq!(unsafe { jellyplain_build_moves(poses.as_ptr(), 2, &mut moves) }, 0);
+        assert_eq!(unsafe { jellyplain_build_moves(false, poses.as_ptr(), 2, &mut moves) }, 0);
         assert_eq!(moves[1..], [[[7.0; 4]; 45]; MOVES - 1]);
 
         let (origin, times, mut nine) = ([0.0; 3], [0.0, 2.0, 1.0], [7.0f32; 9]);

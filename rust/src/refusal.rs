@@ -36,19 +36,42 @@ pub enum Refusal {
     Room = 15,
     /// A pad is below zero.
     Pad = 16,
+    /// A pose of a rigid move or chain scales or shears.
+    NotRigid = 17,
+    /// A pose of a rigid move or chain mirrors: its determinant isn't above zero.
+    Determinant = 18,
 }
 
 impl Refusal {
-    const ALL: [Refusal; 16] = {
+    const ALL: [Refusal; 18] = {
         use Refusal::*;
-        [PoseNotFinite, BottomRow, Times, ZeroPivot, NotFinite, Query, Corners, Depth, NinthZero, SquaredLength, File, Chain, TimeList, Set, Room, Pad]
+        [
+            PoseNotFinite,
+            BottomRow,
+            Times,
+            ZeroPivot,
+            NotFinite,
+            Query,
+            Corners,
+            Depth,
+            NinthZero,
+            SquaredLength,
+            File,
+            Chain,
+            TimeList,
+            Set,
+            Room,
+            Pad,
+            NotRigid,
+            Determinant,
+        ]
     };
 
     pub fn number(self) -> u8 {
         self as u8
     }
 
-    /// The refusal of a number from 1 to 16.
+    /// The refusal of a number from 1 to 18.
     pub fn from_number(number: u8) -> Option<Refusal> {
         Refusal::ALL.into_iter().find(|refusal| refusal.number() == number)
     }
@@ -73,6 +96,8 @@ impl fmt::Display for Refusal {
             Refusal::Set => "a set has 1 to 16 boxes",
             Refusal::Room => "the buffer is too short for the text",
             Refusal::Pad => "a pad is below zero",
+            Refusal::NotRigid => "a pose of a rigid move scales or shears",
+            Refusal::Determinant => "a pose of a rigid move mirrors",
         };
         write!(f, "refused with {}: {reason}", self.number())
     }
@@ -86,7 +111,7 @@ mod tests {
 
     #[test]
     fn numbers() {
-        assert!((1..=16).all(|number| Refusal::from_number(number).unwrap().number() == number));
-        assert_eq!((Refusal::from_number(0), Refusal::from_number(17)), (None, None));
+        assert!((1..=18).all(|number| Refusal::from_number(number).unwrap().number() == number));
+        assert_eq!((Refusal::from_number(0), Refusal::from_number(19)), (None, None));
     }
 }

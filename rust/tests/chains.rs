@@ -1,4 +1,4 @@
-//! Chains of poses: which move a time belongs to, lists of times, covers, sets of boxes, pads and refusals.
+//! Chains of poses: which move a time belongs to, lists of times, covers, sets of boxes, pads, rigid chains and refusals.
 
 use jellyplain::{Bounds, Chain, Covers, Matrix, Move, Pose, Refusal, IDENTITY};
 
@@ -211,4 +211,56 @@ fn covers_grow_by_pads() {
     let still = Chain::new(&padded(&[at(0.0, IDENTITY), at(1.0, IDENTITY)], &[1.0, 3.0])).unwrap();
     assert_eq!(still.cover(&origin, 0), Ok(Bounds { p_min: [-3.0; 3], p_max: [3.0; 3] }));
     assert_eq!((cover([f32::MAX; 2], 4), cover([-0.0, 0.0], 4)), (Err(Refusal::NotFinite), cover([0.0; 2], 4)));
+}
+
+fn volume(b: Bounds) -> f32 {
+    (0..3).map(|i| b.p_max[i] - b.p_min[i]).product()
+}
+
+/// A turn with a slight scale, as a measured pose may have it.
+fn measured(time: f32, [c, s]: [f32; 2], scale: f32, x: f32) -> Pose {
+    at(time, [[scale * c, -scale * s, 0.0, x], [scale * s, scale * c, 0.0, 1.0], [0.0, 0.0, scale, 0.5], IDENTITY[3]])
+}
+
+/// Points of a rigid chain are inside its covers, which are tighter than those of the same poses built as plain; at the poses' own times it answers by the same matrices.
+#[test]
+fn rigid_chains() {
+    let poses = [measured(0.0, [1.0, 0.0], 1.0003, 0.0), measured(2.0, [0.6, 0.8], 0.9997, 2.0), measured(5.0, [-0.8, 0.6], 1.0, 4.0)];
+    let (plain, rigid) = (Chain::new(&poses).unwrap(), Chain::rigid(&poses).unwrap());
+    let b = Bounds { p_min: [0.0, -0.5, 0.0], p_max: [12.0, 0.5, 0.25] };
+    for depth in [4, 8] {
+        let cover = rigid.cover(&b, depth).unwrap();
+        assert!(volume(cover) < volume(plain.cover(&b, depth).unwrap()));
+        for k in 0..1000 {
+            let part = |n: usize| (k * n % 997) as f32 / 996.0;
+            let p = [12.0 * part(7), part(31) - 0.5, 0.25 * part(101)];
+            assert!(cover.contains(rigid.point(-0.5 + 6.0 * part(1), p).unwrap()));
+        }
+    }
+    for time in [0.0, 2.0, 5.0] {
+        assert_eq!(rigid.point(time, [3.0, 0.5, -1.0]), plain.point(time, [3.0, 0.5, -1.0]));
+    }
+    // halfway between its first two poses their scales even out
+    assert_ne!(rigid.point(0.5, [3.0, 0.5, -1.0]), plain.point(0.5, [3.0, 0.5, -1.0]));
+    let between = |chain: &Chain| chain.moves().next().unwrap().interpolate(0.5).unwrap().matrix;
+    assert_ne!(between(&rigid), between(&plain));
+    assert_eq!(rigid.write(&b), plain.write(&b));
+}
+
+/// 17 and 18 pose by pose, after the whole chain's 3 and before 4 and 5.
+#[test]
+fn refused_rigid_chains() {
+    let refused = |poses: &[Pose]| Chain::rigid(poses).err();
+    let stretched = |time: f32, x: f32| at(time, [[x, 0.0, 0.0, 0.0], IDENTITY[1], IDENTITY[2], IDENTITY[3]]);
+    assert_eq!(refused(&poses()), None);
+    assert_eq!(refused(&[at(0.0, IDENTITY), stretched(1.0, 2.0)]), Some(Refusal::NotRigid));
+    assert_eq!(refused(&[at(0.0, IDENTITY), stretched(1.0, 0.0)]), Some(Refusal::NotRigid));
+    assert_eq!(refused(&[at(0.0, IDENTITY), stretched(1.0, -1.0)]), Some(Refusal::Determinant));
+    assert_eq!(refused(&[stretched(0.0, -1.0), stretched(1.0, 2.0)]), Some(Refusal::Determinant));
+    assert_eq!(refused(&[stretched(0.0, 2.0), stretched(1.0, -1.0)]), Some(Refusal::NotRigid));
+    assert_eq!(refused(&[stretched(-3e38, 2.0), at(3e38, IDENTITY)]), Some(Refusal::Times));
+    assert_eq!(refused(&[stretched(0.0, 2.0), at(0.0, IDENTITY)]), Some(Refusal::Chain));
+    let sheared = |x: f32| at(1.0, [[1.0, x, 0.0, 0.0], IDENTITY[1], IDENTITY[2], IDENTITY[3]]);
+    assert_eq!((refused(&[at(0.0, IDENTITY), sheared(0.001)]), refused(&[at(0.0, IDENTITY), sheared(0.001f32.next_up())])), (None, Some(Refusal::NotRigid)));
+    assert_eq!(Move::rigid(&stretched(1.0, -1.0), &at(1.0, IDENTITY)).err(), Some(Refusal::Determinant));
 }

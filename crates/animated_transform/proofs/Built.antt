@@ -35,10 +35,10 @@ use Rattle.pose_pair.specs.declared.Pose.{Pose}
 use Rattle.animated_transform.specs.declared.AnimatedTransform.{AnimatedTransform}
 use Rattle.animated_transform.specs.declared.AnimatedTransformAnswer.{AnimatedTransformAnswer}
 use Rattle.rotation_arc.specs.declared.CoefficientsAnswer.{CoefficientsAnswer}
-use Rattle.pose_pair.specs.Pose.{Pose·isFinite, Pose·isBinary32, Pose·isAffine, Pose·isPadded, timesRefusal, posesRefusal}
+use Rattle.pose_pair.specs.Pose.{Pose·isFinite, Pose·isBinary32, Pose·isAffine, Pose·isPadded, timesRefusal, posesRefusal, Pose·kindNumber}
 use Rattle.rotation_arc.specs.ShorterArc.{flip, dotsRefusal}
 use Rattle.rotation_arc.specs.ArcCoefficients.{CoefficientsAnswer·judged, rotationCoefficients, pairCoefficients}
-use Rattle.animated_transform.specs.New.{AnimatedTransformAnswer·refused, firstRefusal, assembled, between, work, AnimatedTransform·new}
+use Rattle.animated_transform.specs.New.{AnimatedTransformAnswer·refused, firstRefusal, assembled, between, work, buildRefusal, AnimatedTransform·new}
 use Rattle.animated_transform.specs.Built.{Built, StoredPose, Pad·Judged, AnimatedTransform·Judged}
 use Rattle.rotation_arc.proofs.DotProduct.{dot-after-flip}
 
@@ -181,9 +181,9 @@ coefficients-passed true t0 t1 r0 r1 s0 s1 c h = judged-passed _ _ h
 coefficients-passed false t0 t1 r0 r1 s0 s1 c h = tt
 
 -- ---- the move
-module _ (start end : Pose) (poses : PosesPassed start end) (a b : Transform) (sa : Stored start a) (sb : Stored end b)
+module _ (rigid : Bool) (start end : Pose) (poses : PosesPassed start end) (a b : Transform) (sa : Stored start a) (sb : Stored end b)
     (p q : Decomposition) (dp : Accepted (Matrix4x4·toRows (start .m)) p) (dq : Accepted (Matrix4x4·toRows (end .m)) q) where
-  between-judged : (m : AnimatedTransform) → between start end a b p q ≡ record { value = m; refusal = 0 } → AnimatedTransform·Judged m
+  between-judged : (m : AnimatedTransform) → between rigid start end a b p q ≡ record { value = m; refusal = 0 } → AnimatedTransform·Judged m
   unfolding between
   between-judged m h =
       let r1 = flip (p .r) (q .r) in
@@ -191,7 +191,7 @@ module _ (start end : Pose) (poses : PosesPassed start end) (a b : Transform) (s
       let hasRotation = lt cosθ slerpThreshold in
       let c = pairCoefficients hasRotation (p .t) (q .t) (p .r) r1 (p .s) (q .s) cosθ in
       let d = dotsRefusal (Quaternion·dot (p .r) (q .r)) cosθ in
-      let answer : AnimatedTransformAnswer = record { value = assembled start end a b p q r1 (c .value); refusal = 0 } in
+      let answer : AnimatedTransformAnswer = record { value = assembled rigid start end a b p q r1 (c .value); refusal = 0 } in
       let g = not-refused (firstRefusal d (c .refusal)) answer m h in
       let n = first-none d (c .refusal) (g .0) in
       let dots = dots-passed (Quaternion·dot (p .r) (q .r)) cosθ (n .0) in
@@ -220,41 +220,44 @@ module _ (start end : Pose) (poses : PosesPassed start end) (a b : Transform) (s
         pad1 = poses .end-pose .pad;
       })
 
-work-judged : (start end : Pose) → PosesPassed start end → (m : AnimatedTransform) → work start end ≡ record { value = m; refusal = 0 } → AnimatedTransform·Judged m
+work-judged : (rigid : Bool) (start end : Pose) → PosesPassed start end → (m : AnimatedTransform) → work rigid start end ≡ record { value = m; refusal = 0 } → AnimatedTransform·Judged m
 unfolding work
-work-judged start end poses m h =
+work-judged rigid start end poses m h =
     let m0 = Matrix4x4·toRows (start .m) in
     let m1 = Matrix4x4·toRows (end .m) in
     let a = Transform·fromMatrix m0 in
     let b = Transform·fromMatrix m1 in
-    let p = Matrix4x4·decompose m0 in
-    let q = Matrix4x4·decompose m1 in
+    let p = Matrix4x4·decompose rigid m0 in
+    let q = Matrix4x4·decompose rigid m1 in
     let inverses = firstRefusal (a .refusal) (b .refusal) in
     let parts = firstRefusal (p .refusal) (q .refusal) in
-    let g = not-refused (firstRefusal inverses parts) (between start end (a .transform) (b .transform) p q) m h in
+    let g = not-refused (firstRefusal inverses parts) (between rigid start end (a .transform) (b .transform) p q) m h in
     let n = first-none inverses parts (g .0) in
     let i = first-none (a .refusal) (b .refusal) (n .0) in
     let d = first-none (p .refusal) (q .refusal) (n .1) in
-    between-judged start end poses (a .transform) (b .transform) (stored start (poses .start-pose) (i .0)) (stored end (poses .end-pose) (i .1))
-    p q (decompose-accepted m0 (d .0)) (decompose-accepted m1 (d .1)) m (g .1)
+    between-judged rigid start end poses (a .transform) (b .transform) (stored start (poses .start-pose) (i .0)) (stored end (poses .end-pose) (i .1))
+    p q (decompose-accepted rigid m0 (d .0)) (decompose-accepted rigid m1 (d .1)) m (g .1)
 
 pub built-judged : {m : AnimatedTransform} → Built m → AnimatedTransform·Judged m
 unfolding AnimatedTransform·new
 built-judged {m} b =
-    let g = not-refused (posesRefusal (b .start) (b .end)) (work (b .start) (b .end)) m (b .accepted) in
-    work-judged (b .start) (b .end) (poses-passed (b .start) (b .end) (b .start-binary32) (b .end-binary32) (g .0)) m (g .1)
+    let k = firstRefusal (Pose·kindNumber (b .rigid) (b .start)) (Pose·kindNumber (b .rigid) (b .end)) in
+    let g = not-refused (buildRefusal (b .rigid) (b .start) (b .end)) (work (b .rigid) (b .start) (b .end)) m (b .accepted) in
+    let n = first-none (posesRefusal (b .start) (b .end)) k (g .0) in
+    work-judged (b .rigid) (b .start) (b .end) (poses-passed (b .start) (b .end) (b .start-binary32) (b .end-binary32) (n .0)) m (g .1)
 
 -- Both clauses of building's contract, from the first: what isn't refused is a built move, since f32 times and pads are binary32.
-pub new-clauses : {r : AnimatedTransformAnswer} (start end : Pose)
+pub new-clauses : {r : AnimatedTransformAnswer} (rigid : Bool) (start end : Pose)
     → fits binary32 (start .time) ≡ true → fits binary32 (start .pad) ≡ true → fits binary32 (end .time) ≡ true → fits binary32 (end .pad) ≡ true
-    → r ≡ AnimatedTransform·new start end → (r ≡ AnimatedTransform·new start end) × (r .refusal ≡ 0 → Built (r .value))
-new-clauses {r} start end f f' g g' e = (e, built)
+    → r ≡ AnimatedTransform·new rigid start end → (r ≡ AnimatedTransform·new rigid start end) × (r .refusal ≡ 0 → Built (r .value))
+new-clauses {r} rigid start end f f' g g' e = (e, built)
   where
     fitting : {x y : Bool} → x ≡ true → y ≡ true → T (x && y)
     fitting {x} {y} h k = rw (h, k) tt
 
     built : r .refusal ≡ 0 → Built (r .value)
     built none = record {
+      rigid = rigid;
       start = start;
       end = end;
       start-binary32 = fitting f f';

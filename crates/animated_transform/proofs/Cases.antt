@@ -35,7 +35,7 @@ identity = matrix one o o
 
 -- identity at time 0, identity with m03 = 1 at the end time
 abbrev moveA : Float → AnimatedTransformAnswer
-moveA t = AnimatedTransform·new (record { time = o; m = identity; pad = o }) (record { time = t; m = matrix one one o; pad = one })
+moveA t = AnimatedTransform·new false (record { time = o; m = identity; pad = o }) (record { time = t; m = matrix one one o; pad = one })
 
 abbrev builtA : Float → AnimatedTransformAnswer
 builtA t =
@@ -57,6 +57,7 @@ builtA t =
         coefficients = Coefficients·zero;
         pad0 = o;
         pad1 = one;
+        rigid = false;
       };
       refusal = 0;
     }
@@ -73,28 +74,28 @@ end-before-start : moveA minusOne ≡ AnimatedTransformAnswer·refused 3
 unfolding computing
 end-before-start = refl
 
-linear-part-of-zeros : AnimatedTransform·new (record { time = o; m = identity; pad = o }) (record { time = one; m = matrix o one o; pad = o }) ≡ AnimatedTransformAnswer·refused 4
+linear-part-of-zeros : AnimatedTransform·new false (record { time = o; m = identity; pad = o }) (record { time = one; m = matrix o one o; pad = o }) ≡ AnimatedTransformAnswer·refused 4
 unfolding computing
 linear-part-of-zeros = refl
 
 -- a pad below zero is met before times that fall, and after a bottom row; a pad of -0 is accepted
-pad-before-times : AnimatedTransform·new (record { time = o; m = identity; pad = minusOne }) (record { time = minusOne; m = identity; pad = o }) ≡ AnimatedTransformAnswer·refused 16
+pad-before-times : AnimatedTransform·new false (record { time = o; m = identity; pad = minusOne }) (record { time = minusOne; m = identity; pad = o }) ≡ AnimatedTransformAnswer·refused 16
 unfolding computing
 pad-before-times = refl
 
-bottom-row-before-pad : AnimatedTransform·new (record { time = o; m = identity; pad = minusOne }) (record { time = one; m = matrix one o one; pad = o }) ≡ AnimatedTransformAnswer·refused 2
+bottom-row-before-pad : AnimatedTransform·new false (record { time = o; m = identity; pad = minusOne }) (record { time = one; m = matrix one o one; pad = o }) ≡ AnimatedTransformAnswer·refused 2
 unfolding computing
 bottom-row-before-pad = refl
 
-pad-of-minus-zero : AnimatedTransform·new (record { time = o; m = identity; pad = minusZero }) (record { time = one; m = identity; pad = o }) .refusal ≡ 0
+pad-of-minus-zero : AnimatedTransform·new false (record { time = o; m = identity; pad = minusZero }) (record { time = one; m = identity; pad = o }) .refusal ≡ 0
 unfolding computing
 pad-of-minus-zero = refl
 
 -- a pad and an entry that aren't finite are met before a bottom row
-infinite-pad-first : AnimatedTransform·new (record { time = o; m = matrix one o one; pad = infinity }) (record { time = one; m = identity; pad = o }) ≡ AnimatedTransformAnswer·refused 1
+infinite-pad-first : AnimatedTransform·new false (record { time = o; m = matrix one o one; pad = infinity }) (record { time = one; m = identity; pad = o }) ≡ AnimatedTransformAnswer·refused 1
 unfolding computing
 infinite-pad-first = refl
 
-infinite-entry-first : AnimatedTransform·new (record { time = o; m = matrix one infinity one; pad = minusOne }) (record { time = one; m = identity; pad = o }) ≡ AnimatedTransformAnswer·refused 1
+infinite-entry-first : AnimatedTransform·new false (record { time = o; m = matrix one infinity one; pad = minusOne }) (record { time = one; m = identity; pad = o }) ≡ AnimatedTransformAnswer·refused 1
 unfolding computing
 infinite-entry-first = refl

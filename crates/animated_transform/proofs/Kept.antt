@@ -1,4 +1,4 @@
--- A move that isn't refused keeps its poses' times and pads: `new-kept`, and of a built move's pads `built-pads`.
+-- A move that isn't refused keeps its kind and its poses' times and pads: `new-kept`, and of a built move's pads `built-pads`.
 use Prim.Native.Nat.{ℕ}
 use mathlib.Core.Path.{_≡_, refl, subst}
 use mathlib.Core.Bool.{Bool, true, false, cond}
@@ -15,55 +15,55 @@ use Rattle.decomposition.specs.Decompose.{Matrix4x4·decompose}
 use Rattle.rotation_arc.specs.ShorterArc.{flip, dotsRefusal}
 use Rattle.rotation_arc.specs.ArcCoefficients.{pairCoefficients}
 use Rattle.pose_pair.specs.declared.Pose.{Pose}
-use Rattle.pose_pair.specs.Pose.{posesRefusal}
 use Rattle.animated_transform.specs.declared.AnimatedTransform.{AnimatedTransform}
 use Rattle.animated_transform.specs.declared.AnimatedTransformAnswer.{AnimatedTransformAnswer}
-use Rattle.animated_transform.specs.New.{firstRefusal, AnimatedTransformAnswer·refused, assembled, between, work, AnimatedTransform·new}
+use Rattle.animated_transform.specs.New.{firstRefusal, AnimatedTransformAnswer·refused, assembled, between, work, buildRefusal, AnimatedTransform·new}
 use Rattle.animated_transform.specs.Built.{Built}
 
-pub record Kept (start end : Pose) (m : AnimatedTransform) : Type 0 where
+pub record Kept (rigid : Bool) (start end : Pose) (m : AnimatedTransform) : Type 0 where
   pub start-time : m .«start_time» ≡ start .time
   pub end-time : m .«end_time» ≡ end .time
   pub start-pad : m .pad0 ≡ start .pad
   pub end-pad : m .pad1 ≡ end .pad
+  pub kind : m .rigid ≡ rigid
 
-abbrev AnswerKept : Pose → Pose → AnimatedTransformAnswer → Type 0
-AnswerKept start end a = a .refusal ≡ 0 → Kept start end (a .value)
+abbrev AnswerKept : Bool → Pose → Pose → AnimatedTransformAnswer → Type 0
+AnswerKept rigid start end a = a .refusal ≡ 0 → Kept rigid start end (a .value)
 
 -- behind a number that was tested
-tested-kept : (start end : Pose) (n : ℕ) (a : AnimatedTransformAnswer) → AnswerKept start end a → AnswerKept start end (cond (eqb n 0) a (AnimatedTransformAnswer·refused n))
-tested-kept start end n a h = go (eqb n 0) (eqb-false n 0)
+tested-kept : (rigid : Bool) (start end : Pose) (n : ℕ) (a : AnimatedTransformAnswer) → AnswerKept rigid start end a → AnswerKept rigid start end (cond (eqb n 0) a (AnimatedTransformAnswer·refused n))
+tested-kept rigid start end n a h = go (eqb n 0) (eqb-false n 0)
   where
-    go : (b : Bool) → (b ≡ false → n ≡ 0 → ⊥) → AnswerKept start end (cond b a (AnimatedTransformAnswer·refused n))
+    go : (b : Bool) → (b ≡ false → n ≡ 0 → ⊥) → AnswerKept rigid start end (cond b a (AnimatedTransformAnswer·refused n))
     go true f e = h e
     go false f e = absurd (f refl e)
 
-between-kept : (start end : Pose) (a b : Transform) (p q : Decomposition) → AnswerKept start end (between start end a b p q)
+between-kept : (rigid : Bool) (start end : Pose) (a b : Transform) (p q : Decomposition) → AnswerKept rigid start end (between rigid start end a b p q)
 unfolding between
-between-kept start end a b p q =
+between-kept rigid start end a b p q =
     let r1 = flip (p .r) (q .r) in
     let cosθ = Quaternion·dot (p .r) r1 in
     let c = pairCoefficients (lt cosθ slerpThreshold) (p .t) (q .t) (p .r) r1 (p .s) (q .s) cosθ in
     let n = firstRefusal (dotsRefusal (Quaternion·dot (p .r) (q .r)) cosθ) (c .refusal) in
-    tested-kept start end n (record { value = assembled start end a b p q r1 (c .value); refusal = 0 })
-    (λ _. record { start-time = refl; end-time = refl; start-pad = refl; end-pad = refl })
+    tested-kept rigid start end n (record { value = assembled rigid start end a b p q r1 (c .value); refusal = 0 })
+    (λ _. record { start-time = refl; end-time = refl; start-pad = refl; end-pad = refl; kind = refl })
 
-work-kept : (start end : Pose) → AnswerKept start end (work start end)
+work-kept : (rigid : Bool) (start end : Pose) → AnswerKept rigid start end (work rigid start end)
 unfolding work
-work-kept start end =
+work-kept rigid start end =
     let a = Transform·fromMatrix (Matrix4x4·toRows (start .m)) in
     let b = Transform·fromMatrix (Matrix4x4·toRows (end .m)) in
-    let p = Matrix4x4·decompose (Matrix4x4·toRows (start .m)) in
-    let q = Matrix4x4·decompose (Matrix4x4·toRows (end .m)) in
+    let p = Matrix4x4·decompose rigid (Matrix4x4·toRows (start .m)) in
+    let q = Matrix4x4·decompose rigid (Matrix4x4·toRows (end .m)) in
     let n = firstRefusal (firstRefusal (a .refusal) (b .refusal)) (firstRefusal (p .refusal) (q .refusal)) in
-    tested-kept start end n (between start end (a .transform) (b .transform) p q) (between-kept start end (a .transform) (b .transform) p q)
+    tested-kept rigid start end n (between rigid start end (a .transform) (b .transform) p q) (between-kept rigid start end (a .transform) (b .transform) p q)
 
-pub new-kept : (start end : Pose) → AnimatedTransform·new start end .refusal ≡ 0 → Kept start end (AnimatedTransform·new start end .value)
+pub new-kept : (rigid : Bool) (start end : Pose) → AnimatedTransform·new rigid start end .refusal ≡ 0 → Kept rigid start end (AnimatedTransform·new rigid start end .value)
 unfolding AnimatedTransform·new
-new-kept start end = tested-kept start end (posesRefusal start end) (work start end) (work-kept start end)
+new-kept rigid start end = tested-kept rigid start end (buildRefusal rigid start end) (work rigid start end) (work-kept rigid start end)
 
-pub built-kept : {m : AnimatedTransform} (b : Built m) → Kept (b .start) (b .end) m
-built-kept b = subst (AnswerKept (b .start) (b .end)) (b .accepted) (new-kept (b .start) (b .end)) refl
+pub built-kept : {m : AnimatedTransform} (b : Built m) → Kept (b .rigid) (b .start) (b .end) m
+built-kept b = subst (AnswerKept (b .rigid) (b .start) (b .end)) (b .accepted) (new-kept (b .rigid) (b .start) (b .end)) refl
 
 -- The pads of a built move are its poses' own.
 pub built-pads : {m : AnimatedTransform} (b : Built m) → (m .pad0 ≡ b .start .pad) × (m .pad1 ≡ b .end .pad)

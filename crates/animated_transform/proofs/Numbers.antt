@@ -1,4 +1,4 @@
--- The numbers that building can give are 0 to 5 and 16 (`new-refusal`), but not 2 where both bottom rows are right (`new-affine`), and after a refusal every number is
+-- The numbers that building can give are 0 to 5 and 16, of a rigid move also 17 and 18 (`new-refusal`), but not 2 where both bottom rows are right (`new-affine`), and after a refusal every number is
 -- +0 and every yes or no is no (`new-refused`). Those of its work are 0, 4 and 5.
 use mathlib.Core.Path.{_≡_, refl}
 use mathlib.Core.Bool.{Bool, true, false, not, _&&_, _||_, cond}
@@ -6,7 +6,7 @@ use mathlib.Core.Logic.{_⊎_, inl, inr}
 use mathlib.Core.List.{[], _∷_}
 use Prim.Native.Nat.{ℕ}
 use native.Mathlib.Omega.{arith}
-use lib.Dec.{eqb}
+use lib.Dec.{T, eqb}
 use lib.Ieee.{Float, lt}
 use lib.Ieee.Scale.{finite}
 use Rattle.float32.specs.Operators.{_⊖_}
@@ -28,12 +28,14 @@ use Rattle.coefficients.specs.declared.Coefficients.{Coefficients}
 use Rattle.coefficients.specs.Coefficients.{Coefficients·zero}
 use Rattle.coefficients.specs.IsFinite.{Coefficients·isFinite}
 use Rattle.pose_pair.specs.declared.Pose.{Pose}
+use Rattle.pose_pair.proofs.Kind.{kind-each}
 use Rattle.animated_transform.specs.declared.AnimatedTransformAnswer.{AnimatedTransformAnswer}
 use Rattle.rotation_arc.specs.declared.CoefficientsAnswer.{CoefficientsAnswer}
-use Rattle.pose_pair.specs.Pose.{Pose·isFinite, Pose·isAffine, Pose·isPadded, timesRefusal, posesRefusal}
+use Rattle.pose_pair.specs.Pose.{Pose·isFinite, Pose·isAffine, Pose·isPadded, timesRefusal, posesRefusal, Pose·kindNumber}
 use Rattle.rotation_arc.specs.ShorterArc.{flip, dotsRefusal}
 use Rattle.rotation_arc.specs.ArcCoefficients.{CoefficientsAnswer·judged, rotationCoefficients, pairCoefficients}
-use Rattle.animated_transform.specs.New.{AnimatedTransformAnswer·refused, firstRefusal, assembled, between, work, AnimatedTransform·new}
+use Rattle.animated_transform.specs.New.{AnimatedTransformAnswer·refused, firstRefusal, assembled, between, work, buildRefusal, AnimatedTransform·new}
+use Rattle.animated_transform.specs.Numbers.{buildNumbers}
 
 -- ---- the numbers
 -- 4 and 5 of the work, 0 being none
@@ -45,14 +47,14 @@ chosen : (P : ℕ → Type 0) (b : Bool) (m n : ℕ) → P m → P n → P (cond
 chosen P true m n p q = p
 chosen P false m n p q = q
 
--- 0 to 5 and 16
-abbrev Numbered : ℕ → Type 0
-Numbered n = OneOf n (0 ∷ 1 ∷ 2 ∷ 3 ∷ 4 ∷ 5 ∷ 16 ∷ [])
+-- 0 to 5 and 16, and of a rigid move 17 and 18
+abbrev Numbered : Bool → ℕ → Type 0
+Numbered rigid n = OneOf n (buildNumbers rigid)
 
-worked-numbered : (n : ℕ) → Worked n → Numbered n
-worked-numbered n (inl e) = inl e
-worked-numbered n (inr (inl e)) = inr (inr (inr (inr (inl e))))
-worked-numbered n (inr (inr e)) = inr (inr (inr (inr (inr (inl e)))))
+worked-numbered : (rigid : Bool) (n : ℕ) → Worked n → Numbered rigid n
+worked-numbered rigid n (inl e) = inl e
+worked-numbered rigid n (inr (inl e)) = inr (inr (inr (inr (inl e))))
+worked-numbered rigid n (inr (inr e)) = inr (inr (inr (inr (inr (inl e)))))
 
 worked-not-two : (n : ℕ) → Worked n → n ≡ 2 → ⊥
 worked-not-two n (inl e) h = absurd (omega (arith, e, h))
@@ -71,9 +73,18 @@ poses-numbers P start end none one two sixteen three =
     (chosen P (not (Pose·isAffine start && Pose·isAffine end)) 2 _ two
     (chosen P (not (Pose·isPadded start && Pose·isPadded end)) 16 _ sixteen (times-three P (start .time) (end .time) none three)))
 
-poses-number : (start end : Pose) → Numbered (posesRefusal start end)
-poses-number start end =
-    poses-numbers Numbered start end (inl refl) (inr (inl refl)) (inr (inr (inl refl))) (inr (inr (inr (inr (inr (inr (inl refl))))))) (inr (inr (inr (inl refl))))
+poses-number : (rigid : Bool) (start end : Pose) → Numbered rigid (posesRefusal start end)
+poses-number rigid start end =
+    poses-numbers (Numbered rigid) start end (inl refl) (inr (inl refl)) (inr (inr (inl refl))) (inr (inr (inr (inr (inr (inr (inl refl))))))) (inr (inr (inr (inl refl))))
+
+-- what is asked before anything is worked
+asked-numbers : (P : ℕ → Type 0) (rigid : Bool) (start end : Pose) → P (posesRefusal start end) → P 0 → (T rigid → P 17) → (T rigid → P 18) → P (buildRefusal rigid start end)
+asked-numbers P rigid start end poses none seventeen eighteen =
+    let s = Pose·kindNumber rigid start in
+    let e = Pose·kindNumber rigid end in
+    chosen P (eqb (posesRefusal start end) 0) (firstRefusal s e) (posesRefusal start end)
+    (chosen P (eqb s 0) e s (kind-each P rigid end none seventeen eighteen) (kind-each P rigid start none seventeen eighteen))
+    poses
 
 -- 2 is met where a bottom row is wrong, and only there.
 poses-affine : (start end : Pose) → Pose·isAffine start ≡ true → Pose·isAffine end ≡ true → posesRefusal start end ≡ 2 → ⊥
@@ -122,47 +133,64 @@ after P n a h k = go (eqb n 0)
     go true = k
     go false = record { number = h; zero = λ _. refl }
 
-between-answered : (start end : Pose) (a b : Transform) (p q : Decomposition) → Answered Worked (between start end a b p q)
+between-answered : (rigid : Bool) (start end : Pose) (a b : Transform) (p q : Decomposition) → Answered Worked (between rigid start end a b p q)
 unfolding between
-between-answered start end a b p q =
+between-answered rigid start end a b p q =
     let r1 = flip (p .r) (q .r) in
     let cosθ = Quaternion·dot (p .r) r1 in
     let hasRotation = lt cosθ slerpThreshold in
     let c = pairCoefficients hasRotation (p .t) (q .t) (p .r) r1 (p .s) (q .s) cosθ in
     let d = dotsRefusal (Quaternion·dot (p .r) (q .r)) cosθ in
-    after Worked (firstRefusal d (c .refusal)) (record { value = assembled start end a b p q r1 (c .value); refusal = 0 })
+    after Worked (firstRefusal d (c .refusal)) (record { value = assembled rigid start end a b p q r1 (c .value); refusal = 0 })
     (first-number d (c .refusal) (dots-number (Quaternion·dot (p .r) (q .r)) cosθ) (coefficients-number hasRotation (p .t) (q .t) (p .r) r1 (p .s) (q .s) cosθ))
     (record { number = inl refl; zero = λ z. absurd (z refl) })
 
-work-answered : (start end : Pose) → Answered Worked (work start end)
+work-answered : (rigid : Bool) (start end : Pose) → Answered Worked (work rigid start end)
 unfolding work
-work-answered start end =
+work-answered rigid start end =
     let m0 = Matrix4x4·toRows (start .m) in
     let m1 = Matrix4x4·toRows (end .m) in
     let a = Transform·fromMatrix m0 in
     let b = Transform·fromMatrix m1 in
-    let p = Matrix4x4·decompose m0 in
-    let q = Matrix4x4·decompose m1 in
+    let p = Matrix4x4·decompose rigid m0 in
+    let q = Matrix4x4·decompose rigid m1 in
     let inverses = firstRefusal (a .refusal) (b .refusal) in
     let parts = firstRefusal (p .refusal) (q .refusal) in
-    after Worked (firstRefusal inverses parts) (between start end (a .transform) (b .transform) p q)
+    after Worked (firstRefusal inverses parts) (between rigid start end (a .transform) (b .transform) p q)
     (first-number inverses parts
     (first-number (a .refusal) (b .refusal) (from-matrix-numbers m0) (from-matrix-numbers m1))
-    (first-number (p .refusal) (q .refusal) (decompose-refusal m0) (decompose-refusal m1)))
-    (between-answered start end (a .transform) (b .transform) p q)
+    (first-number (p .refusal) (q .refusal) (decompose-refusal rigid m0) (decompose-refusal rigid m1)))
+    (between-answered rigid start end (a .transform) (b .transform) p q)
 
-new-answered : (P : ℕ → Type 0) (start end : Pose) → P (posesRefusal start end) → ((n : ℕ) → Worked n → P n) → Answered P (AnimatedTransform·new start end)
+new-answered : (P : ℕ → Type 0) (rigid : Bool) (start end : Pose) → P (buildRefusal rigid start end) → ((n : ℕ) → Worked n → P n)
+    → Answered P (AnimatedTransform·new rigid start end)
 unfolding AnimatedTransform·new
-new-answered P start end h k =
-    let w = work-answered start end in
-    after P (posesRefusal start end) (work start end) h (record { number = k (work start end .refusal) (w .number); zero = w .zero })
+new-answered P rigid start end h k =
+    let w = work-answered rigid start end in
+    after P (buildRefusal rigid start end) (work rigid start end) h (record { number = k (work rigid start end .refusal) (w .number); zero = w .zero })
 
-pub new-refusal : (start end : Pose) → OneOf (AnimatedTransform·new start end .refusal) (0 ∷ 1 ∷ 2 ∷ 3 ∷ 4 ∷ 5 ∷ 16 ∷ [])
-new-refusal start end = new-answered Numbered start end (poses-number start end) worked-numbered .number
+new-numbered : (rigid : Bool) (start end : Pose) → Answered (Numbered rigid) (AnimatedTransform·new rigid start end)
+new-numbered rigid start end =
+    new-answered (Numbered rigid) rigid start end
+    (asked-numbers (Numbered rigid) rigid start end (poses-number rigid start end) (inl refl) (seventeen rigid) (eighteen rigid))
+    (worked-numbered rigid)
+  where
+    seventeen : (b : Bool) → T b → Numbered b 17
+    seventeen true h = inr (inr (inr (inr (inr (inr (inr (inl refl)))))))
 
-pub new-affine : (start end : Pose) → Pose·isAffine start ≡ true → Pose·isAffine end ≡ true → AnimatedTransform·new start end .refusal ≡ 2 → ⊥
-new-affine start end a b = new-answered (λ n. n ≡ 2 → ⊥) start end (poses-affine start end a b) worked-not-two .number
+    eighteen : (b : Bool) → T b → Numbered b 18
+    eighteen true h = inr (inr (inr (inr (inr (inr (inr (inr (inl refl))))))))
 
-pub new-refused : (start end : Pose) → (AnimatedTransform·new start end .refusal ≡ 0 → ⊥)
-    → AnimatedTransform·new start end ≡ AnimatedTransformAnswer·refused (AnimatedTransform·new start end .refusal)
-new-refused start end = new-answered Numbered start end (poses-number start end) worked-numbered .zero
+pub new-refusal : (rigid : Bool) (start end : Pose) → OneOf (AnimatedTransform·new rigid start end .refusal) (buildNumbers rigid)
+new-refusal rigid start end = new-numbered rigid start end .number
+
+pub new-affine : (rigid : Bool) (start end : Pose) → Pose·isAffine start ≡ true → Pose·isAffine end ≡ true → AnimatedTransform·new rigid start end .refusal ≡ 2 → ⊥
+new-affine rigid start end a b =
+    new-answered (λ n. n ≡ 2 → ⊥) rigid start end
+    (asked-numbers (λ n. n ≡ 2 → ⊥) rigid start end (poses-affine start end a b)
+    (λ e. absurd (omega (arith, e))) (λ t e. absurd (omega (arith, e))) (λ t e. absurd (omega (arith, e))))
+    worked-not-two .number
+
+pub new-refused : (rigid : Bool) (start end : Pose) → (AnimatedTransform·new rigid start end .refusal ≡ 0 → ⊥)
+    → AnimatedTransform·new rigid start end ≡ AnimatedTransformAnswer·refused (AnimatedTransform·new rigid start end .refusal)
+new-refused rigid start end = new-numbered rigid start end .zero

@@ -1,6 +1,6 @@
 -- A built move, and what building has judged of it: `Built`, `AnimatedTransform·Judged`. Definitions only.
 use mathlib.Core.Path.{_≡_}
-use mathlib.Core.Bool.{not}
+use mathlib.Core.Bool.{Bool, not}
 use lib.Dec.{T}
 use lib.Ieee.{Float, binary32, fits, lt}
 use lib.Ieee.Scale.{finite}
@@ -22,13 +22,14 @@ use Rattle.pose_pair.specs.Pose.{Pose·isBinary32}
 use Rattle.animated_transform.specs.declared.AnimatedTransform.{AnimatedTransform}
 use Rattle.animated_transform.specs.New.{AnimatedTransform·new}
 
--- document 01, Cover: "A move is built .. when the call with its arguments gives no refusal"; "Float is 32-bit IEEE 754 throughout", which of times and pads is needed
+-- Of either kind, rigid or not. document 01, Cover: "A move is built .. when the call with its arguments gives no refusal"; "Float is 32-bit IEEE 754 throughout", which of times and pads is needed
 pub record Built (m : AnimatedTransform) : Type 0 where
+  pub rigid : Bool
   pub start : Pose
   pub end : Pose
   pub start-binary32 : T (Pose·isBinary32 start)
   pub end-binary32 : T (Pose·isBinary32 end)
-  pub accepted : AnimatedTransform·new start end ≡ record { value = m; refusal = 0 }
+  pub accepted : AnimatedTransform·new rigid start end ≡ record { value = m; refusal = 0 }
 
 abbrev pub MatrixFinite : Matrix4x4 → Type 0
 MatrixFinite m = T (Matrix4x4·isFinite (Matrix4x4·toRows m))

@@ -1,4 +1,5 @@
 pub mod New
+pub mod Numbers
 pub mod AtTime
 pub mod Built
 pub mod Computing

@@ -1,7 +1,7 @@
--- pbrt's `AnimatedTransform::new`, judged: 1, 2, 16 and 3 before anything is worked, then 4 or 5, whichever is met first, in this order: both inverses, start parts, end parts,
+-- pbrt's `AnimatedTransform::new`, of a move of either kind, rigid or not, judged: 1, 2, 16 and 3 before anything is worked, of a rigid move also 17 and 18, then 4 or 5, whichever is met first, in this order: both inverses, start parts, end parts,
 -- the dot products of the two quaternions, the coefficients. After a refusal every number is +0 and every yes or no is no. Definitions only.
 use Prim.Native.Nat.{ℕ}
-use mathlib.Core.Bool.{false, not, cond}
+use mathlib.Core.Bool.{Bool, true, false, not, cond}
 use lib.Dec.{eqb}
 use lib.Ieee.{lt}
 use Rattle.vector3.specs.declared.Vector3f.{Vector3f}
@@ -19,7 +19,7 @@ use Rattle.coefficients.specs.Coefficients.{Coefficients·zero}
 use Rattle.pose_pair.specs.declared.Pose.{Pose}
 use Rattle.animated_transform.specs.declared.AnimatedTransform.{AnimatedTransform}
 use Rattle.animated_transform.specs.declared.AnimatedTransformAnswer.{AnimatedTransformAnswer}
-use Rattle.pose_pair.specs.Pose.{posesRefusal}
+use Rattle.pose_pair.specs.Pose.{posesRefusal, Pose·kindNumber}
 use Rattle.rotation_arc.specs.ShorterArc.{flip, dotsRefusal}
 use Rattle.rotation_arc.specs.ArcCoefficients.{pairCoefficients}
 
@@ -45,6 +45,7 @@ AnimatedTransform·zero =
       coefficients = Coefficients·zero;
       pad0 = positiveZero;
       pad1 = positiveZero;
+      rigid = false;
     }
 
 abbrev pub AnimatedTransformAnswer·refused : ℕ → AnimatedTransformAnswer
@@ -55,8 +56,8 @@ abbrev pub firstRefusal : ℕ → ℕ → ℕ
 firstRefusal a b = cond (eqb a 0) b a
 
 -- A move from transforms a and b, parts p and q, the end's quaternion after the flip, and coefficients; its pads are the poses' own.
-abbrev pub assembled : Pose → Pose → Transform → Transform → Decomposition → Decomposition → Quaternion → Coefficients → AnimatedTransform
-assembled start end a b p q r1 c =
+abbrev pub assembled : Bool → Pose → Pose → Transform → Transform → Decomposition → Decomposition → Quaternion → Coefficients → AnimatedTransform
+assembled rigid start end a b p q r1 c =
     record {
       «start_transform» = a;
       «end_transform» = b;
@@ -73,29 +74,34 @@ assembled start end a b p q r1 c =
       coefficients = c;
       pad0 = start .pad;
       pad1 = end .pad;
+      rigid = rigid;
     }
 
 -- work per pair
-unfoldable pub between : Pose → Pose → Transform → Transform → Decomposition → Decomposition → AnimatedTransformAnswer
-between start end a b p q =
+unfoldable pub between : Bool → Pose → Pose → Transform → Transform → Decomposition → Decomposition → AnimatedTransformAnswer
+between rigid start end a b p q =
     let r1 = flip (p .r) (q .r) in
     let cosθ = Quaternion·dot (p .r) r1 in
     let c = pairCoefficients (lt cosθ slerpThreshold) (p .t) (q .t) (p .r) r1 (p .s) (q .s) cosθ in
     let n = firstRefusal (dotsRefusal (Quaternion·dot (p .r) (q .r)) cosθ) (c .refusal) in
-    cond (eqb n 0) (record { value = assembled start end a b p q r1 (c .value); refusal = 0 }) (AnimatedTransformAnswer·refused n)
+    cond (eqb n 0) (record { value = assembled rigid start end a b p q r1 (c .value); refusal = 0 }) (AnimatedTransformAnswer·refused n)
 
 -- work per pose: "Building works: both inverses, start parts, end parts, coefficients" (document 01, Refusals)
-unfoldable pub work : Pose → Pose → AnimatedTransformAnswer
-work start end =
+unfoldable pub work : Bool → Pose → Pose → AnimatedTransformAnswer
+work rigid start end =
     let a = Transform·fromMatrix (Matrix4x4·toRows (start .m)) in
     let b = Transform·fromMatrix (Matrix4x4·toRows (end .m)) in
-    let p = Matrix4x4·decompose (Matrix4x4·toRows (start .m)) in
-    let q = Matrix4x4·decompose (Matrix4x4·toRows (end .m)) in
+    let p = Matrix4x4·decompose rigid (Matrix4x4·toRows (start .m)) in
+    let q = Matrix4x4·decompose rigid (Matrix4x4·toRows (end .m)) in
     let n = firstRefusal (firstRefusal (a .refusal) (b .refusal)) (firstRefusal (p .refusal) (q .refusal)) in
-    cond (eqb n 0) (between start end (a .transform) (b .transform) p q) (AnimatedTransformAnswer·refused n)
+    cond (eqb n 0) (between rigid start end (a .transform) (b .transform) p q) (AnimatedTransformAnswer·refused n)
 
--- `AnimatedTransform::new`, of the transforms of two matrices
-unfoldable pub AnimatedTransform·new : Pose → Pose → AnimatedTransformAnswer
-AnimatedTransform·new start end =
-    let n = posesRefusal start end in
-    cond (eqb n 0) (work start end) (AnimatedTransformAnswer·refused n)
+-- document 02, "Rigid booms": 17 and 18 are "both judged pose by pose after 3"
+abbrev pub buildRefusal : Bool → Pose → Pose → ℕ
+buildRefusal rigid start end = firstRefusal (posesRefusal start end) (firstRefusal (Pose·kindNumber rigid start) (Pose·kindNumber rigid end))
+
+-- `AnimatedTransform::new`, of the transforms of two matrices, for a move of either kind; pbrt's is not rigid
+unfoldable pub AnimatedTransform·new : Bool → Pose → Pose → AnimatedTransformAnswer
+AnimatedTransform·new rigid start end =
+    let n = buildRefusal rigid start end in
+    cond (eqb n 0) (work rigid start end) (AnimatedTransformAnswer·refused n)

@@ -10,7 +10,8 @@ ghost use mathlib.Core.Path.{_≡_};
 ghost use Rattle.animated_transform.specs.Built.{Built};
 ghost use Rattle.animated_transform.specs.New.{firstRefusal, AnimatedTransformAnswer·refused, between, work, AnimatedTransform·new};
 
-// 0 stands for the start and 1 for the end, so that pbrt's t[0] is t0; the coefficients are pbrt's c1 to c5. The pads are the poses' own, of which pbrt knows none.
+// 0 stands for the start and 1 for the end, so that pbrt's t[0] is t0; the coefficients are pbrt's c1 to c5. The pads are the poses' own, and a rigid
+// move neither stretches nor shears: pbrt knows neither.
 pub struct AnimatedTransform {
     pub start_transform: Transform,
     pub end_transform: Transform,
@@ -27,6 +28,7 @@ pub struct AnimatedTransform {
     pub coefficients: Coefficients,
     pub pad0: f32,
     pub pad1: f32,
+    pub rigid: bool,
 }
 
 // A move beside a refusal (error code, 0 for none), after which every number is +0 and every yes or no is no.
@@ -68,6 +70,7 @@ fn refused(refusal: u8) -> AnimatedTransformAnswer
         coefficients,
         pad0: 0.0,
         pad1: 0.0,
+        rigid: false,
     };
     AnimatedTransformAnswer { value, refusal }
 }
@@ -81,6 +84,7 @@ fn first_refusal(a: u8, b: u8) -> u8
 
 // The move between two poses, from their transforms a and b and their parts p and q.
 fn between(
+    rigid: bool,
     start: Pose,
     end: Pose,
     a: Transform,
@@ -88,7 +92,7 @@ fn between(
     p: Decomposition,
     q: Decomposition,
 ) -> AnimatedTransformAnswer
-    ensures value { λ r. ⌜ r ≡ between start end a b p q ⌝ }
+    ensures value { λ r. ⌜ r ≡ between rigid start end a b p q ⌝ }
 {
     let t0 = p.t;
     let t1 = q.t;
@@ -122,41 +126,44 @@ fn between(
         coefficients,
         pad0: start.pad,
         pad1: end.pad,
+        rigid,
     };
     AnimatedTransformAnswer { value, refusal: 0 }
 }
 
 // The move of two poses that are finite, affine and in order: both inverses are met before the parts.
-fn work(start: Pose, end: Pose) -> AnimatedTransformAnswer
-    ensures value { λ r. ⌜ r ≡ work start end ⌝ }
+fn work(rigid: bool, start: Pose, end: Pose) -> AnimatedTransformAnswer
+    ensures value { λ r. ⌜ r ≡ work rigid start end ⌝ }
 {
     let m0 = start.m.to_rows();
     let m1 = end.m.to_rows();
     let a = Transform::from_matrix(m0);
     let b = Transform::from_matrix(m1);
-    let p = decomposition::decompose(m0);
-    let q = decomposition::decompose(m1);
+    let p = decomposition::decompose(rigid, m0);
+    let q = decomposition::decompose(rigid, m1);
     let inverses = first_refusal(a.refusal, b.refusal);
     let parts = first_refusal(p.refusal, q.refusal);
     let n = first_refusal(inverses, parts);
     if n != 0 {
         return refused(n);
     }
-    between(start, end, a.transform, b.transform, p, q)
+    between(rigid, start, end, a.transform, b.transform, p, q)
 }
 
 impl AnimatedTransform {
-    // pbrt's `AnimatedTransform::new`: a move from two poses; refused with 1 to 5 or 16, whichever is met first, where pbrt goes on.
-    // What isn't refused is a built move.
+    // pbrt's `AnimatedTransform::new`: a move from two poses; refused with 1 to 5 or 16, whichever is met first, where pbrt goes on. A rigid move is
+    // refused with 17 or 18 too, and pbrt knows none. What isn't refused is a built move.
     // Accuracy: each operation but the arc cosine is correctly rounded.
-    pub fn new(start: Pose, end: Pose) -> AnimatedTransformAnswer
-        ensures value { λ r. ⌜ r ≡ AnimatedTransform·new start end ⌝ }
+    pub fn new(rigid: bool, start: Pose, end: Pose) -> AnimatedTransformAnswer
+        ensures value { λ r. ⌜ r ≡ AnimatedTransform·new rigid start end ⌝ }
         ensures built { λ r. ⌜ (r .refusal ≡ 0 → Built (r .value)) ⌝ }
     {
-        let n = pose_pair::poses_refusal(start, end);
+        let poses = pose_pair::poses_refusal(start, end);
+        let kind = first_refusal(start.kind_number(rigid), end.kind_number(rigid));
+        let n = first_refusal(poses, kind);
         if n != 0 {
             return refused(n);
         }
-        work(start, end)
+        work(rigid, start, end)
     }
 }

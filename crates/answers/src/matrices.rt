@@ -46,7 +46,7 @@ fn bounds(x: &[f32; 34], rows: &mut [[f32; 4]; 9]) -> u8 {
 }
 
 fn decompose(x: &[f32; 34], rows: &mut [[f32; 4]; 9]) -> u8 {
-    let d = decomposition::decompose(matrix_at(x, 0));
+    let d = decomposition::decompose(false, matrix_at(x, 0));
     let t = d.t;
     rows[0] = [t.x, t.y, t.z, 0.0];
     put_quaternion(d.r, 1, rows);

@@ -17,7 +17,7 @@ pub const NONE: f32 = 2.0;
 pub fn build(x: &[f32; 34], motion: &mut [[f32; 4]; 45]) -> u8 {
     let start = pose_at(x, 0);
     let end = pose_at(x, 17);
-    let refusal = api::jellyplain_build(&start, &end, motion);
+    let refusal = api::jellyplain_build(false, &start, &end, motion);
     if refusal != 0 {
         motion[43] = [NONE; 4];
     }

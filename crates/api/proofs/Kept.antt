@@ -2,6 +2,7 @@
 -- holds what the point query of the rows answers, and is no narrower than a finer one (`cover-clauses`); the last also of a kept chain (`moves-cover-clauses`).
 use Prim.Native.Nat.{ℕ, _+_, _-_}
 use mathlib.Core.Path.{_≡_, ap, sym, subst, _∙_}
+use mathlib.Core.Bool.{Bool}
 use mathlib.Core.List.{List}
 use native.Mathlib.Omega.{arith}
 use lib.Ieee.{Float}
@@ -33,13 +34,13 @@ use Rattle.api.specs.Chains.{Moves·coverOf}
 use Rattle.api.specs.Kept.{KeptCoverContainsMotion, KeptCoverFiner}
 
 -- Of what building gives for two poses: its number, what it leaves, and that this holds the move where the number is 0.
-pub build-clauses : (s e : Pose) (a : AnimatedTransformAnswer) (r : ℕ) (rows old : Rows)
-    → a ≡ AnimatedTransform·new s e → (a .refusal ≡ 0 → Built (a .value))
+pub build-clauses : (rigid : Bool) (s e : Pose) (a : AnimatedTransformAnswer) (r : ℕ) (rows old : Rows)
+    → a ≡ AnimatedTransform·new rigid s e → (a .refusal ≡ 0 → Built (a .value))
     → r ≡ a .refusal → rows ≡ AnimatedTransformAnswer·left a old
-    → (r ≡ AnimatedTransform·new s e .refusal) × ((rows ≡ AnimatedTransformAnswer·left (AnimatedTransform·new s e) old)
-    × (r ≡ 0 → Rows·Holds rows (AnimatedTransform·new s e .value)))
+    → (r ≡ AnimatedTransform·new rigid s e .refusal) × ((rows ≡ AnimatedTransformAnswer·left (AnimatedTransform·new rigid s e) old)
+    × (r ≡ 0 → Rows·Holds rows (AnimatedTransform·new rigid s e .value)))
 unfolding AnimatedTransformAnswer·left
-build-clauses s e a r rows old same built number left = rw (← same) (number, (left, holds))
+build-clauses rigid s e a r rows old same built number left = rw (← same) (number, (left, holds))
   where
     holds : r ≡ 0 → Rows·Holds rows (a .value)
     holds none = let accepted : a .refusal ≡ 0 = sym number ∙ none in record { built = built accepted; same = rw left (rw accepted) }

@@ -2,6 +2,7 @@
 -- that the arrays hold. Definitions only.
 -- The rows may be any rows: the move in them is `AnimatedTransform·fromRows`, and what a point query needs of its rotations stands beside it.
 use Prim.Native.Nat.{ℕ}
+use mathlib.Core.Bool.{Bool}
 use mathlib.Core.List.{List}
 use lib.Ieee.{Float}
 use Rattle.matrix4x4.specs.Rows.{Rows}
@@ -19,8 +20,8 @@ use Rattle.lent_arrays.specs.Arrays.{Pose·ofList}
 use Rattle.motion_rows.specs.Rows.{AnimatedTransform·fromRows}
 use Rattle.motion_rows.specs.TransformPoint.{Rows·transformPoint}
 
-abbrev pub Rows·new : List Float → List Float → AnimatedTransformAnswer
-Rows·new start end = AnimatedTransform·new (Pose·ofList start) (Pose·ofList end)
+abbrev pub Rows·new : Bool → List Float → List Float → AnimatedTransformAnswer
+Rows·new rigid start end = AnimatedTransform·new rigid (Pose·ofList start) (Pose·ofList end)
 
 abbrev pub Rows·point : Rows → Float → List Float → PointAnswer
 Rows·point rows time p = Rows·transformPoint rows time (Point3f·ofList p)

@@ -10,9 +10,9 @@ use Rattle.transform.specs.declared.BoundsAnswer.{BoundsAnswer}
 use Rattle.motion_chain.specs.Times.{PointsAnswer}
 use Rattle.chain_rows.specs.Kept.{Moves·transformPoint, Moves·transformPoints, Moves·cover}
 
--- A pose of 18 floats, a move of 45 rows, a chain of up to 31 moves.
+-- A pose of 18 floats, a move of 45 rows with its kind, a chain of up to 31 moves.
 abbrev pub layoutNumber : ℕ
-layoutNumber = 2
+layoutNumber = 3
 
 abbrev pub Moves·point : List Rows → Float → List Float → PointAnswer
 Moves·point rows time p = Moves·transformPoint rows time (Point3f·ofList p)

@@ -59,20 +59,22 @@ fn put_motion_bounds(
     }
 }
 
-// Builds a move from two poses, each 18 floats: a time, a matrix row by row and a pad. Refused with 1 to 5 or 16.
+// Builds a move from two poses, each 18 floats: a time, a matrix row by row and a pad; a rigid one has the identity for its scale. Refused with 1 to 5 or
+// 16, and a rigid one with 17 or 18.
 // Accuracy: each operation but the arc cosine is correctly rounded.
 #[no_mangle]
 pub extern "C" fn jellyplain_build(
+    rigid: bool,
     start: &[f32; 18],
     end: &[f32; 18],
     motion: &mut [[f32; 4]; 45],
 ) -> u8
-    ensures refusal { λ r. ⌜ r ≡ Rows·new (now (start .entry)) (now (end .entry)) .refusal ⌝ }
-    ensures left { λ _. ⌜ now (motion .exit) ≡ AnimatedTransformAnswer·left (Rows·new (now (start .entry)) (now (end .entry))) (now (motion .entry)) ⌝ }
-    ensures holds { λ r. ⌜ (r ≡ 0 → Rows·Holds (now (motion .exit)) (Rows·new (now (start .entry)) (now (end .entry)) .value)) ⌝ }
+    ensures refusal { λ r. ⌜ r ≡ Rows·new rigid (now (start .entry)) (now (end .entry)) .refusal ⌝ }
+    ensures left { λ _. ⌜ now (motion .exit) ≡ AnimatedTransformAnswer·left (Rows·new rigid (now (start .entry)) (now (end .entry))) (now (motion .entry)) ⌝ }
+    ensures holds { λ r. ⌜ (r ≡ 0 → Rows·Holds (now (motion .exit)) (Rows·new rigid (now (start .entry)) (now (end .entry)) .value)) ⌝ }
 {
     motion_rows::put_motion(
-        AnimatedTransform::new(lent_arrays::pose(start), lent_arrays::pose(end)),
+        AnimatedTransform::new(rigid, lent_arrays::pose(start), lent_arrays::pose(end)),
         motion,
     )
 }
@@ -185,27 +187,29 @@ pub extern "C" fn jellyplain_cover(
     )
 }
 
-// The number of the layout in which poses, moves and chains cross: 18 floats, 45 rows, up to 31 blocks. It changes where one of them does, so that a caller
+// The number of the layout in which poses, moves and chains cross: 18 floats, 45 rows with the move's kind, up to 31 blocks. It changes where one of them does, so that a caller
 // built against another layout is told. Accuracy: exact.
 #[no_mangle]
 pub extern "C" fn jellyplain_layout() -> u32
     ensures value { λ r. ⌜ r ≡ layoutNumber ⌝ }
 {
-    2
+    3
 }
 
-// Builds a chain from 2 to 32 poses; the rows of its moves, one fewer than poses, then stand in the front blocks. Refused with 1, 2, 16, 12, 3, 4 or 5.
+// Builds a chain from 2 to 32 poses; the rows of its moves, one fewer than poses, then stand in the front blocks; a rigid one's moves are rigid.
+// Refused with 1, 2, 16, 12, 3, 4 or 5, and a rigid one with 17 or 18.
 // Accuracy: each operation but the arc cosine is correctly rounded.
 #[no_mangle]
 pub extern "C" fn jellyplain_build_moves(
+    rigid: bool,
     poses: &[[f32; 18]],
     moves: &mut [[[f32; 4]; 45]; 31],
 ) -> u8
-    ensures refusal { λ r. ⌜ r ≡ ChainAnswer·refusal (Chain·new (Poses·ofLists (now (poses .entry)))) ⌝ }
-    ensures left { λ _. ⌜ now (moves .exit) ≡ ChainAnswer·left (Chain·new (Poses·ofLists (now (poses .entry)))) (now (moves .entry)) ⌝ }
-    ensures holds { λ _. ⌜ ((c : Chain) → Chain·new (Poses·ofLists (now (poses .entry))) ≡ built c → Moves·Holds (take (length (now (poses .entry)) - 1) (now (moves .exit))) c) ⌝ }
+    ensures refusal { λ r. ⌜ r ≡ ChainAnswer·refusal (Chain·new rigid (Poses·ofLists (now (poses .entry)))) ⌝ }
+    ensures left { λ _. ⌜ now (moves .exit) ≡ ChainAnswer·left (Chain·new rigid (Poses·ofLists (now (poses .entry)))) (now (moves .entry)) ⌝ }
+    ensures holds { λ _. ⌜ ((c : Chain) → Chain·new rigid (Poses·ofLists (now (poses .entry))) ≡ built c → Moves·Holds (take (length (now (poses .entry)) - 1) (now (moves .exit))) c) ⌝ }
 {
-    chain_build::build(poses, moves)
+    chain_build::build(rigid, poses, moves)
 }
 
 // Where a point stands at a time of a chain. Refused with 5 or 6, and with 12 where there are no moves.

@@ -1,4 +1,4 @@
--- A built chain's poses are those that it was built from: `built-poses`. Every move stores the times, the matrices and the pads of its two poses: `new-poses`.
+-- A built chain's poses are those that it was built from, and its kind is: `built-poses`, `built-kind`. Every move stores the times, the matrices and the pads of its two poses: `new-poses`.
 use Prim.Native.Nat.{ℕ}
 use mathlib.Core.Path.{_≡_, refl, sym, ap, _∙_}
 use mathlib.Core.Bool.{Bool, true, false, cond, false≢true}
@@ -19,13 +19,13 @@ use Rattle.decomposition.specs.Decompose.{Matrix4x4·decompose}
 use Rattle.rotation_arc.specs.ShorterArc.{flip, dotsRefusal}
 use Rattle.rotation_arc.specs.ArcCoefficients.{pairCoefficients}
 use Rattle.pose_pair.specs.declared.Pose.{Pose}
-use Rattle.pose_pair.specs.Pose.{posesRefusal}
 use Rattle.animated_transform.specs.declared.AnimatedTransform.{AnimatedTransform}
 use Rattle.animated_transform.specs.declared.AnimatedTransformAnswer.{AnimatedTransformAnswer}
-use Rattle.animated_transform.specs.New.{firstRefusal, AnimatedTransformAnswer·refused, assembled, between, work, AnimatedTransform·new}
-use Rattle.motion_chain.specs.Chain.{neighbours, firstNumber, Chain, ChainAnswer, built, refused, ChainAnswer·fromMoves}
+use Rattle.animated_transform.specs.New.{firstRefusal, AnimatedTransformAnswer·refused, assembled, between, work, buildRefusal, AnimatedTransform·new}
+use Rattle.animated_transform.proofs.Kept.{new-kept}
+use Rattle.motion_chain.specs.Chain.{neighbours, firstNumber, Chain, ChainAnswer, built, refused, ChainAnswer·fromMoves, Chain·new}
 use Rattle.motion_chain.proofs.Built.{first-none, new-built}
-use Rattle.built_poses.specs.Poses.{AnimatedTransform·startPose, AnimatedTransform·endPose, Chain·poses, BuiltPoses}
+use Rattle.built_poses.specs.Poses.{AnimatedTransform·startPose, AnimatedTransform·endPose, Chain·poses, Chain·isRigid, BuiltPoses, BuiltKind}
 
 -- ---- one pair
 pub record NewPoses (p q : Pose) (a : AnimatedTransformAnswer) : Type 0 where
@@ -53,40 +53,40 @@ both-none m n = go (eqb m 0) (eqb-true m 0) (eqb-false m 0)
 matrix-kept : (m : Matrix4x4) → Transform·fromMatrix (Matrix4x4·toRows m) .refusal ≡ 0 → Transform·fromMatrix (Matrix4x4·toRows m) .transform .m ≡ m
 matrix-kept m e = ap (λ (a : TransformAnswer). a .transform .m) (from-matrix-accepted (Matrix4x4·toRows m) (sym (from-matrix-refusal (Matrix4x4·toRows m)) ∙ e))
 
-between-poses : (p q : Pose) (a b : Transform) (d e : Decomposition) → a .m ≡ p .m → b .m ≡ q .m → NewPoses p q (between p q a b d e)
+between-poses : (rigid : Bool) (p q : Pose) (a b : Transform) (d e : Decomposition) → a .m ≡ p .m → b .m ≡ q .m → NewPoses p q (between rigid p q a b d e)
 unfolding between
-between-poses p q a b d e ea eb =
+between-poses rigid p q a b d e ea eb =
     let r1 = flip (d .r) (e .r) in
     let cosθ = Quaternion·dot (d .r) r1 in
     let c = pairCoefficients (lt cosθ slerpThreshold) (d .t) (e .t) (d .r) r1 (d .s) (e .s) cosθ in
     tested-poses (firstRefusal (dotsRefusal (Quaternion·dot (d .r) (e .r)) cosθ) (c .refusal))
-    (record { value = assembled p q a b d e r1 (c .value); refusal = 0 })
+    (record { value = assembled rigid p q a b d e r1 (c .value); refusal = 0 })
     (λ _. record {
       start-pose = λ _. ap (λ (m : Matrix4x4). record { time = p .time; m = m; pad = p .pad }) ea;
       end-pose = λ _. ap (λ (m : Matrix4x4). record { time = q .time; m = m; pad = q .pad }) eb;
     })
 
-work-poses : (p q : Pose) → NewPoses p q (work p q)
+work-poses : (rigid : Bool) (p q : Pose) → NewPoses p q (work rigid p q)
 unfolding work
-work-poses p q =
+work-poses rigid p q =
     let a = Transform·fromMatrix (Matrix4x4·toRows (p .m)) in
     let b = Transform·fromMatrix (Matrix4x4·toRows (q .m)) in
-    let d = Matrix4x4·decompose (Matrix4x4·toRows (p .m)) in
-    let e = Matrix4x4·decompose (Matrix4x4·toRows (q .m)) in
+    let d = Matrix4x4·decompose rigid (Matrix4x4·toRows (p .m)) in
+    let e = Matrix4x4·decompose rigid (Matrix4x4·toRows (q .m)) in
     let inverses = firstRefusal (a .refusal) (b .refusal) in
     let parts = firstRefusal (d .refusal) (e .refusal) in
-    tested-poses (firstRefusal inverses parts) (between p q (a .transform) (b .transform) d e)
+    tested-poses (firstRefusal inverses parts) (between rigid p q (a .transform) (b .transform) d e)
     (λ n.
     let (za, zb) = both-none (a .refusal) (b .refusal) (both-none inverses parts n .0) in
-    between-poses p q (a .transform) (b .transform) d e (matrix-kept (p .m) za) (matrix-kept (q .m) zb))
+    between-poses rigid p q (a .transform) (b .transform) d e (matrix-kept (p .m) za) (matrix-kept (q .m) zb))
 
-pub new-poses : (p q : Pose) → NewPoses p q (AnimatedTransform·new p q)
+pub new-poses : (rigid : Bool) (p q : Pose) → NewPoses p q (AnimatedTransform·new rigid p q)
 unfolding AnimatedTransform·new
-new-poses p q = tested-poses (posesRefusal p q) (work p q) (λ _. work-poses p q)
+new-poses rigid p q = tested-poses (buildRefusal rigid p q) (work rigid p q) (λ _. work-poses rigid p q)
 
 -- ---- the pairs, from a pose on
-abbrev answers : List Pose → List AnimatedTransformAnswer
-answers poses = map (λ (p, q). AnimatedTransform·new p q) (neighbours poses)
+abbrev answers : Bool → List Pose → List AnimatedTransformAnswer
+answers rigid poses = map (λ (p, q). AnimatedTransform·new rigid p q) (neighbours poses)
 
 abbrev number : List AnimatedTransformAnswer → ℕ
 number xs = firstNumber (map (λ a. a .refusal) xs)
@@ -94,13 +94,14 @@ number xs = firstNumber (map (λ a. a .refusal) xs)
 abbrev values : List AnimatedTransformAnswer → List AnimatedTransform
 values = map (λ a. a .value)
 
-ends : (p : Pose) (poses : List Pose) → number (answers (p ∷ poses)) ≡ 0 → map AnimatedTransform·endPose (values (answers (p ∷ poses))) ≡ poses
+ends : (rigid : Bool) (p : Pose) (poses : List Pose) → number (answers rigid (p ∷ poses)) ≡ 0
+    → map AnimatedTransform·endPose (values (answers rigid (p ∷ poses))) ≡ poses
 unfolding neighbours
-ends p [] n = refl
-ends p (q ∷ poses) n =
-    let a = AnimatedTransform·new p q in
-    let (z, rest) = first-none (a .refusal) (map (λ x. x .refusal) (answers (q ∷ poses))) n in
-    rw (new-poses p q .end-pose z, ends q poses rest)
+ends rigid p [] n = refl
+ends rigid p (q ∷ poses) n =
+    let a = AnimatedTransform·new rigid p q in
+    let (z, rest) = first-none (a .refusal) (map (λ x. x .refusal) (answers rigid (q ∷ poses))) n in
+    rw (new-poses rigid p q .end-pose z, ends rigid q poses rest)
 
 -- ---- the chain
 abbrev isBuilt : ChainAnswer → Bool
@@ -110,26 +111,34 @@ isBuilt (refused n) = false
 refused-built : (n : ℕ) (c : Chain) → refused n ≡ built c → ⊥
 refused-built n c e = false≢true (ap isBuilt e)
 
-abbrev posesOf : ChainAnswer → List Pose
-posesOf (built c) = Chain·poses c
-posesOf (refused n) = []
+abbrev chainOf : Chain → ChainAnswer → Chain
+chainOf d (built c) = c
+chainOf d (refused n) = d
 
-tested-built : (n : ℕ) (c d : Chain) → cond (eqb n 0) (built d) (refused n) ≡ built c → (n ≡ 0) × (Chain·poses c ≡ Chain·poses d)
+tested-built : (n : ℕ) (c d : Chain) → cond (eqb n 0) (built d) (refused n) ≡ built c → (n ≡ 0) × (c ≡ d)
 tested-built n c d = go (eqb n 0) (eqb-true n 0)
   where
-    go : (b : Bool) → (b ≡ true → n ≡ 0) → cond b (built d) (refused n) ≡ built c → (n ≡ 0) × (Chain·poses c ≡ Chain·poses d)
-    go true f e = (f refl, ap posesOf (sym e))
+    go : (b : Bool) → (b ≡ true → n ≡ 0) → cond b (built d) (refused n) ≡ built c → (n ≡ 0) × (c ≡ d)
+    go true f e = (f refl, ap (chainOf d) (sym e))
     go false f e = absurd (refused-built n c e)
 
-pub built-poses : (poses : List Pose) → BuiltPoses poses
+built-both : (rigid : Bool) (poses : List Pose) (c : Chain) → Chain·new rigid poses ≡ built c → (Chain·poses c ≡ poses) × (Chain·isRigid c ≡ rigid)
 unfolding ChainAnswer·fromMoves neighbours Chain·poses
-built-poses [] c e = absurd (refused-built 12 c (new-built [] c e .1))
-built-poses (p ∷ []) c e = absurd (refused-built 12 c (new-built (p ∷ []) c e .1))
-built-poses (p ∷ q ∷ poses) c e =
-    let a = AnimatedTransform·new p q in
-    let rest = answers (q ∷ poses) in
-    let (n, same) = tested-built (number (a ∷ rest)) c (record { first = a .value; rest = values rest }) (new-built (p ∷ q ∷ poses) c e .1) in
-    let (z, _) = first-none (a .refusal) (map (λ x. x .refusal) rest) n in
-    same
-    ∙ ap (λ (start : Pose). start ∷ map AnimatedTransform·endPose (values (a ∷ rest))) (new-poses p q .start-pose z)
-    ∙ ap (λ (ps : List Pose). p ∷ ps) (ends p (q ∷ poses) n)
+built-both rigid [] c e = absurd (refused-built 12 c (new-built rigid [] c e .1))
+built-both rigid (p ∷ []) c e = absurd (refused-built 12 c (new-built rigid (p ∷ []) c e .1))
+built-both rigid (p ∷ q ∷ poses) c e =
+    let a = AnimatedTransform·new rigid p q in
+    let rest = answers rigid (q ∷ poses) in
+    let (n, same) = tested-built (number (a ∷ rest)) c (record { first = a .value; rest = values rest }) (new-built rigid (p ∷ q ∷ poses) c e .1) in
+    let (z, _) = first-none (a .refusal) (map (λ x. x .refusal) rest) n in (
+      ap Chain·poses same
+          ∙ ap (λ (start : Pose). start ∷ map AnimatedTransform·endPose (values (a ∷ rest))) (new-poses rigid p q .start-pose z)
+          ∙ ap (λ (ps : List Pose). p ∷ ps) (ends rigid p (q ∷ poses) n),
+      ap Chain·isRigid same ∙ new-kept rigid p q z .kind,
+    )
+
+pub built-poses : (rigid : Bool) (poses : List Pose) → BuiltPoses rigid poses
+built-poses rigid poses c e = built-both rigid poses c e .0
+
+pub built-kind : (rigid : Bool) (poses : List Pose) → BuiltKind rigid poses
+built-kind rigid poses c e = built-both rigid poses c e .1

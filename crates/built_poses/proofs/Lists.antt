@@ -3,6 +3,7 @@
 use Prim.Native.Nat.{ℕ, zero, suc, _+_, _≤_}
 use native.Mathlib.Omega.{arith}
 use mathlib.Core.Path.{_≡_, refl, ap, _∙_}
+use mathlib.Core.Bool.{Bool}
 use mathlib.Core.List.{List, [], _∷_}
 use lib.ListN.{length, getD, take, drop, length-map}
 use lib.Seq.{drop-cons, take-all}
@@ -32,8 +33,8 @@ lists-inverse [] h = refl
 lists-inverse (l ∷ lists) (h, hs) =
     ap (λ (x : List Float). x ∷ Poses·lists (Poses·ofLists lists)) (list-inverse l h) ∙ ap (λ (xs : List (List Float)). l ∷ xs) (lists-inverse lists hs)
 
-pub built-lists : (lists : List (List Float)) → BuiltLists lists
-built-lists lists c h e = rw (built-poses (Poses·ofLists lists) c e) (lists-inverse lists h)
+pub built-lists : (rigid : Bool) (lists : List (List Float)) → BuiltLists rigid lists
+built-lists rigid lists c h e = rw (built-poses rigid (Poses·ofLists lists) c e) (lists-inverse lists h)
 
 -- a chain has one pose more than moves
 pub poses-count : (c : Chain) → length (Poses·lists (Chain·poses c)) ≡ length (Chain·moves c) + 1

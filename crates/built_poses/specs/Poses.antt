@@ -1,7 +1,8 @@
 -- The poses in a chain: `Chain·poses`, each from the time, the matrix and the pad that a move stores; `Poses·lists`, poses as 18 floats each. A built chain's are those
--- that it was built from: `BuiltPoses` and `BuiltLists`, the statements of `built-poses` and `built-lists`.
+-- that it was built from: `BuiltPoses` and `BuiltLists`, the statements of `built-poses` and `built-lists`; and so is its kind: `BuiltKind`, that of `built-kind`.
 use Prim.Native.Nat.{ℕ}
 use mathlib.Core.Path.{_≡_}
+use mathlib.Core.Bool.{Bool}
 use mathlib.Core.List.{List, [], _∷_, _++_, map}
 use lib.ListN.{length}
 use lib.Ieee.{Float}
@@ -21,6 +22,10 @@ AnimatedTransform·endPose a = record { time = a .«end_time»; m = a .«end_tra
 unfoldable pub Chain·poses : Chain → List Pose
 Chain·poses c = AnimatedTransform·startPose (c .first) ∷ map AnimatedTransform·endPose (Chain·moves c)
 
+-- the kind that each of its moves has
+abbrev pub Chain·isRigid : Chain → Bool
+Chain·isRigid c = c .first .rigid
+
 -- a pose as 18 floats: its time, its matrix row by row, its pad
 abbrev pub placesPerPose : ℕ
 placesPerPose = 18
@@ -31,13 +36,16 @@ Pose·list p = p .time ∷ (p .m .r0 ++ (p .m .r1 ++ (p .m .r2 ++ (p .m .r3 ++ (
 unfoldable pub Poses·lists : List Pose → List (List Float)
 Poses·lists poses = map Pose·list poses
 
--- ---- of a built chain: no bit of its poses is lost
+-- ---- of a built chain: no bit of its poses is lost, nor its kind
 
-abbrev pub BuiltPoses : List Pose → Type 0
-BuiltPoses poses = (c : Chain) → Chain·new poses ≡ built c → Chain·poses c ≡ poses
+abbrev pub BuiltPoses : Bool → List Pose → Type 0
+BuiltPoses rigid poses = (c : Chain) → Chain·new rigid poses ≡ built c → Chain·poses c ≡ poses
+
+abbrev pub BuiltKind : Bool → List Pose → Type 0
+BuiltKind rigid poses = (c : Chain) → Chain·new rigid poses ≡ built c → Chain·isRigid c ≡ rigid
 
 -- the same of poses in a lent array
-abbrev pub BuiltLists : List (List Float) → Type 0
-BuiltLists lists =
-    (c : Chain) → Each (λ l. length l ≡ placesPerPose) lists → Chain·new (Poses·ofLists lists) ≡ built c
+abbrev pub BuiltLists : Bool → List (List Float) → Type 0
+BuiltLists rigid lists =
+    (c : Chain) → Each (λ l. length l ≡ placesPerPose) lists → Chain·new rigid (Poses·ofLists lists) ≡ built c
     → Poses·lists (Chain·poses c) ≡ lists

@@ -1,4 +1,5 @@
 -- Move A meets the guarantee's hypotheses, by computing (`hypotheses-met`), and what the guarantee says of it (`midpoint-covered`).
+use mathlib.Core.Bool.{false}
 use mathlib.Core.Path.{refl, subst}
 use lib.Ieee.{fits}
 use Rattle.rounding.specs.Order.{_≼_}
@@ -20,7 +21,7 @@ pub hypotheses-met : HypothesesMet
 unfolding fits building.computing cover.computing
 hypotheses-met =
     record {
-      built = record { start = identityAt zero; end = shiftedAt one; start-binary32 = tt; end-binary32 = tt; accepted = refl };
+      built = record { rigid = false; start = identityAt zero; end = shiftedAt one; start-binary32 = tt; end-binary32 = tt; accepted = refl };
       accepted = refl;
       box = refl;
       time = tt;

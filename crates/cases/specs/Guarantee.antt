@@ -1,7 +1,7 @@
 -- That the guarantee's hypotheses can be met, `HypothesesMet`, so that `CoverContainsMotion` says something of some move: move A is built, and its cover of the origin at
 -- depth 1 is accepted. The guarantee then gives `MidpointCovered`: at time 0.5 the origin is moved, and to a point of that cover. Statements only.
 use mathlib.Core.Path.{_≡_}
-use mathlib.Core.Bool.{not}
+use mathlib.Core.Bool.{false, not}
 use lib.Dec.{T}
 use lib.Ieee.{isNan}
 use Rattle.bounds3.specs.Inside.{Inside}
@@ -17,7 +17,7 @@ use Rattle.cases.specs.Cases.{zero, one, half, identityAt, shiftedAt, or
 
 -- "Move A: identity at time 0, identity with m03 = 1 at time 1."
 abbrev pub moveA : AnimatedTransform
-moveA = AnimatedTransform·new (identityAt zero) (shiftedAt one) .value
+moveA = AnimatedTransform·new false (identityAt zero) (shiftedAt one) .value
 
 pub record HypothesesMet : Type 0 where
   pub built : Built moveA

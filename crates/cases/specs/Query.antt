@@ -1,7 +1,7 @@
 -- What a row of the table asks, `Query`, and what comes of it, `answer`: a query on a move builds it from its two poses first, and where building refuses, its number is the answer.
 -- Definitions only.
 use Prim.Native.Nat.{ℕ}
-use mathlib.Core.Bool.{cond}
+use mathlib.Core.Bool.{false, cond}
 use lib.Dec.{eqb}
 use lib.Ieee.{Float}
 use Rattle.trig.specs.SinCos.{sin}
@@ -51,6 +51,6 @@ onMove a f = cond (eqb (a .refusal) 0) (f (a .value)) (refused (a .refusal))
 abbrev pub answer : Query → Answer
 answer (sinOf a) = number (sin a)
 answer (acosOf c) = number (acos c)
-answer (build start end) = onMove (AnimatedTransform·new start end) (λ m. built)
-answer (pointAt start end time p) = onMove (AnimatedTransform·new start end) (λ m. ofPoint (AnimatedTransform·transformPoint m time p))
-answer (coverOf start end b depth) = onMove (AnimatedTransform·new start end) (λ m. ofBounds (AnimatedTransform·cover m b depth))
+answer (build start end) = onMove (AnimatedTransform·new false start end) (λ m. built)
+answer (pointAt start end time p) = onMove (AnimatedTransform·new false start end) (λ m. ofPoint (AnimatedTransform·transformPoint m time p))
+answer (coverOf start end b depth) = onMove (AnimatedTransform·new false start end) (λ m. ofBounds (AnimatedTransform·cover m b depth))

@@ -25,8 +25,8 @@ pub fn put_answer(
     }
     let slot = wholes[0] as usize;
     match kind {
-        0 => chains::build_chain(slot, floats / 18, x, out, at, kept, poses),
-        1 => chains::build_lone(slot, x, out, at, kept, poses),
+        0 => chains::build_chain(q.rigid, slot, floats / 18, x, out, at, kept, poses),
+        1 => chains::build_lone(q.rigid, slot, x, out, at, kept, poses),
         _ => put_asked(
             kind,
             wholes,

@@ -8,6 +8,7 @@ ghost use Prim.Native.Nat.{_≤_, _<_};
 
 // Builds a chain and keeps it, or none where it is refused.
 pub fn build_chain(
+    rigid: bool,
     slot: usize,
     count: usize,
     x: &[f32; 900],
@@ -24,13 +25,14 @@ pub fn build_chain(
     }
     let mut given = [[0.0f32; 18]; 50];
     put_poses(x, &mut given);
-    let refusal = api::jellyplain_build_moves(&given[0..count], &mut kept[slot]);
+    let refusal = api::jellyplain_build_moves(rigid, &given[0..count], &mut kept[slot]);
     poses[slot] = kept_count(refusal, count);
     put_count(refusal, count, out, at)
 }
 
 // Builds a move by itself and keeps it, or none where it is refused.
 pub fn build_lone(
+    rigid: bool,
     slot: usize,
     x: &[f32; 900],
     out: &mut [u8; 32768],
@@ -42,7 +44,7 @@ pub fn build_lone(
 {
     let start = pose_at(x, 0);
     let end = pose_at(x, 1);
-    let refusal = api::jellyplain_build(&start, &end, &mut kept[slot][0]);
+    let refusal = api::jellyplain_build(rigid, &start, &end, &mut kept[slot][0]);
     poses[slot] = kept_count(refusal, 1);
     put_count(refusal, 2, out, at)
 }

@@ -1,13 +1,14 @@
-// A line as a question: a name, then whole numbers, for some the word `plain`, and floats, with one space before each.
+// A line as a question: a name, then whole numbers, for some the word `plain` or `rigid`, and floats, with one space before each.
 use question_lines::Decimal;
 use question_lines::part;
 use question_lines::position;
 
-// What is asked, as the place of its name, how many poses the slot must have, and how many floats the line has.
+// What is asked, as the place of its name, how many poses the slot must have, how many floats the line has, and whether a chain is built as rigid.
 pub struct Question {
     pub kind: usize,
     pub poses: usize,
     pub floats: usize,
+    pub rigid: bool,
 }
 
 // Of each question: how many poses the slot that it asks must have, where a move by itself counts as one; and what follows the name: how many whole numbers,
@@ -42,7 +43,8 @@ pub fn parse(line: &[u8], wholes: &mut [u64; 4], x: &mut [f32; 900]) -> Question
     }
     let shape = SHAPES[kind];
     let at = read_wholes(line, end, shape[1], wholes);
-    parse_floats(line, read_kind(line, at, shape[2]), kind, shape, x)
+    let rigid = is_rigid(line, at);
+    parse_floats(line, read_kind(line, at, shape[2]), kind, rigid, shape, x)
 }
 
 // Whether a line asks for a file to be read; its second word is no float.
@@ -58,6 +60,7 @@ fn malformed() -> Question {
         kind: usize::MAX,
         poses: 0,
         floats: 0,
+        rigid: false,
     }
 }
 
@@ -101,10 +104,16 @@ fn read_kind(line: &[u8], at: usize, words: usize) -> usize {
     }
     let start = behind_space(line, at);
     let end = word_end(line, start);
-    if position(part(line, start, end), b"plain") == 0 {
+    if position(part(line, start, end), b"plain rigid") < 2 {
         return end;
     }
     usize::MAX
+}
+
+// Whether the word behind a place is `rigid`.
+fn is_rigid(line: &[u8], at: usize) -> bool {
+    let start = behind_space(line, at);
+    position(part(line, start, word_end(line, start)), b"rigid") == 0
 }
 
 // Floats from `at` on, up to the line's end.
@@ -112,6 +121,7 @@ fn parse_floats(
     line: &[u8],
     at: usize,
     kind: usize,
+    rigid: bool,
     shape: [usize; 5],
     x: &mut [f32; 900],
 ) -> Question {
@@ -127,6 +137,7 @@ fn parse_floats(
             kind,
             poses: shape[0],
             floats,
+            rigid,
         };
     }
     malformed()

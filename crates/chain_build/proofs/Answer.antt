@@ -28,113 +28,113 @@ use Rattle.chain_build.specs.Build.{front, ChainAnswer·left}
 use Rattle.chain_build.specs.Pairs.{Pair·refusal, Pair·rows, Pair·Built}
 
 -- ---- one pair
-pub pair-clauses : (p q : Pose) (a : AnimatedTransformAnswer) (old : Rows) {r : ℕ} {rows : Rows}
-    → a ≡ AnimatedTransform·new p q → (a .refusal ≡ 0 → Built (a .value))
+pub pair-clauses : (rigid : Bool) (p q : Pose) (a : AnimatedTransformAnswer) (old : Rows) {r : ℕ} {rows : Rows}
+    → a ≡ AnimatedTransform·new rigid p q → (a .refusal ≡ 0 → Built (a .value))
     → r ≡ a .refusal → rows ≡ AnimatedTransformAnswer·left a old
-    → (r ≡ Pair·refusal (p, q)) × ((r ≡ 0 → rows ≡ Pair·rows (p, q)) × (r ≡ 0 → Pair·Built (p, q)))
+    → (r ≡ Pair·refusal rigid (p, q)) × ((r ≡ 0 → rows ≡ Pair·rows rigid (p, q)) × (r ≡ 0 → Pair·Built rigid (p, q)))
 unfolding AnimatedTransformAnswer·left
-pair-clauses p q a old same move number left = (
+pair-clauses rigid p q a old same move number left = (
   number ∙ ap (λ (x : AnimatedTransformAnswer). x .refusal) same,
   (λ z. rw (← same) (rw left (rw (sym number ∙ z))), λ z. rw (← same) (move (sym number ∙ z))),
 )
 
 -- ---- what came of each pair
-abbrev answers : List (Pose × Pose) → List AnimatedTransformAnswer
-answers = map (λ (p, q). AnimatedTransform·new p q)
+abbrev answers : Bool → List (Pose × Pose) → List AnimatedTransformAnswer
+answers rigid = map (λ (p, q). AnimatedTransform·new rigid p q)
 
-numbers-same : (pairs : List (Pose × Pose)) → map (λ x. x .refusal) (answers pairs) ≡ map Pair·refusal pairs
-numbers-same [] = refl
-numbers-same (pair ∷ pairs) = ap (λ (l : List ℕ). Pair·refusal pair ∷ l) (numbers-same pairs)
+numbers-same : (rigid : Bool) (pairs : List (Pose × Pose)) → map (λ x. x .refusal) (answers rigid pairs) ≡ map (Pair·refusal rigid) pairs
+numbers-same rigid [] = refl
+numbers-same rigid (pair ∷ pairs) = ap (λ (l : List ℕ). Pair·refusal rigid pair ∷ l) (numbers-same rigid pairs)
 
-rows-same : (pairs : List (Pose × Pose)) → map AnimatedTransform·toRows (map (λ x. x .value) (answers pairs)) ≡ map Pair·rows pairs
-rows-same [] = refl
-rows-same (pair ∷ pairs) = ap (λ (l : List Rows). Pair·rows pair ∷ l) (rows-same pairs)
+rows-same : (rigid : Bool) (pairs : List (Pose × Pose)) → map AnimatedTransform·toRows (map (λ x. x .value) (answers rigid pairs)) ≡ map (Pair·rows rigid) pairs
+rows-same rigid [] = refl
+rows-same rigid (pair ∷ pairs) = ap (λ (l : List Rows). Pair·rows rigid pair ∷ l) (rows-same rigid pairs)
 
-abbrev chainOf : Pose × Pose → List (Pose × Pose) → Chain
-chainOf (p, q) pairs = record { first = AnimatedTransform·new p q .value; rest = map (λ x. x .value) (answers pairs) }
+abbrev chainOf : Bool → Pose × Pose → List (Pose × Pose) → Chain
+chainOf rigid (p, q) pairs = record { first = AnimatedTransform·new rigid p q .value; rest = map (λ x. x .value) (answers rigid pairs) }
 
-module _ (p q : Pose) (poses : List Pose) (passed : chainRefusal (p ∷ q ∷ poses) ≡ 0) where
+module _ (rigid : Bool) (p q : Pose) (poses : List Pose) (passed : chainRefusal rigid (p ∷ q ∷ poses) ≡ 0) where
   abbrev pairs : List (Pose × Pose)
   pairs = neighbours (q ∷ poses)
 
   abbrev number : ℕ
-  number = stage Pair·refusal ((p, q) ∷ pairs)
+  number = stage (Pair·refusal rigid) ((p, q) ∷ pairs)
 
-  new-refused : (number ≡ 0 → ⊥) → Chain·new (p ∷ q ∷ poses) ≡ refused number
+  new-refused : (number ≡ 0 → ⊥) → Chain·new rigid (p ∷ q ∷ poses) ≡ refused number
   unfolding Chain·new ChainAnswer·fromMoves neighbours
-  new-refused f = rw (eq-eqb (chainRefusal (p ∷ q ∷ poses)) 0 passed, numbers-same pairs, ne-eqb number 0 f)
+  new-refused f = rw (eq-eqb (chainRefusal rigid (p ∷ q ∷ poses)) 0 passed, numbers-same rigid pairs, ne-eqb number 0 f)
 
-  new-built : number ≡ 0 → Chain·new (p ∷ q ∷ poses) ≡ built (chainOf (p, q) pairs)
+  new-built : number ≡ 0 → Chain·new rigid (p ∷ q ∷ poses) ≡ built (chainOf rigid (p, q) pairs)
   unfolding Chain·new ChainAnswer·fromMoves neighbours
-  new-built z = rw (eq-eqb (chainRefusal (p ∷ q ∷ poses)) 0 passed, numbers-same pairs, eq-eqb number 0 z)
+  new-built z = rw (eq-eqb (chainRefusal rigid (p ∷ q ∷ poses)) 0 passed, numbers-same rigid pairs, eq-eqb number 0 z)
 
 -- ---- the times and pads of built moves are 32-bit floats
 same-binary32 : (p p' : Pose) → p .time ≡ p' .time → p .pad ≡ p' .pad → T (Pose·isBinary32 p) → T (Pose·isBinary32 p')
 same-binary32 p p' t u b = rw (← t, ← u) b
 
-pair-fits : (p q : Pose) → Pair·Built (p, q) → Pair·refusal (p, q) ≡ 0 → T (Pose·isBinary32 p) × T (Pose·isBinary32 q)
-pair-fits p q b z =
+pair-fits : (rigid : Bool) (p q : Pose) → Pair·Built rigid (p, q) → Pair·refusal rigid (p, q) ≡ 0 → T (Pose·isBinary32 p) × T (Pose·isBinary32 q)
+pair-fits rigid p q b z =
     let own = built-kept b in
-    let kept = new-kept p q z in (
+    let kept = new-kept rigid p q z in (
       same-binary32 (b .start) p (sym (own .start-time) ∙ kept .start-time) (sym (own .start-pad) ∙ kept .start-pad) (b .start-binary32),
       same-binary32 (b .end) q (sym (own .end-time) ∙ kept .end-time) (sym (own .end-pad) ∙ kept .end-pad) (b .end-binary32),
     )
 
-poses-fit : (p q : Pose) (poses : List Pose) → Each Pair·Built (neighbours (p ∷ q ∷ poses)) → stage Pair·refusal (neighbours (p ∷ q ∷ poses)) ≡ 0
+poses-fit : (rigid : Bool) (p q : Pose) (poses : List Pose) → Each (Pair·Built rigid) (neighbours (p ∷ q ∷ poses)) → stage (Pair·refusal rigid) (neighbours (p ∷ q ∷ poses)) ≡ 0
     → T (every Pose·isBinary32 (p ∷ q ∷ poses))
 unfolding neighbours every
-poses-fit p q [] (b, bs) z =
-    let (n, _) = first-none (Pair·refusal (p, q)) [] z in
-    let (start, end) = pair-fits p q b n in
+poses-fit rigid p q [] (b, bs) z =
+    let (n, _) = first-none (Pair·refusal rigid (p, q)) [] z in
+    let (start, end) = pair-fits rigid p q b n in
     and-i (Pose·isBinary32 p) (every Pose·isBinary32 (q ∷ [])) start (and-i (Pose·isBinary32 q) true end tt)
-poses-fit p q (r ∷ poses) (b, bs) z =
-    let (n, ns) = first-none (Pair·refusal (p, q)) (map Pair·refusal (neighbours (q ∷ r ∷ poses))) z in
-    and-i (Pose·isBinary32 p) (every Pose·isBinary32 (q ∷ r ∷ poses)) (pair-fits p q b n .0) (poses-fit q r poses bs ns)
+poses-fit rigid p q (r ∷ poses) (b, bs) z =
+    let (n, ns) = first-none (Pair·refusal rigid (p, q)) (map (Pair·refusal rigid) (neighbours (q ∷ r ∷ poses))) z in
+    and-i (Pose·isBinary32 p) (every Pose·isBinary32 (q ∷ r ∷ poses)) (pair-fits rigid p q b n .0) (poses-fit rigid q r poses bs ns)
 
 -- ---- the clauses
 -- n is the number of poses
-abbrev pub Clauses : List Pose → ℕ → List Rows → ℕ → List Rows → Type 0
-Clauses poses n old r blocks =
-    (r ≡ ChainAnswer·refusal (Chain·new poses))
-    × ((blocks ≡ ChainAnswer·left (Chain·new poses) old)
-    × ((c : Chain) → Chain·new poses ≡ built c → Moves·Holds (take (n - 1) blocks) c))
+abbrev pub Clauses : Bool → List Pose → ℕ → List Rows → ℕ → List Rows → Type 0
+Clauses rigid poses n old r blocks =
+    (r ≡ ChainAnswer·refusal (Chain·new rigid poses))
+    × ((blocks ≡ ChainAnswer·left (Chain·new rigid poses) old)
+    × ((c : Chain) → Chain·new rigid poses ≡ built c → Moves·Holds (take (n - 1) blocks) c))
 
-refused-clauses : (poses : List Pose) (n : ℕ) (old : List Rows) {r : ℕ} → Chain·new poses ≡ refused r → (r ≡ 0 → ⊥) → Clauses poses n old r old
-refused-clauses poses n old {r} e f = (
+refused-clauses : (rigid : Bool) (poses : List Pose) (n : ℕ) (old : List Rows) {r : ℕ} → Chain·new rigid poses ≡ refused r → (r ≡ 0 → ⊥) → Clauses rigid poses n old r old
+refused-clauses rigid poses n old {r} e f = (
   sym (ap ChainAnswer·refusal e),
   (sym (ap (λ (a : ChainAnswer). ChainAnswer·left a old) e), λ c b. absurd (f (ap ChainAnswer·refusal (sym e ∙ b)))),
 )
 
-pub checks-refused : (poses : List Pose) (n : ℕ) (old : List Rows) {r : ℕ} → r ≡ chainRefusal poses → (r ≡ 0 → ⊥) → Clauses poses n old r old
+pub checks-refused : (rigid : Bool) (poses : List Pose) (n : ℕ) (old : List Rows) {r : ℕ} → r ≡ chainRefusal rigid poses → (r ≡ 0 → ⊥) → Clauses rigid poses n old r old
 unfolding Chain·new
-checks-refused poses n old {r} e f = refused-clauses poses n old (rw (← e, ne-eqb r 0 f)) f
+checks-refused rigid poses n old {r} e f = refused-clauses rigid poses n old (rw (← e, ne-eqb r 0 f)) f
 
-pub pair-refused : (poses : List Pose) (n : ℕ) (old : List Rows) {r : ℕ} → chainRefusal poses ≡ 0 → r ≡ stage Pair·refusal (neighbours poses) → (r ≡ 0 → ⊥)
-    → Clauses poses n old r old
+pub pair-refused : (rigid : Bool) (poses : List Pose) (n : ℕ) (old : List Rows) {r : ℕ} → chainRefusal rigid poses ≡ 0 → r ≡ stage (Pair·refusal rigid) (neighbours poses) → (r ≡ 0 → ⊥)
+    → Clauses rigid poses n old r old
 unfolding neighbours
-pair-refused [] n old z e f = let h = checks-passed [] z .least in absurd (omega (arith, h))
-pair-refused (p ∷ []) n old z e f = let h = checks-passed (p ∷ []) z .least in absurd (omega (arith, h))
-pair-refused (p ∷ q ∷ poses) n old z e f = refused-clauses (p ∷ q ∷ poses) n old (new-refused p q poses z (λ k. f (e ∙ k)) ∙ ap refused (sym e)) f
+pair-refused rigid [] n old z e f = let h = checks-passed rigid [] z .least in absurd (omega (arith, h))
+pair-refused rigid (p ∷ []) n old z e f = let h = checks-passed rigid (p ∷ []) z .least in absurd (omega (arith, h))
+pair-refused rigid (p ∷ q ∷ poses) n old z e f = refused-clauses rigid (p ∷ q ∷ poses) n old (new-refused rigid p q poses z (λ k. f (e ∙ k)) ∙ ap refused (sym e)) f
 
 -- The rows of a chain that is built.
 rows-of : ChainAnswer → List Rows
 rows-of (built c) = Chain·toRows c
 rows-of (refused n) = []
 
-pub all-built : (poses : List Pose) (n : ℕ) (old : List Rows) {blocks : List Rows} → n ≡ length poses
-    → chainRefusal poses ≡ 0 → 0 ≡ stage Pair·refusal (neighbours poses)
-    → blocks ≡ front (map Pair·rows (neighbours poses)) old → Each Pair·Built (neighbours poses) → Clauses poses n old 0 blocks
+pub all-built : (rigid : Bool) (poses : List Pose) (n : ℕ) (old : List Rows) {blocks : List Rows} → n ≡ length poses
+    → chainRefusal rigid poses ≡ 0 → 0 ≡ stage (Pair·refusal rigid) (neighbours poses)
+    → blocks ≡ front (map (Pair·rows rigid) (neighbours poses)) old → Each (Pair·Built rigid) (neighbours poses) → Clauses rigid poses n old 0 blocks
 unfolding neighbours rows-of
-all-built [] n old l z e w b = let h = checks-passed [] z .least in absurd (omega (arith, h))
-all-built (p ∷ []) n old l z e w b = let h = checks-passed (p ∷ []) z .least in absurd (omega (arith, h))
-all-built (p ∷ q ∷ poses) n old {blocks} l z e w b =
+all-built rigid [] n old l z e w b = let h = checks-passed rigid [] z .least in absurd (omega (arith, h))
+all-built rigid (p ∷ []) n old l z e w b = let h = checks-passed rigid (p ∷ []) z .least in absurd (omega (arith, h))
+all-built rigid (p ∷ q ∷ poses) n old {blocks} l z e w b =
     let pairs = neighbours (q ∷ poses) in
-    let rows = map Pair·rows ((p, q) ∷ pairs) in
-    let new = new-built p q poses z (sym e) in
-    let same : rows ≡ Chain·toRows (chainOf (p, q) pairs) = ap (λ (l : List Rows). Pair·rows (p, q) ∷ l) (sym (rows-same pairs)) in
-    let count : n - 1 ≡ length rows = ap (λ (k : ℕ). k - 1) l ∙ (sym (pairs-count (p ∷ q ∷ poses)) ∙ sym (length-map ((p, q) ∷ pairs) Pair·rows)) in
-    let holds : (c : Chain) → Chain·new (p ∷ q ∷ poses) ≡ built c → Moves·Holds (take (n - 1) blocks) c = λ c a. record {
-      built = record { poses = p ∷ q ∷ poses; poses-binary32 = poses-fit p q poses b (sym e); accepted = a };
+    let rows = map (Pair·rows rigid) ((p, q) ∷ pairs) in
+    let new = new-built rigid p q poses z (sym e) in
+    let same : rows ≡ Chain·toRows (chainOf rigid (p, q) pairs) = ap (λ (l : List Rows). Pair·rows rigid (p, q) ∷ l) (sym (rows-same rigid pairs)) in
+    let count : n - 1 ≡ length rows = ap (λ (k : ℕ). k - 1) l ∙ (sym (pairs-count (p ∷ q ∷ poses)) ∙ sym (length-map ((p, q) ∷ pairs) (Pair·rows rigid))) in
+    let holds : (c : Chain) → Chain·new rigid (p ∷ q ∷ poses) ≡ built c → Moves·Holds (take (n - 1) blocks) c = λ c a. record {
+      built = record { rigid = rigid; poses = p ∷ q ∷ poses; poses-binary32 = poses-fit rigid p q poses b (sym e); accepted = a };
       same = rw (w, count) (take-append-seam rows (drop (length rows) old) ∙ (same ∙ ap rows-of (sym new ∙ a)));
     } in
     (sym (ap ChainAnswer·refusal new), (w ∙ (ap (λ (l : List Rows). front l old) same ∙ sym (ap (λ (a : ChainAnswer). ChainAnswer·left a old) new)), holds))

@@ -1,6 +1,7 @@
 -- The rows of pairs put one after the other, `put`, one more of them, `put-next`, are at the front places, `put-front`, where there are places enough.
 use Prim.Native.Nat.{ℕ, suc, _+_, _-_, _≤_}
 use mathlib.Core.Path.{_≡_, refl, ap, _∙_}
+use mathlib.Core.Bool.{Bool}
 use mathlib.Core.List.{List, [], _∷_, _++_, map, append-assoc}
 use native.Mathlib.Omega.{arith}
 use lib.ListN.{length, set, drop, length-map}
@@ -10,9 +11,9 @@ use Rattle.chain_build.specs.Build.{front}
 use Rattle.chain_build.specs.Pairs.{Pair·rows}
 
 -- The rows of each pair's move, from place i on.
-unfoldable pub put : List Rows → ℕ → List (Pose × Pose) → List Rows
-put blocks i [] = blocks
-put blocks i (pair ∷ pairs) = put (set blocks i (Pair·rows pair)) (suc i) pairs
+unfoldable pub put : Bool → List Rows → ℕ → List (Pose × Pose) → List Rows
+put rigid blocks i [] = blocks
+put rigid blocks i (pair ∷ pairs) = put rigid (set blocks i (Pair·rows rigid pair)) (suc i) pairs
 
 set-behind : (done : List Rows) (y x : Rows) (rest : List Rows) → set (done ++ y ∷ rest) (length done) x ≡ (done ++ x ∷ []) ++ rest
 set-behind [] y x rest = refl
@@ -22,21 +23,21 @@ length-behind : (done : List Rows) (x : Rows) → length (done ++ x ∷ []) ≡ 
 length-behind [] x = refl
 length-behind (d ∷ done) x = ap suc (length-behind done x)
 
-put-behind : (pairs : List (Pose × Pose)) (done rest : List Rows) → length pairs ≤ length rest
-    → put (done ++ rest) (length done) pairs ≡ done ++ (map Pair·rows pairs ++ drop (length pairs) rest)
+put-behind : (rigid : Bool) (pairs : List (Pose × Pose)) (done rest : List Rows) → length pairs ≤ length rest
+    → put rigid (done ++ rest) (length done) pairs ≡ done ++ (map (Pair·rows rigid) pairs ++ drop (length pairs) rest)
 unfolding put
-put-behind [] done rest h = refl
-put-behind (pair ∷ pairs) done [] h = absurd (omega (arith, h))
-put-behind (pair ∷ pairs) done (y ∷ rest) h =
-    let x = Pair·rows pair in
-    let all = map Pair·rows pairs ++ drop (length pairs) rest in
-    rw (set-behind done y x rest, ← length-behind done x) (put-behind pairs (done ++ x ∷ []) rest (omega (arith, h)) ∙ append-assoc done (x ∷ []) all)
+put-behind rigid [] done rest h = refl
+put-behind rigid (pair ∷ pairs) done [] h = absurd (omega (arith, h))
+put-behind rigid (pair ∷ pairs) done (y ∷ rest) h =
+    let x = Pair·rows rigid pair in
+    let all = map (Pair·rows rigid) pairs ++ drop (length pairs) rest in
+    rw (set-behind done y x rest, ← length-behind done x) (put-behind rigid pairs (done ++ x ∷ []) rest (omega (arith, h)) ∙ append-assoc done (x ∷ []) all)
 
-pub put-front : (pairs : List (Pose × Pose)) (old : List Rows) → length pairs ≤ length old → put old 0 pairs ≡ front (map Pair·rows pairs) old
-put-front pairs old h = rw (length-map pairs Pair·rows) (put-behind pairs [] old h)
+pub put-front : (rigid : Bool) (pairs : List (Pose × Pose)) (old : List Rows) → length pairs ≤ length old → put rigid old 0 pairs ≡ front (map (Pair·rows rigid) pairs) old
+put-front rigid pairs old h = rw (length-map pairs (Pair·rows rigid)) (put-behind rigid pairs [] old h)
 
 -- The loop's i is the place of the pair's second pose.
-pub put-next : (blocks : List Rows) (i : ℕ) (pair : Pose × Pose) (pairs : List (Pose × Pose)) {u : List Rows} → 1 ≤ i → u ≡ set blocks (i - 1) (Pair·rows pair)
-    → put u (i + 1 - 1) pairs ≡ put blocks (i - 1) (pair ∷ pairs)
+pub put-next : (rigid : Bool) (blocks : List Rows) (i : ℕ) (pair : Pose × Pose) (pairs : List (Pose × Pose)) {u : List Rows} → 1 ≤ i → u ≡ set blocks (i - 1) (Pair·rows rigid pair)
+    → put rigid u (i + 1 - 1) pairs ≡ put rigid blocks (i - 1) (pair ∷ pairs)
 unfolding put
-put-next blocks i pair pairs l e = let n : i + 1 - 1 ≡ suc (i - 1) = omega (arith, l) in rw (n, e)
+put-next rigid blocks i pair pairs l e = let n : i + 1 - 1 ≡ suc (i - 1) = omega (arith, l) in rw (n, e)

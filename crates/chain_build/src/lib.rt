@@ -13,30 +13,30 @@ ghost use Rattle.chain_build.specs.Build.{front, ChainAnswer·left};
 ghost use Rattle.chain_build.specs.Pairs.{Pair·refusal, Pair·rows, Pair·Built};
 
 // The move of the pair at a place, built and put into its block.
-fn put_pair(poses: &[[f32; 18]], i: usize, moves: &mut [[[f32; 4]; 45]; 31]) -> u8
+fn put_pair(rigid: bool, poses: &[[f32; 18]], i: usize, moves: &mut [[[f32; 4]; 45]; 31]) -> u8
     requires { ⌜ i + 1 < length (now poses) ⌝ }
     requires { ⌜ i < 31 ⌝ }
-    ensures refusal { λ r. ⌜ r ≡ Pair·refusal (Poses·pairAt (now (poses .entry)) i) ⌝ }
-    ensures left { λ r. ⌜ (r ≡ 0 → now (moves .exit) ≡ set (now (moves .entry)) i (Pair·rows (Poses·pairAt (now (poses .entry)) i))) ⌝ }
-    ensures built { λ r. ⌜ (r ≡ 0 → Pair·Built (Poses·pairAt (now (poses .entry)) i)) ⌝ }
+    ensures refusal { λ r. ⌜ r ≡ Pair·refusal rigid (Poses·pairAt (now (poses .entry)) i) ⌝ }
+    ensures left { λ r. ⌜ (r ≡ 0 → now (moves .exit) ≡ set (now (moves .entry)) i (Pair·rows rigid (Poses·pairAt (now (poses .entry)) i))) ⌝ }
+    ensures built { λ r. ⌜ (r ≡ 0 → Pair·Built rigid (Poses·pairAt (now (poses .entry)) i)) ⌝ }
 {
     let start = lent_arrays::pose(&poses[i]);
     let end = lent_arrays::pose(&poses[i + 1]);
-    motion_rows::put_motion(AnimatedTransform::new(start, end), &mut moves[i])
+    motion_rows::put_motion(AnimatedTransform::new(rigid, start, end), &mut moves[i])
 }
 
 // The moves of all pairs, in rising order, up to the first that is refused.
-fn put_pairs(poses: &[[f32; 18]], moves: &mut [[[f32; 4]; 45]; 31]) -> u8
+fn put_pairs(rigid: bool, poses: &[[f32; 18]], moves: &mut [[[f32; 4]; 45]; 31]) -> u8
     requires { ⌜ length (now poses) ≤ 32 ⌝ }
     requires { ⌜ length (now moves) ≡ 31 ⌝ }
-    ensures refusal { λ r. ⌜ r ≡ stage Pair·refusal (neighbours (Poses·ofLists (now (poses .entry)))) ⌝ }
-    ensures left { λ r. ⌜ (r ≡ 0 → now (moves .exit) ≡ front (map Pair·rows (neighbours (Poses·ofLists (now (poses .entry))))) (now (moves .entry))) ⌝ }
-    ensures built { λ r. ⌜ (r ≡ 0 → Each Pair·Built (neighbours (Poses·ofLists (now (poses .entry))))) ⌝ }
+    ensures refusal { λ r. ⌜ r ≡ stage (Pair·refusal rigid) (neighbours (Poses·ofLists (now (poses .entry)))) ⌝ }
+    ensures left { λ r. ⌜ (r ≡ 0 → now (moves .exit) ≡ front (map (Pair·rows rigid) (neighbours (Poses·ofLists (now (poses .entry))))) (now (moves .entry))) ⌝ }
+    ensures built { λ r. ⌜ (r ≡ 0 → Each (Pair·Built rigid) (neighbours (Poses·ofLists (now (poses .entry))))) ⌝ }
 {
     let n = poses.len();
     let mut i = 1;
     while i < n {
-        let refusal = put_pair(poses, i - 1, moves);
+        let refusal = put_pair(rigid, poses, i - 1, moves);
         if refusal != 0 {
             return refusal;
         }
@@ -47,18 +47,19 @@ fn put_pairs(poses: &[[f32; 18]], moves: &mut [[[f32; 4]; 45]; 31]) -> u8
 
 // A chain that has passed its checks. The work goes into a copy of the lent blocks, which takes their place once nothing is refused.
 fn build_passed(
+    rigid: bool,
     poses: &[[f32; 18]],
     copy: [[[f32; 4]; 45]; 31],
     moves: &mut [[[f32; 4]; 45]; 31],
 ) -> u8
-    requires { ⌜ chainRefusal (Poses·ofLists (now poses)) ≡ 0 ⌝ }
+    requires { ⌜ chainRefusal rigid (Poses·ofLists (now poses)) ≡ 0 ⌝ }
     requires { ⌜ copy ≡ now moves ⌝ }
-    ensures refusal { λ r. ⌜ r ≡ ChainAnswer·refusal (Chain·new (Poses·ofLists (now (poses .entry)))) ⌝ }
-    ensures left { λ _. ⌜ now (moves .exit) ≡ ChainAnswer·left (Chain·new (Poses·ofLists (now (poses .entry)))) (now (moves .entry)) ⌝ }
-    ensures holds { λ _. ⌜ ((c : Chain) → Chain·new (Poses·ofLists (now (poses .entry))) ≡ built c → Moves·Holds (take (length (now (poses .entry)) - 1) (now (moves .exit))) c) ⌝ }
+    ensures refusal { λ r. ⌜ r ≡ ChainAnswer·refusal (Chain·new rigid (Poses·ofLists (now (poses .entry)))) ⌝ }
+    ensures left { λ _. ⌜ now (moves .exit) ≡ ChainAnswer·left (Chain·new rigid (Poses·ofLists (now (poses .entry)))) (now (moves .entry)) ⌝ }
+    ensures holds { λ _. ⌜ ((c : Chain) → Chain·new rigid (Poses·ofLists (now (poses .entry))) ≡ built c → Moves·Holds (take (length (now (poses .entry)) - 1) (now (moves .exit))) c) ⌝ }
 {
     let mut work = copy;
-    let refusal = put_pairs(poses, &mut work);
+    let refusal = put_pairs(rigid, poses, &mut work);
     if refusal != 0 {
         return refusal;
     }
@@ -66,16 +67,16 @@ fn build_passed(
     0
 }
 
-// Builds the chain of the poses into the first blocks, one for each move. Refused with 1, 2, 16, 12, 3, 4 or 5.
+// Builds the chain of the poses, as rigid or not, into the first blocks, one for each move. Refused with 1, 2, 16, 12, 3, 4 or 5, and as rigid with 17 or 18.
 // Accuracy: each operation but the arc cosine is correctly rounded.
-pub fn build(poses: &[[f32; 18]], moves: &mut [[[f32; 4]; 45]; 31]) -> u8
-    ensures refusal { λ r. ⌜ r ≡ ChainAnswer·refusal (Chain·new (Poses·ofLists (now (poses .entry)))) ⌝ }
-    ensures left { λ _. ⌜ now (moves .exit) ≡ ChainAnswer·left (Chain·new (Poses·ofLists (now (poses .entry)))) (now (moves .entry)) ⌝ }
-    ensures holds { λ _. ⌜ ((c : Chain) → Chain·new (Poses·ofLists (now (poses .entry))) ≡ built c → Moves·Holds (take (length (now (poses .entry)) - 1) (now (moves .exit))) c) ⌝ }
+pub fn build(rigid: bool, poses: &[[f32; 18]], moves: &mut [[[f32; 4]; 45]; 31]) -> u8
+    ensures refusal { λ r. ⌜ r ≡ ChainAnswer·refusal (Chain·new rigid (Poses·ofLists (now (poses .entry)))) ⌝ }
+    ensures left { λ _. ⌜ now (moves .exit) ≡ ChainAnswer·left (Chain·new rigid (Poses·ofLists (now (poses .entry)))) (now (moves .entry)) ⌝ }
+    ensures holds { λ _. ⌜ ((c : Chain) → Chain·new rigid (Poses·ofLists (now (poses .entry))) ≡ built c → Moves·Holds (take (length (now (poses .entry)) - 1) (now (moves .exit))) c) ⌝ }
 {
-    let refusal = chain_poses::refusal(poses);
+    let refusal = chain_poses::refusal(rigid, poses);
     if refusal != 0 {
         return refusal;
     }
-    build_passed(poses, *moves, moves)
+    build_passed(rigid, poses, *moves, moves)
 }

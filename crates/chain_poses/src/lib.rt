@@ -1,5 +1,6 @@
 // The poses of a chain in a lent array, 18 floats each, and what building a chain asks of them before it computes any move. A stage asks one thing of every
-// pose, or of every neighbouring pair, before the next stage: 1, 2 and 16 of every pose, 12 of the count and of every pair, 3 of every pair.
+// pose, or of every neighbouring pair, before the next stage: 1, 2 and 16 of every pose, 12 of the count and of every pair, 3 of every pair,
+// and of every pose of a rigid chain 17 and 18.
 use pose_pair::Pose;
 ghost use Prim.Native.Nat.{_+_, _<_};
 ghost use mathlib.Core.Path.{_≡_};
@@ -9,7 +10,7 @@ ghost use lib.Dec.{ltb};
 ghost use lib.ListN.{length, getD};
 ghost use Rattle.animated_transform.specs.New.{firstRefusal};
 ghost use Rattle.lent_arrays.specs.Arrays.{Pose·ofList};
-ghost use Rattle.motion_chain.specs.Chain.{minPoses, maxPoses, neighbours, stage, Pose·number, Pair·number, chainRefusal};
+ghost use Rattle.motion_chain.specs.Chain.{minPoses, maxPoses, neighbours, stage, Pose·number, Pair·number, kindStage, chainRefusal};
 ghost use Rattle.chain_poses.specs.Poses.{Poses·ofLists, Poses·pairAt};
 
 fn pose_number(k: u8, p: Pose) -> u8
@@ -32,6 +33,9 @@ fn pose_number(k: u8, p: Pose) -> u8
             return 0;
         }
         return 16;
+    }
+    if k == 17 {
+        return p.kind_number(true);
     }
     0
 }
@@ -91,6 +95,16 @@ fn pair_stage(k: u8, poses: &[[f32; 18]]) -> u8
     0
 }
 
+// 17 and 18 of every pose, where the chain is built as rigid.
+fn kind_stage(rigid: bool, poses: &[[f32; 18]]) -> u8
+    ensures value { λ r. ⌜ r ≡ kindStage rigid (Poses·ofLists (now (poses .entry))) ⌝ }
+{
+    if rigid {
+        return pose_stage(17, poses);
+    }
+    0
+}
+
 // 12 for fewer than 2 poses or more than 32.
 fn count_number(n: usize) -> u8
     ensures value { λ r. ⌜ r ≡ cond (ltb n minPoses || ltb maxPoses n) 12 0 ⌝ }
@@ -104,9 +118,10 @@ fn first_refusal(a: u8, b: u8) -> u8
     if a == 0 { b } else { a }
 }
 
-// What building a chain asks of its poses before it computes any move: refused with 1, 2, 16, 12 or 3, judged in this order; 0 for none. Accuracy: exact.
-pub fn refusal(poses: &[[f32; 18]]) -> u8
-    ensures value { λ r. ⌜ r ≡ chainRefusal (Poses·ofLists (now (poses .entry))) ⌝ }
+// What building a chain asks of its poses before it computes any move: refused with 1, 2, 16, 12 or 3, and a rigid one with 17 or 18,
+// judged in this order; 0 for none. Accuracy: heuristic for 17 and 18, by rounded products; otherwise exact.
+pub fn refusal(rigid: bool, poses: &[[f32; 18]]) -> u8
+    ensures value { λ r. ⌜ r ≡ chainRefusal rigid (Poses·ofLists (now (poses .entry))) ⌝ }
 {
     let finite = pose_stage(1, poses);
     let affine = pose_stage(2, poses);
@@ -114,7 +129,9 @@ pub fn refusal(poses: &[[f32; 18]]) -> u8
     let count = count_number(poses.len());
     let rise = pair_stage(12, poses);
     let times = pair_stage(3, poses);
-    let pairs = first_refusal(rise, times);
+    let kind = kind_stage(rigid, poses);
+    let last = first_refusal(times, kind);
+    let pairs = first_refusal(rise, last);
     let chain = first_refusal(count, pairs);
     let pads = first_refusal(padded, chain);
     let later = first_refusal(affine, pads);

@@ -1,6 +1,7 @@
 -- What is written of the rows of a built chain is the chain's own text, `kept-text`, which is read back: `written-back`.
 use Prim.Native.Nat.{ℕ}
 use mathlib.Core.Path.{_≡_, refl, sym, ap, _∙_}
+use mathlib.Core.Bool.{Bool}
 use mathlib.Core.List.{List, [], _∷_, map}
 use lib.Ieee.{Float}
 use Rattle.matrix4x4.specs.Rows.{Rows}
@@ -26,16 +27,17 @@ unfolding Poses·ofLists Poses·lists
 lines-same [] = refl
 lines-same (l ∷ lists) = ap (λ (lines : List (List Float)). Pose·values (Pose·ofList l) ∷ lines) (lines-same lists)
 
-pub kept-text : (rows : List Rows) (b : Bounds3f) (lists : List (List Float)) (c : Chain) → Chain·new (Poses·ofLists lists) ≡ built c → rows ≡ Chain·toRows c
+pub kept-text : (rigid : Bool) (rows : List Rows) (b : Bounds3f) (lists : List (List Float)) (c : Chain)
+    → Chain·new rigid (Poses·ofLists lists) ≡ built c → rows ≡ Chain·toRows c
     → Moves·text rows b ≡ Chain·text c b
 unfolding Moves·text Chain·text MoveFile·text
-kept-text rows b lists c s e =
-    let poses : Chain·poses (Moves·chain rows) ≡ Poses·ofLists lists = rw (e, chain-inverse c) (built-poses (Poses·ofLists lists) c s) in
-    rw (poses, built-poses (Poses·ofLists lists) c s, lines-same lists)
+kept-text rigid rows b lists c s e =
+    let poses : Chain·poses (Moves·chain rows) ≡ Poses·ofLists lists = rw (e, chain-inverse c) (built-poses rigid (Poses·ofLists lists) c s) in
+    rw (poses, built-poses rigid (Poses·ofLists lists) c s, lines-same lists)
 
 pub written-back : (rows : List Rows) (b : Bounds3f) → WrittenBack rows b (Moves·text rows b)
 written-back rows b =
     record {
-      own-text = λ lists c s e. kept-text rows b lists c s e;
-      reads-back = λ lists c s e floats box. rw (kept-text rows b lists c s e) (built-read-written lists b c floats s box);
+      own-text = λ rigid lists c s e. kept-text rigid rows b lists c s e;
+      reads-back = λ rigid lists c s e floats box. rw (kept-text rigid rows b lists c s e) (built-read-written rigid lists b c floats s box);
     }

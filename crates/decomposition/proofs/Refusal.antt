@@ -10,7 +10,6 @@ use lib.Dec.{T, eqb}
 use lib.Ieee.{le}
 use lib.Ieee.Fits.{and-l, and-r}
 use Rattle.matrix4x4.specs.Rows.{Rows, Matrix4x4·toRows, Matrix4x4·fromRows}
-use Rattle.matrix4x4.specs.Mul.{Matrix4x4·mul}
 use Rattle.matrix4x4.specs.Transpose.{Matrix4x4·transpose}
 use Rattle.matrix4x4.specs.IsFinite.{Matrix4x4·isFinite}
 use Rattle.matrix_inverse.specs.declared.InverseAnswer.{InverseAnswer}
@@ -23,7 +22,7 @@ use Rattle.matrix_quaternion.specs.FromMatrix.{Quaternion·fromMatrix}
 use Rattle.decomposition.specs.declared.Decomposition.{Decomposition}
 use Rattle.polar_round.specs.PolarRound.{linearPart, mean, distance}
 use Rattle.decomposition.specs.Polar.{settledNorm, Polar, refused, unsettled, settled, judgedRound, round, polar}
-use Rattle.decomposition.specs.Decompose.{Decomposition·refused, translationOf, judged, parts, finish, Matrix4x4·decompose}
+use Rattle.decomposition.specs.Decompose.{Decomposition·refused, translationOf, judged, scaleBy, parts, finish, Matrix4x4·decompose}
 
 -- The parts of m that were not refused: the translation as it stands in m, a finite quaternion, a finite scale.
 pub record Accepted (m : Rows) (d : Decomposition) : Type 0 where
@@ -92,42 +91,42 @@ judged-answered m q s = go (Quaternion·isFinite q && Matrix4x4·isFinite s) (λ
     })
     go false f = none 5 notFinite refl
 
-parts-answered : (m r : Rows) → Answered m (parts m r)
+parts-answered : (rigid : Bool) (m r : Rows) → Answered m (parts rigid m r)
 unfolding parts
-parts-answered m r = go (eqb (Matrix4x4·inverse r .refusal) 0) refl
+parts-answered rigid m r = go (eqb (Matrix4x4·inverse r .refusal) 0) refl
   where
     go : (b : Bool) → eqb (Matrix4x4·inverse r .refusal) 0 ≡ b
-        → Answered m (cond b (judged m (Quaternion·fromMatrix r) (Matrix4x4·mul (Matrix4x4·toRows (Matrix4x4·inverse r .m)) m)) (Decomposition·refused (Matrix4x4·inverse r .refusal)))
-    go true e = judged-answered m (Quaternion·fromMatrix r) (Matrix4x4·mul (Matrix4x4·toRows (Matrix4x4·inverse r .m)) m)
+        → Answered m (cond b (judged m (Quaternion·fromMatrix r) (scaleBy rigid (Matrix4x4·toRows (Matrix4x4·inverse r .m)) m)) (Decomposition·refused (Matrix4x4·inverse r .refusal)))
+    go true e = judged-answered m (Quaternion·fromMatrix r) (scaleBy rigid (Matrix4x4·toRows (Matrix4x4·inverse r .m)) m)
     go false e = none (Matrix4x4·inverse r .refusal) (number (inverse-refusal r) (eqb-false (Matrix4x4·inverse r .refusal) 0 e)) refl
 
-finish-answered : (m : Rows) (s : Polar) → Numbered s → Answered m (finish m s)
+finish-answered : (rigid : Bool) (m : Rows) (s : Polar) → Numbered s → Answered m (finish rigid m s)
 unfolding finish
-finish-answered m (refused n) (stopped h) = none n h refl
-finish-answered m (unsettled r) h = parts-answered m r
-finish-answered m (settled r) h = parts-answered m r
+finish-answered rigid m (refused n) (stopped h) = none n h refl
+finish-answered rigid m (unsettled r) h = parts-answered rigid m r
+finish-answered rigid m (settled r) h = parts-answered rigid m r
 
-decompose-answered : (m : Rows) → Answered m (Matrix4x4·decompose m)
+decompose-answered : (rigid : Bool) (m : Rows) → Answered m (Matrix4x4·decompose rigid m)
 unfolding Matrix4x4·decompose
-decompose-answered m = finish-answered m (polar m) (polar-numbered m)
+decompose-answered rigid m = finish-answered rigid m (polar m) (polar-numbered m)
 
-pub decompose-refusal : (m : Rows) → (Matrix4x4·decompose m .refusal ≡ 0) ⊎ ((Matrix4x4·decompose m .refusal ≡ 4) ⊎ (Matrix4x4·decompose m .refusal ≡ 5))
-decompose-refusal m = go (Matrix4x4·decompose m) (decompose-answered m)
+pub decompose-refusal : (rigid : Bool) (m : Rows) → (Matrix4x4·decompose rigid m .refusal ≡ 0) ⊎ ((Matrix4x4·decompose rigid m .refusal ≡ 4) ⊎ (Matrix4x4·decompose rigid m .refusal ≡ 5))
+decompose-refusal rigid m = go (Matrix4x4·decompose rigid m) (decompose-answered rigid m)
   where
     go : (d : Decomposition) → Answered m d → (d .refusal ≡ 0) ⊎ ((d .refusal ≡ 4) ⊎ (d .refusal ≡ 5))
     go d (parted e a) = inl e
     go d (none _ zeroPivot e) = inr (inl (ap (λ (x : Decomposition). x .refusal) e))
     go d (none _ notFinite e) = inr (inr (ap (λ (x : Decomposition). x .refusal) e))
 
-pub decompose-refused : (m : Rows) → (Matrix4x4·decompose m .refusal ≡ 0 → ⊥) → Matrix4x4·decompose m ≡ Decomposition·refused (Matrix4x4·decompose m .refusal)
-decompose-refused m z = go (Matrix4x4·decompose m) z (decompose-answered m)
+pub decompose-refused : (rigid : Bool) (m : Rows) → (Matrix4x4·decompose rigid m .refusal ≡ 0 → ⊥) → Matrix4x4·decompose rigid m ≡ Decomposition·refused (Matrix4x4·decompose rigid m .refusal)
+decompose-refused rigid m z = go (Matrix4x4·decompose rigid m) z (decompose-answered rigid m)
   where
     go : (d : Decomposition) → (d .refusal ≡ 0 → ⊥) → Answered m d → d ≡ Decomposition·refused (d .refusal)
     go d z (parted e a) = absurd (z e)
     go d z (none n h e) = e ∙ ap Decomposition·refused (sym (ap (λ (x : Decomposition). x .refusal) e))
 
-pub decompose-accepted : (m : Rows) → Matrix4x4·decompose m .refusal ≡ 0 → Accepted m (Matrix4x4·decompose m)
-decompose-accepted m h = go (Matrix4x4·decompose m) h (decompose-answered m)
+pub decompose-accepted : (rigid : Bool) (m : Rows) → Matrix4x4·decompose rigid m .refusal ≡ 0 → Accepted m (Matrix4x4·decompose rigid m)
+decompose-accepted rigid m h = go (Matrix4x4·decompose rigid m) h (decompose-answered rigid m)
   where
     go : (d : Decomposition) → d .refusal ≡ 0 → Answered m d → Accepted m d
     go d h (parted e a) = a

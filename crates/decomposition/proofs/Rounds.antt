@@ -38,43 +38,43 @@ module _ {m : Rows} {k : ℕ} {r : Rows} (reached : Reached m k r) where
   one-round s e = rw (reached .state) e
 
   -- the round stands at s, which no round changes
-  stays : (s : Polar) → ((n : ℕ) → round n s ≡ s) → round k (unsettled r) ≡ s → Matrix4x4·decompose m ≡ finish m s
+  stays : (rigid : Bool) (s : Polar) → ((n : ℕ) → round n s ≡ s) → round k (unsettled r) ≡ s → Matrix4x4·decompose rigid m ≡ finish rigid m s
   unfolding Matrix4x4·decompose polar
-  stays s f e = rw (loop-fixed round (unsettled (linearPart m)) s f (suc k) 100 (reached .low) (one-round s e))
+  stays rigid s f e = rw (loop-fixed round (unsettled (linearPart m)) s f (suc k) 100 (reached .low) (one-round s e))
 
   module _ (rit : InverseAnswer) (inverted : rit ≡ Matrix4x4·inverse (Matrix4x4·transpose r)) where
-    pub inverse-refuses : (rit .refusal ≡ 0 → ⊥) → Matrix4x4·decompose m ≡ Decomposition·refused (rit .refusal)
+    pub inverse-refuses : (rigid : Bool) → (rit .refusal ≡ 0 → ⊥) → Matrix4x4·decompose rigid m ≡ Decomposition·refused (rit .refusal)
     unfolding round finish
-    inverse-refuses n = stays (refused (rit .refusal)) (λ _. refl) (rw (← inverted, ne-eqb (rit .refusal) 0 n))
+    inverse-refuses rigid n = stays rigid (refused (rit .refusal)) (λ _. refl) (rw (← inverted, ne-eqb (rit .refusal) 0 n))
 
     module _ (ok : rit .refusal ≡ 0) (rnext : Rows) (averaged : rnext ≡ mean r (Matrix4x4·toRows (rit .m))) where
       rounded : round k (unsettled r) ≡ judgedRound r rnext
       unfolding round
       rounded = rw (← inverted, eq-eqb (rit .refusal) 0 ok, averaged)
 
-      pub matrix-refuses : Matrix4x4·isFinite rnext ≡ false → Matrix4x4·decompose m ≡ Decomposition·refused 5
+      pub matrix-refuses : (rigid : Bool) → Matrix4x4·isFinite rnext ≡ false → Matrix4x4·decompose rigid m ≡ Decomposition·refused 5
       unfolding round finish judgedRound
-      matrix-refuses f = stays (refused 5) (λ _. refl) (rounded ∙ rw f)
+      matrix-refuses rigid f = stays rigid (refused 5) (λ _. refl) (rounded ∙ rw f)
 
       module _ (finite : Matrix4x4·isFinite rnext ≡ true) where
-        near : le (distance r rnext) settledNorm ≡ true → Matrix4x4·decompose m ≡ parts m rnext
+        near : (rigid : Bool) → le (distance r rnext) settledNorm ≡ true → Matrix4x4·decompose rigid m ≡ parts rigid m rnext
         unfolding round finish judgedRound
-        near n = stays (settled rnext) (λ _. refl) (rounded ∙ rw (finite, n))
+        near rigid n = stays rigid (settled rnext) (λ _. refl) (rounded ∙ rw (finite, n))
 
         far : le (distance r rnext) settledNorm ≡ false → loop round (suc k) (unsettled (linearPart m)) ≡ unsettled rnext
         unfolding judgedRound
         far n = one-round (unsettled rnext) (rounded ∙ rw (finite, n))
 
-        full : 100 ≤ k + 1 → le (distance r rnext) settledNorm ≡ false → Matrix4x4·decompose m ≡ parts m rnext
+        full : (rigid : Bool) → 100 ≤ k + 1 → le (distance r rnext) settledNorm ≡ false → Matrix4x4·decompose rigid m ≡ parts rigid m rnext
         unfolding Matrix4x4·decompose polar finish
-        full h n = let e : suc k ≡ 100 = omega arith in rw (rw e at (far n))
+        full rigid h n = let e : suc k ≡ 100 = omega arith in rw (rw e at (far n))
 
-        pub turn-last : (leb 100 (k + 1) || le (distance r rnext) settledNorm) ≡ true → Matrix4x4·decompose m ≡ parts m rnext
-        turn-last = go (leb 100 (k + 1)) (le (distance r rnext) settledNorm) refl refl
+        pub turn-last : (rigid : Bool) → (leb 100 (k + 1) || le (distance r rnext) settledNorm) ≡ true → Matrix4x4·decompose rigid m ≡ parts rigid m rnext
+        turn-last rigid = go (leb 100 (k + 1)) (le (distance r rnext) settledNorm) refl refl
           where
-            go : (a b : Bool) → leb 100 (k + 1) ≡ a → le (distance r rnext) settledNorm ≡ b → (a || b) ≡ true → Matrix4x4·decompose m ≡ parts m rnext
-            go a true ea eb h = near eb
-            go true false ea eb h = full (leb-true 100 (k + 1) ea) eb
+            go : (a b : Bool) → leb 100 (k + 1) ≡ a → le (distance r rnext) settledNorm ≡ b → (a || b) ≡ true → Matrix4x4·decompose rigid m ≡ parts rigid m rnext
+            go a true ea eb h = near rigid eb
+            go true false ea eb h = full rigid (leb-true 100 (k + 1) ea) eb
             go false false ea eb h = absurd (false≢true h)
 
         pub turn-next : (leb 100 (k + 1) || le (distance r rnext) settledNorm) ≡ false

@@ -5,8 +5,8 @@ use Rattle.matrix_inverse.specs.Computing as inverse
 use Rattle.matrix_quaternion.specs.Computing as quaternion
 use Rattle.polar_round.specs.PolarRound.{linearPart, mean, rowDistance, distance}
 use Rattle.decomposition.specs.Polar.{judgedRound, round, polar}
-use Rattle.decomposition.specs.Decompose.{judged, parts, finish, Matrix4x4·decompose}
+use Rattle.decomposition.specs.Decompose.{judged, scaleBy, parts, finish, Matrix4x4·decompose}
 
 unfoldable pub computing : Unit {0}
-unfolding isNan le maxNum inverse.computing quaternion.computing linearPart mean rowDistance distance judgedRound round polar judged parts finish Matrix4x4·decompose
+unfolding isNan le maxNum inverse.computing quaternion.computing linearPart mean rowDistance distance judgedRound round polar judged scaleBy parts finish Matrix4x4·decompose
 computing = tt

@@ -1,8 +1,9 @@
--- pbrt's `decompose`: a matrix m as translation t, rotation r and scale s, with m = t r s up to rounding. A refusal stands beside them: 4 or 5 of an inverse, 5 where a
+-- pbrt's `decompose`: a matrix m as translation t, rotation r and scale s, with m = t r s up to rounding; of a rigid move s is the identity. A refusal stands beside them: 4 or 5 of an inverse, 5 where a
 -- polar round's matrix, the quaternion or the scale holds a value that isn't finite, in working order; after it every number is +0. Definitions only.
 use Prim.Native.Nat.{ℕ}
-use mathlib.Core.Bool.{_&&_, cond}
+use mathlib.Core.Bool.{Bool, true, false, _&&_, cond}
 use lib.Dec.{eqb}
+use Rattle.float32.specs.Operators.{one}
 use Rattle.vector3.specs.declared.Vector3f.{Vector3f}
 use Rattle.matrix4x4.specs.Rows.{Rows, at, tabulate, positiveZero, Matrix4x4·toRows, Matrix4x4·fromRows}
 use Rattle.matrix4x4.specs.Mul.{Matrix4x4·mul}
@@ -30,19 +31,24 @@ judged m r s =
     (record { t = translationOf m; r = r; s = Matrix4x4·fromRows s; refusal = 0 })
     (Decomposition·refused 5)
 
--- `*rquat = Transform::from_matrix(&r).into();` and `*s = Matrix4x4::mul(&Matrix4x4::inverse(&r), m);`, where `from_matrix` works the same inverse
-unfoldable pub parts : Rows → Rows → Decomposition
-parts m r =
+-- `*s = Matrix4x4::mul(&Matrix4x4::inverse(&r), m);`; document 02, Rigid booms: "no S is worked out" for a rigid move, which has the identity in its place
+unfoldable pub scaleBy : Bool → Rows → Rows → Rows
+scaleBy true inverse m = tabulate (λ i. tabulate (λ j. cond (eqb i j) one positiveZero))
+scaleBy false inverse m = Matrix4x4·mul inverse m
+
+-- `*rquat = Transform::from_matrix(&r).into();` and the scale, where `from_matrix` works the same inverse
+unfoldable pub parts : Bool → Rows → Rows → Decomposition
+parts rigid m r =
     let inverse = Matrix4x4·inverse r in
     cond (eqb (inverse .refusal) 0)
-    (judged m (Quaternion·fromMatrix r) (Matrix4x4·mul (Matrix4x4·toRows (inverse .m)) m))
+    (judged m (Quaternion·fromMatrix r) (scaleBy rigid (Matrix4x4·toRows (inverse .m)) m))
     (Decomposition·refused (inverse .refusal))
 
-unfoldable pub finish : Rows → Polar → Decomposition
-finish m (refused n) = Decomposition·refused n
-finish m (unsettled r) = parts m r
-finish m (settled r) = parts m r
+unfoldable pub finish : Bool → Rows → Polar → Decomposition
+finish rigid m (refused n) = Decomposition·refused n
+finish rigid m (unsettled r) = parts rigid m r
+finish rigid m (settled r) = parts rigid m r
 
--- `AnimatedTransform::decompose`
-unfoldable pub Matrix4x4·decompose : Rows → Decomposition
-Matrix4x4·decompose m = finish m (polar m)
+-- `AnimatedTransform::decompose`, for a move of either kind; pbrt's is not rigid
+unfoldable pub Matrix4x4·decompose : Bool → Rows → Decomposition
+Matrix4x4·decompose rigid m = finish rigid m (polar m)

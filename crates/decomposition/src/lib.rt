@@ -4,7 +4,7 @@ use matrix4x4::Matrix4x4;
 use quaternion::Quaternion;
 use vector3::Vector3f;
 ghost use mathlib.Core.Path.{_≡_};
-ghost use Rattle.decomposition.specs.Decompose.{Decomposition·refused, judged, parts, Matrix4x4·decompose};
+ghost use Rattle.decomposition.specs.Decompose.{Decomposition·refused, judged, scaleBy, parts, Matrix4x4·decompose};
 
 // Translation, rotation and scale beside a refusal (error code, 0 for none), after which every number is +0.
 pub struct Decomposition {
@@ -56,26 +56,42 @@ fn judged(m: [[f32; 4]; 4], r: Quaternion, s: [[f32; 4]; 4]) -> Decomposition
     }
 }
 
+// What is left of m, or the identity for a rigid move.
+fn scale_by(rigid: bool, inverse: [[f32; 4]; 4], m: [[f32; 4]; 4]) -> [[f32; 4]; 4]
+    ensures value { λ r. ⌜ r ≡ scaleBy rigid inverse m ⌝ }
+{
+    if rigid {
+        [
+            [1.0, 0.0, 0.0, 0.0],
+            [0.0, 1.0, 0.0, 0.0],
+            [0.0, 0.0, 1.0, 0.0],
+            [0.0, 0.0, 0.0, 1.0],
+        ]
+    } else {
+        matrix4x4::mul(inverse, m)
+    }
+}
+
 // The parts of m, whose rotation is the matrix r. pbrt computes the inverse of r twice; it is the same both times.
-fn parts(m: [[f32; 4]; 4], r: [[f32; 4]; 4]) -> Decomposition
-    ensures value { λ d. ⌜ d ≡ parts m r ⌝ }
+fn parts(rigid: bool, m: [[f32; 4]; 4], r: [[f32; 4]; 4]) -> Decomposition
+    ensures value { λ d. ⌜ d ≡ parts rigid m r ⌝ }
 {
     let inverse = matrix_inverse::inverse(r);
     if inverse.refusal == 0 {
         judged(
             m,
             matrix_quaternion::quaternion_from_matrix(r),
-            matrix4x4::mul(inverse.m.to_rows(), m),
+            scale_by(rigid, inverse.m.to_rows(), m),
         )
     } else {
         refused(inverse.refusal)
     }
 }
 
-// pbrt's `decompose`: translation, rotation and scale of a matrix; pbrt goes on where this refuses: 4 at a zero pivot, 5 where a matrix or the quaternion holds
+// pbrt's `decompose`: translation, rotation and scale of a matrix; a rigid move's scale is the identity. pbrt goes on where this refuses: 4 at a zero pivot, 5 where a matrix or the quaternion holds
 // a value that isn't finite. Accuracy: each operation is correctly rounded.
-pub fn decompose(m: [[f32; 4]; 4]) -> Decomposition
-    ensures value { λ r. ⌜ r ≡ Matrix4x4·decompose m ⌝ }
+pub fn decompose(rigid: bool, m: [[f32; 4]; 4]) -> Decomposition
+    ensures value { λ r. ⌜ r ≡ Matrix4x4·decompose rigid m ⌝ }
 {
     let mut r = polar_round::linear_part(m);
     let mut counter = 0u32;
@@ -95,5 +111,5 @@ pub fn decompose(m: [[f32; 4]; 4]) -> Decomposition
         }
         r = rnext;
     };
-    parts(m, rotation)
+    parts(rigid, m, rotation)
 }

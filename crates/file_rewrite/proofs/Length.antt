@@ -2,7 +2,7 @@
 use Prim.Native.Nat.{ℕ, _+_, _*_, _≤_}
 use native.Mathlib.Omega.{arith}
 use mathlib.Core.Path.{_≡_, refl, sym, ap}
-use mathlib.Core.Bool.{cond}
+use mathlib.Core.Bool.{false, cond}
 use mathlib.Core.List.{List, [], _∷_}
 use lib.Dec.{eqb, ltb}
 use lib.Ieee.{Float}
@@ -44,21 +44,21 @@ unfolding Poses·lists Poses·ofLists
 lists-count [] = refl
 lists-count (l ∷ lists) = rw (lists-count lists)
 
-chain-length : (lists : List (List Float)) (c : Chain) (b : Bounds3f) → Chain·new (Poses·ofLists lists) ≡ built c → length (Chain·text c b) ≤ longestText
+chain-length : (lists : List (List Float)) (c : Chain) (b : Bounds3f) → Chain·new false (Poses·ofLists lists) ≡ built c → length (Chain·text c b) ≤ longestText
 unfolding Chain·text
 chain-length lists c b s =
     let few = built-count lists {r = 0} (sym (ap ChainAnswer·refusal s)) refl .1 in
-    rw (built-poses (Poses·ofLists lists) c s)
+    rw (built-poses false (Poses·ofLists lists) c s)
     (omega (arith, move-text-length (Poses·lists (Poses·ofLists lists)) (Bounds3f·list b) (each-long lists) refl, lists-count lists, few))
 
 pub rewritten-length : (bytes : List ℕ) → length (rewrittenText bytes) ≤ longestText
 unfolding rewrittenText ChainAnswer·text boxedText
 rewritten-length bytes =
     cond-keeps (λ (text : List ℕ). length text ≤ longestText) (eqb (MoveFile·read bytes .refusal) 0)
-    (ChainAnswer·text (Chain·new (Poses·ofLists (MoveFile·poses bytes))) (boxOf bytes)) (refusalText (MoveFile·read bytes .refusal))
-    (go (Chain·new (Poses·ofLists (MoveFile·poses bytes))) refl (boxOf bytes)) (refusal-length (MoveFile·read bytes .refusal))
+    (ChainAnswer·text (Chain·new false (Poses·ofLists (MoveFile·poses bytes))) (boxOf bytes)) (refusalText (MoveFile·read bytes .refusal))
+    (go (Chain·new false (Poses·ofLists (MoveFile·poses bytes))) refl (boxOf bytes)) (refusal-length (MoveFile·read bytes .refusal))
   where
-    go : (a : ChainAnswer) → Chain·new (Poses·ofLists (MoveFile·poses bytes)) ≡ a → (b : Bounds3f) → length (ChainAnswer·text a b) ≤ longestText
+    go : (a : ChainAnswer) → Chain·new false (Poses·ofLists (MoveFile·poses bytes)) ≡ a → (b : Bounds3f) → length (ChainAnswer·text a b) ≤ longestText
     go (built c) e b =
         cond-keeps (λ (text : List ℕ). length text ≤ longestText) (eqb (Bounds3f·refusal b) 0) (Chain·text c b) (refusalText (Bounds3f·refusal b))
         (chain-length (MoveFile·poses bytes) c b e) (refusal-length (Bounds3f·refusal b))

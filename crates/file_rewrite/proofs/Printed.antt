@@ -73,13 +73,13 @@ unfolding ChainAnswer·text
 refused-printed (built c) b e h = absurd (h e)
 refused-printed (refused n) b e h = ap refusalText (sym e)
 
-pub built-printed : (lists : List (List Float)) (b : Bounds3f) (rows : List Rows) {r : ℕ} → r ≡ ChainAnswer·refusal (Chain·new (Poses·ofLists lists)) → r ≡ 0
-    → ((c : Chain) → Chain·new (Poses·ofLists lists) ≡ built c → rows ≡ Chain·toRows c)
-    → ChainAnswer·text (Chain·new (Poses·ofLists lists)) b ≡ boxedText b (Moves·text rows b)
+pub built-printed : (lists : List (List Float)) (b : Bounds3f) (rows : List Rows) {r : ℕ} → r ≡ ChainAnswer·refusal (Chain·new false (Poses·ofLists lists)) → r ≡ 0
+    → ((c : Chain) → Chain·new false (Poses·ofLists lists) ≡ built c → rows ≡ Chain·toRows c)
+    → ChainAnswer·text (Chain·new false (Poses·ofLists lists)) b ≡ boxedText b (Moves·text rows b)
 unfolding ChainAnswer·text
 built-printed lists b rows e h kept =
-    let (c, s) = new-none (Poses·ofLists lists) (sym e ∙ h) in
-    rw s (ap (boxedText b) (sym (kept-text rows b lists c s (kept c s))))
+    let (c, s) = new-none false (Poses·ofLists lists) (sym e ∙ h) in
+    rw s (ap (boxedText b) (sym (kept-text false rows b lists c s (kept c s))))
 
 -- ---- a file
 module _ (bytes : List ℕ) (file : MoveFile) (e : file ≡ MoveFile·read bytes) where
@@ -88,7 +88,7 @@ module _ (bytes : List ℕ) (file : MoveFile) (e : file ≡ MoveFile·read bytes
   file-refused h = rw (← e, ne-eqb (file .refusal) 0 h)
 
   pub file-printed : (old left : List (List Float)) (b : Bounds3f) → file .refusal ≡ 0 → left ≡ lent.front (MoveFile·poses bytes) old → b ≡ Bounds3f·ofList (file .bounds)
-      → rewrittenText bytes ≡ ChainAnswer·text (Chain·new (Poses·ofLists (take (file .count) left))) b
+      → rewrittenText bytes ≡ ChainAnswer·text (Chain·new false (Poses·ofLists (take (file .count) left))) b
   unfolding rewrittenText
   file-printed old left b h el eb =
       let poses = MoveFile·poses bytes in

@@ -2,6 +2,7 @@
 use Prim.Native.Nat.{ℕ, _≤_}
 use mathlib.Core.Path.{_≡_, refl, sym, _∙_, ap}
 use mathlib.Core.Logic.{_↔_}
+use mathlib.Core.Bool.{false}
 use mathlib.Core.List.{List}
 use lib.ListN.{length}
 use borrow.Author.Tests.{eq-eqb}
@@ -32,7 +33,7 @@ rewritten-same f g c d a b = rw (chain-form f c a, chain-form g d b) (same-bits 
 -- the written form of an accepted file is accepted
 module _ (f : List ℕ) (c : Chain) (a : MoveFile·Accepted f c) where
   room : length (MoveFile·poses f) ≤ maxPaddedLines
-  room = built-room (MoveFile·poses f) c (a .chain)
+  room = built-room false (MoveFile·poses f) c (a .chain)
 
   form-accepted : MoveFile·Accepted (MoveFile·written f) c
   form-accepted =

@@ -2,6 +2,7 @@
 use bounds3::Bounds3f;
 ghost use Prim.Native.Nat.{_≤_, _<_};
 ghost use mathlib.Core.Path.{_≡_};
+ghost use mathlib.Core.Bool.{false};
 ghost use lib.ListN.{length, take};
 ghost use Rattle.motion_chain.specs.Chain.{Chain·new};
 ghost use Rattle.chain_poses.specs.Poses.{Poses·ofLists};
@@ -27,12 +28,12 @@ fn write_moves(moves: &[[[f32; 4]; 45]], b: Bounds3f, out: &mut [u8]) -> usize
 
 // Writes the poses and the box as a file, or the refusal of their chain or of the box.
 fn write_poses(poses: &[[f32; 18]], b: Bounds3f, out: &mut [u8]) -> usize
-    ensures value { λ r. ⌜ r ≡ lengthIn (ChainAnswer·text (Chain·new (Poses·ofLists (now (poses .entry)))) b) (now (out .entry)) ⌝ }
-    ensures text { λ _. ⌜ now (out .exit) ≡ front (ChainAnswer·text (Chain·new (Poses·ofLists (now (poses .entry)))) b) (now (out .entry)) ⌝ }
+    ensures value { λ r. ⌜ r ≡ lengthIn (ChainAnswer·text (Chain·new false (Poses·ofLists (now (poses .entry)))) b) (now (out .entry)) ⌝ }
+    ensures text { λ _. ⌜ now (out .exit) ≡ front (ChainAnswer·text (Chain·new false (Poses·ofLists (now (poses .entry)))) b) (now (out .entry)) ⌝ }
     ensures counts { λ r. ⌜ (r ≤ length (now (out .exit))) × (r ≡ length (take r (now (out .exit)))) ⌝ }
 {
     let mut moves = [[[0.0f32; 4]; 45]; 31];
-    let refusal = chain_build::build(poses, &mut moves);
+    let refusal = chain_build::build(false, poses, &mut moves);
     if refusal != 0 {
         return motion_text::write_refusal(refusal, out);
     }

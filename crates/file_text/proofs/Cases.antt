@@ -2,6 +2,7 @@
 use Prim.Native.Nat.{ℕ}
 use Prim.Native.String.{String, _++_}
 use mathlib.Core.Path.{_≡_, refl, ap, _∙_}
+use mathlib.Core.Bool.{false}
 use mathlib.Core.List.{List, [], _∷_, map}
 use lib.Ieee.{Float, binary32, ofBits, toBits}
 use Rattle.hexadecimal.specs.Digit.{digitValue}
@@ -92,14 +93,14 @@ unfolding computing
 file-poses = refl
 
 move : Chain
-move = record { first = AnimatedTransform·new (Pose·ofList start) (Pose·ofList end) .value; rest = [] }
+move = record { first = AnimatedTransform·new false (Pose·ofList start) (Pose·ofList end) .value; rest = [] }
 
-poses-built : Chain·new (Poses·ofLists (start ∷ end ∷ [])) ≡ built move
+poses-built : Chain·new false (Poses·ofLists (start ∷ end ∷ [])) ≡ built move
 unfolding chain.computing ofBits Poses·ofLists move
 poses-built = refl
 
-file-built : Chain·new (Poses·ofLists (MoveFile·poses (ascii file))) ≡ built move
-file-built = ap (λ (poses : List (List Float)). Chain·new (Poses·ofLists poses)) file-poses ∙ poses-built
+file-built : Chain·new false (Poses·ofLists (MoveFile·poses (ascii file))) ≡ built move
+file-built = ap (λ (poses : List (List Float)). Chain·new false (Poses·ofLists poses)) file-poses ∙ poses-built
 
 hypotheses-met : MoveFile·Accepted (ascii file) move
 unfolding computing chain.computing

@@ -228,7 +228,7 @@ box-list l h = entries-all l 6 0 (omega (arith, h)) ∙ take-all 6 l (omega (ari
 pub accepted-written : (f : List ℕ) (c : Chain) → AcceptedWritten f c
 unfolding Chain·text MoveFile·written
 accepted-written f c a =
-    rw (built-lists (MoveFile·poses f) c (held-places (MoveFile·poses f) (poses-held f)) (a .chain), box-list (MoveFile·read f .bounds) (bounds-held f .count))
+    rw (built-lists false (MoveFile·poses f) c (held-places (MoveFile·poses f) (poses-held f)) (a .chain), box-list (MoveFile·read f .bounds) (bounds-held f .count))
 
 pub same-bits : (f g : List ℕ) → SameBits f g
 same-bits f g c d a b = rw (accepted-written f c a, accepted-written g d b) (same-written f g)

@@ -3,7 +3,7 @@
 use Prim.Native.Nat.{ℕ, zero, suc, _+_, _≤_}
 use native.Mathlib.Omega.{arith}
 use mathlib.Core.Path.{_≡_, refl, ap, _∙_}
-use mathlib.Core.Bool.{true, and-eq-true-iff, false≢true}
+use mathlib.Core.Bool.{Bool, true, and-eq-true-iff, false≢true}
 use mathlib.Core.List.{List, [], _∷_, _++_, map}
 use borrow.Author.Tests.{le-leb}
 use lib.Dec.{T}
@@ -164,14 +164,14 @@ chain-read-written c b each few box =
     read-written (Poses·lists (Chain·poses c)) (Bounds3f·list b) (poses-floats (Poses·lists (Chain·poses c)) each) (omega (arith, few, poses-count c)) box
 
 -- ---- a built chain has at most 32 poses
-pub built-room : (poses : List (List Float)) (c : Chain) → Chain·new (Poses·ofLists poses) ≡ built c → length poses ≤ maxPaddedLines
+pub built-room : (rigid : Bool) (poses : List (List Float)) (c : Chain) → Chain·new rigid (Poses·ofLists poses) ≡ built c → length poses ≤ maxPaddedLines
 unfolding Poses·ofLists
-built-room poses c e =
-    let passed = checks-passed (Poses·ofLists poses) (new-built (Poses·ofLists poses) c e .0) in
+built-room rigid poses c e =
+    let passed = checks-passed rigid (Poses·ofLists poses) (new-built rigid (Poses·ofLists poses) c e .0) in
     omega (arith, passed .greatest, length-map poses Pose·ofList)
 
-pub built-read-written : (poses : List (List Float)) (b : Bounds3f) → BuiltReadWritten poses b
+pub built-read-written : (rigid : Bool) (poses : List (List Float)) (b : Bounds3f) → BuiltReadWritten rigid poses b
 unfolding Chain·text
-built-read-written poses b c each e box =
-    rw (built-lists poses c (poses-places poses each) e)
-    (read-written poses (Bounds3f·list b) (poses-floats poses each) (built-room poses c e) box)
+built-read-written rigid poses b c each e box =
+    rw (built-lists rigid poses c (poses-places poses each) e)
+    (read-written poses (Bounds3f·list b) (poses-floats poses each) (built-room rigid poses c e) box)

@@ -6,6 +6,7 @@
 use Prim.Native.Nat.{ℕ, _+_, _*_, _≤_, _<_}
 use mathlib.Core.Path.{_≡_}
 use mathlib.Core.Logic.{_↔_}
+use mathlib.Core.Bool.{Bool, false}
 use mathlib.Core.List.{List, [], _∷_, _++_, map}
 use lib.ListN.{length, getD, take}
 use lib.Ieee.{Float, binary32, ofBits}
@@ -47,10 +48,10 @@ ChainReadWritten c b =
     Each (Floats placesPerPose) (Poses·lists (Chain·poses c)) → length (Chain·moves c) < maxPaddedLines → Floats 6 (Bounds3f·list b)
     → ReadsAs (Chain·text c b) (Poses·lists (Chain·poses c)) (Bounds3f·list b)
 
--- of a chain that was built from poses in a lent array: these are read
-abbrev pub BuiltReadWritten : List (List Float) → Bounds3f → Type 0
-BuiltReadWritten poses b =
-    (c : Chain) → Each (Floats placesPerPose) poses → Chain·new (Poses·ofLists poses) ≡ built c → Floats 6 (Bounds3f·list b)
+-- of a chain that was built from poses in a lent array, as rigid or not: these are read
+abbrev pub BuiltReadWritten : Bool → List (List Float) → Bounds3f → Type 0
+BuiltReadWritten rigid poses b =
+    (c : Chain) → Each (Floats placesPerPose) poses → Chain·new rigid (Poses·ofLists poses) ≡ built c → Floats 6 (Bounds3f·list b)
     → ReadsAs (Chain·text c b) poses (Bounds3f·list b)
 
 -- the lines of names have 57 and 18 bytes, a pose's 126, a box's 54
@@ -87,7 +88,7 @@ boxOf bytes = Bounds3f·ofList (MoveFile·read bytes .bounds)
 -- "accepted files (refused neither for layout, chain nor box)": c is a file's chain
 pub record MoveFile·Accepted (bytes : List ℕ) (c : Chain) : Type 0 where
   pub layout : MoveFile·read bytes .refusal ≡ 0
-  pub chain : Chain·new (Poses·ofLists (MoveFile·poses bytes)) ≡ built c
+  pub chain : Chain·new false (Poses·ofLists (MoveFile·poses bytes)) ≡ built c
   pub box : Bounds3f·refusal (boxOf bytes) ≡ 0
 
 -- what is written of an accepted file's chain and box is its written form,

@@ -42,7 +42,7 @@ along a x y z = affine (row a 0 0 x) (row 0 one 0 y) (row 0 0 one z)
 -- The answer from the move of two matrices at times 0 and t.
 abbrev moved : Matrix4x4 → Matrix4x4 → ℕ → Float → TransformAnswer
 moved m0 m1 t time =
-    AnimatedTransform·interpolate (AnimatedTransform·new (record { time = bits 0; m = m0; pad = bits 0 }) (record { time = bits t; m = m1; pad = bits 0 }) .value) time
+    AnimatedTransform·interpolate (AnimatedTransform·new false (record { time = bits 0; m = m0; pad = bits 0 }) (record { time = bits t; m = m1; pad = bits 0 }) .value) time
 
 abbrev answer : Matrix4x4 → Matrix4x4 → TransformAnswer
 answer m m⁻¹ = TransformAnswer·accepted (record { m = m; «m_inv» = m⁻¹ })
@@ -102,6 +102,7 @@ flattened x y z w =
       coefficients = Coefficients·zero;
       pad0 = bits 0;
       pad1 = bits 0;
+      rigid = false;
     }
 
 singular-scale : AnimatedTransform·interpolate (flattened 0 0 0x3cf5b91f 0x3f7fe283) (bits 0x3f000000) ≡ TransformAnswer·refused 4

@@ -18,7 +18,7 @@ use Rattle.transform.specs.declared.Transform.{Transform}
 use Rattle.transform.specs.declared.TransformAnswer.{TransformAnswer}
 use Rattle.transform.specs.Transform.{TransformAnswer·refused, Transform·fromMatrix, Transform·translate, Transform·mul}
 use Rattle.rotation.specs.FromQuaternion.{Transform·fromQuaternion}
-use Rattle.pose_steps.specs.Composition.{lerpTranslation, lerpScale}
+use Rattle.pose_steps.specs.Composition.{lerpTranslation, lerpScaleBy}
 use Rattle.animated_transform.specs.declared.AnimatedTransform.{AnimatedTransform}
 use Rattle.animated_transform.specs.Built.{Built, StoredPose}
 use Rattle.animated_transform.proofs.Built.{built-judged}
@@ -101,7 +101,7 @@ FiniteAnswer a = a .refusal ≡ 0 → T (Transform·isFinite (a .transform))
 pose-at-finite : (m : AnimatedTransform) (x : Float) → FiniteAnswer (AnimatedTransform·poseAt m x)
 unfolding AnimatedTransform·poseAt
 pose-at-finite m x h =
-    let c = composed-accepted (lerpTranslation (m .t0) (m .t1) x) (Quaternion·slerp (m .r0) (m .r1) x) (lerpScale (Matrix4x4·toRows (m .s0)) (Matrix4x4·toRows (m .s1)) x) h in
+    let c = composed-accepted (lerpTranslation (m .t0) (m .t1) x) (Quaternion·slerp (m .r0) (m .r1) x) (lerpScaleBy (m .rigid) (Matrix4x4·toRows (m .s0)) (Matrix4x4·toRows (m .s1)) x) h in
     rw (c .value) (c .last-finite)
 
 pub interpolate-finite : {m : AnimatedTransform} → Built m → (time : Float) → AnimatedTransform·interpolate m time .refusal ≡ 0

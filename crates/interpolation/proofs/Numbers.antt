@@ -19,7 +19,7 @@ use Rattle.transform.specs.Transform.{TransformAnswer·refused, Transform·from
 use Rattle.transform.proofs.FromMatrix.{from-matrix-numbers}
 use Rattle.rotation.specs.FromQuaternion.{Transform·fromQuaternion}
 use Rattle.unit_interval.specs.Unit.{dt}
-use Rattle.pose_steps.specs.Composition.{lerpTranslation, lerpScale}
+use Rattle.pose_steps.specs.Composition.{lerpTranslation, lerpScaleBy}
 use Rattle.animated_transform.specs.declared.AnimatedTransform.{AnimatedTransform}
 use Rattle.animated_transform.specs.AtTime.{atStart, atEnd}
 use Rattle.interpolation.specs.Interpolate.{Transform·isFinite, TransformAnswer·accepted, TransformAnswer·judged, scaled, composed, AnimatedTransform·poseAt, AnimatedTransform·interpolate}
@@ -69,7 +69,7 @@ composed-answered trans rotate scale =
 
 pose-at-answered : (m : AnimatedTransform) (x : Float) → Answered (AnimatedTransform·poseAt m x)
 unfolding AnimatedTransform·poseAt
-pose-at-answered m x = composed-answered (lerpTranslation (m .t0) (m .t1) x) (Quaternion·slerp (m .r0) (m .r1) x) (lerpScale (Matrix4x4·toRows (m .s0)) (Matrix4x4·toRows (m .s1)) x)
+pose-at-answered m x = composed-answered (lerpTranslation (m .t0) (m .t1) x) (Quaternion·slerp (m .r0) (m .r1) x) (lerpScaleBy (m .rigid) (Matrix4x4·toRows (m .s0)) (Matrix4x4·toRows (m .s1)) x)
 
 interpolate-answered : (m : AnimatedTransform) (time : Float) → Answered (AnimatedTransform·interpolate m time)
 interpolate-answered m time =

@@ -2,7 +2,7 @@
 -- (`interpolate-pose`); so the transform moves a finite point as the point query does (`interpolate-point`). The tests of `interpolate` are those of `Pose·matrix`, stage by stage on
 -- the same bits, and more on the inverse halves (`composed-passed`).
 use mathlib.Core.Path.{_≡_, refl, sym, ap, subst, _∙_}
-use mathlib.Core.Bool.{Bool, true, _&&_}
+use mathlib.Core.Bool.{Bool, true, false, _&&_}
 use lib.Dec.{T}
 use lib.Ieee.{Float}
 use lib.Ieee.Fits.{and-l, and-i}
@@ -23,10 +23,10 @@ use Rattle.transform.proofs.FromMatrix.{from-matrix-refusal, from-matrix-accept
 use Rattle.rotation.specs.FromQuaternion.{Transform·fromQuaternion}
 use Rattle.unit_interval.specs.Unit.{dt}
 use Rattle.pose_steps.specs.declared.PoseConstants.{PoseConstants}
-use Rattle.pose_steps.specs.Pose.{PoseConstants·new, Pose·translation, Pose·slerp, Pose·scale, Pose·rotation, Pose·mul, allFinite, PoseAnswer·judged, Pose·matrix, Pose·movedPoint}
-use Rattle.pose_steps.specs.Composition.{lerpTranslation, lerpScale, composition}
-use Rattle.pose_steps.proofs.Rows.{scale-bottom, rotation-bottom, mul-bottom}
-use Rattle.pose_steps.proofs.Composition.{translation-same, slerp-same, scale-same, rotation-same, product, product-same, matrix-composition, point-composition}
+use Rattle.pose_steps.specs.Pose.{PoseConstants·new, Pose·translation, Pose·slerp, Pose·scaleBy, Pose·rotation, Pose·mul, allFinite, PoseAnswer·judged, Pose·matrix, Pose·movedPoint}
+use Rattle.pose_steps.specs.Composition.{lerpTranslation, lerpScaleBy, composition}
+use Rattle.pose_steps.proofs.Rows.{scale-by-bottom, rotation-bottom, mul-bottom}
+use Rattle.pose_steps.proofs.Composition.{translation-same, slerp-same, scale-by-same, rotation-same, product, product-same, matrix-composition, point-composition}
 use Rattle.animated_transform.specs.declared.AnimatedTransform.{AnimatedTransform}
 use Rattle.interpolation.specs.Interpolate.{Transform·isFinite, AnimatedTransform·poseAt, AnimatedTransform·interpolate}
 use Rattle.interpolation.specs.Promise.{Between}
@@ -45,9 +45,14 @@ judged-passed : (b : Bool) (m : Matrix4x4) → T b → PoseAnswer·judged b m .r
 unfolding PoseAnswer·judged
 judged-passed true m h = refl
 
+scale-rows : (k : Bool) (s0 s1 : Rows) (x : Float) → Matrix4x4·toRows (Matrix4x4·fromRows (lerpScaleBy k s0 s1 x)) ≡ lerpScaleBy k s0 s1 x
+unfolding lerpScaleBy
+scale-rows true s0 s1 x = refl
+scale-rows false s0 s1 x = refl
+
 -- The move's constants, which `slerp` works out anew.
 abbrev pub motion : AnimatedTransform → PoseConstants
-motion m = PoseConstants·new (m .t0) (m .t1) (m .r0) (m .r1)
+motion m = PoseConstants·new (m .rigid) (m .t0) (m .t1) (m .r0) (m .r1)
 
 module _ (m : AnimatedTransform) (x : Float) where
   -- ---- what pbrt's lines work out
@@ -58,7 +63,7 @@ module _ (m : AnimatedTransform) (x : Float) where
   rotate = Quaternion·slerp (m .r0) (m .r1) x
 
   abbrev scale : Rows
-  scale = lerpScale (Matrix4x4·toRows (m .s0)) (Matrix4x4·toRows (m .s1)) x
+  scale = lerpScaleBy (m .rigid) (Matrix4x4·toRows (m .s0)) (Matrix4x4·toRows (m .s1)) x
 
   abbrev pub scaleTransform : Transform
   scaleTransform = Transform·fromMatrix scale .transform
@@ -71,7 +76,7 @@ module _ (m : AnimatedTransform) (x : Float) where
   rotationStage = Pose·rotation (Pose·slerp (motion m) x)
 
   abbrev scaleStage : Matrix4x4
-  scaleStage = Pose·scale (m .s0) (m .s1) x
+  scaleStage = Pose·scaleBy (m .rigid) (m .s0) (m .s1) x
 
   abbrev firstStage : Matrix4x4
   firstStage = Pose·mul translationStage rotationStage
@@ -99,16 +104,18 @@ module _ (m : AnimatedTransform) (x : Float) where
     translation-at = ap (λ (v : Vector3f). translation (v .x) (v .y) (v .z)) (sym (translation-same (m .t0) (m .t1) x))
 
     slerp-at : rotate ≡ Pose·slerp (motion m) x
-    slerp-at = sym (slerp-same (m .t0) (m .t1) (m .r0) (m .r1) x)
+    slerp-at = sym (slerp-same (m .rigid) (m .t0) (m .t1) (m .r0) (m .r1) x)
 
     rotation-at : Transform·fromQuaternion rotate .m ≡ rotationStage
     rotation-at = ap (λ (q : Quaternion). Transform·fromQuaternion q .m) slerp-at ∙ rotation-same (Pose·slerp (motion m) x)
 
     scale-at : Matrix4x4·toRows (scaleTransform .m) ≡ scale
-    scale-at = ap (λ (a : TransformAnswer). Matrix4x4·toRows (a .transform .m)) (from-matrix-accepted scale (sym (from-matrix-refusal scale) ∙ c .inverse))
+    scale-at =
+        ap (λ (a : TransformAnswer). Matrix4x4·toRows (a .transform .m)) (from-matrix-accepted scale (sym (from-matrix-refusal scale) ∙ c .inverse))
+        ∙ scale-rows (m .rigid) (Matrix4x4·toRows (m .s0)) (Matrix4x4·toRows (m .s1)) x
 
     stage-at : scale ≡ Matrix4x4·toRows scaleStage
-    stage-at = sym (scale-same (m .s0) (m .s1) x)
+    stage-at = sym (scale-by-same (m .rigid) (m .s0) (m .s1) x)
 
     rotation-passed : T (allFinite rotationStage)
     rotation-passed = subst (λ (a : Matrix4x4). T (allFinite a)) rotation-at (matrix-half (Transform·fromQuaternion rotate) (c .rotation-finite))
@@ -128,7 +135,7 @@ module _ (m : AnimatedTransform) (x : Float) where
         product-half (firstProduct trans rotate) scaleTransform
         ∙ ap (λ (a : Matrix4x4). product a (scaleTransform .m)) first-at
         ∙ ap (λ (a : Rows). product firstStage (Matrix4x4·fromRows a)) (scale-at ∙ stage-at)
-        ∙ product-same firstStage scaleStage (mul-bottom translationStage rotationStage) (scale-bottom (m .s0) (m .s1) x) scale-passed
+        ∙ product-same firstStage scaleStage (mul-bottom translationStage rotationStage) (scale-by-bottom (m .rigid) (m .s0) (m .s1) x) scale-passed
 
     composed-passed : Pose·matrix (motion m) (m .s0) (m .s1) x .refusal ≡ 0
     composed-passed =
@@ -160,10 +167,10 @@ module _ (m : AnimatedTransform) (time : Float) (b : Between m time) (z : Animat
       × (AnimatedTransform·interpolate m time .transform .m ≡ Pose·matrix (motion m) (m .s0) (m .s1) (dtAt m time) .m)
   interpolate-pose =
       let p = composed-passed m x accepted in
-      (p, ap (λ (t : Transform). t .m) interpolate-composition ∙ matrix-composition (m .t0) (m .t1) (m .r0) (m .r1) (m .s0) (m .s1) (scaleTransform m x) x (scale-at m x accepted) p)
+      (p, ap (λ (t : Transform). t .m) interpolate-composition ∙ matrix-composition (m .rigid) (m .t0) (m .t1) (m .r0) (m .r1) (m .s0) (m .s1) (scaleTransform m x) x (scale-at m x accepted) p)
 
   pub interpolate-point : (p : Point3f) → Finite p
       → Transform·transformPoint (AnimatedTransform·interpolate m time .transform) p ≡ Pose·movedPoint (motion m) (m .s0) (m .s1) (dtAt m time) p
   interpolate-point p f =
       ap (λ (t : Transform). Transform·transformPoint t p) interpolate-composition
-      ∙ point-composition (m .t0) (m .t1) (m .r0) (m .r1) (m .s0) (m .s1) (scaleTransform m x) x (scale-at m x accepted) p f (interpolate-pose .0)
+      ∙ point-composition (m .rigid) (m .t0) (m .t1) (m .r0) (m .r1) (m .s0) (m .s1) (scaleTransform m x) x (scale-at m x accepted) p f (interpolate-pose .0)

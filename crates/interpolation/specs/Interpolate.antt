@@ -15,7 +15,7 @@ use Rattle.transform.specs.declared.TransformAnswer.{TransformAnswer}
 use Rattle.transform.specs.Transform.{TransformAnswer·refused, Transform·fromMatrix, Transform·translate, Transform·mul}
 use Rattle.rotation.specs.FromQuaternion.{Transform·fromQuaternion}
 use Rattle.unit_interval.specs.Unit.{dt}
-use Rattle.pose_steps.specs.Composition.{lerpTranslation, lerpScale}
+use Rattle.pose_steps.specs.Composition.{lerpTranslation, lerpScaleBy}
 use Rattle.animated_transform.specs.declared.AnimatedTransform.{AnimatedTransform}
 use Rattle.animated_transform.specs.AtTime.{atStart, atEnd}
 
@@ -46,13 +46,13 @@ composed trans rotate scale =
     (scaled first scale)
     (TransformAnswer·refused 5)
 
--- translation, rotation and scale at dt, and their composition
+-- translation, rotation and scale at dt, of a rigid move the identity, and their composition
 unfoldable pub AnimatedTransform·poseAt : AnimatedTransform → Float → TransformAnswer
 AnimatedTransform·poseAt m dt =
     composed
     (lerpTranslation (m .t0) (m .t1) dt)
     (Quaternion·slerp (m .r0) (m .r1) dt)
-    (lerpScale (Matrix4x4·toRows (m .s0)) (Matrix4x4·toRows (m .s1)) dt)
+    (lerpScaleBy (m .rigid) (Matrix4x4·toRows (m .s0)) (Matrix4x4·toRows (m .s1)) dt)
 
 -- `AnimatedTransform::interpolate`; document 01, Refusals: 6 where "the time is NaN"
 unfoldable pub AnimatedTransform·interpolate : AnimatedTransform → Float → TransformAnswer

@@ -68,7 +68,7 @@ fn pose_at(m: AnimatedTransform, dt: f32) -> TransformAnswer
 {
     let trans = pose_parts::translation(m.t0, m.t1, dt);
     let rotate = quaternion::slerp(m.r0, m.r1, dt);
-    let scale = pose_parts::scale(m.s0, m.s1, dt);
+    let scale = pose_parts::scale_by(m.rigid, m.s0, m.s1, dt);
     composed(trans, rotate, scale)
 }
 

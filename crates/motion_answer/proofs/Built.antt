@@ -59,9 +59,9 @@ moves-none (a ∷ answers) e =
     tested-none (stage (λ x. x .refusal) (a ∷ answers)) (built (record { first = a .value; rest = map (λ x. x .value) answers }))
     (λ _. (record { first = a .value; rest = map (λ x. x .value) answers }, refl)) e
 
-pub new-none : (poses : List Pose) → ChainAnswer·refusal (Chain·new poses) ≡ 0 → IsBuilt (Chain·new poses)
+pub new-none : (rigid : Bool) (poses : List Pose) → ChainAnswer·refusal (Chain·new rigid poses) ≡ 0 → IsBuilt (Chain·new rigid poses)
 unfolding Chain·new
-new-none poses e = tested-none (chainRefusal poses) _ (moves-none _) e
+new-none rigid poses e = tested-none (chainRefusal rigid poses) _ (moves-none _) e
 
 -- ---- the bottom rows
 

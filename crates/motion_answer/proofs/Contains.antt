@@ -60,7 +60,7 @@ file-accepted bytes = go (eqb n 0) refl (eqb-false n 0)
 
     go : (t : Bool) → eqb n 0 ≡ t → (t ≡ false → n ≡ 0 → ⊥) → BoundsAnswer·refusal (cond t (ChainAnswer·cover a b) (Refused n)) ≡ 0 → Accepted bytes
     go true t f e =
-        let (c, s) = chain-none a b (new-none (Poses·ofLists (MoveFile·poses bytes))) e in
+        let (c, s) = chain-none a b (new-none false (Poses·ofLists (MoveFile·poses bytes))) e in
         record { chain = c; from-file = s; same = rw t (ap (λ (x : ChainAnswer). ChainAnswer·cover x b) s ∙ built-cover c b) }
     go false t f e = absurd (f refl e)
 
@@ -72,7 +72,7 @@ file-answered bytes e =
 
 file-built : (bytes : List ℕ) (c : Chain) → MoveFile·chain bytes ≡ built c → BuiltChain c
 unfolding MoveFile·chain
-file-built bytes c e = record { poses = Poses·ofLists (MoveFile·poses bytes); poses-binary32 = poses-binary32 bytes; accepted = e }
+file-built bytes c e = record { rigid = false; poses = Poses·ofLists (MoveFile·poses bytes); poses-binary32 = poses-binary32 bytes; accepted = e }
 
 pub file-contains : (bytes : List ℕ) → BoundsAnswer·refusal (MoveFile·cover bytes) ≡ 0 → FileContainsMotion bytes (BoundsAnswer·bounds (MoveFile·cover bytes))
 file-contains bytes e =

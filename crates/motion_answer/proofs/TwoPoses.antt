@@ -27,21 +27,21 @@ use Rattle.motion_answer.proofs.Built.{poses-affine}
 
 -- ---- a chain of two poses
 module _ (p q : Pose) (b : Bounds3f) where
-  rising-cover : T (lt (p .time) (q .time)) → ChainAnswer·cover (Chain·new (p ∷ q ∷ [])) b ≡ moveCover (AnimatedTransform·new p q) b
+  rising-cover : T (lt (p .time) (q .time)) → ChainAnswer·cover (Chain·new false (p ∷ q ∷ [])) b ≡ moveCover (AnimatedTransform·new false p q) b
   unfolding ChainAnswer·cover
   rising-cover h = go (eqb n 0) refl
     where
       n : ℕ
-      n = AnimatedTransform·new p q .refusal
+      n = AnimatedTransform·new false p q .refusal
 
-      go : (t : Bool) → eqb n 0 ≡ t → ChainAnswer·cover (Chain·new (p ∷ q ∷ [])) b ≡ moveCover (AnimatedTransform·new p q) b
-      go true e = rw (two-poses p q .same-move h (eqb-true n 0 e), e) (single-move (AnimatedTransform·new p q .value) .cover b coverDepth)
-      go false e = rw (two-poses p q .same-refusal h (eqb-false n 0 e), e)
+      go : (t : Bool) → eqb n 0 ≡ t → ChainAnswer·cover (Chain·new false (p ∷ q ∷ [])) b ≡ moveCover (AnimatedTransform·new false p q) b
+      go true e = rw (two-poses false p q .same-move h (eqb-true n 0 e), e) (single-move (AnimatedTransform·new false p q .value) .cover b coverDepth)
+      go false e = rw (two-poses false p q .same-refusal h (eqb-false n 0 e), e)
 
   falling-cover : Checked p q → T (not (lt (p .time) (q .time)))
-      → ChainAnswer·cover (Chain·new (p ∷ q ∷ [])) b ≡ Refused 12
+      → ChainAnswer·cover (Chain·new false (p ∷ q ∷ [])) b ≡ Refused 12
   unfolding ChainAnswer·cover
-  falling-cover checked h = rw (two-poses p q .not-rising checked h)
+  falling-cover checked h = rw (two-poses false p q .not-rising checked h)
 
 -- ---- a file that has poses keeps the layout
 poses-kept : (bytes : List ℕ) (start : List Float) (poses : List (List Float)) → MoveFile·poses bytes ≡ start ∷ poses → MoveFile·read bytes .refusal ≡ 0

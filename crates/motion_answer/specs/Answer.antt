@@ -2,7 +2,7 @@
 -- "File and program"; document 02, "Poses in a chain": "A file's pose lines, however many, are a chain." 11 "precedes all others"; then come building's
 -- numbers, then the query's. Definitions only.
 use Prim.Native.Nat.{ℕ}
-use mathlib.Core.Bool.{cond}
+use mathlib.Core.Bool.{false, cond}
 use mathlib.Core.List.{List}
 use lib.Dec.{eqb}
 use Rattle.bounds3.specs.declared.Bounds3f.{Bounds3f}
@@ -26,7 +26,7 @@ ChainAnswer·cover (refused n) b = Refused n
 
 -- what building answers to a file's poses
 unfoldable pub MoveFile·chain : List ℕ → ChainAnswer
-MoveFile·chain bytes = Chain·new (Poses·ofLists (MoveFile·poses bytes))
+MoveFile·chain bytes = Chain·new false (Poses·ofLists (MoveFile·poses bytes))
 
 -- a file's box, of the values `x0 y0 z0 x1 y1 z1`, "least corner, greatest corner"
 abbrev pub MoveFile·box : List ℕ → Bounds3f

@@ -3,6 +3,7 @@ use bounds3::Bounds3f;
 use transform::BoundsAnswer;
 ghost use Prim.Native.Nat.{_≤_};
 ghost use mathlib.Core.Path.{_≡_};
+ghost use mathlib.Core.Bool.{false};
 ghost use lib.ListN.{length, take};
 ghost use Rattle.motion_chain.specs.Chain.{Chain·new};
 ghost use Rattle.chain_poses.specs.Poses.{Poses·ofLists};
@@ -14,10 +15,10 @@ const DEPTH: u32 = 10;
 
 // The cover of a box under the chain of the poses, refused by building, then by the query. Accuracy: encloses.
 fn poses_cover(poses: &[[f32; 18]], b: Bounds3f) -> BoundsAnswer
-    ensures value { λ r. ⌜ r ≡ ChainAnswer·cover (Chain·new (Poses·ofLists (now (poses .entry)))) b ⌝ }
+    ensures value { λ r. ⌜ r ≡ ChainAnswer·cover (Chain·new false (Poses·ofLists (now (poses .entry)))) b ⌝ }
 {
     let mut moves = [[[0.0f32; 4]; 45]; 31];
-    let refusal = chain_build::build(poses, &mut moves);
+    let refusal = chain_build::build(false, poses, &mut moves);
     if refusal != 0 {
         return BoundsAnswer::Refused(refusal);
     }

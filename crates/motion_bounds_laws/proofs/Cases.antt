@@ -1,6 +1,7 @@
 -- Cases of the definitions, by computing, on document 01's moves A and B: a move without rotation joins the boxes of its two poses, one between equal poses has its
 -- start's box alone, and a box is judged before anything is worked out. Only the point of the first is searched for zeros.
 use mathlib.Core.Path.{_≡_, refl}
+use mathlib.Core.Bool.{false}
 use mathlib.Core.List.{[], _∷_}
 use Prim.Native.Nat.{ℕ}
 use lib.Ieee.{Float, nan, binary32, ofBits}
@@ -37,7 +38,7 @@ matrix x =
 
 -- from the identity at time 0 to the identity with m03 = x at time 1
 abbrev along : ℕ → AnimatedTransform
-along x = AnimatedTransform·new (record { time = f 0; m = matrix 0; pad = f 0 }) (record { time = f 0x3f800000; m = matrix x; pad = f 0 }) .value
+along x = AnimatedTransform·new false (record { time = f 0; m = matrix 0; pad = f 0 }) (record { time = f 0x3f800000; m = matrix x; pad = f 0 }) .value
 
 -- 1 2 3 to 4 5 6
 abbrev box : Bounds3f
@@ -52,7 +53,7 @@ abbrev straight : PoseConstants
 straight =
     let t : Vector3f = record { x = f 0; y = f 0; z = f 0 } in
     let r : Quaternion = record { v = t; w = f 0x3f800000 } in
-    record { t0 = t; t1 = record { x = f 0x3f800000; y = f 0; z = f 0 }; r0 = r; r1 = r; «cos_theta» = f 0x3f800000; theta = f 0 }
+    record { t0 = t; t1 = record { x = f 0x3f800000; y = f 0; z = f 0 }; r0 = r; r1 = r; «cos_theta» = f 0x3f800000; theta = f 0; rigid = false }
 
 -- each axis's search drops 0 to 1 at once
 translation-point :

@@ -12,13 +12,14 @@ use lib.Ieee.{Float, lt}
 use lib.Ieee.Bits.{is-true}
 use lib.Ieee.Fits.{and-l, and-r}
 use Rattle.pose_pair.specs.declared.Pose.{Pose}
-use Rattle.pose_pair.specs.Pose.{Pose·isFinite, Pose·isBinary32, Pose·isAffine, Pose·isPadded, timesRefusal, posesRefusal}
+use Rattle.pose_pair.specs.Pose.{Pose·isFinite, Pose·isBinary32, Pose·isAffine, Pose·isPadded, timesRefusal, posesRefusal, Pose·kindNumber}
 use Rattle.animated_transform.specs.declared.AnimatedTransform.{AnimatedTransform}
 use Rattle.animated_transform.specs.declared.AnimatedTransformAnswer.{AnimatedTransformAnswer}
 use Rattle.animated_transform.specs.New.{firstRefusal, work, AnimatedTransform·new}
 use Rattle.animated_transform.specs.Built.{Built}
 use Rattle.animated_transform.proofs.Kept.{new-kept}
-use Rattle.motion_chain.specs.Chain.{minPoses, maxPoses, neighbours, every, firstNumber, stage, Pose·number, Pair·number, chainStages, chainRefusal}
+use Rattle.bounds_answers.proofs.UnionAll.{each-of}
+use Rattle.motion_chain.specs.Chain.{minPoses, maxPoses, neighbours, every, firstNumber, stage, Pose·number, Pair·number, kindStage, chainStages, chainRefusal}
 use Rattle.motion_chain.specs.Chain.{Chain, ChainAnswer, built, refused, ChainAnswer·fromMoves, Chain·new}
 use Rattle.motion_chain.specs.Built.{BuiltChain, Each, Contiguous, BuiltMoves, PairsWorked}
 
@@ -73,7 +74,7 @@ tested-built n a c = go (eqb n 0) (eqb-true n 0)
     go false f e = absurd (refused-built n c e)
 
 -- ---- the checks
-pub record Passed (poses : List Pose) : Type 0 where
+pub record Passed (rigid : Bool) (poses : List Pose) : Type 0 where
   pub finite : Each (λ p. T (Pose·isFinite p)) poses
   pub affine : Each (λ p. T (Pose·isAffine p)) poses
   pub padded : Each (λ p. T (Pose·isPadded p)) poses
@@ -81,11 +82,17 @@ pub record Passed (poses : List Pose) : Type 0 where
   pub greatest : length poses ≤ maxPoses
   pub rise : Each (λ (p, q). T (lt (p .time) (q .time))) (neighbours poses)
   pub times : Each (λ (p, q). timesRefusal (p .time) (q .time) ≡ 0) (neighbours poses)
+  pub kind : Each (λ p. Pose·kindNumber rigid p ≡ 0) poses
 
-pub checks-passed : (poses : List Pose) → chainRefusal poses ≡ 0 → Passed poses
+kind-passed : (rigid : Bool) (poses : List Pose) → kindStage rigid poses ≡ 0 → Each (λ p. Pose·kindNumber rigid p ≡ 0) poses
+unfolding kindStage Pose·number Pose·kindNumber
+kind-passed true poses e = stage-each (Pose·kindNumber true) poses e
+kind-passed false poses e = each-of (λ p. refl) poses
+
+pub checks-passed : (rigid : Bool) (poses : List Pose) → chainRefusal rigid poses ≡ 0 → Passed rigid poses
 unfolding chainRefusal Pose·number Pair·number
-checks-passed poses e =
-    let (finite, (affine, (padded, (count, (rise, (times, _)))))) = first-each (chainStages poses) e in
+checks-passed rigid poses e =
+    let (finite, (affine, (padded, (count, (rise, (times, (kind, _))))))) = first-each (chainStages rigid poses) e in
     let (least, greatest) =
     counted (ltb (length poses) minPoses) (ltb maxPoses (length poses)) (nltb→le (length poses) minPoses) (nltb→le maxPoses (length poses)) count in
     record {
@@ -96,6 +103,7 @@ checks-passed poses e =
       greatest = greatest;
       rise = tested-each (λ (p, q). lt (p .time) (q .time)) 11 (neighbours poses) rise;
       times = stage-each (λ (p, q). timesRefusal (p .time) (q .time)) (neighbours poses) times;
+      kind = kind-passed rigid poses kind;
     }
   where
     counted : (few many : Bool) → (T (not few) → minPoses ≤ length poses) → (T (not many) → length poses ≤ maxPoses)
@@ -105,14 +113,16 @@ checks-passed poses e =
     counted true many l g e = absurd (omega (arith, e))
 
 -- what is asked of a pose by itself
-pub record PosePassed (p : Pose) : Type 0 where
+pub record PosePassed (rigid : Bool) (p : Pose) : Type 0 where
   pub finite : T (Pose·isFinite p)
   pub affine : T (Pose·isAffine p)
   pub padded : T (Pose·isPadded p)
+  pub kind : Pose·kindNumber rigid p ≡ 0
 
-pub pair-worked : (p q : Pose) → PosePassed p → PosePassed q → timesRefusal (p .time) (q .time) ≡ 0 → AnimatedTransform·new p q ≡ work p q
+pub pair-worked : (rigid : Bool) (p q : Pose) → PosePassed rigid p → PosePassed rigid q → timesRefusal (p .time) (q .time) ≡ 0
+    → AnimatedTransform·new rigid p q ≡ work rigid p q
 unfolding AnimatedTransform·new posesRefusal
-pair-worked p q h k e =
+pair-worked rigid p q h k e =
     rw (
       is-true (Pose·isFinite p) (h .finite),
       is-true (Pose·isFinite q) (k .finite),
@@ -121,25 +131,30 @@ pair-worked p q h k e =
       is-true (Pose·isPadded p) (h .padded),
       is-true (Pose·isPadded q) (k .padded),
       e,
+      h .kind,
+      k .kind,
     )
 
-pub pairs-worked : (poses : List Pose) → PairsWorked poses
+pub pairs-worked : (rigid : Bool) (poses : List Pose) → PairsWorked rigid poses
 unfolding neighbours
-pairs-worked poses e = let h = checks-passed poses e in go poses (each poses (h .finite) (h .affine) (h .padded)) (h .times)
+pairs-worked rigid poses e =
+    let h = checks-passed rigid poses e in
+    go poses (each poses (h .finite) (h .affine) (h .padded) (h .kind)) (h .times)
   where
-    each : (xs : List Pose) → Each (λ p. T (Pose·isFinite p)) xs → Each (λ p. T (Pose·isAffine p)) xs → Each (λ p. T (Pose·isPadded p)) xs → Each PosePassed xs
-    each [] fs bs ps = tt
-    each (x ∷ xs) (f, fs) (b, bs) (p, ps) = (record { finite = f; affine = b; padded = p }, each xs fs bs ps)
+    each : (xs : List Pose) → Each (λ p. T (Pose·isFinite p)) xs → Each (λ p. T (Pose·isAffine p)) xs → Each (λ p. T (Pose·isPadded p)) xs
+        → Each (λ p. Pose·kindNumber rigid p ≡ 0) xs → Each (PosePassed rigid) xs
+    each [] fs bs ps ks = tt
+    each (x ∷ xs) (f, fs) (b, bs) (p, ps) (k, ks) = (record { finite = f; affine = b; padded = p; kind = k }, each xs fs bs ps ks)
 
-    go : (xs : List Pose) → Each PosePassed xs
-        → Each (λ (p, q). timesRefusal (p .time) (q .time) ≡ 0) (neighbours xs) → Each (λ (p, q). AnimatedTransform·new p q ≡ work p q) (neighbours xs)
+    go : (xs : List Pose) → Each (PosePassed rigid) xs
+        → Each (λ (p, q). timesRefusal (p .time) (q .time) ≡ 0) (neighbours xs) → Each (λ (p, q). AnimatedTransform·new rigid p q ≡ work rigid p q) (neighbours xs)
     go [] hs ts = tt
     go (p ∷ []) hs ts = tt
-    go (p ∷ q ∷ xs) (h, (k, hs)) (t, ts) = (pair-worked p q h k t, go (q ∷ xs) (k, hs) ts)
+    go (p ∷ q ∷ xs) (h, (k, hs)) (t, ts) = (pair-worked rigid p q h k t, go (q ∷ xs) (k, hs) ts)
 
 -- ---- the pairs, from a pose on
-abbrev answers : List Pose → List AnimatedTransformAnswer
-answers poses = map (λ (p, q). AnimatedTransform·new p q) (neighbours poses)
+abbrev answers : Bool → List Pose → List AnimatedTransformAnswer
+answers rigid poses = map (λ (p, q). AnimatedTransform·new rigid p q) (neighbours poses)
 
 abbrev numbers : List AnimatedTransformAnswer → List ℕ
 numbers = map (λ a. a .refusal)
@@ -151,19 +166,20 @@ record Worked (time : Float) (moves : List AnimatedTransform) : Type 0 where
   each : Each Built moves
   contiguous : Contiguous time moves
 
-moves-worked : (p : Pose) (poses : List Pose) → T (every Pose·isBinary32 (p ∷ poses))
+moves-worked : (rigid : Bool) (p : Pose) (poses : List Pose) → T (every Pose·isBinary32 (p ∷ poses))
     → Each (λ (p, q). T (lt (p .time) (q .time))) (neighbours (p ∷ poses))
-    → firstNumber (numbers (answers (p ∷ poses))) ≡ 0 → Worked (p .time) (values (answers (p ∷ poses)))
+    → firstNumber (numbers (answers rigid (p ∷ poses))) ≡ 0 → Worked (p .time) (values (answers rigid (p ∷ poses)))
 unfolding neighbours every
-moves-worked p [] f r n = record { each = tt; contiguous = tt }
-moves-worked p (q ∷ poses) f (r, rs) n =
-    let a = AnimatedTransform·new p q in
-    let rest = answers (q ∷ poses) in
+moves-worked rigid p [] f r n = record { each = tt; contiguous = tt }
+moves-worked rigid p (q ∷ poses) f (r, rs) n =
+    let a = AnimatedTransform·new rigid p q in
+    let rest = answers rigid (q ∷ poses) in
     let (z, n') = first-none (a .refusal) (numbers rest) n in
     let f' = and-r (Pose·isBinary32 p) (every Pose·isBinary32 (q ∷ poses)) f in
-    let t = new-kept p q z in
-    let w = moves-worked q poses f' rs n' in
+    let t = new-kept rigid p q z in
+    let w = moves-worked rigid q poses f' rs n' in
     let move : Built (a .value) = record {
+      rigid = rigid;
       start = p;
       end = q;
       start-binary32 = and-l (Pose·isBinary32 p) (every Pose·isBinary32 (q ∷ poses)) f;
@@ -179,42 +195,42 @@ moves-worked p (q ∷ poses) f (r, rs) n =
       );
     }
 
-answers-count : (p : Pose) (poses : List Pose) → length (values (answers (p ∷ poses))) ≡ length poses
+answers-count : (rigid : Bool) (p : Pose) (poses : List Pose) → length (values (answers rigid (p ∷ poses))) ≡ length poses
 unfolding neighbours
-answers-count p [] = refl
-answers-count p (q ∷ poses) = ap (λ (n : ℕ). suc n) (answers-count q poses)
+answers-count rigid p [] = refl
+answers-count rigid p (q ∷ poses) = ap (λ (n : ℕ). suc n) (answers-count rigid q poses)
 
 -- ---- the chain
-pub new-built : (poses : List Pose) (c : Chain) → Chain·new poses ≡ built c → (chainRefusal poses ≡ 0) × (ChainAnswer·fromMoves (answers poses) ≡ built c)
+pub new-built : (rigid : Bool) (poses : List Pose) (c : Chain) → Chain·new rigid poses ≡ built c → (chainRefusal rigid poses ≡ 0) × (ChainAnswer·fromMoves (answers rigid poses) ≡ built c)
 unfolding Chain·new
-new-built poses c e = tested-built (chainRefusal poses) (ChainAnswer·fromMoves (answers poses)) c e
+new-built rigid poses c e = tested-built (chainRefusal rigid poses) (ChainAnswer·fromMoves (answers rigid poses)) c e
 
 chain-of : Chain → ChainAnswer → Chain
 chain-of c (built d) = d
 chain-of c (refused n) = c
 
-abbrev assembledChain : Pose → Pose → List Pose → Chain
-assembledChain p q poses = record { first = AnimatedTransform·new p q .value; rest = values (answers (q ∷ poses)) }
+abbrev assembledChain : Bool → Pose → Pose → List Pose → Chain
+assembledChain rigid p q poses = record { first = AnimatedTransform·new rigid p q .value; rest = values (answers rigid (q ∷ poses)) }
 
-from-moves-built : (p q : Pose) (poses : List Pose) (c : Chain) → ChainAnswer·fromMoves (answers (p ∷ q ∷ poses)) ≡ built c
-    → (firstNumber (numbers (answers (p ∷ q ∷ poses))) ≡ 0) × (assembledChain p q poses ≡ c)
+from-moves-built : (rigid : Bool) (p q : Pose) (poses : List Pose) (c : Chain) → ChainAnswer·fromMoves (answers rigid (p ∷ q ∷ poses)) ≡ built c
+    → (firstNumber (numbers (answers rigid (p ∷ q ∷ poses))) ≡ 0) × (assembledChain rigid p q poses ≡ c)
 unfolding ChainAnswer·fromMoves neighbours chain-of
-from-moves-built p q poses c e =
-    let (z, s) = tested-built (firstNumber (numbers (answers (p ∷ q ∷ poses)))) (built (assembledChain p q poses)) c e in
+from-moves-built rigid p q poses c e =
+    let (z, s) = tested-built (firstNumber (numbers (answers rigid (p ∷ q ∷ poses)))) (built (assembledChain rigid p q poses)) c e in
     (z, ap (chain-of c) s)
 
 pub built-moves : {c : Chain} → BuiltChain c → BuiltMoves c
 unfolding ChainAnswer·fromMoves neighbours
-built-moves {c} b = go (b .poses) (b .poses-binary32) (b .accepted)
+built-moves {c} b = go (b .rigid) (b .poses) (b .poses-binary32) (b .accepted)
   where
-    go : (poses : List Pose) → T (every Pose·isBinary32 poses) → Chain·new poses ≡ built c → BuiltMoves c
-    go [] f e = absurd (refused-built 12 c (new-built [] c e .1))
-    go (p ∷ []) f e = absurd (refused-built 12 c (new-built (p ∷ []) c e .1))
-    go (p ∷ q ∷ poses) f e =
-        let (z, g) = new-built (p ∷ q ∷ poses) c e in
-        let passed = checks-passed (p ∷ q ∷ poses) z in
-        let (n, s) = from-moves-built p q poses c g in
-        let w = moves-worked p (q ∷ poses) f (passed .rise) n in
-        let l = answers-count p (q ∷ poses) in
+    go : (rigid : Bool) (poses : List Pose) → T (every Pose·isBinary32 poses) → Chain·new rigid poses ≡ built c → BuiltMoves c
+    go rigid [] f e = absurd (refused-built 12 c (new-built rigid [] c e .1))
+    go rigid (p ∷ []) f e = absurd (refused-built 12 c (new-built rigid (p ∷ []) c e .1))
+    go rigid (p ∷ q ∷ poses) f e =
+        let (z, g) = new-built rigid (p ∷ q ∷ poses) c e in
+        let passed = checks-passed rigid (p ∷ q ∷ poses) z in
+        let (n, s) = from-moves-built rigid p q poses c g in
+        let w = moves-worked rigid p (q ∷ poses) f (passed .rise) n in
+        let l = answers-count rigid p (q ∷ poses) in
         let h = passed .greatest in
         subst BuiltMoves s (record { each = w .each; contiguous = (refl, w .contiguous .1, w .contiguous .2); count = omega (arith, l, h) })

@@ -65,15 +65,15 @@ abbrev poses : List Pose
 poses = identityAt o ∷ shiftedAt one ∷ identityAt (fraction 2 1) ∷ []
 
 abbrev there : AnimatedTransform
-there = AnimatedTransform·new (identityAt o) (shiftedAt one) .value
+there = AnimatedTransform·new false (identityAt o) (shiftedAt one) .value
 
 abbrev back : AnimatedTransform
-back = AnimatedTransform·new (shiftedAt one) (identityAt (fraction 2 1)) .value
+back = AnimatedTransform·new false (shiftedAt one) (identityAt (fraction 2 1)) .value
 
 abbrev chain : Chain
 chain = record { first = there; rest = back ∷ [] }
 
-chain-built : Chain·new poses ≡ built chain
+chain-built : Chain·new false poses ≡ built chain
 unfolding computing
 chain-built = refl
 
@@ -113,7 +113,7 @@ pub record HypothesesMet : Type 0 where
 
 pub hypotheses-met : HypothesesMet
 unfolding fits computing
-hypotheses-met = record { built = record { poses = poses; poses-binary32 = tt; accepted = refl }; accepted = refl; box = refl }
+hypotheses-met = record { built = record { rigid = false; poses = poses; poses-binary32 = tt; accepted = refl }; accepted = refl; box = refl }
 
 zero-refl : o ≼ o
 unfolding computing
@@ -173,7 +173,7 @@ places-for-empty-list-refused = refl
 
 -- A chain that doubles: the first time is answered, the second is 5, and that stands for the list.
 abbrev doubling : Chain
-doubling = record { first = AnimatedTransform·new (identityAt o) (pose one (fraction 2 1) o) .value; rest = [] }
+doubling = record { first = AnimatedTransform·new false (identityAt o) (pose one (fraction 2 1) o) .value; rest = [] }
 
 second-time-refused : Chain·transformPoints doubling (o ∷ one ∷ fraction 2 1 ∷ []) (onX far) 9 ≡ times.refused 5
 unfolding computing
@@ -195,48 +195,74 @@ abbrev rising : ℕ → List Pose → List Pose
 rising zero later = later
 rising (suc n) later = rising n (identityAt (fraction n 1) ∷ later)
 
-no-pose-refused : Chain·new [] ≡ refused 12
+no-pose-refused : Chain·new false [] ≡ refused 12
 unfolding computing
 no-pose-refused = refl
 
-one-pose-refused : Chain·new (identityAt o ∷ []) ≡ refused 12
+one-pose-refused : Chain·new false (identityAt o ∷ []) ≡ refused 12
 unfolding computing
 one-pose-refused = refl
 
-checks-of-32-poses-passed : chainRefusal (rising 32 []) ≡ 0
+checks-of-32-poses-passed : chainRefusal false (rising 32 []) ≡ 0
 unfolding computing
 checks-of-32-poses-passed = refl
 
-poses-33-refused : Chain·new (rising 33 []) ≡ refused 12
+poses-33-refused : Chain·new false (rising 33 []) ≡ refused 12
 unfolding computing
 poses-33-refused = refl
 
 -- ---- times
-equal-times-refused : Chain·new (identityAt o ∷ shiftedAt o ∷ []) ≡ refused 12
+equal-times-refused : Chain·new false (identityAt o ∷ shiftedAt o ∷ []) ≡ refused 12
 unfolding computing
 equal-times-refused = refl
 
-inner-time-falling-refused : Chain·new (identityAt o ∷ shiftedAt (fraction 2 1) ∷ identityAt one ∷ []) ≡ refused 12
+inner-time-falling-refused : Chain·new false (identityAt o ∷ shiftedAt (fraction 2 1) ∷ identityAt one ∷ []) ≡ refused 12
 unfolding computing
 inner-time-falling-refused = refl
 
 -- 1 is judged before the count, and 12 before 3: the first pair's times fall, and the second's difference isn't finite.
-nan-time-of-one-pose-refused : Chain·new (identityAt nan ∷ []) ≡ refused 1
+nan-time-of-one-pose-refused : Chain·new false (identityAt nan ∷ []) ≡ refused 1
 unfolding computing
 nan-time-of-one-pose-refused = refl
 
 abbrev farBelow : Float
 farBelow = negative (3 * 10 ^ 38) 1
 
-falling-before-infinite-duration : Chain·new (identityAt o ∷ shiftedAt farBelow ∷ identityAt far ∷ []) ≡ refused 12
+falling-before-infinite-duration : Chain·new false (identityAt o ∷ shiftedAt farBelow ∷ identityAt far ∷ []) ≡ refused 12
 unfolding computing
 falling-before-infinite-duration = refl
 
 -- A linear part of zeros in the first pair is 4 once it is worked, and the second pair's 3 is met before that.
-infinite-duration-before-work : Chain·new (pose (negative (32 * 10 ^ 37) 1) o o ∷ identityAt farBelow ∷ identityAt far ∷ []) ≡ refused 3
+infinite-duration-before-work : Chain·new false (pose (negative (32 * 10 ^ 37) 1) o o ∷ identityAt farBelow ∷ identityAt far ∷ []) ≡ refused 3
 unfolding computing
 infinite-duration-before-work = refl
 
-first-pair-that-fails : Chain·new (identityAt o ∷ pose one o o ∷ identityAt (fraction 2 1) ∷ []) ≡ refused 4
+first-pair-that-fails : Chain·new false (identityAt o ∷ pose one o o ∷ identityAt (fraction 2 1) ∷ []) ≡ refused 4
 unfolding computing
 first-pair-that-fails = refl
+
+-- ---- a rigid chain
+rigid-chain-built : Chain·new true poses
+    ≡ built (record {
+      first = AnimatedTransform·new true (identityAt o) (shiftedAt one) .value;
+      rest = AnimatedTransform·new true (shiftedAt one) (identityAt (fraction 2 1)) .value ∷ [];
+    })
+unfolding computing
+rigid-chain-built = refl
+
+scaling-refused : Chain·new true (identityAt o ∷ pose one (fraction 2 1) o ∷ []) ≡ refused 17
+unfolding computing
+scaling-refused = refl
+
+mirroring-refused : Chain·new true (identityAt o ∷ pose one (negative 1 1) o ∷ []) ≡ refused 18
+unfolding computing
+mirroring-refused = refl
+
+-- Pose by pose: the first pose's 18 is met before the second's 17; and both after 3.
+mirroring-pose-first : Chain·new true (pose o (negative 1 1) o ∷ pose one (fraction 2 1) o ∷ []) ≡ refused 18
+unfolding computing
+mirroring-pose-first = refl
+
+infinite-duration-before-scaling : Chain·new true (identityAt farBelow ∷ pose far (fraction 2 1) o ∷ []) ≡ refused 3
+unfolding computing
+infinite-duration-before-scaling = refl

@@ -21,18 +21,18 @@ use Rattle.unit_interval.proofs.DtUnit.{zero-finite, zero-rounds, sub-nonnegati
 use Rattle.matrix4x4.specs.Rows.{Matrix4x4·toRows}
 use Rattle.matrix4x4.specs.IsFinite.{Matrix4x4·isFinite}
 use Rattle.pose_pair.specs.declared.Pose.{Pose}
-use Rattle.pose_pair.specs.Pose.{Pose·isFinite, Pose·isAffine, Pose·isPadded, timesRefusal, posesRefusal}
+use Rattle.pose_pair.specs.Pose.{Pose·isFinite, Pose·isAffine, Pose·isPadded, timesRefusal, posesRefusal, Pose·kindNumber}
 use Rattle.animated_transform.specs.declared.AnimatedTransform.{AnimatedTransform}
 use Rattle.animated_transform.specs.declared.AnimatedTransformAnswer.{AnimatedTransformAnswer}
-use Rattle.animated_transform.specs.New.{AnimatedTransformAnswer·refused, work, AnimatedTransform·new}
-use Rattle.motion_chain.specs.Chain.{neighbours, every, firstNumber, Pose·number, Pair·number, chainRefusal, built, refused, ChainAnswer·fromMoves, Chain·new}
+use Rattle.animated_transform.specs.New.{AnimatedTransformAnswer·refused, firstRefusal, work, buildRefusal, AnimatedTransform·new}
+use Rattle.motion_chain.specs.Chain.{neighbours, every, firstNumber, Pose·number, Pair·number, kindStage, chainRefusal, built, refused, ChainAnswer·fromMoves, Chain·new}
 use Rattle.motion_chain.specs.Chain.{moveFrom, Chain·moveAt, Chain·transformPoint, unionCovers, Chain·cover}
 use Rattle.motion_chain.specs.TwoPoses.{Chain·single, Checked, TwoPoses, SingleMove}
 use Rattle.motion_chain.proofs.Built.{first-only, PosePassed, pair-worked}
 
 -- ---- the checks
 -- The stages of two poses, of which f and g are finite, a and b affine, c and d padded, where the times rise.
-stages-same : (f g a b c d : Bool) (n : ℕ)
+stages-same : (f g a b c d : Bool) (n k : ℕ)
     → firstNumber (
     firstNumber (cond f 0 1 ∷ cond g 0 1 ∷ [])
     ∷ firstNumber (cond a 0 2 ∷ cond b 0 2 ∷ [])
@@ -40,23 +40,30 @@ stages-same : (f g a b c d : Bool) (n : ℕ)
     ∷ 0
     ∷ firstNumber (0 ∷ [])
     ∷ firstNumber (n ∷ [])
+    ∷ k
     ∷ []
     )
-    ≡ cond (not (f && g)) 1 (cond (not (a && b)) 2 (cond (not (c && d)) 16 n))
+    ≡ firstRefusal (cond (not (f && g)) 1 (cond (not (a && b)) 2 (cond (not (c && d)) 16 n))) k
 unfolding firstNumber
-stages-same true true true true true true n = first-only (cond (eqb n 0) 0 n) ∙ first-only n
-stages-same true true true true true false n = refl
-stages-same true true true true false d n = refl
-stages-same true true true false c d n = refl
-stages-same true true false b c d n = refl
-stages-same true false a b c d n = refl
-stages-same false g a b c d n = refl
+stages-same true true true true true true n k = rw (first-only n, first-only k)
+stages-same true true true true true false n k = refl
+stages-same true true true true false d n k = refl
+stages-same true true true false c d n k = refl
+stages-same true true false b c d n k = refl
+stages-same true false a b c d n k = refl
+stages-same false g a b c d n k = refl
 
-checks-same : (p q : Pose) → T (lt (p .time) (q .time)) → chainRefusal (p ∷ q ∷ []) ≡ posesRefusal p q
+kinds-same : (rigid : Bool) (p q : Pose) → kindStage rigid (p ∷ q ∷ []) ≡ firstRefusal (Pose·kindNumber rigid p) (Pose·kindNumber rigid q)
+unfolding kindStage Pose·number Pose·kindNumber firstNumber
+kinds-same true p q = rw (first-only (Pose·kindNumber true q))
+kinds-same false p q = refl
+
+checks-same : (rigid : Bool) (p q : Pose) → T (lt (p .time) (q .time)) → chainRefusal rigid (p ∷ q ∷ []) ≡ buildRefusal rigid p q
 unfolding chainRefusal posesRefusal Pose·number Pair·number neighbours
-checks-same p q l =
-    rw (is-true (lt (p .time) (q .time)) l)
-    (stages-same (Pose·isFinite p) (Pose·isFinite q) (Pose·isAffine p) (Pose·isAffine q) (Pose·isPadded p) (Pose·isPadded q) (timesRefusal (p .time) (q .time)))
+checks-same rigid p q l =
+    rw (is-true (lt (p .time) (q .time)) l, kinds-same rigid p q)
+    (stages-same (Pose·isFinite p) (Pose·isFinite q) (Pose·isAffine p) (Pose·isAffine q) (Pose·isPadded p) (Pose·isPadded q) (timesRefusal (p .time) (q .time))
+    (firstRefusal (Pose·kindNumber rigid p) (Pose·kindNumber rigid q)))
 
 -- ---- one move's answer as a chain's
 module _ (a : AnimatedTransformAnswer) where
@@ -72,32 +79,32 @@ module _ (a : AnimatedTransformAnswer) where
       go true g = absurd (f (g refl))
       go false g = refl
 
-rising-same : (p q : Pose) → T (lt (p .time) (q .time)) → Chain·new (p ∷ q ∷ []) ≡ ChainAnswer·fromMoves (AnimatedTransform·new p q ∷ [])
+rising-same : (rigid : Bool) (p q : Pose) → T (lt (p .time) (q .time)) → Chain·new rigid (p ∷ q ∷ []) ≡ ChainAnswer·fromMoves (AnimatedTransform·new rigid p q ∷ [])
 unfolding Chain·new AnimatedTransform·new neighbours
-rising-same p q l = rw (checks-same p q l) (go (eqb (posesRefusal p q) 0) (eqb-false (posesRefusal p q) 0))
+rising-same rigid p q l = rw (checks-same rigid p q l) (go (eqb (buildRefusal rigid p q) 0) (eqb-false (buildRefusal rigid p q) 0))
   where
-    go : (b : Bool) → (b ≡ false → posesRefusal p q ≡ 0 → ⊥)
-        → cond b (ChainAnswer·fromMoves (cond b (work p q) (AnimatedTransformAnswer·refused (posesRefusal p q)) ∷ [])) (refused (posesRefusal p q))
-        ≡ ChainAnswer·fromMoves (cond b (work p q) (AnimatedTransformAnswer·refused (posesRefusal p q)) ∷ [])
+    go : (b : Bool) → (b ≡ false → buildRefusal rigid p q ≡ 0 → ⊥)
+        → cond b (ChainAnswer·fromMoves (cond b (work rigid p q) (AnimatedTransformAnswer·refused (buildRefusal rigid p q)) ∷ [])) (refused (buildRefusal rigid p q))
+        ≡ ChainAnswer·fromMoves (cond b (work rigid p q) (AnimatedTransformAnswer·refused (buildRefusal rigid p q)) ∷ [])
     go true f = refl
-    go false f = sym (from-move-refused (AnimatedTransformAnswer·refused (posesRefusal p q)) (f refl))
+    go false f = sym (from-move-refused (AnimatedTransformAnswer·refused (buildRefusal rigid p q)) (f refl))
 
 -- ---- times that don't rise
 both : (test : Pose → Bool) (p q : Pose) → T (every test (p ∷ q ∷ [])) → T (test p) × T (test q)
 unfolding every
 both test p q h = (and-l (test p) (test q && true) h, and-l (test q) true (and-r (test p) (test q && true) h))
 
-passed : (p q : Pose) → Checked p q → PosePassed p × PosePassed q
-passed p q h =
+passed : (rigid : Bool) (p q : Pose) → Checked p q → Pose·kindNumber rigid p ≡ 0 → Pose·kindNumber rigid q ≡ 0 → PosePassed rigid p × PosePassed rigid q
+passed rigid p q h i j =
     let (f, f') = both Pose·isFinite p q (h .finite) in
     let (a, a') = both Pose·isAffine p q (h .affine) in
     let (z, z') = both Pose·isPadded p q (h .padded) in
-    (record { finite = f; affine = a; padded = z }, record { finite = f'; affine = a'; padded = z' })
+    (record { finite = f; affine = a; padded = z; kind = i }, record { finite = f'; affine = a'; padded = z'; kind = j })
 
-not-rising-refused : (p q : Pose) → Checked p q → T (not (lt (p .time) (q .time))) → Chain·new (p ∷ q ∷ []) ≡ refused 12
-unfolding Chain·new chainRefusal Pose·number Pair·number neighbours firstNumber
-not-rising-refused p q checked l =
-    let (h, k) = passed p q checked in
+not-rising-refused : (rigid : Bool) (p q : Pose) → Checked p q → T (not (lt (p .time) (q .time))) → Chain·new rigid (p ∷ q ∷ []) ≡ refused 12
+unfolding Chain·new chainRefusal Pose·number Pair·number neighbours firstNumber Pose·kindNumber
+not-rising-refused rigid p q checked l =
+    let (h, k) = passed false p q checked refl refl in
     let falls = is-false (lt (p .time) (q .time)) l in
     rw (
       is-true (Pose·isFinite p) (h .finite),
@@ -136,17 +143,18 @@ time-finite p f =
     let matrix = Matrix4x4·isFinite (Matrix4x4·toRows (p .m)) in
     and-l (finite (p .time)) matrix (and-l (finite (p .time) && matrix) (finite (p .pad)) f)
 
-equal-times-worked : (p q : Pose) → Checked p q → p .time ≡ q .time → AnimatedTransform·new p q ≡ work p q
-equal-times-worked p q checked e =
-    let (h, k) = passed p q checked in
-    pair-worked p q h k (rw (← e) (times-passed (p .time) (time-finite p (h .finite))))
+equal-times-worked : (rigid : Bool) (p q : Pose) → Checked p q → Pose·kindNumber rigid p ≡ 0 → Pose·kindNumber rigid q ≡ 0 → p .time ≡ q .time
+    → AnimatedTransform·new rigid p q ≡ work rigid p q
+equal-times-worked rigid p q checked i j e =
+    let (h, k) = passed rigid p q checked i j in
+    pair-worked rigid p q h k (rw (← e) (times-passed (p .time) (time-finite p (h .finite))))
 
-pub two-poses : (p q : Pose) → TwoPoses p q
-two-poses p q = record {
-  same-move = λ l e. rising-same p q l ∙ from-move-built (AnimatedTransform·new p q) e;
-  same-refusal = λ l f. rising-same p q l ∙ from-move-refused (AnimatedTransform·new p q) f;
-  not-rising = not-rising-refused p q;
-  equal-times = equal-times-worked p q;
+pub two-poses : (rigid : Bool) (p q : Pose) → TwoPoses rigid p q
+two-poses rigid p q = record {
+  same-move = λ l e. rising-same rigid p q l ∙ from-move-built (AnimatedTransform·new rigid p q) e;
+  same-refusal = λ l f. rising-same rigid p q l ∙ from-move-refused (AnimatedTransform·new rigid p q) f;
+  not-rising = not-rising-refused rigid p q;
+  equal-times = equal-times-worked rigid p q;
 }
 
 pub single-move : (m : AnimatedTransform) → SingleMove m

@@ -2,6 +2,7 @@
 -- and `pairs-worked`.
 use Prim.Native.Nat.{_<_}
 use mathlib.Core.Path.{_≡_}
+use mathlib.Core.Bool.{Bool}
 use mathlib.Core.List.{List, [], _∷_}
 use lib.Dec.{T}
 use lib.ListN.{length}
@@ -14,11 +15,12 @@ use Rattle.animated_transform.specs.New.{work, AnimatedTransform·new}
 use Rattle.animated_transform.specs.Built.{Built}
 use Rattle.motion_chain.specs.Chain.{maxPoses, neighbours, every, chainRefusal, Chain, Chain·moves, built, Chain·new}
 
--- as a built move of document 01: building gives no refusal, and the times and pads are 32-bit floats
+-- of either kind, rigid or not; as a built move of document 01: building gives no refusal, and the times and pads are 32-bit floats
 pub record BuiltChain (c : Chain) : Type 0 where
+  pub rigid : Bool
   pub poses : List Pose
   pub poses-binary32 : T (every Pose·isBinary32 poses)
-  pub accepted : Chain·new poses ≡ built c
+  pub accepted : Chain·new rigid poses ≡ built c
 
 -- Each move's times rise strictly, the first starts at the given time, and every other at the end time of the one before it.
 abbrev pub Contiguous : Float → List AnimatedTransform → Type 0
@@ -32,5 +34,5 @@ pub record BuiltMoves (c : Chain) : Type 0 where
   pub count : length (Chain·moves c) < maxPoses
 
 -- "worked in rising order once the whole chain's checks are over": no pair of a chain that has passed them is refused before it is worked
-abbrev pub PairsWorked : List Pose → Type 0
-PairsWorked poses = chainRefusal poses ≡ 0 → Each (λ (p, q). AnimatedTransform·new p q ≡ work p q) (neighbours poses)
+abbrev pub PairsWorked : Bool → List Pose → Type 0
+PairsWorked rigid poses = chainRefusal rigid poses ≡ 0 → Each (λ (p, q). AnimatedTransform·new rigid p q ≡ work rigid p q) (neighbours poses)

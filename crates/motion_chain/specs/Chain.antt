@@ -1,7 +1,7 @@
 -- A chain of poses: how it is judged and built, which of its moves a time belongs to, its point query and its cover. Definitions only.
 -- Quotations are of document 02, "Poses in a chain", unless another document is named.
 use Prim.Native.Nat.{ℕ}
-use mathlib.Core.Bool.{Bool, true, _&&_, _||_, cond}
+use mathlib.Core.Bool.{Bool, true, false, _&&_, _||_, cond}
 use mathlib.Core.List.{List, [], _∷_, map}
 use lib.Dec.{eqb, ltb}
 use lib.ListN.{length}
@@ -12,7 +12,7 @@ use Rattle.transform.specs.declared.PointAnswer.{PointAnswer}
 use Rattle.transform.specs.declared.BoundsAnswer.{BoundsAnswer}
 use Rattle.bounds_answers.specs.UnionAll.{BoundsAnswer·unionAll}
 use Rattle.pose_pair.specs.declared.Pose.{Pose}
-use Rattle.pose_pair.specs.Pose.{Pose·isFinite, Pose·isAffine, Pose·isPadded, timesRefusal}
+use Rattle.pose_pair.specs.Pose.{Pose·isFinite, Pose·isAffine, Pose·isPadded, timesRefusal, Pose·kindNumber}
 use Rattle.animated_transform.specs.declared.AnimatedTransform.{AnimatedTransform}
 use Rattle.animated_transform.specs.declared.AnimatedTransformAnswer.{AnimatedTransformAnswer}
 use Rattle.animated_transform.specs.New.{firstRefusal, AnimatedTransform·new}
@@ -58,7 +58,9 @@ Pose·number k p =
     (cond (eqb k 2) (cond (Pose·isAffine p) 0 2)
     -- document 02, "Pads for the spray": "A pad below zero is 16"
     (cond (eqb k 16) (cond (Pose·isPadded p) 0 16)
-    0))
+    -- document 02, "Rigid booms": "A pose that scales or shears is 17, then a determinant of zero or below is 18"
+    (cond (eqb k 17) (Pose·kindNumber true p)
+    0)))
 
 -- What the stage of number k asks of two neighbouring poses.
 unfoldable pub Pair·number : ℕ → Pose × Pose → ℕ
@@ -69,9 +71,14 @@ Pair·number k (p, q) =
     (cond (eqb k 3) (timesRefusal (p .time) (q .time))
     0)
 
+-- document 02, "Rigid booms": of a rigid chain alone, "judged pose by pose"
+unfoldable pub kindStage : Bool → List Pose → ℕ
+kindStage true poses = stage (Pose·number 17) poses
+kindStage false poses = 0
+
 -- "the whole chain's checks", each over the whole chain before the next
-abbrev pub chainStages : List Pose → List ℕ
-chainStages poses =
+abbrev pub chainStages : Bool → List Pose → List ℕ
+chainStages rigid poses =
     stage (Pose·number 1) poses
     ∷ stage (Pose·number 2) poses
     -- document 02, "Pads for the spray": 16 is "judged for each chain or move just after 2"
@@ -80,11 +87,13 @@ chainStages poses =
     ∷ cond (ltb (length poses) minPoses || ltb maxPoses (length poses)) 12 0
     ∷ stage (Pair·number 12) (neighbours poses)
     ∷ stage (Pair·number 3) (neighbours poses)
+    -- document 02, "Rigid booms": "after 3"
+    ∷ kindStage rigid poses
     ∷ []
 
 -- The number of the first stage that has one, or 0 for none.
-unfoldable pub chainRefusal : List Pose → ℕ
-chainRefusal poses = firstNumber (chainStages poses)
+unfoldable pub chainRefusal : Bool → List Pose → ℕ
+chainRefusal rigid poses = firstNumber (chainStages rigid poses)
 
 -- ---- building
 
@@ -113,10 +122,11 @@ ChainAnswer·fromMoves (a ∷ answers) =
     cond (eqb n 0) (built (record { first = a .value; rest = map (λ x. x .value) answers })) (refused n)
 
 -- "Each neighbouring pair is a move of document 01, worked in rising order once the whole chain's checks are over"
-unfoldable pub Chain·new : List Pose → ChainAnswer
-Chain·new poses =
-    let n = chainRefusal poses in
-    cond (eqb n 0) (ChainAnswer·fromMoves (map (λ (p, q). AnimatedTransform·new p q) (neighbours poses))) (refused n)
+-- document 02, "Rigid booms": "A chain may be built as rigid", and then each move is
+unfoldable pub Chain·new : Bool → List Pose → ChainAnswer
+Chain·new rigid poses =
+    let n = chainRefusal rigid poses in
+    cond (eqb n 0) (ChainAnswer·fromMoves (map (λ (p, q). AnimatedTransform·new rigid p q) (neighbours poses))) (refused n)
 
 -- ---- queries
 

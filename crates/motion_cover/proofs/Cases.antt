@@ -1,6 +1,7 @@
 -- Cases of the definitions, by computing: document 01's move A, the identity at time 0 and a translation by 1 along x at time 1, built, and its covers of the origin.
 -- Over all of dt near slerp meets a squared length that starts at zero; over the halves it does not; a depth of 13 is not worked.
 use mathlib.Core.Path.{_≡_, refl}
+use mathlib.Core.Bool.{false}
 use lib.Ieee.{Float, binary32, ofBits}
 use Rattle.float32.specs.Operators.{one}
 use Rattle.matrix4x4.specs.Rows.{positiveZero}
@@ -15,7 +16,7 @@ use Rattle.motion_cover.specs.Computing.{computing}
 
 abbrev moveA : AnimatedTransform
 moveA =
-    AnimatedTransform·new (record { time = positiveZero; m = translation positiveZero positiveZero positiveZero; pad = positiveZero })
+    AnimatedTransform·new false (record { time = positiveZero; m = translation positiveZero positiveZero positiveZero; pad = positiveZero })
     (record { time = one; m = translation one positiveZero positiveZero; pad = positiveZero }) .value
 
 -- from the origin to x along the x axis
@@ -47,7 +48,7 @@ too-deep = refl
 -- The same move with pads of 1. Over a half of dt the pad interval is 0.5 to 1.5, whose high end is above both pads.
 abbrev paddedA : AnimatedTransform
 paddedA =
-    AnimatedTransform·new (record { time = positiveZero; m = translation positiveZero positiveZero positiveZero; pad = one })
+    AnimatedTransform·new false (record { time = positiveZero; m = translation positiveZero positiveZero positiveZero; pad = one })
     (record { time = one; m = translation one positiveZero positiveZero; pad = one }) .value
 
 padded-halves : AnimatedTransform·cover paddedA origin 1

@@ -187,7 +187,7 @@ fn slice_enclosure(
     };
     let trans = pose_parts::translation_enclosure(0, a.t0, a.t1, dt);
     let rotate = slerp_enclosure(trans.refusal, a, perp, from, to);
-    let pose = pose::composition_enclosure(trans.vector, rotate, m.s0, m.s1, dt);
+    let pose = pose::composition_enclosure(a.rigid, trans.vector, rotate, m.s0, m.s1, dt);
     let moved = from_enclosure(pose_point::transform_point_enclosure(
         pose.refusal,
         pose.matrix,

@@ -37,7 +37,7 @@ pub fn pose_enclosure(a: PoseConstants, s0: Matrix4x4, s1: Matrix4x4, dt: Interv
 {
     let trans = pose_parts::translation_enclosure(0, a.t0, a.t1, dt);
     let rotate = slerp_enclosure(trans.refusal, a, dt);
-    pose::composition_enclosure(trans.vector, rotate, s0, s1, dt)
+    pose::composition_enclosure(a.rigid, trans.vector, rotate, s0, s1, dt)
 }
 
 // The same with the pad over that interval. Accuracy: encloses, for an angle from 0 to a quarter turn and dt from 0 to 1.

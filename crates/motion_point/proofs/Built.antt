@@ -23,7 +23,7 @@ translation-each t m e h =
 pub built-valid : {m : AnimatedTransform} → Built m → PoseConstants·Valid (AnimatedTransform·constants m)
 built-valid {m} b =
     let j = built-judged b in
-    new-valid (m .t0) (m .t1) (m .r0) (m .r1)
+    new-valid (m .rigid) (m .t0) (m .t1) (m .r0) (m .r1)
     (translation-each (m .t0) (m .«start_transform» .m) (j .t0) (j .start .matrix))
     (translation-each (m .t1) (m .«end_transform» .m) (j .t1) (j .end .matrix))
     (quaternion-each (m .r0) (j .r0)) (quaternion-each (m .r1) (j .r1)) (j .dot) (j .dot-sign)

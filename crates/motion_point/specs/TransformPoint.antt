@@ -13,9 +13,9 @@ use Rattle.pose_steps.specs.Pose.{PoseConstants·new, Pose·movedPoint}
 use Rattle.animated_transform.specs.declared.AnimatedTransform.{AnimatedTransform}
 use Rattle.animated_transform.specs.AtTime.{atStart, atEnd}
 
--- The constants of the pose between: what `slerp` works out anew at each call.
+-- The constants of the pose between: what `slerp` works out anew at each call, and the kind.
 abbrev pub AnimatedTransform·constants : AnimatedTransform → PoseConstants
-AnimatedTransform·constants m = PoseConstants·new (m .t0) (m .t1) (m .r0) (m .r1)
+AnimatedTransform·constants m = PoseConstants·new (m .rigid) (m .t0) (m .t1) (m .r0) (m .r1)
 
 -- The work, where a are the move's constants.
 unfoldable pub AnimatedTransform·movedPoint : AnimatedTransform → PoseConstants → Float → Point3f → PointAnswer

@@ -11,7 +11,7 @@ ghost use Rattle.motion_point.specs.TransformPoint.{AnimatedTransform·c
 pub fn constants(m: AnimatedTransform) -> PoseConstants
     ensures value { λ r. ⌜ r ≡ AnimatedTransform·constants m ⌝ }
 {
-    pose_slerp::constants(m.t0, m.t1, m.r0, m.r1)
+    pose_slerp::constants(m.rigid, m.t0, m.t1, m.r0, m.r1)
 }
 
 // Where a move with its constants at hand takes a point at a time, neither of which is judged here; refused with 5 where a finished value isn't finite.

@@ -17,11 +17,11 @@ flag-eq false = refl
 
 pub from-rows-inverse : (m : AnimatedTransform) → AnimatedTransform·fromRows (AnimatedTransform·toRows m) ≡ m
 unfolding AnimatedTransform·toRows fieldsRows constantsRow AnimatedTransform·fromRows transformAt derivativeAt coefficientsAt
-from-rows-inverse m = rw (flag-eq (m .«actually_animated»), flag-eq (m .«has_rotation»))
+from-rows-inverse m = rw (flag-eq (m .«actually_animated»), flag-eq (m .«has_rotation»), flag-eq (m .rigid))
 
 pub constants-inverse : (m : AnimatedTransform) → PoseConstants·fromRows (AnimatedTransform·toRows m) ≡ AnimatedTransform·constants m
 unfolding AnimatedTransform·toRows fieldsRows constantsRow PoseConstants·fromRows PoseConstants·new
-constants-inverse m = refl
+constants-inverse m = rw (flag-eq (m .rigid))
 
 pub transform-point-kept : (m : AnimatedTransform) (time : Float) (p : Point3f) → Rows·transformPoint (AnimatedTransform·toRows m) time p ≡ AnimatedTransform·transformPoint m time p
 unfolding Rows·transformPoint AnimatedTransform·transformPoint

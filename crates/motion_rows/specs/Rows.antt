@@ -1,7 +1,7 @@
 -- A move as 45 rows of four floats, `AnimatedTransform·toRows`, and the move in 45 rows, `AnimatedTransform·fromRows`, for all rows. Definitions only.
 -- The rows in order: the start's matrix and inverse, the end's matrix and inverse (0 to 15); the translations, each with its time (16, 17); the rotations (18, 19); the scale
 -- matrices (20 to 27); c1 to c5 of x, of y and of z (28 to 42); the two yes or no, 1 for yes, with the dot product of the rotations and the angle between them (43); the
--- two pads, and +0 twice (44).
+-- two pads, whether it is rigid, 1 for yes, and +0 (44).
 use Prim.Native.Nat.{ℕ, _+_}
 use mathlib.Core.Bool.{Bool, cond}
 use mathlib.Core.List.{[], _∷_, _++_}
@@ -44,19 +44,19 @@ constantsRow m =
     flag (m .«actually_animated») ∷ flag (m .«has_rotation») ∷ a .«cos_theta» ∷ a .theta ∷ []
 
 abbrev pub padsRow : AnimatedTransform → Row
-padsRow m = m .pad0 ∷ m .pad1 ∷ positiveZero ∷ positiveZero ∷ []
+padsRow m = m .pad0 ∷ m .pad1 ∷ flag (m .rigid) ∷ positiveZero ∷ []
 
-unfoldable pub fieldsRows : AnimatedTransform → Row → Rows
-fieldsRows m constants =
+unfoldable pub fieldsRows : AnimatedTransform → Row → Row → Rows
+fieldsRows m constants pads =
     let c = m .coefficients in
     transformRows (m .«start_transform») ++ transformRows (m .«end_transform»)
     ++ (vectorRow (m .t0) (m .«start_time») ∷ vectorRow (m .t1) (m .«end_time») ∷ quaternionRow (m .r0) ∷ quaternionRow (m .r1) ∷ [])
     ++ Matrix4x4·toRows (m .s0) ++ Matrix4x4·toRows (m .s1)
     ++ derivativeRows (c .x) ++ derivativeRows (c .y) ++ derivativeRows (c .z)
-    ++ (constants ∷ padsRow m ∷ [])
+    ++ (constants ∷ pads ∷ [])
 
 unfoldable pub AnimatedTransform·toRows : AnimatedTransform → Rows
-AnimatedTransform·toRows m = fieldsRows m (constantsRow m)
+AnimatedTransform·toRows m = fieldsRows m (constantsRow m) (padsRow m)
 
 -- a lent array after building: `old` is what stood in it, and stands in it after a refusal
 unfoldable pub AnimatedTransformAnswer·left : AnimatedTransformAnswer → Rows → Rows
@@ -102,6 +102,7 @@ AnimatedTransform·fromRows rows =
       coefficients = coefficientsAt rows 28;
       pad0 = at rows 44 0;
       pad1 = at rows 44 1;
+      rigid = eq (at rows 44 2) one;
     }
 
 -- the constants of the pose between, which stand beside the move
@@ -114,4 +115,5 @@ PoseConstants·fromRows rows =
       r1 = quaternionAt rows 19;
       «cos_theta» = at rows 43 2;
       theta = at rows 43 3;
+      rigid = eq (at rows 44 2) one;
     }

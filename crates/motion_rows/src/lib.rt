@@ -16,7 +16,7 @@ ghost use Prim.Native.Nat.{_+_, _<_};
 ghost use mathlib.Core.Path.{_≡_};
 ghost use Rattle.motion_point.specs.TransformPoint.{AnimatedTransform·movedPoint};
 ghost use Rattle.motion_rows.specs.TransformPoint.{Rows·transformPoint};
-ghost use Rattle.motion_rows.specs.Rows.{flag, constantsRow, fieldsRows, vectorAt, quaternionAt, matrixAt, transformAt, termAt, derivativeAt, coefficientsAt, AnimatedTransform·toRows, AnimatedTransformAnswer·left, AnimatedTransform·fromRows, PoseConstants·fromRows};
+ghost use Rattle.motion_rows.specs.Rows.{flag, constantsRow, padsRow, fieldsRows, vectorAt, quaternionAt, matrixAt, transformAt, termAt, derivativeAt, coefficientsAt, AnimatedTransform·toRows, AnimatedTransformAnswer·left, AnimatedTransform·fromRows, PoseConstants·fromRows};
 
 fn flag(b: bool) -> f32
     ensures value { λ r. ⌜ r ≡ flag b ⌝ }
@@ -37,9 +37,16 @@ fn constants_row(m: AnimatedTransform) -> [f32; 4]
     ]
 }
 
-// The fields of a move, row by row, with the row of its constants before the last.
-fn fields_rows(m: AnimatedTransform, constants: [f32; 4]) -> [[f32; 4]; 45]
-    ensures value { λ r. ⌜ r ≡ fieldsRows m constants ⌝ }
+// The pads and the kind.
+fn pads_row(m: AnimatedTransform) -> [f32; 4]
+    ensures value { λ r. ⌜ r ≡ padsRow m ⌝ }
+{
+    [m.pad0, m.pad1, flag(m.rigid), 0.0]
+}
+
+// The fields of a move, row by row, with the rows of its constants and of its pads last.
+fn fields_rows(m: AnimatedTransform, constants: [f32; 4], pads: [f32; 4]) -> [[f32; 4]; 45]
+    ensures value { λ r. ⌜ r ≡ fieldsRows m constants pads ⌝ }
 {
     let start = m.start_transform;
     let end = m.end_transform;
@@ -143,7 +150,7 @@ fn fields_rows(m: AnimatedTransform, constants: [f32; 4]) -> [[f32; 4]; 45]
         [z4.kc, z4.kx, z4.ky, z4.kz],
         [z5.kc, z5.kx, z5.ky, z5.kz],
         constants,
-        [m.pad0, m.pad1, 0.0, 0.0],
+        pads,
     ]
 }
 
@@ -151,7 +158,7 @@ fn fields_rows(m: AnimatedTransform, constants: [f32; 4]) -> [[f32; 4]; 45]
 fn to_rows(m: AnimatedTransform) -> [[f32; 4]; 45]
     ensures value { λ r. ⌜ r ≡ AnimatedTransform·toRows m ⌝ }
 {
-    fields_rows(m, constants_row(m))
+    fields_rows(m, constants_row(m), pads_row(m))
 }
 
 // Puts a built move into `out`, or after a refusal nothing, and gives the refusal's number, 0 for none.
@@ -279,6 +286,7 @@ pub fn from_rows(rows: &[[f32; 4]; 45]) -> AnimatedTransform
         coefficients,
         pad0: pads[0],
         pad1: pads[1],
+        rigid: pads[2] == 1.0,
     }
 }
 
@@ -287,6 +295,7 @@ fn constants_from_rows(rows: &[[f32; 4]; 45]) -> PoseConstants
     ensures value { λ r. ⌜ r ≡ PoseConstants·fromRows (now (rows .entry)) ⌝ }
 {
     let constants = rows[43];
+    let pads = rows[44];
     let t0 = vector_at(rows, 16);
     let t1 = vector_at(rows, 17);
     let r0 = quaternion_at(rows, 18);
@@ -298,6 +307,7 @@ fn constants_from_rows(rows: &[[f32; 4]; 45]) -> PoseConstants
         r1,
         cos_theta: constants[2],
         theta: constants[3],
+        rigid: pads[2] == 1.0,
     }
 }
 

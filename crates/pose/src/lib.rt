@@ -63,7 +63,7 @@ pub fn matrix(a: PoseConstants, s0: Matrix4x4, s1: Matrix4x4, dt: f32) -> PoseAn
 {
     let trans = pose_parts::translation(a.t0, a.t1, dt);
     let rotate = pose_slerp::slerp(a, dt);
-    let scaling = pose_parts::scale(s0, s1, dt);
+    let scaling = pose_parts::scale_by(a.rigid, s0, s1, dt);
     let translate = translation_matrix(trans);
     let rotating = pose_rotation::rotation(rotate);
     let first = product(translate, rotating);
@@ -100,15 +100,16 @@ pub fn moved_point(
 // The pose's matrix over an interval of dt, from its translation and its rotation there, with the refusal number met before; refused with 5.
 // Accuracy: encloses.
 pub fn composition_enclosure(
+    rigid: bool,
     trans: IntervalVector,
     rotate: JudgedQuaternion,
     s0: Matrix4x4,
     s1: Matrix4x4,
     dt: Interval,
 ) -> JudgedMatrix
-    ensures value { λ r. ⌜ r ≡ Pose·encloseComposition trans rotate s0 s1 dt ⌝ }
+    ensures value { λ r. ⌜ r ≡ Pose·encloseComposition rigid trans rotate s0 s1 dt ⌝ }
 {
-    let scaling = pose_parts::scale_enclosure(rotate.refusal, s0, s1, dt);
+    let scaling = pose_parts::scale_by_enclosure(rigid, rotate.refusal, s0, s1, dt);
     let rotating = pose_rotation::rotation_enclosure(scaling.refusal, rotate.quaternion);
     let first = pose_product::translate_enclosure(rotating.refusal, trans, rotating.matrix);
     pose_product::mul_enclosure(first.refusal, first.matrix, scaling.matrix)

@@ -1,12 +1,13 @@
--- What the building of a move asks of two poses before it works anything: refusals 1, 2, 16 and 3, in this order. Definitions only.
+-- What the building of a move asks of two poses before it works anything: refusals 1, 2, 16 and 3, in this order; and what a rigid one asks of each, 17 and 18. Definitions only.
 use Prim.Native.Nat.{ℕ}
-use mathlib.Core.Bool.{Bool, not, _&&_, _||_, cond}
+use mathlib.Core.Bool.{Bool, true, false, not, _&&_, _||_, cond}
 use lib.Ieee.{Float, binary32, fits, lt, le}
 use lib.Ieee.Scale.{finite}
 use Rattle.float32.specs.Operators.{_⊖_}
 use Rattle.matrix4x4.specs.Rows.{positiveZero, Matrix4x4·toRows}
 use Rattle.matrix4x4.specs.IsFinite.{Matrix4x4·isFinite}
 use Rattle.matrix4x4.specs.IsAffine.{Matrix4x4·isAffine}
+use Rattle.rigid_pose.specs.Rigid.{Matrix4x4·rigidNumber}
 use Rattle.pose_pair.specs.declared.Pose.{Pose}
 
 -- document 01, Refusals, 1: "a matrix entry or time is not finite"; document 02, "Pads for the spray": and a pad "that isn't finite is 1"
@@ -36,3 +37,8 @@ posesRefusal start end =
     (cond (not (Pose·isAffine start && Pose·isAffine end)) 2
     (cond (not (Pose·isPadded start && Pose·isPadded end)) 16
     (timesRefusal (start .time) (end .time))))
+
+-- document 02, "Rigid booms": "A pose that scales or shears is 17, then a determinant of zero or below is 18"; of a plain move nothing is asked
+unfoldable pub Pose·kindNumber : Bool → Pose → ℕ
+Pose·kindNumber true p = Matrix4x4·rigidNumber (Matrix4x4·toRows (p .m))
+Pose·kindNumber false p = 0

@@ -1,7 +1,7 @@
-// A pose, and what the building of a move asks of two of them before it computes anything.
+// A pose, and what the building of a move asks of two of them before it computes anything; what a rigid one asks of each.
 use matrix4x4::Matrix4x4;
 ghost use mathlib.Core.Path.{_≡_};
-ghost use Rattle.pose_pair.specs.Pose.{Pose·isFinite, Pose·isAffine, Pose·isPadded, timesRefusal, posesRefusal};
+ghost use Rattle.pose_pair.specs.Pose.{Pose·isFinite, Pose·isAffine, Pose·isPadded, timesRefusal, posesRefusal, Pose·kindNumber};
 
 // A matrix at a time, and the pad: how far beyond the boom the spray wets the ground then.
 pub struct Pose {
@@ -32,6 +32,18 @@ impl Pose {
         ensures value { λ r. ⌜ r ≡ Pose·isPadded self ⌝ }
     {
         self.pad >= 0.0
+    }
+
+    // What a rigid move asks of a pose: refused with 17 where it scales or shears, then with 18 where its determinant isn't above zero; 0 for none, and
+    // for a plain move. Accuracy: heuristic, by rounded products.
+    pub fn kind_number(self, rigid: bool) -> u8
+        ensures value { λ r. ⌜ r ≡ Pose·kindNumber rigid self ⌝ }
+    {
+        if rigid {
+            rigid_pose::refusal(self.m.to_rows())
+        } else {
+            0
+        }
     }
 }
 

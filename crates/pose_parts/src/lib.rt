@@ -1,8 +1,8 @@
 // Translation and scale of a pose at dt, from those of a move's two poses: in floats, and in intervals of which each is judged as it is formed.
 // Where a sum over the ends that come out is finite, judging is left out, which gives the same.
 ghost use mathlib.Core.Path.{_≡_};
-ghost use Rattle.pose_steps.specs.Pose.{Pose·translation, Pose·scaleRow, Pose·scale};
-ghost use Rattle.pose_steps.specs.Enclose.{IntervalVector·point, IntervalRow·point, IntervalMatrix·point, Pose·encloseTranslation, Pose·encloseScale};
+ghost use Rattle.pose_steps.specs.Pose.{Pose·translation, Pose·scaleRow, Pose·scale, Pose·scaleBy};
+ghost use Rattle.pose_steps.specs.Enclose.{IntervalVector·point, IntervalRow·point, IntervalMatrix·point, Pose·encloseTranslation, Pose·encloseScale, encloseScaleBy};
 ghost use Rattle.pose_parts.specs.Unjudged.{Pose·unjudgedTranslation, Pose·unjudgedScaleRow, Pose·unjudgedScale};
 use interval::Interval;
 use matrix4x4::Matrix4x4;
@@ -98,6 +98,22 @@ pub fn scale(s0: Matrix4x4, s1: Matrix4x4, dt: f32) -> Matrix4x4
     Matrix4x4 { r0, r1, r2, r3 }
 }
 
+// The scale at dt of a move of either kind: a rigid one has the identity. Accuracy: each operation is correctly rounded.
+pub fn scale_by(rigid: bool, s0: Matrix4x4, s1: Matrix4x4, dt: f32) -> Matrix4x4
+    ensures value { λ r. ⌜ r ≡ Pose·scaleBy rigid s0 s1 dt ⌝ }
+{
+    if rigid {
+        Matrix4x4 {
+            r0: [1.0, 0.0, 0.0, 0.0],
+            r1: [0.0, 1.0, 0.0, 0.0],
+            r2: [0.0, 0.0, 1.0, 0.0],
+            r3: [0.0, 0.0, 0.0, 1.0],
+        }
+    } else {
+        scale(s0, s1, dt)
+    }
+}
+
 fn scale_row_unjudged(s0: [f32; 4], s1: [f32; 4], dt: Interval) -> IntervalRow
     ensures value { λ r. ⌜ r ≡ Pose·unjudgedScaleRow (IntervalRow·point s0) (IntervalRow·point s1) dt ⌝ }
 {
@@ -160,5 +176,52 @@ pub fn scale_enclosure(m: u8, s0: Matrix4x4, s1: Matrix4x4, dt: Interval) -> Jud
         let a = pose_point::matrix_point(s0);
         let b = pose_point::matrix_point(s1);
         pose_judged::scale_enclosure(m, a, b, dt)
+    }
+}
+
+// The same of a move of either kind: a rigid one has the identity with equal ends, and no number is met. Accuracy: encloses.
+pub fn scale_by_enclosure(
+    rigid: bool,
+    m: u8,
+    s0: Matrix4x4,
+    s1: Matrix4x4,
+    dt: Interval,
+) -> JudgedMatrix
+    ensures value { λ r. ⌜ r ≡ encloseScaleBy rigid m s0 s1 dt ⌝ }
+{
+    if rigid {
+        let zero = Interval {
+            low: 0.0,
+            high: 0.0,
+        };
+        let one = Interval {
+            low: 1.0,
+            high: 1.0,
+        };
+        let r0 = IntervalRow {
+            c0: one,
+            c1: zero,
+            c2: zero,
+            c3: zero,
+        };
+        let r1 = IntervalRow {
+            c0: zero,
+            c1: one,
+            c2: zero,
+            c3: zero,
+        };
+        let r2 = IntervalRow {
+            c0: zero,
+            c1: zero,
+            c2: one,
+            c3: zero,
+        };
+        let identity = IntervalMatrix { r0, r1, r2 };
+        JudgedMatrix {
+            matrix: identity,
+            refusal: m,
+        }
+    } else {
+        scale_enclosure(m, s0, s1, dt)
     }
 }

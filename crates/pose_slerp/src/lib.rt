@@ -23,8 +23,14 @@ pub struct Perpendicular {
 
 // The constants of a move: the dot product of its rotations and the angle between them are computed here, once.
 // Accuracy: each operation but the arc cosine is correctly rounded.
-pub fn constants(t0: Vector3f, t1: Vector3f, r0: Quaternion, r1: Quaternion) -> PoseConstants
-    ensures value { λ r. ⌜ r ≡ PoseConstants·new t0 t1 r0 r1 ⌝ }
+pub fn constants(
+    rigid: bool,
+    t0: Vector3f,
+    t1: Vector3f,
+    r0: Quaternion,
+    r1: Quaternion,
+) -> PoseConstants
+    ensures value { λ r. ⌜ r ≡ PoseConstants·new rigid t0 t1 r0 r1 ⌝ }
 {
     let cos_theta = r0.dot(r1);
     let theta = trig::acos(float32::clamp(cos_theta, -1.0, 1.0));
@@ -35,6 +41,7 @@ pub fn constants(t0: Vector3f, t1: Vector3f, r0: Quaternion, r1: Quaternion) -> 
         r1,
         cos_theta,
         theta,
+        rigid,
     }
 }
 

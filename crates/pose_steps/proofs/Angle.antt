@@ -81,9 +81,9 @@ theta-quarter c f l =
     record { below = acos-range (clamp c (neg one) one) d .below; above = acos-quarter (clamp c (neg one) one) d n }
 
 -- A move whose parts are finite and whose rotations have a finite dot product of at least 0 is valid.
-pub new-valid : (t0 t1 : Vector3f) (r0 r1 : Quaternion) → AllFinite (Vector3f·list t0) → AllFinite (Vector3f·list t1) → AllFinite (Quaternion·list r0) → AllFinite (Quaternion·list r1)
-    → T (finite (Quaternion·dot r0 r1)) → positiveZero ≼ Quaternion·dot r0 r1 → PoseConstants·Valid (PoseConstants·new t0 t1 r0 r1)
+pub new-valid : (k : Bool) (t0 t1 : Vector3f) (r0 r1 : Quaternion) → AllFinite (Vector3f·list t0) → AllFinite (Vector3f·list t1) → AllFinite (Quaternion·list r0) → AllFinite (Quaternion·list r1)
+    → T (finite (Quaternion·dot r0 r1)) → positiveZero ≼ Quaternion·dot r0 r1 → PoseConstants·Valid (PoseConstants·new k t0 t1 r0 r1)
 unfolding PoseConstants·new
-new-valid t0 t1 r0 r1 a b c d f l =
+new-valid k t0 t1 r0 r1 a b c d f l =
     let q = theta-quarter (Quaternion·dot r0 r1) f l in
     record { t0 = a; t1 = b; r0 = c; r1 = d; cosTheta = f; theta-from-zero = q .below; theta-to-quarter = q .above }

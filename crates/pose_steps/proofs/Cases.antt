@@ -1,6 +1,7 @@
 -- Cases of the definitions, by computing. A translation by 1 along x: half way it moves the origin by a half; over all of dt near slerp meets a squared length that starts
 -- at zero, and over the first half it does not. A swing: a sixth of a turn about z, with a stretch along z and a translation; the numbers are pbrt-rust's own answers.
 use mathlib.Core.Path.{_≡_, refl}
+use mathlib.Core.Bool.{false}
 use mathlib.Core.List.{[], _∷_}
 use Prim.Native.Nat.{ℕ}
 use lib.Ieee.{Float, binary32, ofBits}
@@ -53,7 +54,7 @@ noRotation = record { v = vector 0 0 0; w = one }
 
 -- ---- a translation by 1 along x
 abbrev along : PoseConstants
-along = record { t0 = vector 0 0 0; t1 = vector 0x3f800000 0 0; r0 = noRotation; r1 = noRotation; «cos_theta» = one; theta = positiveZero }
+along = record { t0 = vector 0 0 0; t1 = vector 0x3f800000 0 0; r0 = noRotation; r1 = noRotation; «cos_theta» = one; theta = positiveZero; rigid = false }
 
 along-half : Pose·movedPoint along identity identity half (point 0 0 0) ≡ Moved (point 0x3f000000 0 0)
 unfolding computing
@@ -77,6 +78,7 @@ swing =
       r1 = record { v = vector 0 0 0x3f000000; w = bits 0x3f5db3d7 };
       «cos_theta» = bits 0x3f5db3d7;
       theta = bits 0x3f060a90;
+      rigid = false;
     }
 
 abbrev stretch : Matrix4x4

@@ -33,9 +33,9 @@ use Rattle.transform.specs.TransformPoint.{judged, Transform·transformPoint}
 use Rattle.transform.proofs.Wp.{moved-affine}
 use Rattle.rotation.specs.FromQuaternion.{inverseRotation, Transform·fromQuaternion}
 use Rattle.pose_steps.specs.declared.PoseConstants.{PoseConstants}
-use Rattle.pose_steps.specs.Pose.{PoseConstants·new, Pose·translation, Pose·slerpNear, Pose·slerpFar, slerpBy, Pose·slerp, Pose·scaleRow, Pose·scale, Pose·rotation, Pose·mulRow, Pose·mul, Pose·transformPoint, allFinite, PoseAnswer·judged, Pose·matrix, Pose·movedPoint}
-use Rattle.pose_steps.specs.Composition.{lerpTranslation, lerpScale, composition}
-use Rattle.pose_steps.proofs.Rows.{scale-bottom, rotation-bottom, mul-bottom}
+use Rattle.pose_steps.specs.Pose.{PoseConstants·new, Pose·translation, Pose·slerpNear, Pose·slerpFar, slerpBy, Pose·slerp, Pose·scaleRow, Pose·scale, Pose·scaleBy, Pose·rotation, Pose·mulRow, Pose·mul, Pose·transformPoint, allFinite, PoseAnswer·judged, Pose·matrix, Pose·movedPoint}
+use Rattle.pose_steps.specs.Composition.{lerpTranslation, lerpScale, lerpScaleBy, composition}
+use Rattle.pose_steps.proofs.Rows.{scale-by-bottom, rotation-bottom, mul-bottom}
 use Rattle.pose_steps.proofs.Finite.{all-each}
 
 -- ---- stages whose two definitions are one term
@@ -43,17 +43,23 @@ pub translation-same : (t0 t1 : Vector3f) (dt : Float) → Pose·translation t0 
 unfolding Pose·translation
 translation-same t0 t1 dt = refl
 
-pub slerp-same : (t0 t1 : Vector3f) (r0 r1 : Quaternion) (dt : Float) → Pose·slerp (PoseConstants·new t0 t1 r0 r1) dt ≡ Quaternion·slerp r0 r1 dt
+pub slerp-same : (k : Bool) (t0 t1 : Vector3f) (r0 r1 : Quaternion) (dt : Float) → Pose·slerp (PoseConstants·new k t0 t1 r0 r1) dt ≡ Quaternion·slerp r0 r1 dt
 unfolding PoseConstants·new Pose·slerp Quaternion·slerp
-slerp-same t0 t1 r0 r1 dt = go (lt slerpThreshold (Quaternion·dot r0 r1))
+slerp-same k t0 t1 r0 r1 dt = go (lt slerpThreshold (Quaternion·dot r0 r1))
   where
-    go : (b : Bool) → slerpBy b (PoseConstants·new t0 t1 r0 r1) dt ≡ leaf.slerpBy b r0 r1 dt (Quaternion·dot r0 r1)
+    go : (b : Bool) → slerpBy b (PoseConstants·new k t0 t1 r0 r1) dt ≡ leaf.slerpBy b r0 r1 dt (Quaternion·dot r0 r1)
     go true = unfold slerpBy leaf.slerpBy Pose·slerpNear leaf.slerpNear Quaternion·normalize Quaternion·add Quaternion·mul Quaternion·div Quaternion·dot in refl
     go false = unfold slerpBy leaf.slerpBy Pose·slerpFar leaf.slerpFar Quaternion·normalize Quaternion·add Quaternion·sub Quaternion·mul Quaternion·div Quaternion·dot in refl
 
 pub scale-same : (s0 s1 : Matrix4x4) (dt : Float) → Matrix4x4·toRows (Pose·scale s0 s1 dt) ≡ lerpScale (Matrix4x4·toRows s0) (Matrix4x4·toRows s1) dt
 unfolding Pose·scale Pose·scaleRow lerp
 scale-same s0 s1 dt = refl
+
+pub scale-by-same : (k : Bool) (s0 s1 : Matrix4x4) (dt : Float)
+    → Matrix4x4·toRows (Pose·scaleBy k s0 s1 dt) ≡ lerpScaleBy k (Matrix4x4·toRows s0) (Matrix4x4·toRows s1) dt
+unfolding Pose·scaleBy lerpScaleBy
+scale-by-same true s0 s1 dt = refl
+scale-by-same false s0 s1 dt = scale-same s0 s1 dt
 
 pub rotation-same : (q : Quaternion) → Transform·fromQuaternion q .m ≡ Pose·rotation q
 unfolding Pose·rotation Transform·fromQuaternion Matrix4x4·transpose inverseRotation
@@ -123,15 +129,15 @@ judged-accepted false m z = absurd (omega arith)
 abbrev translationOf : Vector3f → Matrix4x4
 translationOf v = translation (v .x) (v .y) (v .z)
 
-module _ (t0 t1 : Vector3f) (r0 r1 : Quaternion) (s0 s1 : Matrix4x4) (S : Transform) (dt : Float)
-    (e : Matrix4x4·toRows (S .m) ≡ lerpScale (Matrix4x4·toRows s0) (Matrix4x4·toRows s1) dt) where
-  pub matrix-composition : Pose·matrix (PoseConstants·new t0 t1 r0 r1) s0 s1 dt .refusal ≡ 0 → composition t0 t1 r0 r1 S dt .m ≡ Pose·matrix (PoseConstants·new t0 t1 r0 r1) s0 s1 dt .m
+module _ (k : Bool) (t0 t1 : Vector3f) (r0 r1 : Quaternion) (s0 s1 : Matrix4x4) (S : Transform) (dt : Float)
+    (e : Matrix4x4·toRows (S .m) ≡ lerpScaleBy k (Matrix4x4·toRows s0) (Matrix4x4·toRows s1) dt) where
+  pub matrix-composition : Pose·matrix (PoseConstants·new k t0 t1 r0 r1) s0 s1 dt .refusal ≡ 0 → composition t0 t1 r0 r1 S dt .m ≡ Pose·matrix (PoseConstants·new k t0 t1 r0 r1) s0 s1 dt .m
   unfolding PoseConstants·new Pose·matrix composition Transform·mul
   matrix-composition z =
-      let a = PoseConstants·new t0 t1 r0 r1 in
+      let a = PoseConstants·new k t0 t1 r0 r1 in
       let trans = Pose·translation t0 t1 dt in
       let rotate = Pose·slerp a dt in
-      let scale = Pose·scale s0 s1 dt in
+      let scale = Pose·scaleBy k s0 s1 dt in
       let translate = translation (trans .x) (trans .y) (trans .z) in
       let rotation = Pose·rotation rotate in
       let first = Pose·mul translate rotation in
@@ -144,15 +150,15 @@ module _ (t0 t1 : Vector3f) (r0 r1 : Quaternion) (s0 s1 : Matrix4x4) (S : Transf
       let (t, l) = judged-accepted (F && allFinite last) last z in
       let tR = and-l R (allFinite first) (and-l F (allFinite last) t) in
       let tK = and-l K (allFinite translate) (and-l U (allFinite rotation) tR) in
-      let h : Matrix4x4·toRows (S .m) ≡ Matrix4x4·toRows scale = e ∙ sym (scale-same s0 s1 dt) in
+      let h : Matrix4x4·toRows (S .m) ≡ Matrix4x4·toRows scale = e ∙ sym (scale-by-same k s0 s1 dt) in
       let τ : translationOf (lerpTranslation t0 t1 dt) ≡ translate = ap translationOf (sym (translation-same t0 t1 dt)) in
       let ρ : Transform·fromQuaternion (Quaternion·slerp r0 r1 dt) .m ≡ rotation =
-      ap (λ (q : Quaternion). Transform·fromQuaternion q .m) (sym (slerp-same t0 t1 r0 r1 dt)) ∙ rotation-same rotate in
-      ap (λ (k : Rows). Matrix4x4·fromRows (Matrix4x4·mul (Matrix4x4·toRows (product (translationOf (lerpTranslation t0 t1 dt)) (Transform·fromQuaternion (Quaternion·slerp r0 r1 dt) .m))) k)) h
+      ap (λ (q : Quaternion). Transform·fromQuaternion q .m) (sym (slerp-same k t0 t1 r0 r1 dt)) ∙ rotation-same rotate in
+      ap (λ (s : Rows). Matrix4x4·fromRows (Matrix4x4·mul (Matrix4x4·toRows (product (translationOf (lerpTranslation t0 t1 dt)) (Transform·fromQuaternion (Quaternion·slerp r0 r1 dt) .m))) s)) h
       ∙ ap (λ (m : Matrix4x4). product (product m (Transform·fromQuaternion (Quaternion·slerp r0 r1 dt) .m)) scale) τ
       ∙ ap (λ (m : Matrix4x4). product (product translate m) scale) ρ
       ∙ ap (λ (m : Matrix4x4). product m scale) (product-same translate rotation refl (rotation-bottom rotate) (and-r U (allFinite rotation) tR))
-      ∙ product-same first scale (mul-bottom translate rotation) (scale-bottom s0 s1 dt) (and-r Q (allFinite scale) tK)
+      ∙ product-same first scale (mul-bottom translate rotation) (scale-by-bottom k s0 s1 dt) (and-r Q (allFinite scale) tK)
       ∙ sym l
 
 affine-bottom : (m : Matrix4x4) → m .r3 ≡ bottomRow → T (Matrix4x4·isAffine (Matrix4x4·toRows m))
@@ -168,7 +174,7 @@ accepted-bottom : (a : PoseConstants) (s0 s1 : Matrix4x4) (dt : Float) → Pose�
 unfolding Pose·matrix
 accepted-bottom a s0 s1 dt z =
     let trans = Pose·translation (a .t0) (a .t1) dt in
-    let scale = Pose·scale s0 s1 dt in
+    let scale = Pose·scaleBy (a .rigid) s0 s1 dt in
     let translate = translationOf trans in
     let rotation = Pose·rotation (Pose·slerp a dt) in
     let first = Pose·mul translate rotation in
@@ -176,14 +182,14 @@ accepted-bottom a s0 s1 dt z =
     let b = Quaternion·isFinite (Pose·slerp a dt) && allFinite scale && allFinite translate && allFinite rotation && allFinite first && allFinite last in
     ap (λ (m : Matrix4x4). m .r3) (judged-accepted b last z .1) ∙ mul-bottom first scale
 
-module _ (t0 t1 : Vector3f) (r0 r1 : Quaternion) (s0 s1 : Matrix4x4) (S : Transform) (dt : Float)
-    (e : Matrix4x4·toRows (S .m) ≡ lerpScale (Matrix4x4·toRows s0) (Matrix4x4·toRows s1) dt) where
-  pub point-composition : (p : Point3f) → Finite p → Pose·matrix (PoseConstants·new t0 t1 r0 r1) s0 s1 dt .refusal ≡ 0
-      → Transform·transformPoint (composition t0 t1 r0 r1 S dt) p ≡ Pose·movedPoint (PoseConstants·new t0 t1 r0 r1) s0 s1 dt p
+module _ (k : Bool) (t0 t1 : Vector3f) (r0 r1 : Quaternion) (s0 s1 : Matrix4x4) (S : Transform) (dt : Float)
+    (e : Matrix4x4·toRows (S .m) ≡ lerpScaleBy k (Matrix4x4·toRows s0) (Matrix4x4·toRows s1) dt) where
+  pub point-composition : (p : Point3f) → Finite p → Pose·matrix (PoseConstants·new k t0 t1 r0 r1) s0 s1 dt .refusal ≡ 0
+      → Transform·transformPoint (composition t0 t1 r0 r1 S dt) p ≡ Pose·movedPoint (PoseConstants·new k t0 t1 r0 r1) s0 s1 dt p
   point-composition p f z =
-      let a = PoseConstants·new t0 t1 r0 r1 in
+      let a = PoseConstants·new k t0 t1 r0 r1 in
       let M = Pose·matrix a s0 s1 dt .m in
-      let h : composition t0 t1 r0 r1 S dt .m ≡ M = matrix-composition t0 t1 r0 r1 s0 s1 S dt e z in
+      let h : composition t0 t1 r0 r1 S dt .m ≡ M = matrix-composition k t0 t1 r0 r1 s0 s1 S dt e z in
       let i = affine-bottom M (accepted-bottom a s0 s1 dt z) in
       point-affine (composition t0 t1 r0 r1 S dt) p (rw h i) f
       ∙ ap (λ (m : Matrix4x4). judged (Pose·transformPoint m p)) h

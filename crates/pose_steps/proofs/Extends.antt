@@ -33,13 +33,13 @@ use Rattle.pose_steps.specs.declared.IntervalQuaternion.{IntervalQuatern
 use Rattle.pose_steps.specs.declared.IntervalRow.{IntervalRow}
 use Rattle.pose_steps.specs.declared.IntervalMatrix.{IntervalMatrix}
 use Rattle.pose_steps.specs.Stages.{translationStage, slerpNearStage, slerpFarStage, scaleRowStage, rotationStage, mulRowStage, transformPointStage}
-use Rattle.pose_steps.specs.Pose.{Vector3f·list, Quaternion·list, Matrix4x4·list, three, entries, Pose·translation, Pose·slerpNear, Pose·slerpFar, slerpBy, isNear, Pose·slerp, Pose·scaleRow, Pose·scale, Pose·rotation, Pose·mulRow, Pose·mul, Pose·transformPoint, allFinite, PoseAnswer·judged, Pose·matrix, Pose·movedPoint}
-use Rattle.pose_steps.specs.Enclose.{IntervalVector·list, IntervalVector·point, IntervalQuaternion·list, IntervalQuaternion·point, IntervalRow·list, IntervalRow·three, IntervalMatrix·list, IntervalMatrix·point, Pose·encloseTranslation, Pose·encloseSlerpNear, Pose·encloseSlerpFar, encloseSlerpBy, Pose·encloseSlerp, Pose·encloseScaleRow, Pose·encloseScale, Pose·encloseRotation, Pose·encloseMulRow, Pose·encloseMul, Pose·encloseTransformPoint, IntervalMatrix·translation, Pose·encloseMatrix, Pose·enclosePoint}
+use Rattle.pose_steps.specs.Pose.{Vector3f·list, Quaternion·list, Matrix4x4·list, three, entries, Pose·translation, Pose·slerpNear, Pose·slerpFar, slerpBy, isNear, Pose·slerp, Pose·scaleRow, Pose·scale, Pose·scaleBy, Pose·rotation, Pose·mulRow, Pose·mul, Pose·transformPoint, allFinite, PoseAnswer·judged, Pose·matrix, Pose·movedPoint}
+use Rattle.pose_steps.specs.Enclose.{IntervalVector·list, IntervalVector·point, IntervalQuaternion·list, IntervalQuaternion·point, IntervalRow·list, IntervalRow·three, IntervalMatrix·list, IntervalMatrix·point, Pose·encloseTranslation, Pose·encloseSlerpNear, Pose·encloseSlerpFar, encloseSlerpBy, Pose·encloseSlerp, Pose·encloseScaleRow, Pose·encloseScale, encloseScaleBy, Pose·encloseRotation, Pose·encloseMulRow, Pose·encloseMul, Pose·encloseTransformPoint, IntervalMatrix·translation, Pose·encloseMatrix, Pose·enclosePoint}
 use Rattle.pose_steps.specs.Promise.{AllFinite, PoseConstants·Valid, FiniteScale, quarterInterval, EnclosesScale, EnclosesMatrix, EnclosesPose, EnclosesAnswer}
 use Rattle.pose_steps.proofs.Angle.{unit-finite, theta-angles, theta-finite, theta-subset}
 use Rattle.pose_steps.proofs.Valid.{translation-valid, near-valid, far-valid, scale-valid, rotation-valid, mul-valid, point-valid}
-use Rattle.pose_steps.proofs.Zero.{slerp-zero, scale-row-zero, scale-zero, rotation-zero, mul-row-zero, mul-zero, point-zero}
-use Rattle.pose_steps.proofs.Rows.{scale-bottom, rotation-bottom, mul-bottom, points-enclose, scale-encloses, rows-list, encloses-list, list-encloses, enclosed-finite, zero-finite, one-finite, matrix-finite}
+use Rattle.pose_steps.proofs.Zero.{slerp-zero, scale-row-zero, scale-by-zero, rotation-zero, mul-row-zero, mul-zero, point-zero}
+use Rattle.pose_steps.proofs.Rows.{scale-by-bottom, identity-encloses, rotation-bottom, mul-bottom, points-enclose, scale-encloses, rows-list, encloses-list, list-encloses, enclosed-finite, zero-finite, one-finite, matrix-finite}
 
 -- ---- the stages that take dt
 module _ (m : ℕ) {D : Interval} {dt : Float} (d : Encloses D dt) where
@@ -105,6 +105,12 @@ scale-extends m {D} d {A} {B} {a} {b} e f z =
       r2 = scale-row-extends (q .refusal) d (A .r2) (B .r2) (a .r2) (b .r2) (e .r2) (f .r2) z;
     }
 
+pub scale-by-extends : (k : Bool) (m : ℕ) {D : Interval} {dt : Float} → Encloses D dt → {s0 s1 : Matrix4x4} → FiniteScale s0 → FiniteScale s1
+    → encloseScaleBy k m s0 s1 D .refusal ≡ 0 → EnclosesMatrix (encloseScaleBy k m s0 s1 D .matrix) (Pose·scaleBy k s0 s1 dt)
+unfolding Pose·scaleBy encloseScaleBy
+scale-by-extends true m d f g z = identity-encloses
+scale-by-extends false m d f g z = scale-extends m d (scale-encloses f) (scale-encloses g) z
+
 -- ---- the stages that take what was worked out before
 pub rotation-extends : (m : ℕ) {Q : IntervalQuaternion} (q : Quaternion) → Pairwise Encloses (IntervalQuaternion·list Q) (Quaternion·list q) → Pose·encloseRotation m Q .refusal ≡ 0
     → EnclosesMatrix (Pose·encloseRotation m Q .matrix) (Pose·rotation q)
@@ -166,27 +172,25 @@ module _ {a : PoseConstants} {s0 s1 : Matrix4x4} (v : PoseConstants·Valid a) (f
       let e : Encloses D dt = record { finite = subset-finite unit-finite u; contains = d } in
       let t0 = IntervalVector·point (a .t0) in
       let t1 = IntervalVector·point (a .t1) in
-      let S0 = IntervalMatrix·point s0 in
-      let S1 = IntervalMatrix·point s1 in
       let I = Pose·encloseTranslation 0 t0 t1 D in
       let J = Pose·encloseSlerp (I .refusal) a D in
-      let K = Pose·encloseScale (J .refusal) S0 S1 D in
+      let K = encloseScaleBy (a .rigid) (J .refusal) s0 s1 D in
       let L = Pose·encloseRotation (K .refusal) (J .quaternion) in
       let M = Pose·encloseMul (L .refusal) (IntervalMatrix·translation (I .vector)) (L .matrix) in
       let zM = mul-zero (M .refusal) (M .matrix) (K .matrix) z in
       let zL = mul-zero (L .refusal) (IntervalMatrix·translation (I .vector)) (L .matrix) zM in
       let zK = rotation-zero (K .refusal) (J .quaternion) zL in
-      let zJ = scale-zero (J .refusal) S0 S1 D zK in
+      let zJ = scale-by-zero (a .rigid) (J .refusal) s0 s1 D zK in
       let zI = slerp-zero (I .refusal) a D zJ in
       let trans = Pose·translation (a .t0) (a .t1) dt in
       let rotate = Pose·slerp a dt in
-      let scale = Pose·scale s0 s1 dt in
+      let scale = Pose·scaleBy (a .rigid) s0 s1 dt in
       let translate = translation (trans .x) (trans .y) (trans .z) in
       let rotation = Pose·rotation rotate in
       let first = Pose·mul translate rotation in
       let last = Pose·mul first scale in
       let q = slerp-extends (I .refusal) e a v u zJ in
-      let k = scale-extends (J .refusal) e (scale-encloses f) (scale-encloses g) zK in
+      let k = scale-by-extends (a .rigid) (J .refusal) e f g zK in
       let t = translation-matrix-extends trans
       (translation-extends 0 e t0 t1 (a .t0) (a .t1) (points-enclose (Vector3f·list (a .t0)) (v .t0)) (points-enclose (Vector3f·list (a .t1)) (v .t1)) zI) in
       let l = rotation-extends (K .refusal) rotate q zL in
@@ -202,7 +206,7 @@ module _ {a : PoseConstants} {s0 s1 : Matrix4x4} (v : PoseConstants·Valid a) (f
       (and-i R (allFinite first)
       (and-i U (allFinite rotation)
       (and-i S (allFinite translate)
-      (and-i Q (allFinite scale) (quaternion-finite rotate (enclosed-finite (IntervalQuaternion·list (J .quaternion)) (Quaternion·list rotate) q)) (matrix-finite scale (scale-bottom s0 s1 dt) k))
+      (and-i Q (allFinite scale) (quaternion-finite rotate (enclosed-finite (IntervalQuaternion·list (J .quaternion)) (Quaternion·list rotate) q)) (matrix-finite scale (scale-by-bottom (a .rigid) s0 s1 dt) k))
       (matrix-finite translate refl t))
       (matrix-finite rotation (rotation-bottom rotate) l))
       (matrix-finite first (mul-bottom translate rotation) m))

@@ -23,12 +23,12 @@ use Rattle.pose_steps.specs.declared.IntervalRow.{IntervalRow}
 use Rattle.pose_steps.specs.declared.IntervalMatrix.{IntervalMatrix}
 use Rattle.pose_steps.specs.Stages.{translationStage, slerpNearStage, slerpFarStage, scaleRowStage, rotationStage, mulRowStage, transformPointStage}
 use Rattle.pose_steps.specs.Pose.{Vector3f·list, Quaternion·list, isNear}
-use Rattle.pose_steps.specs.Enclose.{IntervalVector·list, IntervalVector·point, IntervalQuaternion·list, IntervalQuaternion·point, IntervalRow·list, IntervalRow·three, IntervalMatrix·list, IntervalMatrix·point, Pose·encloseTranslation, Pose·encloseSlerpNear, Pose·encloseSlerpFar, encloseSlerpBy, Pose·encloseSlerp, Pose·encloseScaleRow, Pose·encloseScale, Pose·encloseRotation, Pose·encloseMulRow, Pose·encloseMul, Pose·encloseTransformPoint, IntervalMatrix·translation, Pose·encloseMatrix, Pose·enclosePoint}
+use Rattle.pose_steps.specs.Enclose.{IntervalVector·list, IntervalVector·point, IntervalQuaternion·list, IntervalQuaternion·point, IntervalRow·list, IntervalRow·three, IntervalMatrix·list, IntervalMatrix·point, Pose·encloseTranslation, Pose·encloseSlerpNear, Pose·encloseSlerpFar, encloseSlerpBy, Pose·encloseSlerp, Pose·encloseScaleRow, Pose·encloseScale, encloseScaleBy, Pose·encloseRotation, Pose·encloseMulRow, Pose·encloseMul, Pose·encloseTransformPoint, IntervalMatrix·translation, Pose·encloseMatrix, Pose·enclosePoint}
 use Rattle.pose_steps.specs.Promise.{PoseConstants·Valid, FiniteScale, quarterInterval, RefinesScale, RefinesMatrix, NarrowerVector, NarrowerQuaternion, NarrowerRow, NarrowerMatrix}
 use Rattle.pose_steps.proofs.Angle.{unit-finite, theta-angles, theta-finite, theta-subset}
 use Rattle.pose_steps.proofs.Valid.{translation-valid, near-valid, far-valid, scale-valid, rotation-valid, mul-valid, point-valid}
-use Rattle.pose_steps.proofs.Zero.{slerp-zero, scale-row-zero, scale-zero, rotation-zero, mul-row-zero, mul-zero, point-zero}
-use Rattle.pose_steps.proofs.Rows.{points-refine, scale-refines, rows-list, refines-list, list-refines, zero-finite, one-finite}
+use Rattle.pose_steps.proofs.Zero.{slerp-zero, scale-row-zero, scale-by-zero, rotation-zero, mul-row-zero, mul-zero, point-zero}
+use Rattle.pose_steps.proofs.Rows.{points-refine, scale-refines, identity-refines, rows-list, refines-list, list-refines, zero-finite, one-finite}
 
 -- ---- the stages that take dt; m was met with the narrower intervals, m' with the wider ones
 module _ (m' : ℕ) {m : ℕ} (k : m ≡ 0) {D D' : Interval} (d : Refines D D') where
@@ -98,6 +98,12 @@ scale-isotone m' k {D} {D'} d {A} {A'} {B} {B'} e f z =
     let (kr, c) = scale-row-isotone (q' .refusal) kq d (A .r2) (A' .r2) (B .r2) (B' .r2) (e .r2) (f .r2) z in
     (kr, record { r0 = a; r1 = b; r2 = c })
 
+pub scale-by-isotone : (b : Bool) (m' : ℕ) {m : ℕ} → m ≡ 0 → {D D' : Interval} → Refines D D' → {s0 s1 : Matrix4x4} → FiniteScale s0 → FiniteScale s1
+    → NarrowerMatrix (encloseScaleBy b m s0 s1 D) (encloseScaleBy b m' s0 s1 D')
+unfolding encloseScaleBy
+scale-by-isotone true m' k d f g z = (k, identity-refines)
+scale-by-isotone false m' k d f g z = scale-isotone m' k d (scale-refines f) (scale-refines g) z
+
 -- ---- the stages that take what was worked out before
 module _ (m' : ℕ) {m : ℕ} (k : m ≡ 0) where
   pub rotation-isotone : (Q Q' : IntervalQuaternion) → Pairwise Refines (IntervalQuaternion·list Q) (IntervalQuaternion·list Q')
@@ -148,23 +154,21 @@ module _ {a : PoseConstants} {s0 s1 : Matrix4x4} (v : PoseConstants·Valid a) (f
       let e : Refines D D' = record { finite = subset-finite unit-finite u; subset = d } in
       let t0 = IntervalVector·point (a .t0) in
       let t1 = IntervalVector·point (a .t1) in
-      let S0 = IntervalMatrix·point s0 in
-      let S1 = IntervalMatrix·point s1 in
       let I = Pose·encloseTranslation 0 t0 t1 D in
       let J = Pose·encloseSlerp (I .refusal) a D in
       let I' = Pose·encloseTranslation 0 t0 t1 D' in
       let J' = Pose·encloseSlerp (I' .refusal) a D' in
-      let K' = Pose·encloseScale (J' .refusal) S0 S1 D' in
+      let K' = encloseScaleBy (a .rigid) (J' .refusal) s0 s1 D' in
       let L' = Pose·encloseRotation (K' .refusal) (J' .quaternion) in
       let M' = Pose·encloseMul (L' .refusal) (IntervalMatrix·translation (I' .vector)) (L' .matrix) in
       let zM = mul-zero (M' .refusal) (M' .matrix) (K' .matrix) z in
       let zL = mul-zero (L' .refusal) (IntervalMatrix·translation (I' .vector)) (L' .matrix) zM in
       let zK = rotation-zero (K' .refusal) (J' .quaternion) zL in
-      let zJ = scale-zero (J' .refusal) S0 S1 D' zK in
+      let zJ = scale-by-zero (a .rigid) (J' .refusal) s0 s1 D' zK in
       let zI = slerp-zero (I' .refusal) a D' zJ in
       let (kI, i) = translation-isotone 0 refl e t0 t0 t1 t1 (points-refine (Vector3f·list (a .t0)) (v .t0)) (points-refine (Vector3f·list (a .t1)) (v .t1)) zI in
       let (kJ, j) = slerp-isotone (I' .refusal) kI e a v u zJ in
-      let (kK, k) = scale-isotone (J' .refusal) kJ e (scale-refines f) (scale-refines g) zK in
+      let (kK, k) = scale-by-isotone (a .rigid) (J' .refusal) kJ e f g zK in
       let (kL, l) = rotation-isotone (K' .refusal) kK (J .quaternion) (J' .quaternion) j zL in
       let (kM, m) = mul-isotone (L' .refusal) kL (translation-matrix-isotone (I .vector) (I' .vector) i) l zM in
       mul-isotone (M' .refusal) kM m k z

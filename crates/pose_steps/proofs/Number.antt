@@ -27,7 +27,7 @@ use Rattle.pose_steps.specs.declared.IntervalRow.{IntervalRow}
 use Rattle.pose_steps.specs.declared.IntervalMatrix.{IntervalMatrix}
 use Rattle.pose_steps.specs.Stages.{translationStage, slerpNearStage, slerpFarStage, scaleRowStage, rotationStage, mulRowStage, transformPointStage}
 use Rattle.pose_steps.specs.Pose.{isNear, Pose·transformPoint, Pose·matrix, Pose·movedPoint}
-use Rattle.pose_steps.specs.Enclose.{IntervalVector·list, IntervalVector·point, IntervalQuaternion·list, IntervalQuaternion·point, IntervalRow·list, IntervalRow·three, IntervalMatrix·list, IntervalMatrix·point, Pose·encloseTranslation, Pose·encloseSlerpNear, Pose·encloseSlerpFar, encloseSlerpBy, Pose·encloseSlerp, Pose·encloseScaleRow, Pose·encloseScale, Pose·encloseRotation, Pose·encloseMulRow, Pose·encloseMul, Pose·encloseTransformPoint, IntervalMatrix·translation, Pose·encloseMatrix, Pose·enclosePoint}
+use Rattle.pose_steps.specs.Enclose.{IntervalVector·list, IntervalVector·point, IntervalQuaternion·list, IntervalQuaternion·point, IntervalRow·list, IntervalRow·three, IntervalMatrix·list, IntervalMatrix·point, Pose·encloseTranslation, Pose·encloseSlerpNear, Pose·encloseSlerpFar, encloseSlerpBy, Pose·encloseSlerp, Pose·encloseScaleRow, Pose·encloseScale, encloseScaleBy, Pose·encloseRotation, Pose·encloseMulRow, Pose·encloseMul, Pose·encloseTransformPoint, IntervalMatrix·translation, Pose·encloseMatrix, Pose·enclosePoint}
 use Rattle.pose_steps.specs.Promise.{SliceNumber}
 
 -- ---- one operation
@@ -119,6 +119,11 @@ scale-number m s0 s1 D n =
     let q = Pose·encloseScaleRow (p .refusal) (s0 .r1) (s1 .r1) D in
     scale-row-number (q .refusal) (s0 .r2) (s1 .r2) D (scale-row-number (p .refusal) (s0 .r1) (s1 .r1) D (scale-row-number m (s0 .r0) (s1 .r0) D n))
 
+scale-by-number : (k : Bool) (m : ℕ) (s0 s1 : Matrix4x4) (D : Interval) → SliceNumber m → SliceNumber (encloseScaleBy k m s0 s1 D .refusal)
+unfolding encloseScaleBy
+scale-by-number true m s0 s1 D n = n
+scale-by-number false m s0 s1 D n = scale-number m (IntervalMatrix·point s0) (IntervalMatrix·point s1) D n
+
 mul-row-number : (m : ℕ) (R : IntervalRow) (M : IntervalMatrix) → SliceNumber m → SliceNumber (Pose·encloseMulRow m R M .refusal)
 unfolding Pose·encloseMulRow
 mul-row-number m R M n = program-number mulRowStage (enclosure m (IntervalRow·list R ++ IntervalMatrix·list M)) n
@@ -142,13 +147,13 @@ module _ (a : PoseConstants) (s0 s1 : Matrix4x4) (D : Interval) where
       let t1 = IntervalVector·point (a .t1) in
       let I = Pose·encloseTranslation 0 t0 t1 D in
       let J = Pose·encloseSlerp (I .refusal) a D in
-      let K = Pose·encloseScale (J .refusal) (IntervalMatrix·point s0) (IntervalMatrix·point s1) D in
+      let K = encloseScaleBy (a .rigid) (J .refusal) s0 s1 D in
       let L = Pose·encloseRotation (K .refusal) (J .quaternion) in
       let M = Pose·encloseMul (L .refusal) (IntervalMatrix·translation (I .vector)) (L .matrix) in
       mul-number (M .refusal) (M .matrix) (K .matrix)
       (mul-number (L .refusal) (IntervalMatrix·translation (I .vector)) (L .matrix)
       (program-number rotationStage (enclosure (K .refusal) (IntervalQuaternion·list (J .quaternion)))
-      (scale-number (J .refusal) (IntervalMatrix·point s0) (IntervalMatrix·point s1) D
+      (scale-by-number (a .rigid) (J .refusal) s0 s1 D
       (slerp-number (I .refusal) a D
       (program-number translationStage (enclosure 0 (IntervalVector·list t0 ++ IntervalVector·list t1 ++ D ∷ [])) (inl refl))))))
 

@@ -3,7 +3,7 @@
 use mathlib.Core.Path.{_≡_, refl}
 use Prim.Native.Nat.{ℕ}
 use native.Mathlib.Omega.{arith}
-use mathlib.Core.Bool.{Bool, _&&_}
+use mathlib.Core.Bool.{Bool, true, false, _&&_}
 use mathlib.Core.List.{List, [], _∷_, _++_, map}
 use lib.ListN.{length, length-append}
 use lib.Dec.{T}
@@ -23,7 +23,7 @@ use Rattle.interval.proofs.Contains.{contains-finite, point-encloses, point-ref
 use Rattle.formula.specs.Promise.{Pairwise}
 use Rattle.formula.proofs.Pairwise.{pairwise-append}
 use Rattle.pose_steps.specs.declared.IntervalMatrix.{IntervalMatrix}
-use Rattle.pose_steps.specs.Pose.{three, entries, Matrix4x4·list, Pose·scale, Pose·rotation, Pose·mul, allFinite}
+use Rattle.pose_steps.specs.Pose.{three, entries, Matrix4x4·list, Pose·scale, Matrix4x4·identity, Pose·scaleBy, Pose·rotation, Pose·mul, allFinite}
 use Rattle.pose_steps.specs.Enclose.{IntervalRow·list, IntervalMatrix·list, IntervalMatrix·point}
 use Rattle.pose_steps.specs.Promise.{AllFinite, FiniteScale, EnclosesScale, RefinesScale, EnclosesMatrix, RefinesMatrix}
 
@@ -115,6 +115,24 @@ matrix-finite {M} m b e =
 pub scale-bottom : (s0 s1 : Matrix4x4) (dt : Float) → Pose·scale s0 s1 dt .r3 ≡ bottomRow
 unfolding Pose·scale
 scale-bottom s0 s1 dt = refl
+
+pub scale-by-bottom : (k : Bool) (s0 s1 : Matrix4x4) (dt : Float) → Pose·scaleBy k s0 s1 dt .r3 ≡ bottomRow
+unfolding Pose·scaleBy
+scale-by-bottom true s0 s1 dt = refl
+scale-by-bottom false s0 s1 dt = scale-bottom s0 s1 dt
+
+-- The identity encloses itself with equal ends, and lies in itself.
+pub identity-encloses : EnclosesMatrix (IntervalMatrix·point Matrix4x4·identity) Matrix4x4·identity
+identity-encloses =
+    let i = point-encloses positiveZero zero-finite in
+    let j = point-encloses one one-finite in
+    record { r0 = (j, (i, (i, (i, tt)))); r1 = (i, (j, (i, (i, tt)))); r2 = (i, (i, (j, (i, tt)))) }
+
+pub identity-refines : RefinesMatrix (IntervalMatrix·point Matrix4x4·identity) (IntervalMatrix·point Matrix4x4·identity)
+identity-refines =
+    let i = point-refines positiveZero zero-finite in
+    let j = point-refines one one-finite in
+    record { r0 = (j, (i, (i, (i, tt)))); r1 = (i, (j, (i, (i, tt)))); r2 = (i, (i, (j, (i, tt)))) }
 
 pub rotation-bottom : (q : Quaternion) → Pose·rotation q .r3 ≡ bottomRow
 unfolding Pose·rotation

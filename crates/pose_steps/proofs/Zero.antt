@@ -3,6 +3,7 @@ use mathlib.Core.Path.{_≡_}
 use Prim.Native.Nat.{ℕ}
 use mathlib.Core.Bool.{Bool, true, false}
 use mathlib.Core.List.{[], _∷_, _++_}
+use Rattle.matrix4x4.specs.declared.Matrix4x4.{Matrix4x4}
 use Rattle.interval.specs.declared.Interval.{Interval}
 use Rattle.interval.specs.Interval.{Interval·point}
 use Rattle.formula.specs.Enclose.{enclosure}
@@ -14,7 +15,7 @@ use Rattle.pose_steps.specs.declared.IntervalRow.{IntervalRow}
 use Rattle.pose_steps.specs.declared.IntervalMatrix.{IntervalMatrix}
 use Rattle.pose_steps.specs.Stages.{slerpNearStage, slerpFarStage, scaleRowStage, rotationStage, mulRowStage, transformPointStage}
 use Rattle.pose_steps.specs.Pose.{isNear}
-use Rattle.pose_steps.specs.Enclose.{IntervalVector·list, IntervalQuaternion·list, IntervalQuaternion·point, IntervalRow·list, IntervalRow·three, IntervalMatrix·list, Pose·encloseSlerpNear, Pose·encloseSlerpFar, encloseSlerpBy, Pose·encloseSlerp, Pose·encloseScaleRow, Pose·encloseScale, Pose·encloseRotation, Pose·encloseMulRow, Pose·encloseMul, Pose·encloseTransformPoint}
+use Rattle.pose_steps.specs.Enclose.{IntervalVector·list, IntervalQuaternion·list, IntervalQuaternion·point, IntervalRow·list, IntervalRow·three, IntervalMatrix·list, IntervalMatrix·point, Pose·encloseSlerpNear, Pose·encloseSlerpFar, encloseSlerpBy, Pose·encloseSlerp, Pose·encloseScaleRow, Pose·encloseScale, encloseScaleBy, Pose·encloseRotation, Pose·encloseMulRow, Pose·encloseMul, Pose·encloseTransformPoint}
 
 module _ (m : ℕ) where
   pub slerp-zero : (a : PoseConstants) (D : Interval) → Pose·encloseSlerp m a D .refusal ≡ 0 → m ≡ 0
@@ -50,6 +51,11 @@ scale-zero m s0 s1 D z =
     let p = Pose·encloseScaleRow m (s0 .r0) (s1 .r0) D in
     let q = Pose·encloseScaleRow (p .refusal) (s0 .r1) (s1 .r1) D in
     scale-row-zero m (s0 .r0) (s1 .r0) D (scale-row-zero (p .refusal) (s0 .r1) (s1 .r1) D (scale-row-zero (q .refusal) (s0 .r2) (s1 .r2) D z))
+
+pub scale-by-zero : (k : Bool) (m : ℕ) (s0 s1 : Matrix4x4) (D : Interval) → encloseScaleBy k m s0 s1 D .refusal ≡ 0 → m ≡ 0
+unfolding encloseScaleBy
+scale-by-zero true m s0 s1 D z = z
+scale-by-zero false m s0 s1 D z = scale-zero m (IntervalMatrix·point s0) (IntervalMatrix·point s1) D z
 
 pub mul-zero : (m : ℕ) (A B : IntervalMatrix) → Pose·encloseMul m A B .refusal ≡ 0 → m ≡ 0
 unfolding Pose·encloseMul

@@ -24,7 +24,7 @@ use Rattle.pose_steps.specs.declared.JudgedQuaternion.{JudgedQuaternion}
 use Rattle.pose_steps.specs.declared.JudgedRow.{JudgedRow}
 use Rattle.pose_steps.specs.declared.JudgedMatrix.{JudgedMatrix}
 use Rattle.pose_steps.specs.Stages.{translationStage, slerpNearStage, slerpFarStage, scaleRowStage, rotationStage, mulRowStage, transformPointStage}
-use Rattle.pose_steps.specs.Pose.{isNear}
+use Rattle.pose_steps.specs.Pose.{isNear, Matrix4x4·identity}
 
 -- ---- structs as lists of intervals, and back
 abbrev pub IntervalVector·list : IntervalVector → List Interval
@@ -113,6 +113,11 @@ Pose·encloseScale m s0 s1 dt =
     let r = Pose·encloseScaleRow (q .refusal) (s0 .r2) (s1 .r2) dt in
     JudgedMatrix·rows p q r
 
+-- document 02, Rigid booms: the identity in place of S "with equal ends in a cover"; nothing is judged of it
+unfoldable pub encloseScaleBy : Bool → ℕ → Matrix4x4 → Matrix4x4 → Interval → JudgedMatrix
+encloseScaleBy true m s0 s1 dt = record { matrix = IntervalMatrix·point Matrix4x4·identity; refusal = m }
+encloseScaleBy false m s0 s1 dt = Pose·encloseScale m (IntervalMatrix·point s0) (IntervalMatrix·point s1) dt
+
 unfoldable pub Pose·encloseRotation : ℕ → IntervalQuaternion → JudgedMatrix
 Pose·encloseRotation m q = JudgedMatrix·of (Program·enclose (enclosure m (IntervalQuaternion·list q)) rotationStage)
 
@@ -142,9 +147,9 @@ IntervalMatrix·translation v =
     }
 
 -- What follows once translation and rotation are known: the scale, the rotation's matrix, both products.
-abbrev pub Pose·encloseComposition : IntervalVector → JudgedQuaternion → Matrix4x4 → Matrix4x4 → Interval → JudgedMatrix
-Pose·encloseComposition trans rotate s0 s1 dt =
-    let scale = Pose·encloseScale (rotate .refusal) (IntervalMatrix·point s0) (IntervalMatrix·point s1) dt in
+abbrev pub Pose·encloseComposition : Bool → IntervalVector → JudgedQuaternion → Matrix4x4 → Matrix4x4 → Interval → JudgedMatrix
+Pose·encloseComposition rigid trans rotate s0 s1 dt =
+    let scale = encloseScaleBy rigid (rotate .refusal) s0 s1 dt in
     let rotation = Pose·encloseRotation (scale .refusal) (rotate .quaternion) in
     let first = Pose·encloseMul (rotation .refusal) (IntervalMatrix·translation trans) (rotation .matrix) in
     Pose·encloseMul (first .refusal) (first .matrix) (scale .matrix)
@@ -154,7 +159,7 @@ unfoldable pub Pose·encloseMatrix : PoseConstants → Matrix4x4 → Matrix4x4 �
 Pose·encloseMatrix a s0 s1 dt =
     let trans = Pose·encloseTranslation 0 (IntervalVector·point (a .t0)) (IntervalVector·point (a .t1)) dt in
     let rotate = Pose·encloseSlerp (trans .refusal) a dt in
-    Pose·encloseComposition (trans .vector) rotate s0 s1 dt
+    Pose·encloseComposition (a .rigid) (trans .vector) rotate s0 s1 dt
 
 -- The box that a box p of points is moved to.
 unfoldable pub Pose·enclosePoint : PoseConstants → Matrix4x4 → Matrix4x4 → Interval → IntervalVector → JudgedVector

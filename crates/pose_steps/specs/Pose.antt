@@ -1,6 +1,6 @@
 -- The steps read in floats: a move's pose at dt, `Pose·matrix`, and a point that it moves, `Pose·movedPoint`, stage by stage and in sequence. Definitions only.
 -- What is judged is what document 01 calls finished: the quaternion, the scale, the matrices, the products and the moved point; one that isn't finite is 5.
--- cos_theta and theta are the move's constants, worked out once (`PoseConstants·new`).
+-- cos_theta, theta and the kind, rigid or not, are the move's constants, worked out once (`PoseConstants·new`).
 use mathlib.Core.Bool.{Bool, true, false, _&&_, cond}
 use mathlib.Core.List.{List, [], _∷_, _++_}
 use lib.Dec.{eqb}
@@ -72,10 +72,10 @@ unfoldable pub Pose·slerpFar : Quaternion → Quaternion → Float → Float �
 Pose·slerpFar q1 q2 cosθ θ t = Quaternion·ofList (Program·eval (Quaternion·list q1 ++ Quaternion·list q2 ++ cosθ ∷ θ ∷ t ∷ []) slerpFarStage)
 
 -- `slerp`: let cos_theta = q1.dot(q2) and let theta = clamp(cos_theta, -1.0, 1.0).acos()
-unfoldable pub PoseConstants·new : Vector3f → Vector3f → Quaternion → Quaternion → PoseConstants
-PoseConstants·new t0 t1 r0 r1 =
+unfoldable pub PoseConstants·new : Bool → Vector3f → Vector3f → Quaternion → Quaternion → PoseConstants
+PoseConstants·new rigid t0 t1 r0 r1 =
     let cosθ = Quaternion·dot r0 r1 in
-    record { t0 = t0; t1 = t1; r0 = r0; r1 = r1; «cos_theta» = cosθ; theta = acos (clamp cosθ (neg one) one) }
+    record { t0 = t0; t1 = t1; r0 = r0; r1 = r1; «cos_theta» = cosθ; theta = acos (clamp cosθ (neg one) one); rigid = rigid }
 
 -- A match and no `cond`, so that only the case that holds is computed.
 unfoldable pub slerpBy : Bool → PoseConstants → Float → Quaternion
@@ -100,6 +100,14 @@ Pose·scale s0 s1 dt =
       r2 = Pose·scaleRow (s0 .r2) (s1 .r2) dt;
       r3 = bottomRow;
     }
+
+abbrev pub Matrix4x4·identity : Matrix4x4
+Matrix4x4·identity = translation positiveZero positiveZero positiveZero
+
+-- document 02, Rigid booms: "Between poses a rigid move puts the identity in place of the interpolated S"
+unfoldable pub Pose·scaleBy : Bool → Matrix4x4 → Matrix4x4 → Float → Matrix4x4
+Pose·scaleBy true s0 s1 dt = Matrix4x4·identity
+Pose·scaleBy false s0 s1 dt = Pose·scale s0 s1 dt
 
 unfoldable pub Pose·rotation : Quaternion → Matrix4x4
 Pose·rotation q = Matrix4x4·ofList (Program·eval (Quaternion·list q) rotationStage)
@@ -127,7 +135,7 @@ unfoldable pub Pose·matrix : PoseConstants → Matrix4x4 → Matrix4x4 → Floa
 Pose·matrix a s0 s1 dt =
     let trans = Pose·translation (a .t0) (a .t1) dt in
     let rotate = Pose·slerp a dt in
-    let scale = Pose·scale s0 s1 dt in
+    let scale = Pose·scaleBy (a .rigid) s0 s1 dt in
     let translate = translation (trans .x) (trans .y) (trans .z) in
     let rotation = Pose·rotation rotate in
     let first = Pose·mul translate rotation in

@@ -6,6 +6,7 @@ use quaternion::Quaternion;
 use vector3::Vector3f;
 
 // Translation and rotation of the two poses. cos_theta is the dot product of the rotations and theta the angle between them.
+// A rigid move has the identity in the place of its scale.
 pub struct PoseConstants {
     pub t0: Vector3f,
     pub t1: Vector3f,
@@ -13,6 +14,7 @@ pub struct PoseConstants {
     pub r1: Quaternion,
     pub cos_theta: f32,
     pub theta: f32,
+    pub rigid: bool,
 }
 
 // A matrix beside the number of a refusal, 0 for none: after a refusal every entry is +0.

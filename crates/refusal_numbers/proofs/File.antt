@@ -30,7 +30,7 @@ use Rattle.animated_transform.proofs.Numbers.{new-affine}
 use Rattle.motion_cover.specs.Cover.{AnimatedTransform·encloseMotion, AnimatedTransform·cover}
 use Rattle.motion_cover.specs.Answer.{BoundsAnswer·Numbered}
 use Rattle.motion_cover.proofs.Number.{motion-number}
-use Rattle.motion_chain.specs.Chain.{minPoses, maxPoses, neighbours, every, firstNumber, stage, Pose·number, Pair·number, chainStages, chainRefusal}
+use Rattle.motion_chain.specs.Chain.{minPoses, maxPoses, neighbours, every, firstNumber, stage, Pose·number, Pair·number, kindStage, chainStages, chainRefusal}
 use Rattle.motion_chain.specs.Chain.{Chain, ChainAnswer, built, refused, ChainAnswer·refusal, ChainAnswer·fromMoves, Chain·new, unionCovers, Chain·cover}
 use Rattle.motion_chain.specs.Built.{Each}
 use Rattle.chain_poses.specs.Poses.{Poses·ofLists}
@@ -113,8 +113,8 @@ times-not : (pair : Pose × Pose) → Not2 (Pair·number 3 pair)
 unfolding Pair·number timesRefusal
 times-not (p, q) = chosen (lt (q .time) (p .time) || not (finite (q .time ⊖ p .time))) 3 0 (λ e. absurd (omega (arith, e))) zero-not
 
-checks-not : (poses : List Pose) → Each (λ p. Pose·isAffine p ≡ true) poses → Not2 (chainRefusal poses)
-unfolding chainRefusal
+checks-not : (poses : List Pose) → Each (λ p. Pose·isAffine p ≡ true) poses → Not2 (chainRefusal false poses)
+unfolding chainRefusal kindStage
 checks-not poses h =
     let pairs = neighbours poses in
     let count = chosen (ltb (length poses) minPoses || ltb maxPoses (length poses)) 12 0 twelve-not zero-not in
@@ -123,14 +123,14 @@ checks-not poses h =
     let finite = stage-not (Pose·number 1) poses (all poses finite-not) in
     let affine = stage-not (Pose·number 2) poses (affine-not poses h) in
     let padded = stage-not (Pose·number 16) poses (all poses padded-not) in
-    first-not (chainStages poses) (finite, (affine, (padded, (count, (rise, (times, tt))))))
+    first-not (chainStages false poses) (finite, (affine, (padded, (count, (rise, (times, (zero-not, tt)))))))
 
 moves-not : (poses : List Pose) → Each (λ p. Pose·isAffine p ≡ true) poses
-    → Each (λ a. Not2 (a .refusal)) (map (λ (p, q). AnimatedTransform·new p q) (neighbours poses))
+    → Each (λ a. Not2 (a .refusal)) (map (λ (p, q). AnimatedTransform·new false p q) (neighbours poses))
 unfolding neighbours
 moves-not [] h = tt
 moves-not (p ∷ []) h = tt
-moves-not (p ∷ q ∷ poses) (h, (k, hs)) = (new-affine p q h k, moves-not (q ∷ poses) (k, hs))
+moves-not (p ∷ q ∷ poses) (h, (k, hs)) = (new-affine false p q h k, moves-not (q ∷ poses) (k, hs))
 
 tested-not : (n : ℕ) (a : ChainAnswer) → Not2 n → Not2 (ChainAnswer·refusal a) → Not2 (ChainAnswer·refusal (cond (eqb n 0) a (refused n)))
 tested-not n a h k = go (eqb n 0)
@@ -144,9 +144,9 @@ unfolding ChainAnswer·fromMoves
 from-moves-not [] h = twelve-not
 from-moves-not (a ∷ answers) h = tested-not (stage (λ x. x .refusal) (a ∷ answers)) _ (stage-not (λ x. x .refusal) (a ∷ answers) h) zero-not
 
-pub chain-affine : (poses : List Pose) → T (every Pose·isAffine poses) → Not2 (ChainAnswer·refusal (Chain·new poses))
+pub chain-affine : (poses : List Pose) → T (every Pose·isAffine poses) → Not2 (ChainAnswer·refusal (Chain·new false poses))
 unfolding Chain·new
-chain-affine poses h = let each = affine-each poses h in tested-not (chainRefusal poses) _ (checks-not poses each) (from-moves-not _ (moves-not poses each))
+chain-affine poses h = let each = affine-each poses h in tested-not (chainRefusal false poses) _ (checks-not poses each) (from-moves-not _ (moves-not poses each))
 
 building-number : {n : ℕ} → OneOf n (0 ∷ 1 ∷ 2 ∷ 3 ∷ 4 ∷ 5 ∷ 12 ∷ 16 ∷ []) → Not2 n → Number n
 building-number (inl e) h = inl e
@@ -204,8 +204,8 @@ file-number : (bytes : List ℕ) → CoverNumber (MoveFile·cover bytes)
 unfolding MoveFile·cover MoveFile·chain
 file-number bytes =
     let poses = Poses·ofLists (MoveFile·poses bytes) in
-    let building = building-number (building-numbered poses .number) (chain-affine poses (poses-affine bytes)) in
-    cond-keeps CoverNumber (eqb (MoveFile·read bytes .refusal) 0) _ _ (chain-number (Chain·new poses) (MoveFile·box bytes) building) (read-number bytes)
+    let building = building-number (building-numbered false poses .number) (chain-affine poses (poses-affine bytes)) in
+    cond-keeps CoverNumber (eqb (MoveFile·read bytes .refusal) 0) _ _ (chain-number (Chain·new false poses) (MoveFile·box bytes) building) (read-number bytes)
 
 pub file-numbered : (bytes : List ℕ) → BoundsAnswer·Numbered numbers (MoveFile·cover bytes)
 file-numbered bytes = record { number = file-number bytes; none = file-answered bytes }

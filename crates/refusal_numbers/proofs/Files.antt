@@ -93,7 +93,7 @@ of-box (inr (inr (inl e))) z = inr (inr (inr (inr (inr (inl e)))))
 
 module _ (bytes : List ℕ) where
   abbrev answer : ChainAnswer
-  answer = Chain·new (Poses·ofLists (MoveFile·poses bytes))
+  answer = Chain·new false (Poses·ofLists (MoveFile·poses bytes))
 
   departed : MoveFile·read bytes ≡ MoveFile·departs → rewrittenText bytes ≡ refusalText 11
   unfolding rewrittenText
@@ -117,7 +117,7 @@ module _ (bytes : List ℕ) where
 
   refused-numbered : MoveFile·read bytes .refusal ≡ 0 → (n : ℕ) → answer ≡ refused n → Printed bytes
   refused-numbered z n e =
-      let h = building-numbered (Poses·ofLists (MoveFile·poses bytes)) in
+      let h = building-numbered false (Poses·ofLists (MoveFile·poses bytes)) in
       let not-none : n ≡ 0 → ⊥ = λ k. let (c, s) = h .none (ap ChainAnswer·refusal e ∙ k) in absurd (unlike n c (sym e ∙ s)) in
       let not-two = rw e at (chain-affine (Poses·ofLists (MoveFile·poses bytes)) (poses-affine bytes)) in
       number n (of-building (rw e at (h .number)) not-none not-two) (kept z ∙ refused-text n e)

@@ -48,7 +48,7 @@ rows-point-number rows time p =
 
 pub every-answer : EveryAnswer
 every-answer = record {
-  building = λ start end. record { number = building-number start end; refused = new-refused start end };
+  building = λ rigid start end. record { number = building-number rigid start end; refused = new-refused rigid start end };
   point = transform-point-numbered;
   rows-point = λ rows time p. point-numbered (Rows·transformPoint rows time p) (rows-point-nonzero rows time p) (rows-point-number rows time p);
   pad = pad-numbered;

@@ -2,6 +2,7 @@
 -- and that an accepted cover's corners are finite and in order; and the same of a kept chain, whatever its rows. The statement of `every-chain-answer`.
 use Prim.Native.Nat.{ℕ}
 use mathlib.Core.Path.{_≡_}
+use mathlib.Core.Bool.{Bool}
 use mathlib.Core.List.{List, [], _∷_}
 use lib.Ieee.{Float}
 use Rattle.matrix4x4.specs.Rows.{Rows}
@@ -9,6 +10,7 @@ use Rattle.bounds3.specs.declared.Point3f.{Point3f}
 use Rattle.bounds3.specs.declared.Bounds3f.{Bounds3f}
 use Rattle.pose_pair.specs.declared.Pose.{Pose}
 use Rattle.transform.specs.Answer.{OneOf}
+use Rattle.animated_transform.specs.Numbers.{kindNumbers}
 use Rattle.motion_point.specs.Answer.{PointAnswer·Numbered}
 use Rattle.motion_cover.specs.Answer.{BoundsAnswer·Numbered, Proper}
 use Rattle.motion_chain.specs.Chain.{Chain, ChainAnswer, built, ChainAnswer·refusal, Chain·new, Chain·transformPoint, Chain·cover}
@@ -26,9 +28,9 @@ pub record ChainAnswer·Numbered (numbers : List ℕ) (a : ChainAnswer) : Type 0
   pub number : OneOf (ChainAnswer·refusal a) numbers
   pub none : ChainAnswer·refusal a ≡ 0 → (c : Chain) × (a ≡ built c)
 
--- document 01's numbers, and document 02's: 12 of building, 13 of a list of times, 14 of a set
+-- document 01's numbers, and document 02's: 12 and 16 of building, 17 and 18 of building as rigid, 13 of a list of times, 14 of a set
 pub record EveryChainAnswer : Type 0 where
-  pub building : (poses : List Pose) → ChainAnswer·Numbered (0 ∷ 1 ∷ 2 ∷ 3 ∷ 4 ∷ 5 ∷ 12 ∷ 16 ∷ []) (Chain·new poses)
+  pub building : (rigid : Bool) (poses : List Pose) → ChainAnswer·Numbered (0 ∷ 1 ∷ 2 ∷ 3 ∷ 4 ∷ 5 ∷ 12 ∷ 16 ∷ kindNumbers rigid) (Chain·new rigid poses)
   pub point : (c : Chain) (time : Float) (p : Point3f) → PointAnswer·Numbered (0 ∷ 5 ∷ 6 ∷ []) (Chain·transformPoint c time p)
   pub pad : (c : Chain) (time : Float) → PadAnswer·Numbered (0 ∷ 5 ∷ 6 ∷ []) (Chain·pad c time)
   pub points : (c : Chain) (times : List Float) (p : Point3f) (places : ℕ) → PointsAnswer·Numbered (0 ∷ 5 ∷ 6 ∷ 13 ∷ []) (Chain·transformPoints c times p places)

@@ -1,9 +1,10 @@
--- Any move handed in, whatever numbers are in it, is built or refused by one of document 01's numbers or 16, and so are every query and, with document 02's 12,
+-- Any move handed in, of either kind, whatever numbers are in it, is built or refused by one of document 01's numbers, 16, or as rigid 17 or 18, and so are every query and, with document 02's 12,
 -- every file: `EveryAnswer`, on one page. 0 is none: no refusal carries it, and after a refusal every other number is +0 and every yes or no is no. The
 -- structs, rows and arguments are all structs, rows and arguments; the search of a motion box, the polar rounds and the slices end because their functions
 -- are proved to. The statement of `every-answer`.
 use Prim.Native.Nat.{ℕ}
 use mathlib.Core.Path.{_≡_}
+use mathlib.Core.Bool.{Bool}
 use mathlib.Core.List.{List, [], _∷_}
 use lib.Ieee.{Float}
 use Rattle.matrix4x4.specs.Rows.{Rows}
@@ -16,6 +17,7 @@ use Rattle.pose_pair.specs.declared.Pose.{Pose}
 use Rattle.animated_transform.specs.declared.AnimatedTransform.{AnimatedTransform}
 use Rattle.animated_transform.specs.declared.AnimatedTransformAnswer.{AnimatedTransformAnswer}
 use Rattle.animated_transform.specs.New.{AnimatedTransformAnswer·refused, AnimatedTransform·new}
+use Rattle.animated_transform.specs.Numbers.{kindNumbers}
 use Rattle.motion_point.specs.TransformPoint.{AnimatedTransform·transformPoint}
 use Rattle.motion_point.specs.Answer.{PointAnswer·Numbered}
 use Rattle.motion_rows.specs.TransformPoint.{Rows·transformPoint}
@@ -56,7 +58,8 @@ pub record AnimatedTransformAnswer·Numbered (numbers : List ℕ) (a : AnimatedT
 
 -- ---- document 01, Refusals
 pub record EveryAnswer : Type 0 where
-  pub building : (start end : Pose) → AnimatedTransformAnswer·Numbered (0 ∷ 1 ∷ 2 ∷ 3 ∷ 4 ∷ 5 ∷ 16 ∷ []) (AnimatedTransform·new start end)
+  pub building : (rigid : Bool) (start end : Pose)
+      → AnimatedTransformAnswer·Numbered (0 ∷ 1 ∷ 2 ∷ 3 ∷ 4 ∷ 5 ∷ 16 ∷ kindNumbers rigid) (AnimatedTransform·new rigid start end)
   pub point : (m : AnimatedTransform) (time : Float) (p : Point3f) → PointAnswer·Numbered (0 ∷ 5 ∷ 6 ∷ []) (AnimatedTransform·transformPoint m time p)
   -- the same query of a kept move, whatever its rows
   pub rows-point : (rows : Rows) (time : Float) (p : Point3f) → PointAnswer·Numbered (0 ∷ 5 ∷ 6 ∷ []) (Rows·transformPoint rows time p)

@@ -6,9 +6,9 @@ ghost use Rattle.matrix4x4.specs.Rows.{Matrix4x4·toRows};
 ghost use Rattle.transform.specs.Transform.{TransformAnswer·refused, Transform·fromMatrices, Transform·fromMatrix, Transform·mul, Transform·translate, Transform·eq};
 ghost use Rattle.transform.specs.Answer.{PointAnswer·Judged, BoundsAnswer·Judged};
 ghost use Rattle.transform.specs.TransformPoint.{mulPoint, movedPoint, Transform·transformPoint};
-ghost use Rattle.transform.specs.TransformVector.{mulVector, Transform·transformVector};
+ghost use Rattle.transform.specs.TransformVector.{mulVector, movedVector, Transform·transformVector};
 ghost use Rattle.transform.specs.TransformBounds.{BoundsAnswer·fromMoved, BoundsAnswer·unionMoved, unionCorner, Transform·transformBounds};
-ghost use Rattle.transform.specs.HasScale.{notOne, imageSquared, Transform·hasScale};
+ghost use Rattle.transform.specs.HasScale.{notOne, imageSquared, Matrix4x4·hasScale, Transform·hasScale};
 use bounds3::Bounds3f;
 use bounds3::Point3f;
 use matrix4x4::Matrix4x4;
@@ -105,10 +105,40 @@ fn union_moved(r: BoundsAnswer, a: PointAnswer) -> BoundsAnswer
     }
 }
 
+fn moved_vector(m: [[f32; 4]; 4], v: Vector3f) -> Vector3f
+    ensures value { λ r. ⌜ r ≡ movedVector m v ⌝ }
+{
+    let r0 = m[0];
+    let r1 = m[1];
+    let r2 = m[2];
+    Vector3f {
+        x: mul_vector(r0, v),
+        y: mul_vector(r1, v),
+        z: mul_vector(r2, v),
+    }
+}
+
 fn not_one(x: f32) -> bool
     ensures value { λ r. ⌜ r ≡ notOne x ⌝ }
 {
     (x < 0.999) | (x > 1.001)
+}
+
+fn image_squared(m: [[f32; 4]; 4], x: f32, y: f32, z: f32) -> f32
+    ensures value { λ r. ⌜ r ≡ imageSquared m x y z ⌝ }
+{
+    let v = moved_vector(m, Vector3f { x, y, z });
+    v.dot(v)
+}
+
+// pbrt's `has_scale` of a matrix: whether the image of a unit vector on some axis has a squared length below 0.999 or above 1.001.
+// Accuracy: heuristic, by rounded squared lengths.
+pub fn has_scale(m: [[f32; 4]; 4]) -> bool
+    ensures value { λ r. ⌜ r ≡ Matrix4x4·hasScale m ⌝ }
+{
+    not_one(image_squared(m, 1.0, 0.0, 0.0))
+        | not_one(image_squared(m, 0.0, 1.0, 0.0))
+        | not_one(image_squared(m, 0.0, 0.0, 1.0))
 }
 
 impl Transform {
@@ -194,31 +224,14 @@ impl Transform {
     pub fn transform_vector(self, v: Vector3f) -> Vector3f
         ensures value { λ r. ⌜ r ≡ Transform·transformVector self v ⌝ }
     {
-        let r0 = self.m.r0;
-        let r1 = self.m.r1;
-        let r2 = self.m.r2;
-        Vector3f {
-            x: mul_vector(r0, v),
-            y: mul_vector(r1, v),
-            z: mul_vector(r2, v),
-        }
+        moved_vector(self.m.to_rows(), v)
     }
 
-    fn image_squared(self, x: f32, y: f32, z: f32) -> f32
-        ensures value { λ r. ⌜ r ≡ imageSquared self x y z ⌝ }
-    {
-        let v = self.transform_vector(Vector3f { x, y, z });
-        v.dot(v)
-    }
-
-    // pbrt's `has_scale`: whether the image of a unit vector on some axis has a squared length below 0.999 or above 1.001.
-    // Accuracy: heuristic, by rounded squared lengths.
+    // pbrt's `has_scale`: that of the matrix half. Accuracy: heuristic, by rounded squared lengths.
     pub fn has_scale(self) -> bool
         ensures value { λ r. ⌜ r ≡ Transform·hasScale self ⌝ }
     {
-        not_one(self.image_squared(1.0, 0.0, 0.0))
-            | not_one(self.image_squared(0.0, 1.0, 0.0))
-            | not_one(self.image_squared(0.0, 0.0, 1.0))
+        has_scale(self.m.to_rows())
     }
 
     fn union_corner(self, r: BoundsAnswer, x: f32, y: f32, z: f32) -> BoundsAnswer

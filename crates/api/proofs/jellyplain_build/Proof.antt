@@ -21,7 +21,7 @@ returns : tie.Need-returns
 returns c =
     let a = c .before .before .before .before .before .args in
     let new = c .before .before .new in
-    build-clauses (Pose·ofList (a .start .now)) (Pose·ofList (a .end .now)) (new .result) _ _ (a .motion .now)
+    build-clauses (a .rigid) (Pose·ofList (a .start .now)) (Pose·ofList (a .end .now)) (new .result) _ _ (a .motion .now)
     (rw (new .ensures .0, c .before .before .before .pose2 .ensures, c .before .before .before .before .pose .ensures)) (new .ensures .1)
     (c .put-motion .ensures .0) (c .put-motion .ensures .1)
 

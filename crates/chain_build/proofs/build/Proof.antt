@@ -12,7 +12,7 @@ refusal-requires c κs = search needs
 returns : tie.Need-returns
 returns c =
     let a = c .before .before .args in
-    checks-refused (Poses·ofLists (a .poses .now)) (length (a .poses .now)) (a .moves .now) (c .before .refusal .ensures) (c .if1 .taken)
+    checks-refused (a .rigid) (Poses·ofLists (a .poses .now)) (length (a .poses .now)) (a .moves .now) (c .before .refusal .ensures) (c .if1 .taken)
 
 build-passed-requires : tie.Need-build-passed-requires
 build-passed-requires c κs = search needs

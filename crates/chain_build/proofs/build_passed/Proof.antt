@@ -17,15 +17,15 @@ use Rattle.chain_build.proofs.build_passed.Tie as tie
 put-pairs-requires : tie.Need-put-pairs-requires
 put-pairs-requires c κs =
     let lists = c .before .args .poses .now in
-    let h = checks-passed (Poses·ofLists lists) (c .before .pre .0) .greatest in
+    let h = checks-passed (c .before .args .rigid) (Poses·ofLists lists) (c .before .pre .0) .greatest in
     let n = poses-length lists in
-    (omega (arith, h, n), c .before .good .1 .0 .1 .0 .1)
+    (omega (arith, h, n), c .before .good .1 .1 .0 .1 .0 .1)
 
 returns : tie.Need-returns
 returns c =
     let entry = c .before .before .before in
     let lists = entry .args .poses .now in
-    pair-refused (Poses·ofLists lists) (length lists) (entry .args .moves .now) (entry .pre .0) (c .before .put-pairs .ensures .0) (c .if1 .taken)
+    pair-refused (entry .args .rigid) (Poses·ofLists lists) (length lists) (entry .args .moves .now) (entry .pre .0) (c .before .put-pairs .ensures .0) (c .if1 .taken)
 
 returns-2 : tie.Need-returns-2
 returns-2 c =
@@ -34,8 +34,8 @@ returns-2 c =
     let poses = Poses·ofLists lists in
     let work = c .before .put-pairs .ensures in
     let none = c .if1 .left in
-    let left = work .1 .0 none ∙ ap (λ (old : List Rows). front (map Pair·rows (neighbours poses)) old) (entry .pre .1) in
-    all-built poses (length lists) (entry .args .moves .now) (sym (poses-length lists)) (entry .pre .0) (sym none ∙ work .0) left (work .1 .1 none)
+    let left = work .1 .0 none ∙ ap (λ (old : List Rows). front (map (Pair·rows (entry .args .rigid)) (neighbours poses)) old) (entry .pre .1) in
+    all-built (entry .args .rigid) poses (length lists) (entry .args .moves .now) (sym (poses-length lists)) (entry .pre .0) (sym none ∙ work .0) left (work .1 .1 none)
 
 pub build-passed-spec : {M : Type 1} → statement M
 build-passed-spec = tie.close (tie.spec put-pairs-requires returns returns-2)

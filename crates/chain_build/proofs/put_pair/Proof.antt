@@ -52,7 +52,7 @@ returns c =
     let ps = c .before .before .before .before .before .pose .ensures in
     let qs = c .before .before .before .pose2 .ensures in
     let (number, (rows, built)) =
-    pair-clauses p q (new .result) (getD (a .moves .now) (a .i) []) (rw (new .ensures .0, qs, ps)) (new .ensures .1)
+    pair-clauses (a .rigid) p q (new .result) (getD (a .moves .now) (a .i) []) (rw (new .ensures .0, qs, ps)) (new .ensures .1)
     (c .put-motion .ensures .0) (c .put-motion .ensures .1) in
     (number, (λ z. ap (λ (r : Rows). set (a .moves .now) (a .i) r) (rows z), built))
 

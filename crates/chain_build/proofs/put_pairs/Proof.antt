@@ -16,15 +16,15 @@ use Rattle.chain_build.proofs.put_pairs.Statement.{statement}
 use Rattle.chain_build.proofs.put_pairs.Tie as tie
 
 abbrev Inv-loop : tie.InvT-loop
-Inv-loop poses moves₀ n i₀ moves i =
+Inv-loop rigid poses moves₀ n i₀ moves i =
     (n ≡ length poses)
     × ((1 ≤ i)
-    × ((stage Pair·refusal (pairsFrom poses i) ≡ stage Pair·refusal (pairsFrom poses 1))
-    × ((put moves (i - 1) (pairsFrom poses i) ≡ put moves₀ 0 (pairsFrom poses 1))
-    × (Each Pair·Built (pairsFrom poses i) → Each Pair·Built (pairsFrom poses 1)))))
+    × ((stage (Pair·refusal rigid) (pairsFrom poses i) ≡ stage (Pair·refusal rigid) (pairsFrom poses 1))
+    × ((put rigid moves (i - 1) (pairsFrom poses i) ≡ put rigid moves₀ 0 (pairsFrom poses 1))
+    × (Each (Pair·Built rigid) (pairsFrom poses i) → Each (Pair·Built rigid) (pairsFrom poses 1)))))
 
 abbrev μ-loop : tie.MeasureT-loop
-μ-loop poses moves₀ n i₀ moves i = n - i
+μ-loop rigid poses moves₀ n i₀ moves i = n - i
 
 loop-holds : tie.Need-loop-holds Inv-loop μ-loop
 loop-holds c = (refl, (omega arith, (refl, (refl, λ h. h))))
@@ -65,7 +65,7 @@ loop-again c =
         (
           rw (← l .inv .1 .1 .0, next, ← put .0, eq-eqb _ 0 z),
           (
-            put-next (l .moves) (l .i) pair (pairsFrom (a .poses .now) (l .i + 1)) (l .inv .1 .0) (put .1 .0 z) ∙ (rw (← next) refl ∙ l .inv .1 .1 .1 .0),
+            put-next (a .rigid) (l .moves) (l .i) pair (pairsFrom (a .poses .now) (l .i + 1)) (l .inv .1 .0) (put .1 .0 z) ∙ (rw (← next) refl ∙ l .inv .1 .1 .1 .0),
             λ rest. l .inv .1 .1 .1 .1 (rw next (put .1 .1 z, rest)),
           ),
         ),
@@ -84,7 +84,7 @@ returns-2 c =
     let k = pairs-count poses in (
       rw (← l .inv .1 .1 .0, end),
       (
-        λ z. rw end at (l .inv .1 .1 .1 .0) ∙ put-front (pairsFrom (a .poses .now) 1) (a .moves .now) (omega (arith, n, k, pre)),
+        λ z. rw end at (l .inv .1 .1 .1 .0) ∙ put-front (a .rigid) (pairsFrom (a .poses .now) 1) (a .moves .now) (omega (arith, n, k, pre)),
         λ z. l .inv .1 .1 .1 .1 (rw end tt),
       ),
     )

@@ -42,9 +42,19 @@ returns-6 c =
     let k = c .before .before in
     rw (ne-eqb _ 1 (k .before .before .if1 .left), ne-eqb _ 2 (k .before .if3 .left), eq-eqb _ 16 (k .if5 .taken), ← c .before .is-padded .ensures, c .if6 .left)
 
+kind-number-requires : tie.Need-kind-number-requires
+kind-number-requires c κs = search needs
+
 returns-7 : tie.Need-returns-7
 unfolding Pose·number
-returns-7 c = rw (ne-eqb _ 1 (c .before .before .if1 .left), ne-eqb _ 2 (c .before .if3 .left), ne-eqb _ 16 (c .if5 .left))
+returns-7 c =
+    let k = c .before in
+    rw (ne-eqb _ 1 (k .before .before .before .if1 .left), ne-eqb _ 2 (k .before .before .if3 .left), ne-eqb _ 16 (k .before .if5 .left), eq-eqb _ 17 (k .if7 .taken))
+    (c .kind-number .ensures)
+
+returns-8 : tie.Need-returns-8
+unfolding Pose·number
+returns-8 c = rw (ne-eqb _ 1 (c .before .before .before .if1 .left), ne-eqb _ 2 (c .before .before .if3 .left), ne-eqb _ 16 (c .before .if5 .left), ne-eqb _ 17 (c .if7 .left))
 
 pub pose-number-spec : {M : Type 1} → statement M
 pose-number-spec =
@@ -59,4 +69,6 @@ pose-number-spec =
     is-padded-requires
     returns-5
     returns-6
-    returns-7)
+    kind-number-requires
+    returns-7
+    returns-8)

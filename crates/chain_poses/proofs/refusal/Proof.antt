@@ -1,6 +1,6 @@
 -- `refusal` meets its contract: the stages of the definition, in its order.
 use borrow.Author.Needs.{needs}
-use Rattle.motion_chain.specs.Chain.{neighbours, firstNumber, stage, Pair·number, chainRefusal}
+use Rattle.motion_chain.specs.Chain.{firstNumber, kindStage, chainRefusal}
 use Rattle.motion_chain.proofs.Built.{first-only}
 use Rattle.chain_poses.specs.Poses.{Poses·ofLists}
 use Rattle.chain_poses.proofs.Loops.{poses-length}
@@ -25,6 +25,9 @@ pair-stage-requires c κs = search needs
 pair-stage-requires-2 : tie.Need-pair-stage-requires-2
 pair-stage-requires-2 c κs = search needs
 
+kind-stage-requires : tie.Need-kind-stage-requires
+kind-stage-requires c κs = search needs
+
 first-refusal-requires : tie.Need-first-refusal-requires
 first-refusal-requires c κs = search needs
 
@@ -40,17 +43,23 @@ first-refusal-requires-4 c κs = search needs
 first-refusal-requires-5 : tie.Need-first-refusal-requires-5
 first-refusal-requires-5 c κs = search needs
 
+first-refusal-requires-6 : tie.Need-first-refusal-requires-6
+first-refusal-requires-6 c κs = search needs
+
 returns : tie.Need-returns
 unfolding chainRefusal firstNumber
 returns c =
-    let times = c .before .before .before .before .before in
+    let kind = c .before .before .before .before .before .before in
+    let times = kind .before in
     let a = times .before .before .before .before .before .before .args in
     rw (
-      c .first-refusal5 .ensures,
-      c .before .first-refusal4 .ensures,
-      c .before .before .first-refusal3 .ensures,
-      c .before .before .before .first-refusal2 .ensures,
-      c .before .before .before .before .first-refusal .ensures,
+      c .first-refusal6 .ensures,
+      c .before .first-refusal5 .ensures,
+      c .before .before .first-refusal4 .ensures,
+      c .before .before .before .first-refusal3 .ensures,
+      c .before .before .before .before .first-refusal2 .ensures,
+      c .before .before .before .before .before .first-refusal .ensures,
+      kind .kind-stage .ensures,
       times .pair-stage2 .ensures,
       times .before .pair-stage .ensures,
       times .before .before .count-number .ensures,
@@ -58,7 +67,7 @@ returns c =
       times .before .before .before .before .pose-stage2 .ensures,
       times .before .before .before .before .before .pose-stage .ensures,
       poses-length (a .poses .now),
-      first-only (stage (Pair·number 3) (neighbours (Poses·ofLists (a .poses .now)))),
+      first-only (kindStage (a .rigid) (Poses·ofLists (a .poses .now))),
     )
 
 pub refusal-spec : {M : Type 1} → statement M
@@ -71,9 +80,11 @@ refusal-spec =
     count-number-requires
     pair-stage-requires
     pair-stage-requires-2
+    kind-stage-requires
     first-refusal-requires
     first-refusal-requires-2
     first-refusal-requires-3
     first-refusal-requires-4
     first-refusal-requires-5
+    first-refusal-requires-6
     returns)

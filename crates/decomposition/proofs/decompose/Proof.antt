@@ -9,10 +9,10 @@ use Rattle.decomposition.proofs.decompose.Statement.{statement}
 use Rattle.decomposition.proofs.decompose.Tie as tie
 
 abbrev Inv-loop : tie.InvT-loop
-Inv-loop m r₀ counter₀ r counter = Reached m counter r
+Inv-loop rigid m r₀ counter₀ r counter = Reached m counter r
 
 abbrev μ-loop : tie.MeasureT-loop
-μ-loop m r₀ counter₀ r counter = 100 - counter
+μ-loop rigid m r₀ counter₀ r counter = 100 - counter
 
 linear-part-requires : tie.Need-linear-part-requires Inv-loop μ-loop
 linear-part-requires c κs = search needs
@@ -34,7 +34,7 @@ returns : tie.Need-returns Inv-loop μ-loop
 returns c =
     let l = c .before .before .before .before .before .loop in
     let rit = c .before .before .before .inverse in
-    c .refused .ensures ∙ sym (inverse-refuses (l .inv) (rit .result) (rw (← c .before .before .before .before .transpose .ensures) (rit .ensures)) (c .before .if1 .taken))
+    c .refused .ensures ∙ sym (inverse-refuses (l .inv) (rit .result) (rw (← c .before .before .before .before .transpose .ensures) (rit .ensures)) _ (c .before .if1 .taken))
 
 to-rows-requires : tie.Need-to-rows-requires Inv-loop μ-loop
 to-rows-requires c κs = search needs
@@ -56,7 +56,7 @@ returns-2 c =
     c .refused2 .ensures ∙
     sym
     (matrix-refuses (l .inv) (rit .result) (rw (← c .before .before .before .before .before .before .before .before .transpose .ensures) (rit .ensures)) (c .before .before .before .before .before .if1 .left)
-    (rnext .result) (rw (← c .before .before .before .before .to-rows .ensures) (rnext .ensures)) (sym (c .before .before .is-finite .ensures) ∙ not-true _ (c .before .if2 .taken)))
+    (rnext .result) (rw (← c .before .before .before .before .to-rows .ensures) (rnext .ensures)) _ (sym (c .before .before .is-finite .ensures) ∙ not-true _ (c .before .if2 .taken)))
 
 distance-requires : tie.Need-distance-requires Inv-loop μ-loop
 distance-requires c κs = search needs
@@ -86,7 +86,7 @@ returns-3 c =
     c .parts .ensures ∙
     sym
     (turn-last (l .inv) (rit .result) (rw (← c .before .before .before .before .before .before .before .before .before .before .transpose .ensures) (rit .ensures)) (c .before .before .before .before .before .before .before .if1 .left)
-    (rnext .result) (rw (← c .before .before .before .before .before .before .to-rows .ensures) (rnext .ensures)) (sym (c .before .before .before .before .is-finite .ensures) ∙ not-false _ (c .before .before .before .if2 .left)) (rw (c .before .before .distance .ensures) at (c .before .if3 .taken)))
+    (rnext .result) (rw (← c .before .before .before .before .before .before .to-rows .ensures) (rnext .ensures)) (sym (c .before .before .before .before .is-finite .ensures) ∙ not-false _ (c .before .before .before .if2 .left)) _ (rw (c .before .before .distance .ensures) at (c .before .if3 .taken)))
 
 pub decompose-spec : {M : Type 1} → statement M
 decompose-spec =

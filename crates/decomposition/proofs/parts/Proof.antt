@@ -16,8 +16,8 @@ quaternion-from-matrix-requires c κs = search needs
 to-rows-requires : tie.Need-to-rows-requires
 to-rows-requires c κs = search needs
 
-mul-requires : tie.Need-mul-requires
-mul-requires c κs = search needs
+scale-by-requires : tie.Need-scale-by-requires
+scale-by-requires c κs = search needs
 
 judged-requires : tie.Need-judged-requires
 judged-requires c κs = search needs
@@ -29,7 +29,7 @@ returns : tie.Need-returns
 unfolding parts
 returns c =
     let rotation : c .before .before .before .quaternion-from-matrix .result ≡ Quaternion·fromMatrix (c .before .before .before .before .before .before .before .args .r) = c .before .before .before .quaternion-from-matrix .ensures in
-    rw (← c .before .before .before .before .before .before .inverse .ensures, eq-eqb _ 0 (c .before .before .before .before .if1 .taken), ← rotation, ← c .before .before .to-rows .ensures, ← c .before .mul .ensures) (c .judged .ensures)
+    rw (← c .before .before .before .before .before .before .inverse .ensures, eq-eqb _ 0 (c .before .before .before .before .if1 .taken), ← rotation, ← c .before .before .to-rows .ensures, ← c .before .scale-by .ensures) (c .judged .ensures)
 
 returns-2 : tie.Need-returns-2
 unfolding parts
@@ -42,7 +42,7 @@ parts-spec =
     inverse-requires
     quaternion-from-matrix-requires
     to-rows-requires
-    mul-requires
+    scale-by-requires
     judged-requires
     refused-requires
     returns

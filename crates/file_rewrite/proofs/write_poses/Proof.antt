@@ -1,4 +1,5 @@
 -- `write_poses` meets its contract: building's number chooses the case (proofs/Printed.antt). What was built is kept in the first moves, one fewer than poses.
+use mathlib.Core.Bool.{false}
 use native.Mathlib.Omega.{arith}
 use mathlib.Core.Path.{sym, _∙_}
 use lib.Seq.{length-take-le}
@@ -25,7 +26,7 @@ returns c =
     let build = c .before .before .before .before .before in
     let a = build .before .before .before .args in
     let some = c .before .before .before .before .if1 .taken in
-    rw (refused-printed (Chain·new (Poses·ofLists (a .poses .now))) (a .b) (build .build .ensures .0) some) (c .before .before .write-refusal .ensures)
+    rw (refused-printed (Chain·new false (Poses·ofLists (a .poses .now))) (a .b) (build .build .ensures .0) some) (c .before .before .write-refusal .ensures)
 
 sub-n : tie.Need-sub-n
 sub-n c =
@@ -37,20 +38,20 @@ array-share-prefix-moves c =
     let build = c .before .build in
     let lists = c .before .before .before .before .args .poses .now in
     let few = built-count lists (build .ensures .0) (c .if1 .left) in
-    omega (arith, few .1, moves-room (Chain·new (Poses·ofLists lists)) _ (build .ensures .1 .0))
+    omega (arith, few .1, moves-room (Chain·new false (Poses·ofLists lists)) _ (build .ensures .1 .0))
 
 slice-aggregate-write-moves : tie.Need-slice-aggregate-write-moves
 slice-aggregate-write-moves c =
     let build = c .before .before .build in
     let lists = c .before .before .before .before .before .args .poses .now in
     let few = built-count lists (build .ensures .0) (c .before .if1 .left) in
-    sym (length-take-le _ _ (omega (arith, few .1, moves-room (Chain·new (Poses·ofLists lists)) _ (build .ensures .1 .0))))
+    sym (length-take-le _ _ (omega (arith, few .1, moves-room (Chain·new false (Poses·ofLists lists)) _ (build .ensures .1 .0))))
 
 write-moves-requires : tie.Need-write-moves-requires
 write-moves-requires c κs =
     let build = c .before .before .before .build in
     let lists = c .before .before .before .before .before .before .args .poses .now in
-    let (chain, s) = new-none (Poses·ofLists lists) (sym (build .ensures .0) ∙ c .before .before .if1 .left) in
+    let (chain, s) = new-none false (Poses·ofLists lists) (sym (build .ensures .0) ∙ c .before .before .if1 .left) in
     rw (build .ensures .1 .1 chain s .same) (omega arith)
 
 same-length-2 : tie.Need-same-length-2

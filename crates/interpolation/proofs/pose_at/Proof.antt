@@ -1,5 +1,5 @@
--- `pose_at` meets its contract: translation and scale are the stages' (`translation-same`, `scale-same`).
-use Rattle.pose_steps.proofs.Composition.{translation-same, scale-same}
+-- `pose_at` meets its contract: translation and scale are the stages' (`translation-same`, `scale-by-same`).
+use Rattle.pose_steps.proofs.Composition.{translation-same, scale-by-same}
 use Rattle.interpolation.specs.Interpolate.{AnimatedTransform·poseAt}
 use borrow.Author.Needs.{needs}
 use Rattle.interpolation.proofs.pose_at.Statement.{statement}
@@ -11,17 +11,17 @@ translation-requires c κs = search needs
 slerp-requires : tie.Need-slerp-requires
 slerp-requires c κs = search needs
 
-scale-requires : tie.Need-scale-requires
-scale-requires c κs = search needs
+scale-by-requires : tie.Need-scale-by-requires
+scale-by-requires c κs = search needs
 
 composed-requires : tie.Need-composed-requires
 composed-requires c κs = search needs
 
 returns : tie.Need-returns
 unfolding AnimatedTransform·poseAt
-returns c = rw (c .composed .ensures, c .before .scale .ensures, c .before .before .slerp .ensures, c .before .before .before .translation .ensures, translation-same _ _ _, scale-same _ _ _)
+returns c = rw (c .composed .ensures, c .before .scale-by .ensures, c .before .before .slerp .ensures, c .before .before .before .translation .ensures, translation-same _ _ _, scale-by-same _ _ _ _)
 
 pub pose-at-spec : {M : Type 1} → statement M
 pose-at-spec =
     tie.close
-    (tie.spec translation-requires slerp-requires scale-requires composed-requires returns)
+    (tie.spec translation-requires slerp-requires scale-by-requires composed-requires returns)

@@ -1,4 +1,5 @@
 -- `poses_cover` meets its contract: building's number chooses the case (proofs/Posed.antt). What was built is kept in the first moves, one fewer than poses.
+use mathlib.Core.Bool.{false}
 use native.Mathlib.Omega.{arith}
 use mathlib.Core.Path.{sym}
 use lib.Seq.{length-take-le}
@@ -25,14 +26,14 @@ array-share-prefix-moves c =
     let build = c .before .build in
     let lists = c .before .before .before .args .poses .now in
     let few = built-count lists (build .ensures .0) (c .if1 .left) in
-    omega (arith, few .1, moves-room (Chain·new (Poses·ofLists lists)) _ (build .ensures .1 .0))
+    omega (arith, few .1, moves-room (Chain·new false (Poses·ofLists lists)) _ (build .ensures .1 .0))
 
 slice-aggregate-cover : tie.Need-slice-aggregate-cover
 slice-aggregate-cover c =
     let build = c .before .before .build in
     let lists = c .before .before .before .before .args .poses .now in
     let few = built-count lists (build .ensures .0) (c .before .if1 .left) in
-    sym (length-take-le _ _ (omega (arith, few .1, moves-room (Chain·new (Poses·ofLists lists)) _ (build .ensures .1 .0))))
+    sym (length-take-le _ _ (omega (arith, few .1, moves-room (Chain·new false (Poses·ofLists lists)) _ (build .ensures .1 .0))))
 
 cover-requires : tie.Need-cover-requires
 cover-requires c κs = search needs

@@ -7,6 +7,9 @@ use Rattle.motion_rows.proofs.constants_from_rows.Tie as tie
 element-copy-out-constants : tie.Need-element-copy-out-constants
 element-copy-out-constants c = search needs
 
+element-copy-out-pads : tie.Need-element-copy-out-pads
+element-copy-out-pads c = search needs
+
 vector-at-requires : tie.Need-vector-at-requires
 vector-at-requires c κs = search needs
 
@@ -19,11 +22,14 @@ quaternion-at-requires c κs = search needs
 quaternion-at-requires-2 : tie.Need-quaternion-at-requires-2
 quaternion-at-requires-2 c κs = search needs
 
-array-read-t12 : tie.Need-array-read-t12
-array-read-t12 c = search needs
-
 array-read-t15 : tie.Need-array-read-t15
 array-read-t15 c = search needs
+
+array-read-t18 : tie.Need-array-read-t18
+array-read-t18 c = search needs
+
+array-read-t21 : tie.Need-array-read-t21
+array-read-t21 c = search needs
 
 returns : tie.Need-returns
 unfolding PoseConstants·fromRows
@@ -34,10 +40,12 @@ constants-from-rows-spec =
     tie.close
     (tie.spec
     element-copy-out-constants
+    element-copy-out-pads
     vector-at-requires
     vector-at-requires-2
     quaternion-at-requires
     quaternion-at-requires-2
-    array-read-t12
     array-read-t15
+    array-read-t18
+    array-read-t21
     returns)

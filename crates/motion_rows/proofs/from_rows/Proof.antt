@@ -64,6 +64,9 @@ array-read-t40 c = search needs
 array-read-t43 : tie.Need-array-read-t43
 array-read-t43 c = search needs
 
+array-read-t46 : tie.Need-array-read-t46
+array-read-t46 c = search needs
+
 returns : tie.Need-returns
 unfolding AnimatedTransform·fromRows
 returns c =
@@ -88,6 +91,7 @@ returns c =
       coefficients = c .coefficients-at .ensures i;
       pad0 = at rows 44 0;
       pad1 = at rows 44 1;
+      rigid = eq (at rows 44 2) one;
     }
 
 pub from-rows-spec : {M : Type 1} → statement M
@@ -113,4 +117,5 @@ from-rows-spec =
     array-read-t36
     array-read-t40
     array-read-t43
+    array-read-t46
     returns)

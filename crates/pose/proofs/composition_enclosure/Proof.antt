@@ -7,7 +7,7 @@ returns c = rw (
   c .mul-enclosure .ensures,
   c .before .translate-enclosure .ensures,
   c .before .before .rotation-enclosure .ensures,
-  c .before .before .before .scale-enclosure .ensures,
+  c .before .before .before .scale-by-enclosure .ensures,
 )
 
 pub composition-enclosure-spec : {M : Type 1} → statement M

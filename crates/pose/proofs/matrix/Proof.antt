@@ -10,8 +10,8 @@ translation-requires c κs = search needs
 slerp-requires : tie.Need-slerp-requires
 slerp-requires c κs = search needs
 
-scale-requires : tie.Need-scale-requires
-scale-requires c κs = search needs
+scale-by-requires : tie.Need-scale-by-requires
+scale-by-requires c κs = search needs
 
 translation-matrix-requires : tie.Need-translation-matrix-requires
 translation-matrix-requires c κs = search needs
@@ -48,7 +48,7 @@ judged-requires c κs = search needs
 
 returns : tie.Need-returns
 unfolding Pose·matrix
-returns c = rw (c .judged .ensures, c .before .all-finite5 .ensures, c .before .before .all-finite4 .ensures, c .before .before .before .all-finite3 .ensures, c .before .before .before .before .all-finite2 .ensures, c .before .before .before .before .before .all-finite .ensures, c .before .before .before .before .before .before .is-finite .ensures, c .before .before .before .before .before .before .before .product2 .ensures, c .before .before .before .before .before .before .before .before .product .ensures, c .before .before .before .before .before .before .before .before .before .rotation .ensures, c .before .before .before .before .before .before .before .before .before .before .translation-matrix .ensures, c .before .before .before .before .before .before .before .before .before .before .before .scale .ensures, c .before .before .before .before .before .before .before .before .before .before .before .before .slerp .ensures, c .before .before .before .before .before .before .before .before .before .before .before .before .before .translation .ensures)
+returns c = rw (c .judged .ensures, c .before .all-finite5 .ensures, c .before .before .all-finite4 .ensures, c .before .before .before .all-finite3 .ensures, c .before .before .before .before .all-finite2 .ensures, c .before .before .before .before .before .all-finite .ensures, c .before .before .before .before .before .before .is-finite .ensures, c .before .before .before .before .before .before .before .product2 .ensures, c .before .before .before .before .before .before .before .before .product .ensures, c .before .before .before .before .before .before .before .before .before .rotation .ensures, c .before .before .before .before .before .before .before .before .before .before .translation-matrix .ensures, c .before .before .before .before .before .before .before .before .before .before .before .scale-by .ensures, c .before .before .before .before .before .before .before .before .before .before .before .before .slerp .ensures, c .before .before .before .before .before .before .before .before .before .before .before .before .before .translation .ensures)
 
 pub matrix-spec : {M : Type 1} → statement M
 matrix-spec =
@@ -56,7 +56,7 @@ matrix-spec =
     (tie.spec
     translation-requires
     slerp-requires
-    scale-requires
+    scale-by-requires
     translation-matrix-requires
     rotation-requires
     product-requires

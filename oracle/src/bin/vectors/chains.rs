@@ -18,11 +18,11 @@ pub struct Pose {
 pub type Chain = Vec<Pose>;
 
 /// A chain's poses at the given times, with pads of zero.
-fn at_times(times: &[f32], matrices: &[[f32; 16]]) -> Chain {
+pub fn at_times(times: &[f32], matrices: &[[f32; 16]]) -> Chain {
     times.iter().zip(matrices.iter().cycle()).map(|(time, matrix)| Pose { time: *time, matrix: *matrix, pad: 0.0 }).collect()
 }
 
-fn at_whole_times(matrices: &[[f32; 16]]) -> Chain {
+pub fn at_whole_times(matrices: &[[f32; 16]]) -> Chain {
     let times: Vec<f32> = (0..matrices.len()).map(|i| i as f32).collect();
     at_times(&times, matrices)
 }
@@ -34,12 +34,20 @@ pub fn of_move(m: &Move) -> Chain {
 impl<W: Write> Questions<W> {
     /// The question that hands in poses. Tells whether they are built, so that there is something to ask of them.
     pub fn ask_poses(&mut self, question: &str, slot: usize, poses: &[Pose]) -> bool {
+        self.ask_poses_as(Kind::Plain, question, slot, poses)
+    }
+
+    pub fn ask_poses_as(&mut self, kind: Kind, question: &str, slot: usize, poses: &[Pose]) -> bool {
         let values: Vec<f32> = poses.iter().flat_map(|p| [&[p.time], p.matrix.as_slice(), &[p.pad]].concat()).collect();
-        self.ask(&format!("{question} {slot} plain"), &[&values]);
+        let word = match kind {
+            Kind::Plain => "plain",
+            Kind::Rigid => "rigid",
+        };
+        self.ask(&format!("{question} {slot} {word}"), &[&values]);
         let poses: Vec<chain::Pose> = poses.iter().map(|p| chain::Pose { time: p.time, matrix: Matrix4x4::from_row_slice(&p.matrix), pad: p.pad }).collect();
         match (question, <[chain::Pose; 2]>::try_from(poses.as_slice())) {
-            ("lone", Ok(pair)) => chain::Chain::lone(&pair).is_ok(),
-            _ => chain::Chain::build(&poses).is_ok(),
+            ("lone", Ok(pair)) => chain::Chain::lone(kind, &pair).is_ok(),
+            _ => chain::Chain::build(kind, &poses).is_ok(),
         }
     }
 
@@ -106,7 +114,7 @@ fn fixed_pads<W: Write>(q: &mut Questions<W>) {
 }
 
 /// Each question about a slot's first move or chain.
-fn ask_each<W: Write>(q: &mut Questions<W>, slot: usize) {
+pub fn ask_each<W: Write>(q: &mut Questions<W>, slot: usize) {
     q.ask(&format!("cpoint {slot}"), &[&[0.5, 0.0, 0.0, 0.0]]);
     q.ask_times(slot, 3, &[0.0; 3], &[0.5]);
     q.ask(&format!("cpad {slot}"), &[&[0.5]]);
@@ -337,7 +345,7 @@ fn fixed_slots<W: Write>(q: &mut Questions<W>) {
     for line in ["chain", "chain 0", "chain 4 plain", "chain -1 plain", "chain x plain", "chain 0 Plain", "chain 0 plain ", "lone 0 plain"] {
         q.line(line);
     }
-    for (question, floats) in [("chain 0 rigid", 36), ("chain 0 plain", 35), ("lone 0 plain", 18), ("lone 0 plain", 35), ("lone 4 plain", 36)] {
+    for (question, floats) in [("chain 0 Rigid", 36), ("chain 0 plain", 35), ("lone 0 plain", 18), ("lone 0 plain", 35), ("lone 4 plain", 36)] {
         q.ask(question, &[&values[..floats]]);
     }
     for line in [
@@ -404,7 +412,7 @@ pub fn fixed<W: Write>(q: &mut Questions<W>) {
 
 impl Random {
     /// Mostly 2 to 8 poses; at times up to 32, and now and then a number that is refused.
-    fn pose_count(&mut self) -> usize {
+    pub fn pose_count(&mut self) -> usize {
         match self.below(32) {
             0 => self.pick(&[0, 1, 33, 33, 34, MOST_POSES]),
             1 | 2 => 9 + self.below(24),
@@ -416,7 +424,7 @@ impl Random {
     }
 
     /// Times that rise strictly, but for those of chance.
-    fn rising_times(&mut self, count: usize) -> Vec<f32> {
+    pub fn rising_times(&mut self, count: usize) -> Vec<f32> {
         let style = self.below(14);
         let rising = |mut times: Vec<f32>| {
             times.sort_by(f32::total_cmp);
@@ -531,7 +539,7 @@ impl Random {
     }
 
     /// Of either zero, small, great, or so great that lerp or a grown box may overflow.
-    fn pad(&mut self) -> f32 {
+    pub fn pad(&mut self) -> f32 {
         match self.below(40) {
             0..16 => 0.0,
             16 => -0.0,
@@ -542,7 +550,7 @@ impl Random {
     }
 
     /// A fault at any place.
-    fn spoil(&mut self, chain: &mut Chain) {
+    pub fn spoil(&mut self, chain: &mut Chain) {
         let place = self.below(chain.len());
         match self.below(12) {
             10 => chain[place].pad = -self.size(-149, 100).abs(),
@@ -690,7 +698,7 @@ fn ask_of_moves<W: Write>(q: &mut Questions<W>, r: &mut Random, slot: usize, cha
     }
 }
 
-fn ask_of_chain<W: Write>(q: &mut Questions<W>, r: &mut Random, slot: usize, chain: &[Pose], is_lone: bool) {
+pub fn ask_of_chain<W: Write>(q: &mut Questions<W>, r: &mut Random, slot: usize, chain: &[Pose], is_lone: bool) {
     let p = r.point();
     for _ in 0..2 + r.below(5) {
         let p = if r.one_in(2) { p } else { r.point() };

@@ -3,13 +3,15 @@
 //! every machine makes the same, but for the bits of a NaN.
 
 mod chains;
+mod rigid;
 mod sets;
 mod texts;
 
+use oracle::angles;
 use oracle::core::geometry::point::Point3f;
 use oracle::core::transform::fields::find_zeros;
 use oracle::core::transform::Matrix4x4;
-use oracle::{angles, judged};
+use oracle::judged::{self, Kind};
 use std::io::{self, BufWriter, Write};
 
 /// Floats at the edges of the format, of rounding and of the tests in the original.
@@ -163,7 +165,7 @@ impl<W: Write> Questions<W> {
         self.ask("move", &[&[m.times[0]], &m.poses[0], &[m.times[1]], &m.poses[1]]);
         self.ask("parts", &[]);
         let [start, end] = m.poses.map(|pose| Matrix4x4::from_row_slice(&pose));
-        judged::build(m.times[0], &start, m.times[1], &end).is_ok()
+        judged::build(Kind::Plain, m.times[0], &start, m.times[1], &end).is_ok()
     }
 }
 
@@ -421,7 +423,7 @@ impl Random {
             p[j] = 10.0 * self.unit();
             let point = Point3f::new(p[0], p[1], p[2]);
             let mut end = from_rows(times(rotation(turn), shear), [0.0; 3]);
-            let build = |end: &[f32; 16]| judged::build(0.0, &Matrix4x4::default(), 1.0, &Matrix4x4::from_row_slice(end));
+            let build = |end: &[f32; 16]| judged::build(Kind::Plain, 0.0, &Matrix4x4::default(), 1.0, &Matrix4x4::from_row_slice(end));
             // The derivative at the start is c1 + c2, and c1 alone holds the translation.
             let Ok(still) = build(&end) else { continue };
             let [c1, c2, ..] = still.original.terms(i, &point);
@@ -543,7 +545,7 @@ impl Random {
 }
 
 /// The kinds of question: from `chains` on they are `chain_answers`', the others `answers`'.
-const KINDS: &[&str] = &["numbers", "angles", "matrices", "bounds", "moves", "motion", "covers", "boxes", "chains", "sets", "arcs", "texts"];
+const KINDS: &[&str] = &["numbers", "angles", "matrices", "bounds", "moves", "motion", "covers", "boxes", "chains", "sets", "arcs", "texts", "rigid"];
 
 /// A box that a matrix carries: turned about, mirrored, carried to infinity, with wp of zero and a bottom row that isn't 0 0 0 1.
 fn fixed_boxes<W: Write>(q: &mut Questions<W>) {
@@ -1158,6 +1160,7 @@ fn main() {
         "sets" => (sets::fixed, sets::random),
         "texts" => (texts::fixed, texts::random),
         "arcs" => (fixed_arcs, random_arc),
+        "rigid" => (rigid::fixed, rigid::random),
         _ => usage(),
     };
     // Each kind has numbers of its own, whatever the seed. A kind more leaves those of the others as they are.

@@ -1,47 +1,16 @@
--- `has_scale` meets its contract: for each axis the squared length of the image, and the test.
-use Rattle.transform.specs.HasScale.{Transform·hasScale}
+-- `Transform::has_scale` meets its contract: it is that of the matrix half.
 use borrow.Author.Needs.{needs}
 use Rattle.transform.proofs.Transform.has_scale.Statement.{statement}
 use Rattle.transform.proofs.Transform.has_scale.Tie as tie
 
-image-squared-requires : tie.Need-image-squared-requires
-image-squared-requires c κs = search needs
+to-rows-requires : tie.Need-to-rows-requires
+to-rows-requires c κs = search needs
 
-not-one-requires : tie.Need-not-one-requires
-not-one-requires c κs = search needs
-
-image-squared-requires-2 : tie.Need-image-squared-requires-2
-image-squared-requires-2 c κs = search needs
-
-not-one-requires-2 : tie.Need-not-one-requires-2
-not-one-requires-2 c κs = search needs
-
-image-squared-requires-3 : tie.Need-image-squared-requires-3
-image-squared-requires-3 c κs = search needs
-
-not-one-requires-3 : tie.Need-not-one-requires-3
-not-one-requires-3 c κs = search needs
+has-scale-requires : tie.Need-has-scale-requires
+has-scale-requires c κs = search needs
 
 returns : tie.Need-returns
-unfolding Transform·hasScale
-returns c =
-    rw (
-      c .not-one3 .ensures,
-      c .before .image-squared3 .ensures,
-      c .before .before .not-one2 .ensures,
-      c .before .before .before .image-squared2 .ensures,
-      c .before .before .before .before .not-one .ensures,
-      c .before .before .before .before .before .image-squared .ensures,
-    )
+returns c = cc
 
 pub has-scale-spec : {M : Type 1} → statement M
-has-scale-spec =
-    tie.close
-    (tie.spec
-    image-squared-requires
-    not-one-requires
-    image-squared-requires-2
-    not-one-requires-2
-    image-squared-requires-3
-    not-one-requires-3
-    returns)
+has-scale-spec = tie.close (tie.spec to-rows-requires has-scale-requires returns)
