@@ -56,6 +56,9 @@ int main(void)
     if (jellyplain_build(false, &start, &wide_spray, &spraying) == JELLYPLAIN_NONE && jellyplain_pad(&spraying, 0.5f, pad) == JELLYPLAIN_NONE
         && jellyplain_cover(&spraying, boom, 12, bounds) == JELLYPLAIN_NONE)
         printf("with a pad from 0 to 2, %g at 0.5: x from %g to %g\n", pad[0], bounds[0], bounds[3]);
+    if (jellyplain_chain_try(&chain, 1, &wide_spray, boom, 10, bounds) == JELLYPLAIN_NONE)
+        printf("with that pad tried at the pose between: x from %g to %g; at a fourth pose: refused with %d\n", bounds[0], bounds[3],
+               jellyplain_chain_try(&chain, 3, &wide_spray, boom, 10, bounds));
     jellyplain_pose longer = end;
     longer.matrix[1][1] = 1.1f;
     printf("a boom that grows by a tenth, as rigid: refused with %d\n", jellyplain_build(true, &start, &longer, &move));

@@ -67,7 +67,8 @@ enum jellyplain_refusal {
     JELLYPLAIN_ROOM = 15,           /* a buffer is too short for the text of a move file */
     JELLYPLAIN_PAD = 16,            /* a pad is below zero */
     JELLYPLAIN_NOT_RIGID = 17,      /* a pose of a rigid move or chain scales or shears */
-    JELLYPLAIN_DETERMINANT = 18     /* a pose of a rigid move or chain mirrors: its determinant isn't above zero */
+    JELLYPLAIN_DETERMINANT = 18,    /* a pose of a rigid move or chain mirrors: its determinant isn't above zero */
+    JELLYPLAIN_PLACE = 19           /* a pose is tried at a place beyond the last */
 };
 
 /* The move from one pose to another. A boom that neither stretches nor shears may be built as rigid: between the poses a turn and a shift alone, so that its covers are tighter.
@@ -113,6 +114,10 @@ uint8_t jellyplain_moves_points(const jellyplain_move *moves, size_t count, cons
 /* A box that holds every point of the box b at every time but NaN, less and plus its pad as above, from 2^depth slices of each move; greater depths as above.
  * Numbers 5, 6, 7, 8 and 10, and 12 for no moves. */
 uint8_t jellyplain_moves_cover(const jellyplain_move *moves, size_t count, const float b[6], uint32_t depth, float bounds[6]);
+
+/* The cover of the box b if the pose at a place, counted from 0, were this one: what jellyplain_moves_cover answers of a chain that is built with it. Only the moves beside the
+ * place are built, and `moves` stays as it is. Numbers 19 for a place beyond the last pose, then those of jellyplain_build_moves for the changed poses, then 6, 7, 8, 5 and 10. */
+uint8_t jellyplain_moves_try(const jellyplain_move *moves, size_t count, size_t place, const jellyplain_pose *pose, const float b[6], uint32_t depth, float bounds[6]);
 
 /* A box for each of 1 to 16 boxes that holds every point of it at every time but NaN, as jellyplain_moves_cover does, in order, the places behind them +0; and the union of them.
  * It costs far less than that query for each box. Numbers 14, then 5, 6, 7, 8 and 10 of the first refused box, and 12 for no moves; `covers` and `all` stay after a refusal. */
@@ -171,6 +176,11 @@ static inline uint8_t jellyplain_chain_points(const jellyplain_chain *chain, con
 static inline uint8_t jellyplain_chain_cover(const jellyplain_chain *chain, const float b[6], uint32_t depth, float bounds[6])
 {
     return jellyplain_moves_cover(chain->moves, chain->count, b, depth, bounds);
+}
+
+static inline uint8_t jellyplain_chain_try(const jellyplain_chain *chain, size_t place, const jellyplain_pose *pose, const float b[6], uint32_t depth, float bounds[6])
+{
+    return jellyplain_moves_try(chain->moves, chain->count, place, pose, b, depth, bounds);
 }
 
 static inline uint8_t jellyplain_chain_covers(const jellyplain_chain *chain, const float (*boxes)[6], size_t boxes_count, uint32_t depth, float covers[JELLYPLAIN_BOXES][6],

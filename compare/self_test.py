@@ -31,6 +31,7 @@ WORDS = {
     "rigid": "chain lone cpoint ctimes ccover cinterp cparts cmotion cpmotion",
     "sets": "chain cset ccover",
     "texts": "chain write read",
+    "trials": "chain try ccover",
     "arcs": "acosn",
 }
 
@@ -95,7 +96,7 @@ def changed(change, question, answer):
     word = values[0]
     if change == word and answer.startswith(b"ok ") and answer[-8:] != b"7fc00000":
         # A cover is made wider, so that a finer one still lies in it.
-        other = wider if word in ("cover", "ccover", "cset") else other_digit
+        other = wider if word in ("cover", "ccover", "cset", "try") else other_digit
         return other(answer) if first_time(change) else answer
     if change == "built" and word in ("move", "chain") and answer.startswith(b"ok"):
         return b"refused 5" if first_time(change) else answer
@@ -111,7 +112,7 @@ def changed(change, question, answer):
         return b"refused 5"
     if change == "list_unanswered" and word == "ctimes":
         return b"refused 5"
-    if change == "box_zeros" and word in ("motion", "pmotion", "cover", "bounds", "ccover", "cset", "cmotion", "cpmotion"):
+    if change == "box_zeros" and word in ("motion", "pmotion", "cover", "bounds", "ccover", "cset", "cmotion", "cpmotion", "try"):
         return re.sub(rb"\b[08]0000000\b", lambda zero: b"80000000" if zero[0] == b"00000000" else b"00000000", answer)
     if change == "point_zero" and word in ("point", "cpoint") and b" 00000000" in answer:
         return answer.replace(b" 00000000", b" 80000000", 1) if first_time(change) else answer
@@ -131,6 +132,10 @@ def changed(change, question, answer):
         return b"ok 2" if first_time(change) else answer
     if (change, answer) in (("seventeen", b"refused 17"), ("eighteen", b"refused 18")):
         return b"ok 2" if first_time(change) else answer
+    if change == "nineteen" and word == "try" and answer == b"refused 19":
+        return b"refused 12" if first_time(change) else answer
+    if change == "tried_otherwise" and word == "try" and answer.startswith(b"ok "):
+        return wider(answer)
     if change == "nan_bits":
         return answer.replace(b"7fc00000", b"ffc12345")
     if change == "many_boxes" and word == "cset" and answer == b"refused 14" and len(values) == 3 + 17 * 6:
@@ -256,7 +261,7 @@ def trial(title, kind, changes, different, shown=(), sides=None, cases=40):
     """`different` is how many differences are to be told; None for some. The changes are on some sides, or on the project's alone."""
     if len(sys.argv) > 1 and not set(kind.split(",")) & set(sys.argv[1:]):
         return None
-    is_of_chains = kind in ("chains", "rigid", "sets", "texts", "arcs", "files")
+    is_of_chains = kind in ("chains", "rigid", "sets", "texts", "trials", "arcs", "files")
     sides = sides or ("--chain-answers" if is_of_chains else "--answers",)
     with tempfile.TemporaryDirectory() as folder:
         command = [os.path.join(HERE, "run"), "--no-build", "--kinds", kind, "--moves", str(cases), "--chains", str(cases), "--files", str(cases), "--show", "100"]
@@ -338,6 +343,10 @@ def main():
         trial("sets that grow with the depth, on both sides", "sets", ["growing"], None, ["a finer cover is wider"], BOTH_OF_CHAINS),
         trial("unions alone that grow with the depth, on both sides", "sets", ["growing_union"], None, ["a finer cover is wider"], BOTH_OF_CHAINS),
         trial("sets refused above depth 2, on both sides", "sets", ["shallow"], None, ["a finer cover is refused"], BOTH_OF_CHAINS),
+        trial("poses tried as they are", "trials", [], 0, cases=200),
+        trial("another number of one place", "trials", ["nineteen"], 1, ["try"]),
+        trial("another number of one trial's refusal", "trials", ["refusal"], 1),
+        trial("every trial wider than its copy, on both sides", "trials", ["tried_otherwise"], None, ["a trial is not what a changed copy answers"], BOTH_OF_CHAINS),
         trial("texts as they are", "texts", [], 0, cases=200),
         trial("another number of one text's refusal", "texts", ["refusal"], 1),
         trial("another time in every written text, on both sides", "texts", ["other_time"], None, ["read of what was written"], BOTH_OF_CHAINS),

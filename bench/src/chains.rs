@@ -1,4 +1,4 @@
-//! A chain of 32 poses beside its own 31 moves: its cover beside theirs, a list of times beside a query for each, and a set of boxes beside a cover for each.
+//! A chain of 32 poses beside its own 31 moves: its cover beside theirs, a list of times beside a query for each, a set of boxes beside a cover for each, and a pose that is tried beside a changed copy.
 
 use crate::inputs::{cases, Kind, Random};
 use crate::{compare, Bounds};
@@ -46,6 +46,26 @@ pub fn compare_chains(random: &mut Random) {
     for count in [2, POSES] {
         compare_sets(&poses[..count], &bounds);
     }
+    compare_trials(&poses, &chain, &bounds);
+}
+
+/// A pose of 32 tried, beside changing a copy and asking that: what differs is the building of 31 moves and of two. At depth 0 little else is left.
+fn compare_trials(poses: &[Pose], chain: &Chain, bounds: &Bounds) {
+    let place = POSES / 2;
+    let pose = Pose { pad: 0.5, ..poses[place] };
+    let copied = |depth: u32| {
+        let mut copy = poses.to_vec();
+        copy[place] = pose;
+        Chain::new(&copy).and_then(|copy| copy.cover(bounds, depth))
+    };
+    for (depth, rounds) in [(0, 100), (8, 40), (12, 20)] {
+        assert_eq!(chain.try_pose(place, &pose, bounds, depth), copied(depth));
+        let name = format!("try of depth {depth}, beside a copy");
+        compare(&name, rounds, 1, &mut || asked(chain.try_pose(place, black_box(&pose), bounds, depth)), &mut || asked(copied(black_box(depth))));
+    }
+    // Building's share of a trial: two moves beside the whole.
+    let pairs = || poses[place - 1..=place + 1].windows(2).for_each(|pair| asked(Move::new(&pair[0], black_box(&pair[1]))));
+    compare("two moves, beside a try of depth 8", 40, 1, &mut || pairs(), &mut || asked(chain.try_pose(place, black_box(&pose), bounds, 8)));
 }
 
 /// The parts of a boom, cut across its length.

@@ -55,7 +55,10 @@ impl<'a> Kept<'a> {
         let mut words = words(question);
         match (words.next(), words.next()) {
             (
-                Some(b"chain" | b"lone" | b"cpoint" | b"ctimes" | b"ccover" | b"cset" | b"cpad" | b"cinterp" | b"cparts" | b"cmotion" | b"cpmotion" | b"write"),
+                Some(
+                    b"chain" | b"lone" | b"cpoint" | b"ctimes" | b"ccover" | b"cset" | b"cpad" | b"cinterp" | b"cparts" | b"cmotion" | b"cpmotion" | b"write"
+                    | b"try",
+                ),
                 Some([slot @ b'0'..=b'3']),
             ) => 1 + usize::from(slot - b'0'),
             _ => 0,
@@ -119,5 +122,5 @@ pub fn same(is_box: bool, a: &[u8], b: &[u8]) -> bool {
 
 /// The questions whose answer is a box, or boxes.
 pub fn answers_a_box(question: &[u8]) -> bool {
-    matches!(words(question).next(), Some(b"motion" | b"pmotion" | b"cover" | b"bounds" | b"ccover" | b"cset" | b"cmotion" | b"cpmotion"))
+    matches!(words(question).next(), Some(b"motion" | b"pmotion" | b"cover" | b"bounds" | b"ccover" | b"cset" | b"cmotion" | b"cpmotion" | b"try"))
 }

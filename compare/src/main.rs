@@ -7,6 +7,7 @@ mod program;
 mod random;
 mod report;
 mod texts;
+mod trials;
 
 use program::{give_up, run_both, Programs, Sides};
 use random::Random;
@@ -18,16 +19,17 @@ use std::sync::mpsc::{channel, sync_channel, RecvTimeoutError, SyncSender};
 use std::sync::{Arc, Mutex};
 use std::time::{Duration, Instant};
 
-const KINDS: &[&str] = &["numbers", "angles", "matrices", "boxes", "moves", "bounds", "motion", "covers", "chains", "rigid", "sets", "texts", "arcs", "files"];
+const KINDS: &[&str] =
+    &["numbers", "angles", "matrices", "boxes", "moves", "bounds", "motion", "covers", "chains", "rigid", "sets", "texts", "trials", "arcs", "files"];
 
 const HELP: &str = "\
 compare/run [--moves N] [--chains N] [--seed N] [--kinds A,B,..] [--files N] [--no-build] ..
 
   --moves N              cases of each kind beside the fixed ones                20000
-  --chains N             chains, with their questions, sets and texts, likewise  a quarter of the moves
+  --chains N             chains, with their questions, sets, texts and trials   a quarter of the moves
   --files N              files for the programs `cover` and `rewrite`            a tenth of the moves
   --seed N               the same seed makes the same cases                      7
-  --kinds A,B            some of: numbers angles matrices boxes moves bounds motion covers chains rigid sets texts arcs files; all of them without it
+  --kinds A,B            some of: numbers angles matrices boxes moves bounds motion covers chains rigid sets texts trials arcs files; all of them without it
   --show N               how many differences are printed                        10
   --workers N            batches worked at once                                  the number of processors
   --no-build             takes the project's programs as they stand
@@ -106,7 +108,7 @@ const BATCH_BYTES: usize = 1 << 18;
 const BATCH_FILES: u64 = 200;
 
 fn are_chains(kind: &str) -> bool {
-    matches!(kind, "chains" | "rigid" | "sets" | "texts")
+    matches!(kind, "chains" | "rigid" | "sets" | "texts" | "trials")
 }
 
 /// Cuts what `vectors` prints for a kind into batches: before a move, or anywhere as long as there was none; chains at the comment before a case.
@@ -167,6 +169,8 @@ fn compare(options: &Options, batch: &Batch, number: u64) -> Report {
             report.compare(questions, &runs, name_of);
             if kind == "texts" {
                 texts::test(sides, questions, &runs[0].output, &mut report);
+            } else if kind == "trials" {
+                trials::test(sides, questions, &runs[0].output, &mut report);
             } else if kind == "covers" || are_chains(kind) {
                 guarantee::test(sides, questions, &runs[0].output, &mut Random::new(options.seed, number), &mut report);
             }

@@ -108,6 +108,13 @@ impl Chain {
         Ok(covers?.into_iter().reduce(cover::union).expect("a chain has a move"))
     }
 
+    /// 19, then what a copy of the same kind with this pose at the place answers: the number that building it is refused with, or its cover.
+    pub fn try_pose(&self, place: u64, pose: Pose, b: &[f32; 6], depth: u64) -> Judged<[f32; 6]> {
+        let mut poses = self.poses.clone();
+        *usize::try_from(place).ok().and_then(|place| poses.get_mut(place)).ok_or(PLACE)? = pose;
+        Chain::build(self.kind, &poses)?.cover(b, depth)
+    }
+
     /// 14, then each box's own cover, in order: the first refused one's number. The union of the covers comes first, and then they themselves.
     pub fn covers(&self, boxes: &[[f32; 6]], depth: u64) -> Judged<([f32; 6], Vec<[f32; 6]>)> {
         if boxes.len() > MOST_BOXES {
@@ -303,6 +310,29 @@ mod tests {
         assert_eq!(chain.covers(&[boxes[0], nan], 13).err(), Some(DEPTH));
         assert_eq!(chain.covers(&[crossed, nan], 13).err(), Some(CORNERS));
         assert_eq!(self::chain().covers(&[boxes[0], nan], 0).err(), Some(SQUARED_LENGTH));
+    }
+
+    #[test]
+    fn trials() {
+        let (chain, b) = (chain(), [0.0; 6]);
+        let ask = |place, pose| chain.try_pose(place, pose, &b, 3);
+        // The first pose, an inner one, the last: each as a chain that has it.
+        let own = |poses: &[Pose]| Chain::build(Kind::Plain, poses).and_then(|chain| chain.cover(&b, 3));
+        for (place, pose) in [(0, shifted(-1.0, 9.0)), (1, shifted(0.5, 9.0)), (3, shifted(8.0, 9.0))] {
+            let mut poses = chain.poses.clone();
+            poses[place] = pose;
+            assert_eq!(ask(place as u64, pose), own(&poses));
+            assert_ne!(ask(place as u64, pose), own(&chain.poses));
+        }
+        // 19 before all else, then the numbers of building, then the query's.
+        let nan = shifted(f32::NAN, 0.0);
+        for place in [4, 5, u64::MAX] {
+            assert_eq!(chain.try_pose(place, nan, &[f32::NAN; 6], 13), Err(PLACE));
+        }
+        assert_eq!(chain.try_pose(3, nan, &[f32::NAN; 6], 13), Err(POSE_NOT_FINITE));
+        assert_eq!(chain.try_pose(1, shifted(2.0, 0.0), &[f32::NAN; 6], 13), Err(CHAIN));
+        assert_eq!(chain.try_pose(1, shifted(0.5, 0.0), &[f32::NAN; 6], 13), Err(QUERY));
+        assert_eq!(chain.try_pose(1, shifted(0.5, 0.0), &b, 13), Err(DEPTH));
     }
 
     /// 17 and 18 are judged pose by pose, after the 3 of the whole chain and before the 4 of the first move.

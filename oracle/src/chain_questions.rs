@@ -22,6 +22,7 @@ const QUESTIONS: &[(&str, Question)] = &[
     ("ccover", cover),
     ("cset", set),
     ("cpad", pad),
+    ("try", try_pose),
     ("cinterp", interp),
     ("cparts", move_parts),
     ("cmotion", motion),
@@ -185,6 +186,17 @@ fn cover(slots: &mut Slots, words: Words) -> Answer {
     let (depth, words) = first(words)?;
     let b = read(words)?;
     Some(box_floats(slots.any(slot)?.cover(&b, depth)))
+}
+
+/// try S PLACE D P BOX
+fn try_pose(slots: &mut Slots, words: Words) -> Answer {
+    let (slot, words) = slot(words)?;
+    let (place, words) = first(words)?;
+    let (depth, words) = first(words)?;
+    let (pose, bounds) = words.split_at_checked(POSE_FLOATS)?;
+    let [pose]: [Pose; 1] = poses(pose)?.try_into().ok()?;
+    let b = read(bounds)?;
+    Some(box_floats(slots.chain(slot)?.try_pose(place, pose, &b, depth)))
 }
 
 /// cset S D BOX*

@@ -36,3 +36,5 @@ pub const PAD: u8 = 16;
 pub const NOT_RIGID: u8 = 17;
 /// A pose of a rigid chain or move has a determinant that isn't above zero.
 pub const DETERMINANT: u8 = 18;
+/// A trial: a place beyond the last pose.
+pub const PLACE: u8 = 19;

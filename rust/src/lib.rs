@@ -239,6 +239,14 @@ impl Chain {
         answered(number, Bounds::from_array(bounds))
     }
 
+    /// The cover of `b` if the pose at `place`, counted from 0, were this one: the same as that of a chain built with it. Only the moves beside the place are built for it, and the
+    /// chain stays as it is. Refused with [`Refusal::Place`] for a place beyond the last pose, then as [`Chain::new`] of the changed poses, then as [`Chain::cover`].
+    pub fn try_pose(&self, place: usize, pose: &Pose, b: &Bounds, depth: u32) -> Result<Bounds, Refusal> {
+        let mut bounds = [0.0; 6];
+        let number = unsafe { library::jellyplain_moves_try(self.moves.as_ptr(), self.moves.len(), place, pose, &b.to_array(), depth, &mut bounds) };
+        answered(number, Bounds::from_array(bounds))
+    }
+
     /// The covers of 1 to 16 boxes, each as [`Chain::cover`] gives it, and their union: no point of a box leaves that box's own cover at any time but NaN. It costs far less than a
     /// cover for each. Refused with [`Refusal::Set`], then as [`Chain::cover`] of the first box in order that is refused.
     pub fn covers(&self, boxes: &[Bounds], depth: u32) -> Result<Covers, Refusal> {

@@ -55,6 +55,7 @@ extern "C" {
         places: usize,
     ) -> u8;
     pub fn jellyplain_moves_cover(moves: *const Rows, count: usize, b: &[f32; 6], depth: u32, out: &mut [f32; 6]) -> u8;
+    pub fn jellyplain_moves_try(moves: *const Rows, count: usize, place: usize, pose: &Pose, b: &[f32; 6], depth: u32, out: &mut [f32; 6]) -> u8;
     pub fn jellyplain_moves_covers(
         moves: *const Rows,
         count: usize,
@@ -140,6 +141,9 @@ mod tests {
         assert_eq!(unsafe { jellyplain_moves_point(moves.as_ptr(), 0, 0.0, &origin, &mut three) }, 12);
         assert_eq!(unsafe { jellyplain_moves_cover(moves.as_ptr(), 0, &[0.0; 6], 10, &mut six) }, 12);
         assert_eq!(unsafe { jellyplain_moves_cover(moves.as_ptr(), 1, &[0.0; 6], 13, &mut six) }, 8);
+        let pose = Pose { time: f32::NAN, matrix: [[f32::NAN; 4]; 4], pad: -1.0 };
+        let mut tried = |count: usize, place: usize| unsafe { jellyplain_moves_try(moves.as_ptr(), count, place, &pose, &[f32::NAN; 6], 13, &mut six) };
+        assert_eq!([tried(0, 0), tried(1, 2), tried(1, usize::MAX), tried(1, 0), tried(1, 1)], [19, 19, 19, 1, 1]);
         assert_eq!((three, six), ([7.0; 3], [7.0; 6]));
     }
 

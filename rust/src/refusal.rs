@@ -40,10 +40,12 @@ pub enum Refusal {
     NotRigid = 17,
     /// A pose of a rigid move or chain mirrors: its determinant isn't above zero.
     Determinant = 18,
+    /// A pose is tried at a place beyond the last.
+    Place = 19,
 }
 
 impl Refusal {
-    const ALL: [Refusal; 18] = {
+    const ALL: [Refusal; 19] = {
         use Refusal::*;
         [
             PoseNotFinite,
@@ -64,6 +66,7 @@ impl Refusal {
             Pad,
             NotRigid,
             Determinant,
+            Place,
         ]
     };
 
@@ -71,7 +74,7 @@ impl Refusal {
         self as u8
     }
 
-    /// The refusal of a number from 1 to 18.
+    /// The refusal of a number from 1 to 19.
     pub fn from_number(number: u8) -> Option<Refusal> {
         Refusal::ALL.into_iter().find(|refusal| refusal.number() == number)
     }
@@ -98,6 +101,7 @@ impl fmt::Display for Refusal {
             Refusal::Pad => "a pad is below zero",
             Refusal::NotRigid => "a pose of a rigid move scales or shears",
             Refusal::Determinant => "a pose of a rigid move mirrors",
+            Refusal::Place => "the place is beyond the last pose",
         };
         write!(f, "refused with {}: {reason}", self.number())
     }
@@ -111,7 +115,7 @@ mod tests {
 
     #[test]
     fn numbers() {
-        assert!((1..=18).all(|number| Refusal::from_number(number).unwrap().number() == number));
-        assert_eq!((Refusal::from_number(0), Refusal::from_number(19)), (None, None));
+        assert!((1..=19).all(|number| Refusal::from_number(number).unwrap().number() == number));
+        assert_eq!((Refusal::from_number(0), Refusal::from_number(20)), (None, None));
     }
 }

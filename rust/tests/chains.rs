@@ -264,3 +264,31 @@ fn refused_rigid_chains() {
     assert_eq!((refused(&[at(0.0, IDENTITY), sheared(0.001)]), refused(&[at(0.0, IDENTITY), sheared(0.001f32.next_up())])), (None, Some(Refusal::NotRigid)));
     assert_eq!(Move::rigid(&stretched(1.0, -1.0), &at(1.0, IDENTITY)).err(), Some(Refusal::Determinant));
 }
+
+/// A trial at the first place, between and at the last is a changed copy's cover, or its number; the chain answers as before.
+#[test]
+fn trials() {
+    let moved = |x: f32| {
+        let mut m = IDENTITY;
+        m[0][3] = x;
+        m
+    };
+    let poses = [at(0.0, IDENTITY), at(1.0, moved(1.0)), at(2.0, moved(3.0)), at(4.0, moved(2.0))];
+    let chain = Chain::new(&poses).unwrap();
+    let b = Bounds { p_min: [0.0; 3], p_max: [1.0; 3] };
+    let before = chain.cover(&b, 6);
+    for (place, time) in [(0, -1.0), (1, 0.5), (2, 3.0), (3, 9.0), (1, 2.0), (2, 1.0), (0, f32::NAN)] {
+        let mut copy = poses;
+        copy[place] = at(time, moved(7.0));
+        assert_eq!(chain.try_pose(place, &copy[place], &b, 6), Chain::new(&copy).and_then(|copy| copy.cover(&b, 6)), "{place} at {time}");
+    }
+    // 19 before all else, then building, then the query.
+    let nan = Bounds { p_min: [f32::NAN; 3], ..b };
+    for place in [4, 5, usize::MAX] {
+        assert_eq!(chain.try_pose(place, &at(f32::NAN, IDENTITY), &nan, 13), Err(Refusal::Place));
+    }
+    assert_eq!(chain.try_pose(1, &at(2.0, IDENTITY), &nan, 13), Err(Refusal::Chain));
+    assert_eq!(chain.try_pose(1, &at(0.5, IDENTITY), &nan, 13), Err(Refusal::Query));
+    assert_eq!(chain.try_pose(1, &at(0.5, IDENTITY), &b, 13), Err(Refusal::Depth));
+    assert_eq!(chain.cover(&b, 6), before);
+}

@@ -1,5 +1,5 @@
 -- A kept move is the move that was built: what building leaves holds it (`build-clauses`), the point query of the rows is the move's (`kept-point`), and the cover of the rows
--- holds what the point query of the rows answers, and is no narrower than a finer one (`cover-clauses`); the last also of a kept chain (`moves-cover-clauses`).
+-- holds what the point query of the rows answers, and is no narrower than a finer one (`cover-clauses`); the last also of a kept chain (`moves-cover-clauses`), and what it shows of a pose that is tried (`moves-try-clauses`).
 use Prim.Native.Nat.{ℕ, _+_, _-_}
 use mathlib.Core.Path.{_≡_, ap, sym, subst, _∙_}
 use mathlib.Core.Bool.{Bool}
@@ -21,16 +21,21 @@ use Rattle.motion_cover.proofs.Contains.{cover-contains}
 use Rattle.cover_depth.specs.Finer.{Within}
 use Rattle.cover_depth.proofs.Finer.{cover-finer}
 use Rattle.bounds3.specs.List.{Bounds3f·list, Bounds3f·ofList}
-use Rattle.lent_arrays.specs.Arrays.{BoundsAnswer·left}
+use Rattle.lent_arrays.specs.Arrays.{Pose·ofList, BoundsAnswer·left}
 use Rattle.motion_rows.specs.Rows.{AnimatedTransform·toRows, AnimatedTransform·fromRows, AnimatedTransformAnswer·left}
 use Rattle.motion_rows.specs.Holds.{Rows·Holds}
 use Rattle.motion_rows.specs.TransformPoint.{Rows·transformPoint}
 use Rattle.motion_rows.proofs.RoundTrip.{from-rows-inverse, transform-point-kept}
-use Rattle.chain_rows.specs.Theorem.{KeptChainContainsMotion}
+use Rattle.motion_chain.specs.Chain.{Chain}
+use Rattle.chain_rows.specs.Theorem.{Moves·Holds, KeptChainContainsMotion}
 use Rattle.chain_rows.specs.Finer.{KeptChainFiner}
 use Rattle.chain_rows.proofs.Contains as chain
+use Rattle.changed_chain.specs.Trial.{Chain·try}
+use Rattle.chain_trial.specs.Theorem.{TrialContainsMotion}
+use Rattle.chain_trial.proofs.Try.{try-answered}
+use Rattle.chain_trial.proofs.Kept.{kept-try}
 use Rattle.api.specs.Answers.{Rows·cover}
-use Rattle.api.specs.Chains.{Moves·coverOf}
+use Rattle.api.specs.Chains.{Moves·coverOf, Moves·tryOf}
 use Rattle.api.specs.Kept.{KeptCoverContainsMotion, KeptCoverFiner}
 
 -- Of what building gives for two poses: its number, what it leaves, and that this holds the move where the number is 0.
@@ -95,3 +100,23 @@ moves-cover-clauses rows b d r bounds old number left = (number, (left, (contain
 
     finer : r ≡ 0 → KeptChainFiner rows (Bounds3f·ofList b) d (Bounds3f·ofList bounds)
     finer none = rw (box-left none) (chain.kept-finer rows (Bounds3f·ofList b) d (sym number ∙ none))
+
+pub moves-try-clauses : (rows : List Rows) (place : ℕ) (pose b : List Float) (d r : ℕ) (bounds old : List Float) (shown : BoundsAnswer)
+    → shown ≡ Moves·tryOf rows place pose b d
+    → (BoundsAnswer·refusal shown ≡ 0 → TrialContainsMotion rows place (Pose·ofList pose) (Bounds3f·ofList b) (BoundsAnswer·bounds shown))
+    → r ≡ BoundsAnswer·refusal shown → bounds ≡ BoundsAnswer·left shown old
+    → (r ≡ BoundsAnswer·refusal (Moves·tryOf rows place pose b d)) × ((bounds ≡ BoundsAnswer·left (Moves·tryOf rows place pose b d) old)
+    × (((c : Chain) → Moves·Holds rows c → Moves·tryOf rows place pose b d ≡ Chain·try c place (Pose·ofList pose) (Bounds3f·ofList b) d)
+    × (r ≡ 0 → TrialContainsMotion rows place (Pose·ofList pose) (Bounds3f·ofList b) (Bounds3f·ofList bounds))))
+moves-try-clauses rows place pose b d r bounds old shown value contains number left = (
+  number ∙ ap BoundsAnswer·refusal value,
+  (
+    left ∙ ap (λ (a : BoundsAnswer). BoundsAnswer·left a old) value,
+    (λ c h. kept-try rows c h place (Pose·ofList pose) (Bounds3f·ofList b) d, λ none. rw (box-left none) (contains (sym number ∙ none))),
+  ),
+)
+  where
+    box-left : r ≡ 0 → bounds ≡ Bounds3f·list (BoundsAnswer·bounds shown)
+    box-left none =
+        let answered = try-answered rows place (Pose·ofList pose) (Bounds3f·ofList b) d (ap BoundsAnswer·refusal (sym value) ∙ (sym number ∙ none)) in
+        left ∙ (ap (λ (a : BoundsAnswer). BoundsAnswer·left a old) (value ∙ answered) ∙ ap (λ (a : BoundsAnswer). Bounds3f·list (BoundsAnswer·bounds a)) (sym value))

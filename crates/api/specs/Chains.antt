@@ -1,4 +1,4 @@
--- What the library's functions over a kept chain answer, from the arrays that they are lent: the definitions of `chain_rows` at the points and boxes that the arrays hold; and the
+-- What the library's functions over a kept chain answer, from the arrays that they are lent: the definitions of `chain_rows` and `chain_trial` at the poses, points and boxes that the arrays hold; and the
 -- number of the layout in which all of it crosses. Definitions only.
 use Prim.Native.Nat.{ℕ}
 use mathlib.Core.List.{List}
@@ -7,8 +7,10 @@ use Rattle.matrix4x4.specs.Rows.{Rows}
 use Rattle.bounds3.specs.List.{Point3f·ofList, Bounds3f·ofList}
 use Rattle.transform.specs.declared.PointAnswer.{PointAnswer}
 use Rattle.transform.specs.declared.BoundsAnswer.{BoundsAnswer}
+use Rattle.lent_arrays.specs.Arrays.{Pose·ofList}
 use Rattle.motion_chain.specs.Times.{PointsAnswer}
 use Rattle.chain_rows.specs.Kept.{Moves·transformPoint, Moves·transformPoints, Moves·cover}
+use Rattle.chain_trial.specs.Try.{Moves·try}
 
 -- A pose of 18 floats, a move of 45 rows with its kind, a chain of up to 31 moves.
 abbrev pub layoutNumber : ℕ
@@ -22,3 +24,6 @@ Moves·points rows times p places = Moves·transformPoints rows times (Point3f·
 
 abbrev pub Moves·coverOf : List Rows → List Float → ℕ → BoundsAnswer
 Moves·coverOf rows b depth = Moves·cover rows (Bounds3f·ofList b) depth
+
+abbrev pub Moves·tryOf : List Rows → ℕ → List Float → List Float → ℕ → BoundsAnswer
+Moves·tryOf rows place pose b depth = Moves·try rows place (Pose·ofList pose) (Bounds3f·ofList b) depth

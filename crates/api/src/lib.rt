@@ -13,7 +13,7 @@ ghost use Rattle.bounds3.specs.List.{Point3f·ofList, Bounds3f·ofList};
 ghost use Rattle.transform.specs.Answer.{PointAnswer·refusal, BoundsAnswer·refusal};
 ghost use Rattle.motion_point.specs.TransformPoint.{AnimatedTransform·transformPoint};
 ghost use Rattle.motion_bounds.specs.Answer.{MotionBoundsAnswer·refusal};
-ghost use Rattle.lent_arrays.specs.Arrays.{PointAnswer·left, TransformAnswer·left, BoundsAnswer·left};
+ghost use Rattle.lent_arrays.specs.Arrays.{Pose·ofList, PointAnswer·left, TransformAnswer·left, BoundsAnswer·left};
 ghost use Rattle.matrix4x4.specs.Rows.{Rows};
 ghost use Rattle.motion_rows.specs.Rows.{AnimatedTransform·toRows, AnimatedTransformAnswer·left};
 ghost use Rattle.motion_rows.specs.Holds.{Rows·Holds};
@@ -24,6 +24,8 @@ ghost use Rattle.chain_poses.specs.Poses.{Poses·ofLists};
 ghost use Rattle.chain_rows.specs.Kept.{Chain·toRows, Chain·pad, Moves·pad};
 ghost use Rattle.chain_rows.specs.Theorem.{Moves·Holds, KeptChainContainsMotion};
 ghost use Rattle.chain_rows.specs.Finer.{KeptChainFiner};
+ghost use Rattle.changed_chain.specs.Trial.{Chain·try};
+ghost use Rattle.chain_trial.specs.Theorem.{TrialContainsMotion};
 ghost use Rattle.chain_build.specs.Build.{ChainAnswer·left};
 ghost use Rattle.box_set.specs.Set.{SetAnswer·refusal};
 ghost use Rattle.chain_covers.specs.Kept.{Moves·covers, SetAnswer·coversLeft, SetAnswer·unionLeft};
@@ -34,7 +36,7 @@ ghost use Rattle.motion_file.specs.Front.{front as posesFront};
 ghost use Rattle.chain_text.specs.Write.{TextAnswer·refusal, TextAnswer·length, TextAnswer·left};
 ghost use Rattle.chain_text.specs.Theorem.{WrittenBack};
 ghost use Rattle.api.specs.Files.{MoveFile·boundsLeft, Moves·written};
-ghost use Rattle.api.specs.Chains.{layoutNumber, Moves·point, Moves·points, Moves·coverOf};
+ghost use Rattle.api.specs.Chains.{layoutNumber, Moves·point, Moves·points, Moves·coverOf, Moves·tryOf};
 ghost use Rattle.api.specs.Answers.{Rows·new, Rows·point, Rows·interpolate, Rows·boundPointMotion, Rows·motionBounds, Rows·cover};
 ghost use Rattle.api.specs.Examined.{MotionBoundsAnswer·left, MotionBoundsAnswer·examinedLeft};
 ghost use Rattle.api.specs.Kept.{KeptCoverContainsMotion, KeptCoverFiner};
@@ -279,6 +281,29 @@ pub extern "C" fn jellyplain_moves_cover(
 {
     lent_arrays::put_bounds(
         chain_cover::cover(moves, lent_arrays::bounds(b), depth),
+        bounds,
+    )
+}
+
+// The cover of a chain if the pose at a place were this one, 18 floats, as changing a copy and asking that gives it; where 0 is returned it stands in `bounds`.
+// Places count from 0. Refused with 19 for a place beyond the last pose, then with 1, 2, 16, 12, 3, 4 or 5 as the changed chain is, then with 6, 7, 8, 5 or 10.
+// The chain is as it was. Accuracy: encloses.
+#[no_mangle]
+pub extern "C" fn jellyplain_moves_try(
+    moves: &[[[f32; 4]; 45]],
+    place: usize,
+    pose: &[f32; 18],
+    b: &[f32; 6],
+    depth: u32,
+    bounds: &mut [f32; 6],
+) -> u8
+    ensures refusal { λ r. ⌜ r ≡ BoundsAnswer·refusal (Moves·tryOf (now (moves .entry)) place (now (pose .entry)) (now (b .entry)) depth) ⌝ }
+    ensures left { λ _. ⌜ now (bounds .exit) ≡ BoundsAnswer·left (Moves·tryOf (now (moves .entry)) place (now (pose .entry)) (now (b .entry)) depth) (now (bounds .entry)) ⌝ }
+    ensures kept { λ _. ⌜ ((c : Chain) → Moves·Holds (now (moves .entry)) c → Moves·tryOf (now (moves .entry)) place (now (pose .entry)) (now (b .entry)) depth ≡ Chain·try c place (Pose·ofList (now (pose .entry))) (Bounds3f·ofList (now (b .entry))) depth) ⌝ }
+    ensures contains_motion { λ r. ⌜ (r ≡ 0 → TrialContainsMotion (now (moves .entry)) place (Pose·ofList (now (pose .entry))) (Bounds3f·ofList (now (b .entry))) (Bounds3f·ofList (now (bounds .exit)))) ⌝ }
+{
+    lent_arrays::put_bounds(
+        chain_trial::try_pose(moves, place, pose, lent_arrays::bounds(b), depth),
         bounds,
     )
 }

@@ -69,6 +69,7 @@ fn put_asked(
         9 => chains::covers(moves, n, floats / 6, x, out, at),
         11 => files::write(moves, n, &chains::bounds_at(x, 0), out, at),
         12 => chains::pad(moves, x, out, at),
+        13 => chains::try_pose(moves, n, wholes[2], x, out, at),
         _ => put_asked_move(kind, n, x, moves, out, at),
     }
 }

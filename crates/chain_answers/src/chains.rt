@@ -170,6 +170,30 @@ pub fn cover(
     put_bounds(refusal, &b, out, at)
 }
 
+// The cover of the chain with a pose at a place.
+pub fn try_pose(
+    moves: &[[[f32; 4]; 45]],
+    place: u64,
+    depth: u64,
+    x: &[f32; 900],
+    out: &mut [u8; 32768],
+    at: usize,
+) -> usize {
+    let pose = pose_at(x, 0);
+    // The box stands behind the 18 floats of the pose.
+    let asked = bounds_at(x, 3);
+    let mut b = [0.0f32; 6];
+    let refusal = api::jellyplain_moves_try(
+        moves,
+        question_lines::saturated(place) as usize,
+        &pose,
+        &asked,
+        question_lines::saturated(depth),
+        &mut b,
+    );
+    put_bounds(refusal, &b, out, at)
+}
+
 // The union of the covers of as many boxes, and then the covers.
 pub fn covers(
     moves: &[[[f32; 4]; 45]],

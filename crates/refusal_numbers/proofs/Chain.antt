@@ -21,12 +21,12 @@ use Rattle.transform.specs.Answer.{OneOf}
 use Rattle.motion_chain.specs.Chain.{minPoses, maxPoses, neighbours, firstNumber, stage, Pose·number, Pair·number, kindStage, chainStages, chainRefusal}
 use Rattle.motion_chain.specs.Chain.{ChainAnswer, built, refused, ChainAnswer·fromMoves, Chain·new}
 use Rattle.motion_chain.specs.Built.{Each}
-use Rattle.refusal_numbers.specs.Chain.{ChainAnswer·Numbered}
+use Rattle.refusal_numbers.specs.Chain.{buildingNumbers, ChainAnswer·Numbered}
 use Rattle.refusal_numbers.proofs.Building.{building-number}
 
 -- ---- the numbers of building, 0 being none
 abbrev numbers : Bool → List ℕ
-numbers rigid = 0 ∷ 1 ∷ 2 ∷ 3 ∷ 4 ∷ 5 ∷ 12 ∷ 16 ∷ kindNumbers rigid
+numbers = buildingNumbers
 
 abbrev Number : Bool → ℕ → Type 0
 Number rigid n = OneOf n (numbers rigid)

@@ -9,6 +9,7 @@ use Rattle.refusal_numbers.specs.Chain.{EveryChainAnswer}
 use Rattle.refusal_numbers.proofs.Chain.{building-numbered}
 use Rattle.refusal_numbers.proofs.Pad.{chain-pad-numbered, kept-pad-numbered}
 use Rattle.refusal_numbers.proofs.KeptChain.{rows-point-numbered, rows-points-numbered, rows-cover-numbered}
+use Rattle.refusal_numbers.proofs.Trial.{trial-numbered, rows-trial-numbered}
 
 pub every-chain-answer : EveryChainAnswer
 every-chain-answer = record {
@@ -19,9 +20,11 @@ every-chain-answer = record {
   cover = chain-cover-numbered;
   proper = λ built b depth. chain-cover-proper b depth built;
   set = chain-set-numbered;
+  trial = trial-numbered;
   rows-point = rows-point-numbered;
   rows-pad = kept-pad-numbered;
   rows-points = rows-points-numbered;
   rows-cover = rows-cover-numbered;
   rows-set = kept-set-numbered;
+  rows-trial = rows-trial-numbered;
 }

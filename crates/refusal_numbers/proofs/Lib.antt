@@ -5,5 +5,6 @@ mod Pad
 pub mod Numbers
 pub mod Chain
 pub mod KeptChain
+mod Trial
 pub mod EveryChain
 pub mod Files

@@ -1,4 +1,4 @@
--- What is promised of every answer about a chain: which numbers building, the point query, also with a list of times, the pad query and the cover query, also of a set of boxes, give, 0 being none,
+-- What is promised of every answer about a chain: which numbers building, the point query, also with a list of times, the pad query and the cover query, also of a set of boxes and of a pose that is tried, give, 0 being none,
 -- and that an accepted cover's corners are finite and in order; and the same of a kept chain, whatever its rows. The statement of `every-chain-answer`.
 use Prim.Native.Nat.{ℕ}
 use mathlib.Core.Path.{_≡_}
@@ -17,10 +17,13 @@ use Rattle.motion_chain.specs.Chain.{Chain, ChainAnswer, built, ChainAnswer·re
 use Rattle.motion_chain.specs.Built.{BuiltChain}
 use Rattle.motion_chain.specs.Times.{Chain·transformPoints}
 use Rattle.motion_chain.specs.TimesAnswer.{PointsAnswer·Numbered}
-use Rattle.chain_rows.specs.Kept.{Chain·pad, Moves·transformPoint, Moves·pad, Moves·transformPoints, Moves·cover}
+use Rattle.built_poses.specs.Poses.{Chain·isRigid}
+use Rattle.chain_rows.specs.Kept.{Moves·chain, Chain·pad, Moves·transformPoint, Moves·pad, Moves·transformPoints, Moves·cover}
 use Rattle.box_set.specs.Set.{Chain·covers}
 use Rattle.box_set.specs.Theorem.{SetAnswer·Numbered}
 use Rattle.chain_covers.specs.Kept.{Moves·covers}
+use Rattle.changed_chain.specs.Trial.{Chain·try}
+use Rattle.chain_trial.specs.Try.{Moves·try}
 use Rattle.refusal_numbers.specs.Numbers.{PadAnswer·Numbered}
 
 -- The number is one of those listed, and an answer whose number is 0 is a chain.
@@ -28,15 +31,24 @@ pub record ChainAnswer·Numbered (numbers : List ℕ) (a : ChainAnswer) : Type 0
   pub number : OneOf (ChainAnswer·refusal a) numbers
   pub none : ChainAnswer·refusal a ≡ 0 → (c : Chain) × (a ≡ built c)
 
--- document 01's numbers, and document 02's: 12 and 16 of building, 17 and 18 of building as rigid, 13 of a list of times, 14 of a set
+-- 0 is none
+abbrev pub buildingNumbers : Bool → List ℕ
+buildingNumbers rigid = 0 ∷ 1 ∷ 2 ∷ 3 ∷ 4 ∷ 5 ∷ 12 ∷ 16 ∷ kindNumbers rigid
+
+-- those of building the changed chain, of its cover, and 19 of the place
+abbrev pub trialNumbers : Bool → List ℕ
+trialNumbers rigid = 0 ∷ 1 ∷ 2 ∷ 3 ∷ 4 ∷ 5 ∷ 6 ∷ 7 ∷ 8 ∷ 10 ∷ 12 ∷ 16 ∷ 19 ∷ kindNumbers rigid
+
+-- document 01's numbers, and document 02's: 12 and 16 of building, 17 and 18 of building as rigid, 13 of a list of times, 14 of a set, 19 of a place
 pub record EveryChainAnswer : Type 0 where
-  pub building : (rigid : Bool) (poses : List Pose) → ChainAnswer·Numbered (0 ∷ 1 ∷ 2 ∷ 3 ∷ 4 ∷ 5 ∷ 12 ∷ 16 ∷ kindNumbers rigid) (Chain·new rigid poses)
+  pub building : (rigid : Bool) (poses : List Pose) → ChainAnswer·Numbered (buildingNumbers rigid) (Chain·new rigid poses)
   pub point : (c : Chain) (time : Float) (p : Point3f) → PointAnswer·Numbered (0 ∷ 5 ∷ 6 ∷ []) (Chain·transformPoint c time p)
   pub pad : (c : Chain) (time : Float) → PadAnswer·Numbered (0 ∷ 5 ∷ 6 ∷ []) (Chain·pad c time)
   pub points : (c : Chain) (times : List Float) (p : Point3f) (places : ℕ) → PointsAnswer·Numbered (0 ∷ 5 ∷ 6 ∷ 13 ∷ []) (Chain·transformPoints c times p places)
   pub cover : (c : Chain) (b : Bounds3f) (depth : ℕ) → BoundsAnswer·Numbered (0 ∷ 5 ∷ 6 ∷ 7 ∷ 8 ∷ 10 ∷ []) (Chain·cover c b depth)
   pub proper : {c : Chain} → BuiltChain c → (b : Bounds3f) (depth : ℕ) → Proper (Chain·cover c b depth)
   pub set : (c : Chain) (boxes : List Bounds3f) (depth : ℕ) → SetAnswer·Numbered (0 ∷ 5 ∷ 6 ∷ 7 ∷ 8 ∷ 10 ∷ 14 ∷ []) (Chain·covers c boxes depth)
+  pub trial : (c : Chain) (place : ℕ) (p : Pose) (b : Bounds3f) (depth : ℕ) → BoundsAnswer·Numbered (trialNumbers (Chain·isRigid c)) (Chain·try c place p b depth)
   -- the same queries of a kept chain, whatever its rows: no moves are 12
   pub rows-point : (rows : List Rows) (time : Float) (p : Point3f) → PointAnswer·Numbered (0 ∷ 5 ∷ 6 ∷ 12 ∷ []) (Moves·transformPoint rows time p)
   pub rows-pad : (rows : List Rows) (time : Float) → PadAnswer·Numbered (0 ∷ 5 ∷ 6 ∷ 12 ∷ []) (Moves·pad rows time)
@@ -44,3 +56,4 @@ pub record EveryChainAnswer : Type 0 where
   pub rows-cover : (rows : List Rows) (b : Bounds3f) (depth : ℕ) → BoundsAnswer·Numbered (0 ∷ 5 ∷ 6 ∷ 7 ∷ 8 ∷ 10 ∷ 12 ∷ []) (Moves·cover rows b depth)
   pub rows-set : (rows : List Rows) (boxes : List (List Float)) (depth : ℕ)
       → SetAnswer·Numbered (0 ∷ 5 ∷ 6 ∷ 7 ∷ 8 ∷ 10 ∷ 12 ∷ 14 ∷ []) (Moves·covers rows boxes depth)
+  pub rows-trial : (rows : List Rows) (place : ℕ) (p : Pose) (b : Bounds3f) (depth : ℕ) → BoundsAnswer·Numbered (trialNumbers (Chain·isRigid (Moves·chain rows))) (Moves·try rows place p b depth)

@@ -600,7 +600,7 @@ impl Random {
     }
 
     /// At a pose, beside it, between two, outside, at an infinity, or any number.
-    fn time_in(&mut self, chain: &[Pose]) -> f32 {
+    pub fn time_in(&mut self, chain: &[Pose]) -> f32 {
         let place = self.below(chain.len());
         let at = chain[place].time;
         let next = chain[(place + 1).min(chain.len() - 1)].time;

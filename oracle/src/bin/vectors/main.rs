@@ -6,6 +6,7 @@ mod chains;
 mod rigid;
 mod sets;
 mod texts;
+mod trials;
 
 use oracle::angles;
 use oracle::core::geometry::point::Point3f;
@@ -545,7 +546,7 @@ impl Random {
 }
 
 /// The kinds of question: from `chains` on they are `chain_answers`', the others `answers`'.
-const KINDS: &[&str] = &["numbers", "angles", "matrices", "bounds", "moves", "motion", "covers", "boxes", "chains", "sets", "arcs", "texts", "rigid"];
+const KINDS: &[&str] = &["numbers", "angles", "matrices", "bounds", "moves", "motion", "covers", "boxes", "chains", "sets", "arcs", "texts", "rigid", "trials"];
 
 /// A box that a matrix carries: turned about, mirrored, carried to infinity, with wp of zero and a bottom row that isn't 0 0 0 1.
 fn fixed_boxes<W: Write>(q: &mut Questions<W>) {
@@ -1159,6 +1160,7 @@ fn main() {
         "chains" => (chains::fixed, chains::random),
         "sets" => (sets::fixed, sets::random),
         "texts" => (texts::fixed, texts::random),
+        "trials" => (trials::fixed, trials::random),
         "arcs" => (fixed_arcs, random_arc),
         "rigid" => (rigid::fixed, rigid::random),
         _ => usage(),

@@ -231,7 +231,7 @@ impl Random {
         poses
     }
 
-    fn rigid_chain(&mut self) -> Chain {
+    pub fn rigid_chain(&mut self) -> Chain {
         let count = self.pose_count();
         let matrices = self.rigid_swing(count);
         let mut chain = at_times(&self.rising_times(count), &matrices);

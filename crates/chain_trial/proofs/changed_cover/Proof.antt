@@ -1,0 +1,46 @@
+-- `changed_cover` meets its contract: the blocks in front are the changed moves (`put_changed`), and these are asked.
+use mathlib.Core.Path.{refl, sym, ap, _∙_}
+use mathlib.Core.List.{List}
+use native.Mathlib.Omega.{arith}
+use lib.Seq.{length-take-le}
+use Rattle.matrix4x4.specs.Rows.{Rows}
+use Rattle.chain_rows.specs.Kept.{Moves·cover}
+use borrow.Author.Needs.{needs}
+use Rattle.chain_trial.proofs.changed_cover.Statement.{statement}
+use Rattle.chain_trial.proofs.changed_cover.Tie as tie
+
+put-changed-requires : tie.Need-put-changed-requires
+put-changed-requires c κs = search needs
+
+array-share-prefix-blocks : tie.Need-array-share-prefix-blocks
+array-share-prefix-blocks c =
+    let pre = c .before .before .pre in
+    let changed = c .put-changed .ensures refl (pre .1 .1 .1) (pre .0) (pre .1 .0) (pre .1 .1 .0) in
+    omega (arith, pre .1 .0, changed .1)
+
+slice-aggregate-cover : tie.Need-slice-aggregate-cover
+slice-aggregate-cover c =
+    let pre = c .before .before .before .pre in
+    let changed = c .before .put-changed .ensures refl (pre .1 .1 .1) (pre .0) (pre .1 .0) (pre .1 .1 .0) in
+    sym (length-take-le _ _ (omega (arith, pre .1 .0, changed .1)))
+
+cover-requires : tie.Need-cover-requires
+cover-requires c κs = search needs
+
+returns : tie.Need-returns
+returns c =
+    let entry = c .before .before .before .before in
+    let a = entry .args in
+    let pre = entry .pre in
+    let changed = c .before .before .put-changed .ensures refl (pre .1 .1 .1) (pre .0) (pre .1 .0) (pre .1 .1 .0) in
+    c .cover .ensures .0 ∙ ap (λ (rows : List Rows). Moves·cover rows (a .b) (a .depth)) (changed .0)
+
+pub changed-cover-spec : {M : Type 1} → statement M
+changed-cover-spec =
+    tie.close
+    (tie.spec
+    put-changed-requires
+    array-share-prefix-blocks
+    slice-aggregate-cover
+    cover-requires
+    returns)

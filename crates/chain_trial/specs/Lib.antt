@@ -1,0 +1,3 @@
+pub mod Try
+pub mod Theorem
+pub mod Blocks

@@ -1,0 +1,56 @@
+-- `put_beside` meets its contract: one test tells whether there are two.
+use native.Mathlib.Omega.{arith}
+use Rattle.trial_blocks.proofs.Blocks.{between, put-one, put-two}
+use borrow.Author.Needs.{needs}
+use Rattle.trial_blocks.proofs.put_beside.Statement.{statement}
+use Rattle.trial_blocks.proofs.put_beside.Tie as tie
+
+first-beside-requires : tie.Need-first-beside-requires
+first-beside-requires c κs = search needs
+
+element-copy-out-blocks : tie.Need-element-copy-out-blocks
+element-copy-out-blocks c = search needs
+
+mul-t9 : tie.Need-mul-t9
+mul-t9 c = search needs
+
+element-set-from-blocks : tie.Need-element-set-from-blocks
+element-set-from-blocks c = search needs
+
+element-copy-out-blocks-2 : tie.Need-element-copy-out-blocks-2
+element-copy-out-blocks-2 c = search needs
+
+mul-t18 : tie.Need-mul-t18
+mul-t18 c = search needs
+
+element-set-from-blocks-2 : tie.Need-element-set-from-blocks-2
+element-set-from-blocks-2 c =
+    let h = between (c .before .before .before .before .args .place) (c .before .before .before .before .args .n) (c .before .if1 .taken) .1 in
+    omega (arith, h)
+
+returns : tie.Need-returns
+returns c =
+    let a = c .before .before .before .before .args in
+    let t = c .before .if1 .taken in
+    λ h.
+    rw (c .before .before .before .first-beside .ensures)
+    (put-two (a .blocks .now) (a .beside .now) (a .n) (a .place) h t (between (a .place) (a .n) t .0))
+
+returns-2 : tie.Need-returns-2
+returns-2 c =
+    let a = c .before .before .before .args in
+    λ h. rw (c .before .before .first-beside .ensures) (put-one (a .blocks .now) (a .beside .now) (a .n) (a .place) h (c .if1 .left))
+
+pub put-beside-spec : {M : Type 1} → statement M
+put-beside-spec =
+    tie.close
+    (tie.spec
+    first-beside-requires
+    element-copy-out-blocks
+    mul-t9
+    element-set-from-blocks
+    element-copy-out-blocks-2
+    mul-t18
+    element-set-from-blocks-2
+    returns
+    returns-2)
