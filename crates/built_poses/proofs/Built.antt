@@ -1,4 +1,4 @@
--- A built chain's poses are those that it was built from, and its kind is: `built-poses`, `built-kind`. Every move stores the times, the matrices and the pads of its two poses: `new-poses`.
+-- A built chain's poses are those that it was built from, and its kind is: `built-poses`, `built-pairs`, `built-kind`. Every move stores the times, the matrices and the pads of its two poses: `new-poses`.
 use Prim.Native.Nat.{ℕ}
 use mathlib.Core.Path.{_≡_, refl, sym, ap, _∙_}
 use mathlib.Core.Bool.{Bool, true, false, cond, false≢true}
@@ -23,9 +23,9 @@ use Rattle.animated_transform.specs.declared.AnimatedTransform.{AnimatedTransfo
 use Rattle.animated_transform.specs.declared.AnimatedTransformAnswer.{AnimatedTransformAnswer}
 use Rattle.animated_transform.specs.New.{firstRefusal, AnimatedTransformAnswer·refused, assembled, between, work, buildRefusal, AnimatedTransform·new}
 use Rattle.animated_transform.proofs.Kept.{new-kept}
-use Rattle.motion_chain.specs.Chain.{neighbours, firstNumber, Chain, ChainAnswer, built, refused, ChainAnswer·fromMoves, Chain·new}
+use Rattle.motion_chain.specs.Chain.{neighbours, firstNumber, Chain, Chain·moves, ChainAnswer, built, refused, ChainAnswer·fromMoves, Chain·new}
 use Rattle.motion_chain.proofs.Built.{first-none, new-built}
-use Rattle.built_poses.specs.Poses.{AnimatedTransform·startPose, AnimatedTransform·endPose, Chain·poses, Chain·isRigid, BuiltPoses, BuiltKind}
+use Rattle.built_poses.specs.Poses.{AnimatedTransform·startPose, AnimatedTransform·endPose, Chain·poses, Chain·isRigid, BuiltPoses, BuiltPairs, BuiltKind}
 
 -- ---- one pair
 pub record NewPoses (p q : Pose) (a : AnimatedTransformAnswer) : Type 0 where
@@ -103,6 +103,18 @@ ends rigid p (q ∷ poses) n =
     let (z, rest) = first-none (a .refusal) (map (λ x. x .refusal) (answers rigid (q ∷ poses))) n in
     rw (new-poses rigid p q .end-pose z, ends rigid q poses rest)
 
+abbrev posesOf : AnimatedTransform → Pose × Pose
+posesOf m = (AnimatedTransform·startPose m, AnimatedTransform·endPose m)
+
+pairs : (rigid : Bool) (p : Pose) (poses : List Pose) → number (answers rigid (p ∷ poses)) ≡ 0
+    → map posesOf (values (answers rigid (p ∷ poses))) ≡ neighbours (p ∷ poses)
+unfolding neighbours
+pairs rigid p [] n = refl
+pairs rigid p (q ∷ poses) n =
+    let a = AnimatedTransform·new rigid p q in
+    let (z, rest) = first-none (a .refusal) (map (λ x. x .refusal) (answers rigid (q ∷ poses))) n in
+    rw (new-poses rigid p q .start-pose z, new-poses rigid p q .end-pose z, pairs rigid q poses rest)
+
 -- ---- the chain
 abbrev isBuilt : ChainAnswer → Bool
 isBuilt (built c) = true
@@ -122,23 +134,34 @@ tested-built n c d = go (eqb n 0) (eqb-true n 0)
     go true f e = (f refl, ap (chainOf d) (sym e))
     go false f e = absurd (refused-built n c e)
 
-built-both : (rigid : Bool) (poses : List Pose) (c : Chain) → Chain·new rigid poses ≡ built c → (Chain·poses c ≡ poses) × (Chain·isRigid c ≡ rigid)
+record FromPoses (rigid : Bool) (poses : List Pose) (c : Chain) : Type 0 where
+  poses-kept : Chain·poses c ≡ poses
+  pairs-kept : map posesOf (Chain·moves c) ≡ neighbours poses
+  kind-kept : Chain·isRigid c ≡ rigid
+
+from-poses : (rigid : Bool) (poses : List Pose) (c : Chain) → Chain·new rigid poses ≡ built c → FromPoses rigid poses c
 unfolding ChainAnswer·fromMoves neighbours Chain·poses
-built-both rigid [] c e = absurd (refused-built 12 c (new-built rigid [] c e .1))
-built-both rigid (p ∷ []) c e = absurd (refused-built 12 c (new-built rigid (p ∷ []) c e .1))
-built-both rigid (p ∷ q ∷ poses) c e =
+from-poses rigid [] c e = absurd (refused-built 12 c (new-built rigid [] c e .1))
+from-poses rigid (p ∷ []) c e = absurd (refused-built 12 c (new-built rigid (p ∷ []) c e .1))
+from-poses rigid (p ∷ q ∷ poses) c e =
     let a = AnimatedTransform·new rigid p q in
     let rest = answers rigid (q ∷ poses) in
     let (n, same) = tested-built (number (a ∷ rest)) c (record { first = a .value; rest = values rest }) (new-built rigid (p ∷ q ∷ poses) c e .1) in
-    let (z, _) = first-none (a .refusal) (map (λ x. x .refusal) rest) n in (
-      ap Chain·poses same
+    let (z, _) = first-none (a .refusal) (map (λ x. x .refusal) rest) n in
+    record {
+      poses-kept =
+          ap Chain·poses same
           ∙ ap (λ (start : Pose). start ∷ map AnimatedTransform·endPose (values (a ∷ rest))) (new-poses rigid p q .start-pose z)
-          ∙ ap (λ (ps : List Pose). p ∷ ps) (ends rigid p (q ∷ poses) n),
-      ap Chain·isRigid same ∙ new-kept rigid p q z .kind,
-    )
+          ∙ ap (λ (ps : List Pose). p ∷ ps) (ends rigid p (q ∷ poses) n);
+      pairs-kept = ap (λ (d : Chain). map posesOf (Chain·moves d)) same ∙ pairs rigid p (q ∷ poses) n;
+      kind-kept = ap Chain·isRigid same ∙ new-kept rigid p q z .kind;
+    }
 
 pub built-poses : (rigid : Bool) (poses : List Pose) → BuiltPoses rigid poses
-built-poses rigid poses c e = built-both rigid poses c e .0
+built-poses rigid poses c e = from-poses rigid poses c e .poses-kept
+
+pub built-pairs : (rigid : Bool) (poses : List Pose) → BuiltPairs rigid poses
+built-pairs rigid poses c e = from-poses rigid poses c e .pairs-kept
 
 pub built-kind : (rigid : Bool) (poses : List Pose) → BuiltKind rigid poses
-built-kind rigid poses c e = built-both rigid poses c e .1
+built-kind rigid poses c e = from-poses rigid poses c e .kind-kept

@@ -1,5 +1,6 @@
 -- The poses in a chain: `Chain·poses`, each from the time, the matrix and the pad that a move stores; `Poses·lists`, poses as 18 floats each. A built chain's are those
--- that it was built from: `BuiltPoses` and `BuiltLists`, the statements of `built-poses` and `built-lists`; and so is its kind: `BuiltKind`, that of `built-kind`.
+-- that it was built from: `BuiltPoses` and `BuiltLists`, the statements of `built-poses` and `built-lists`; each move's are a neighbouring pair: `BuiltPairs`, that of `built-pairs`; and its
+-- kind is the one that it was built in: `BuiltKind`, that of `built-kind`.
 use Prim.Native.Nat.{ℕ}
 use mathlib.Core.Path.{_≡_}
 use mathlib.Core.Bool.{Bool}
@@ -8,7 +9,7 @@ use lib.ListN.{length}
 use lib.Ieee.{Float}
 use Rattle.pose_pair.specs.declared.Pose.{Pose}
 use Rattle.animated_transform.specs.declared.AnimatedTransform.{AnimatedTransform}
-use Rattle.motion_chain.specs.Chain.{Chain, Chain·moves, built, Chain·new}
+use Rattle.motion_chain.specs.Chain.{neighbours, Chain, Chain·moves, built, Chain·new}
 use Rattle.motion_chain.specs.Built.{Each}
 use Rattle.chain_poses.specs.Poses.{Poses·ofLists}
 
@@ -40,6 +41,10 @@ Poses·lists poses = map Pose·list poses
 
 abbrev pub BuiltPoses : Bool → List Pose → Type 0
 BuiltPoses rigid poses = (c : Chain) → Chain·new rigid poses ≡ built c → Chain·poses c ≡ poses
+
+abbrev pub BuiltPairs : Bool → List Pose → Type 0
+BuiltPairs rigid poses =
+    (c : Chain) → Chain·new rigid poses ≡ built c → map (λ m. (AnimatedTransform·startPose m, AnimatedTransform·endPose m)) (Chain·moves c) ≡ neighbours poses
 
 abbrev pub BuiltKind : Bool → List Pose → Type 0
 BuiltKind rigid poses = (c : Chain) → Chain·new rigid poses ≡ built c → Chain·isRigid c ≡ rigid

@@ -76,7 +76,7 @@ module _ (read : List Float) (pad : Float) (thirteen : Floats 13 read) (fit : T 
         bottom = rw (upper, last);
       }
 
-pose-held : (line : List ℕ) → Shaped (poseOf line) → Held (poseOf line)
+pose-held : {padded : Bool} (line : List ℕ) → Shaped padded (poseOf line) → Held (poseOf line)
 unfolding poseOf
 pose-held line s =
     let pad = getD (valuesOf line) 13 (ofBits binary32 0) in
@@ -86,9 +86,9 @@ pose-held line s =
     omega (arith, size, length-append (take 13 (valuesOf line)) behind, length-append (s .read) (bottomRow ++ (s .pad ∷ [])), s .thirteen) in
     parts-held (take 13 (valuesOf line)) pad (front-floats 13 line count) (value-fits 13 line)
 
-lines-held : (lines : List (List ℕ)) → AllShaped (map poseOf lines) → Each Held (map poseOf lines)
-lines-held [] ss = tt
-lines-held (line ∷ lines) (s, ss) = (pose-held line s, lines-held lines ss)
+lines-held : (padded : Bool) (lines : List (List ℕ)) → AllShaped padded (map poseOf lines) → Each Held (map poseOf lines)
+lines-held padded [] ss = tt
+lines-held padded (line ∷ lines) (s, ss) = (pose-held line s, lines-held padded lines ss)
 
 poses-held : (bytes : List ℕ) → Each Held (MoveFile·poses bytes)
 unfolding MoveFile·poses
@@ -97,8 +97,8 @@ poses-held bytes = go (keepsLayout bytes) (poses-shaped bytes)
     lines : List (List ℕ)
     lines = take (poseLines (split lineFeed bytes)) (drop 1 (split lineFeed bytes))
 
-    go : (b : Bool) → AllShaped (cond b (map poseOf lines) []) → Each Held (cond b (map poseOf lines) [])
-    go true ss = lines-held lines ss
+    go : (b : Bool) → AllShaped (hasPads bytes) (cond b (map poseOf lines) []) → Each Held (cond b (map poseOf lines) [])
+    go true ss = lines-held (hasPads bytes) lines ss
     go false ss = tt
 
 -- ---- the box of a file

@@ -20,11 +20,11 @@ use Rattle.motion_chain.specs.Chain.{neighbours, every, stage, chainRefusal, Ch
 use Rattle.motion_chain.specs.Chain.{ChainAnswer·fromMoves, Chain·new}
 use Rattle.lent_arrays.specs.Arrays.{Pose·ofList}
 use Rattle.chain_poses.specs.Poses.{Poses·ofLists}
-use Rattle.motion_file.specs.Layout.{bottomRow, MoveFile·poses}
+use Rattle.motion_file.specs.Layout.{bottomRow, hasPads, MoveFile·poses}
 use Rattle.motion_file.proofs.Shapes.{Shaped, AllShaped, poses-shaped}
 
 -- ---- the times and pads
-shaped-binary32 : (pose : List Float) → Shaped pose → T (Pose·isBinary32 (Pose·ofList pose))
+shaped-binary32 : {padded : Bool} (pose : List Float) → Shaped padded pose → T (Pose·isBinary32 (Pose·ofList pose))
 shaped-binary32 pose s =
     let rest = bottomRow ++ (s .pad ∷ []) in
     let time : getD (s .read ++ rest) 0 nan ≡ getD (s .read) 0 nan = List·getD-append (s .read) rest nan 0 (omega (arith, s .thirteen)) in
@@ -32,13 +32,13 @@ shaped-binary32 pose s =
     let pad : getD (s .read ++ rest) 17 nan ≡ s .pad = place 4 in
     rw (s .whole, time, pad) (and-i (fits binary32 (getD (s .read) 0 nan)) (fits binary32 (s .pad)) (s .time-binary32) (s .pad-binary32))
 
-lists-binary32 : (lists : List (List Float)) → AllShaped lists → T (every Pose·isBinary32 (Poses·ofLists lists))
+lists-binary32 : (padded : Bool) (lists : List (List Float)) → AllShaped padded lists → T (every Pose·isBinary32 (Poses·ofLists lists))
 unfolding every Poses·ofLists
-lists-binary32 [] h = tt
-lists-binary32 (pose ∷ lists) (s, h) = rw (is-true (Pose·isBinary32 (Pose·ofList pose)) (shaped-binary32 pose s)) (lists-binary32 lists h)
+lists-binary32 padded [] h = tt
+lists-binary32 padded (pose ∷ lists) (s, h) = rw (is-true (Pose·isBinary32 (Pose·ofList pose)) (shaped-binary32 pose s)) (lists-binary32 padded lists h)
 
 pub poses-binary32 : (bytes : List ℕ) → T (every Pose·isBinary32 (Poses·ofLists (MoveFile·poses bytes)))
-poses-binary32 bytes = lists-binary32 (MoveFile·poses bytes) (poses-shaped bytes)
+poses-binary32 bytes = lists-binary32 (hasPads bytes) (MoveFile·poses bytes) (poses-shaped bytes)
 
 -- ---- a number that was tested
 abbrev IsBuilt : ChainAnswer → Type 0
@@ -66,17 +66,17 @@ new-none rigid poses e = tested-none (chainRefusal rigid poses) _ (moves-none _)
 -- ---- the bottom rows
 
 -- what stands behind 13 values is the bottom row
-shaped-affine : (pose : List Float) → Shaped pose → T (Pose·isAffine (Pose·ofList pose))
+shaped-affine : {padded : Bool} (pose : List Float) → Shaped padded pose → T (Pose·isAffine (Pose·ofList pose))
 unfolding Pose·isAffine Matrix4x4·isAffine eq ofBits
 shaped-affine pose s =
     let rest = bottomRow ++ (s .pad ∷ []) in
     let place : (k : ℕ) → getD (s .read ++ rest) (13 + k) nan ≡ getD rest k nan = λ k. rw (← s .thirteen) (getD-append-add (s .read) rest k nan) in
     rw (s .whole, place 0, place 1, place 2, place 3) tt
 
-lists-affine : (lists : List (List Float)) → AllShaped lists → T (every Pose·isAffine (Poses·ofLists lists))
+lists-affine : (padded : Bool) (lists : List (List Float)) → AllShaped padded lists → T (every Pose·isAffine (Poses·ofLists lists))
 unfolding every Poses·ofLists
-lists-affine [] h = tt
-lists-affine (pose ∷ lists) (s, h) = rw (is-true (Pose·isAffine (Pose·ofList pose)) (shaped-affine pose s)) (lists-affine lists h)
+lists-affine padded [] h = tt
+lists-affine padded (pose ∷ lists) (s, h) = rw (is-true (Pose·isAffine (Pose·ofList pose)) (shaped-affine pose s)) (lists-affine padded lists h)
 
 pub poses-affine : (bytes : List ℕ) → T (every Pose·isAffine (Poses·ofLists (MoveFile·poses bytes)))
-poses-affine bytes = lists-affine (MoveFile·poses bytes) (poses-shaped bytes)
+poses-affine bytes = lists-affine (hasPads bytes) (MoveFile·poses bytes) (poses-shaped bytes)

@@ -89,7 +89,7 @@ record Plain (r : BoundsAnswer) : Type 0 where
   low : (b : Bounds3f) → r ≡ Bounds b → Binary32 (b .«p_min»)
   high : (b : Bounds3f) → r ≡ Bounds b → Binary32 (b .«p_max»)
 
-finite-self : {b : Bounds3f} → T (Bounds3f·isFinite b) → Subset b b
+pub finite-self : {b : Bounds3f} → T (Bounds3f·isFinite b) → Subset b b
 finite-self {b} f =
     let l = low-finite b f in
     let h = high-finite b f in
@@ -145,7 +145,7 @@ enclosure-plain n M P f =
     }
 
 -- ---- unions
-union-same : (r s r' s' : BoundsAnswer) → BoundsAnswer·Same r r' → BoundsAnswer·Same s s' → BoundsAnswer·Same (BoundsAnswer·unionBounds r s) (BoundsAnswer·unionBounds r' s')
+pub union-same : (r s r' s' : BoundsAnswer) → BoundsAnswer·Same r r' → BoundsAnswer·Same s s' → BoundsAnswer·Same (BoundsAnswer·unionBounds r s) (BoundsAnswer·unionBounds r' s')
 unfolding BoundsAnswer·unionBounds
 union-same (Bounds a) (Bounds b) (Bounds a') (Bounds b') (i, o) (i', o') =
     (union-least (union-subset-left b' i) (union-subset-right a' i'), union-least (union-subset-left b o) (union-subset-right a o'))

@@ -1,0 +1,108 @@
+-- The cover of a chain and of a file as they were without pads, `Chain·coverUnpadded` and `MoveFile·coverUnpadded`; that where every pose's pad is +0 a chain's cover, a set's and a
+-- file's are the same, bit for bit but a zero's sign, and that points leave pads aside. The statements of `chain-unpadded`, `set-same`, `file-unpadded`, `thirteen-unpadded`,
+-- `zero-accepted` and `points-unpadded`.
+use Prim.Native.Nat.{ℕ}
+use mathlib.Core.Path.{_≡_}
+use mathlib.Core.Bool.{Bool, not, cond}
+use mathlib.Core.List.{List, map}
+use lib.Dec.{T, eqb}
+use lib.Ieee.{Float}
+use Rattle.float32.specs.Operators.{positiveZero}
+use Rattle.bounds3.specs.declared.Point3f.{Point3f}
+use Rattle.bounds3.specs.declared.Bounds3f.{Bounds3f}
+use Rattle.bounds3.specs.Inside.{Subset}
+use Rattle.transform.specs.declared.BoundsAnswer.{BoundsAnswer}
+use Rattle.transform.specs.declared.BoundsAnswer.the-variants.{Bounds, Refused}
+use Rattle.formula.specs.Promise.{Pairwise}
+use Rattle.bounds_answers.specs.UnionAll.{BoundsAnswer·unionAll, Each}
+use Rattle.pose_pair.specs.declared.Pose.{Pose}
+use Rattle.pose_pair.specs.Pose.{Pose·isBinary32}
+use Rattle.animated_transform.specs.declared.AnimatedTransform.{AnimatedTransform}
+use Rattle.unpadded_cover.specs.Unpadded.{AnimatedTransform·coverUnpadded, BoundsAnswer·Same}
+use Rattle.motion_chain.specs.Chain.{every, stage, Pose·number, Chain, ChainAnswer, built, refused, Chain·new, Chain·transformPoint, Chain·cover}
+use Rattle.box_set.specs.Set.{SetAnswer, Boxes·covers}
+use Rattle.box_set.specs.Set as set
+use Rattle.chain_poses.specs.Poses.{Poses·ofLists}
+use Rattle.motion_file.specs.declared.MoveFile.{MoveFile}
+use Rattle.motion_file.specs.Layout.{hasPads, MoveFile·read, MoveFile·poses}
+use Rattle.motion_answer.specs.Answer.{coverDepth, MoveFile·chain, MoveFile·box, MoveFile·cover}
+
+-- ---- without pads
+
+-- document 02, "Poses in a chain": "The cover is the union of the moves' covers"
+abbrev pub Chain·coverUnpadded : Chain → Bounds3f → ℕ → BoundsAnswer
+Chain·coverUnpadded c b d = BoundsAnswer·unionAll (AnimatedTransform·coverUnpadded (c .first) b d) (map (λ m. AnimatedTransform·coverUnpadded m b d) (c .rest))
+
+abbrev pub ChainAnswer·coverUnpadded : ChainAnswer → Bounds3f → BoundsAnswer
+ChainAnswer·coverUnpadded (built c) b = Chain·coverUnpadded c b coverDepth
+ChainAnswer·coverUnpadded (refused n) b = Refused n
+
+abbrev pub MoveFile·coverUnpadded : List ℕ → BoundsAnswer
+MoveFile·coverUnpadded bytes =
+    let n = MoveFile·read bytes .refusal in
+    cond (eqb n 0) (ChainAnswer·coverUnpadded (MoveFile·chain bytes) (MoveFile·box bytes)) (Refused n)
+
+-- ---- pads of +0
+
+abbrev pub Unpadded : List Pose → Type 0
+Unpadded poses = Each (λ p. p .pad ≡ positiveZero) poses
+
+-- no such pad is refused
+abbrev pub ZeroAccepted : List Pose → Type 0
+ZeroAccepted poses = Unpadded poses → stage (Pose·number 16) poses ≡ 0
+
+abbrev pub ChainUnpadded : Bool → List Pose → Type 0
+ChainUnpadded rigid poses =
+    (c : Chain) (b : Bounds3f) (d : ℕ) → T (every Pose·isBinary32 poses) → Unpadded poses → Chain·new rigid poses ≡ built c
+    → BoundsAnswer·Same (Chain·cover c b d) (Chain·coverUnpadded c b d)
+
+-- a file with either names whose pads are +0
+abbrev pub FileUnpadded : List ℕ → Type 0
+FileUnpadded bytes = Unpadded (Poses·ofLists (MoveFile·poses bytes)) → BoundsAnswer·Same (MoveFile·cover bytes) (MoveFile·coverUnpadded bytes)
+
+-- document 02: "A file with the old thirteen names has pads of +0"
+abbrev pub ThirteenUnpadded : List ℕ → Type 0
+ThirteenUnpadded bytes = T (not (hasPads bytes)) → Unpadded (Poses·ofLists (MoveFile·poses bytes))
+
+-- ---- sets
+
+-- the same number, or as many covers, each the same, and the same union
+abbrev pub SetAnswer·Same : SetAnswer → SetAnswer → Type 0
+SetAnswer·Same (set.covered cs u) (set.covered cs' u') = Pairwise (λ b b'. BoundsAnswer·Same (Bounds b) (Bounds b')) cs cs' × BoundsAnswer·Same (Bounds u) (Bounds u')
+SetAnswer·Same (set.covered cs u) (set.refused n) = ⊥
+SetAnswer·Same (set.refused n) (set.covered cs u) = ⊥
+SetAnswer·Same (set.refused n) (set.refused k) = n ≡ k
+
+-- of a move's covers as of a chain's: where each box's is the same, so is the set's
+abbrev pub SetSame : (Bounds3f → BoundsAnswer) → (Bounds3f → BoundsAnswer) → List Bounds3f → Type 0
+SetSame cover unpadded boxes = ((b : Bounds3f) → BoundsAnswer·Same (cover b) (unpadded b)) → SetAnswer·Same (Boxes·covers cover boxes) (Boxes·covers unpadded boxes)
+
+-- ---- points
+
+-- a move with pads of +0, and all else as it is
+abbrev pub AnimatedTransform·withoutPads : AnimatedTransform → AnimatedTransform
+AnimatedTransform·withoutPads m =
+    record {
+      «start_transform» = m .«start_transform»;
+      «end_transform» = m .«end_transform»;
+      «start_time» = m .«start_time»;
+      «end_time» = m .«end_time»;
+      «actually_animated» = m .«actually_animated»;
+      «has_rotation» = m .«has_rotation»;
+      t0 = m .t0;
+      t1 = m .t1;
+      r0 = m .r0;
+      r1 = m .r1;
+      s0 = m .s0;
+      s1 = m .s1;
+      coefficients = m .coefficients;
+      pad0 = positiveZero;
+      pad1 = positiveZero;
+      rigid = m .rigid;
+    }
+
+abbrev pub Chain·withoutPads : Chain → Chain
+Chain·withoutPads c = record { first = AnimatedTransform·withoutPads (c .first); rest = map AnimatedTransform·withoutPads (c .rest) }
+
+abbrev pub PointsUnpadded : Chain → Float → Point3f → Type 0
+PointsUnpadded c time p = Chain·transformPoint c time p ≡ Chain·transformPoint (Chain·withoutPads c) time p
