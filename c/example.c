@@ -15,7 +15,7 @@ int main(void)
     const float times[3] = {0.5f, 1, 1.5f};
     const float mast_and_arm[2][6] = {{0, 0, 0, 0, 2, 0}, {-3, 2, 0, 3, 2, 0}};
     const jellyplain_pose wide_spray = {1, {{1, 0, 0, 1}, {0, 1, 0, 0}, {0, 0, 1, 0}, {0, 0, 0, 1}}, 2};
-    static jellyplain_chain chain;
+    static jellyplain_chain chain, there, back, joined;
     static jellyplain_pose poses[JELLYPLAIN_FILE_POSES];
     static uint8_t text[JELLYPLAIN_TEXT];
     jellyplain_move move, spraying;
@@ -59,6 +59,10 @@ int main(void)
     if (jellyplain_chain_try(&chain, 1, &wide_spray, boom, 10, bounds) == JELLYPLAIN_NONE)
         printf("with that pad tried at the pose between: x from %g to %g; at a fourth pose: refused with %d\n", bounds[0], bounds[3],
                jellyplain_chain_try(&chain, 3, &wide_spray, boom, 10, bounds));
+    if (jellyplain_build_chain(false, there_and_back, 2, &there) == JELLYPLAIN_NONE && jellyplain_build_chain(false, there_and_back + 1, 2, &back) == JELLYPLAIN_NONE
+        && jellyplain_chain_join(&there, &back, &joined) == JELLYPLAIN_NONE && jellyplain_chain_cover(&joined, boom, 10, bounds) == JELLYPLAIN_NONE)
+        printf("handed over in two files: %zu moves, x from %g to %g; the other way round: refused with %d\n", joined.count, bounds[0], bounds[3],
+               jellyplain_chain_join(&back, &there, &joined));
     jellyplain_pose longer = end;
     longer.matrix[1][1] = 1.1f;
     printf("a boom that grows by a tenth, as rigid: refused with %d\n", jellyplain_build(true, &start, &longer, &move));

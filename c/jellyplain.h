@@ -38,7 +38,7 @@ typedef struct {
 /* The most boxes of a set. */
 #define JELLYPLAIN_BOXES 16
 
-/* A built chain: its first `count` moves, one fewer than its poses. Any of them may be asked by itself. Leave it as jellyplain_build_chain wrote it. */
+/* A built chain: its first `count` moves, one fewer than its poses. Any of them may be asked by itself. Leave it as jellyplain_build_chain or jellyplain_chain_join wrote it. */
 typedef struct {
     size_t count;
     jellyplain_move moves[JELLYPLAIN_MOVES];
@@ -68,7 +68,8 @@ enum jellyplain_refusal {
     JELLYPLAIN_PAD = 16,            /* a pad is below zero */
     JELLYPLAIN_NOT_RIGID = 17,      /* a pose of a rigid move or chain scales or shears */
     JELLYPLAIN_DETERMINANT = 18,    /* a pose of a rigid move or chain mirrors: its determinant isn't above zero */
-    JELLYPLAIN_PLACE = 19           /* a pose is tried at a place beyond the last */
+    JELLYPLAIN_PLACE = 19,          /* a pose is tried at a place beyond the last */
+    JELLYPLAIN_MISMATCH = 20        /* two chains to be joined differ in a bit of the pose that they share, or in their kind */
 };
 
 /* The move from one pose to another. A boom that neither stretches nor shears may be built as rigid: between the poses a turn and a shift alone, so that its covers are tighter.
@@ -101,6 +102,11 @@ uint8_t jellyplain_cover(const jellyplain_move *motion, const float b[6], uint32
 /* The moves of a chain of poses whose times rise strictly, one fewer than poses, into the front of `moves`; those behind them stay. Numbers 1, 2, 16, 12, 3, of a rigid
  * chain 17 and 18, pose by pose, then 4 and 5. */
 uint8_t jellyplain_build_moves(bool rigid, const jellyplain_pose *poses, size_t count, jellyplain_move moves[JELLYPLAIN_MOVES]);
+
+/* The moves of two chains made one, with the pose that they share once, into the front of `moves`, the first's and then the second's; those behind them stay. It answers as the first
+ * up to the shared time, as the second above it, and its cover is the union of theirs. Numbers 20 where the last pose of the first and the first of the second differ in a bit of
+ * time, matrix or pad, or one chain is rigid and the other isn't, then 12 for more than 32 poses; before both 12 where either has no moves. */
+uint8_t jellyplain_moves_join(const jellyplain_move *first, size_t first_count, const jellyplain_move *second, size_t second_count, jellyplain_move moves[JELLYPLAIN_MOVES]);
 
 /* Where the point p stands at a time: a time equal to an inner pose's belongs to the earlier move. Numbers 5 and 6, and 12 for no moves. */
 uint8_t jellyplain_moves_point(const jellyplain_move *moves, size_t count, float time, const float p[3], float moved[3]);
@@ -155,6 +161,15 @@ static inline uint8_t jellyplain_build_chain(bool rigid, const jellyplain_pose *
     uint8_t refusal = jellyplain_build_moves(rigid, poses, count, chain->moves);
     if (refusal == JELLYPLAIN_NONE)
         chain->count = count - 1;
+    return refusal;
+}
+
+/* `joined` is neither of the two. */
+static inline uint8_t jellyplain_chain_join(const jellyplain_chain *first, const jellyplain_chain *second, jellyplain_chain *joined)
+{
+    uint8_t refusal = jellyplain_moves_join(first->moves, first->count, second->moves, second->count, joined->moves);
+    if (refusal == JELLYPLAIN_NONE)
+        joined->count = first->count + second->count;
     return refusal;
 }
 

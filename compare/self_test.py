@@ -32,6 +32,7 @@ WORDS = {
     "sets": "chain cset ccover",
     "texts": "chain write read",
     "trials": "chain try ccover",
+    "joins": "chain join ctimes",
     "arcs": "acosn",
 }
 
@@ -135,6 +136,10 @@ def changed(change, question, answer):
     if change == "nineteen" and word == "try" and answer == b"refused 19":
         return b"refused 12" if first_time(change) else answer
     if change == "tried_otherwise" and word == "try" and answer.startswith(b"ok "):
+        return wider(answer)
+    if change == "twenty" and word == "join" and answer == b"refused 20":
+        return b"refused 12" if first_time(change) else answer
+    if change == "joined_wider" and word == "ccover" and values[1] in ("2", "3") and answer.startswith(b"ok "):
         return wider(answer)
     if change == "nan_bits":
         return answer.replace(b"7fc00000", b"ffc12345")
@@ -261,7 +266,7 @@ def trial(title, kind, changes, different, shown=(), sides=None, cases=40):
     """`different` is how many differences are to be told; None for some. The changes are on some sides, or on the project's alone."""
     if len(sys.argv) > 1 and not set(kind.split(",")) & set(sys.argv[1:]):
         return None
-    is_of_chains = kind in ("chains", "rigid", "sets", "texts", "trials", "arcs", "files")
+    is_of_chains = kind in ("chains", "rigid", "sets", "texts", "trials", "joins", "arcs", "files")
     sides = sides or ("--chain-answers" if is_of_chains else "--answers",)
     with tempfile.TemporaryDirectory() as folder:
         command = [os.path.join(HERE, "run"), "--no-build", "--kinds", kind, "--moves", str(cases), "--chains", str(cases), "--files", str(cases), "--show", "100"]
@@ -287,8 +292,8 @@ def main():
     results = [trial("nothing changed", "angles,moves,covers", [], 0)]
     for kind, words in WORDS.items():
         words = words.split()
-        # A text that was written otherwise is read otherwise too.
-        results.append(trial("a digit of one answer to each of " + ", ".join(words), kind, words, len(words) + (kind == "texts"), words))
+        # A text that was written otherwise is read otherwise too, and a joined chain is asked beside that of all poses.
+        results.append(trial("a digit of one answer to each of " + ", ".join(words), kind, words, len(words) + {"texts": 1, "joins": 2}.get(kind, 0), words))
     results += [
         trial("a built move refused", "bounds", ["built"], 1, ["move"]),
         trial("another number of one refusal", "moves", ["refusal"], 1),
@@ -347,6 +352,9 @@ def main():
         trial("another number of one place", "trials", ["nineteen"], 1, ["try"]),
         trial("another number of one trial's refusal", "trials", ["refusal"], 1),
         trial("every trial wider than its copy, on both sides", "trials", ["tried_otherwise"], None, ["a trial is not what a changed copy answers"], BOTH_OF_CHAINS),
+        trial("joins as they are", "joins", [], 0, cases=200),
+        trial("another number of one mismatch", "joins", ["twenty"], 1, ["join"]),
+        trial("joined covers wider than the union, on both sides", "joins", ["joined_wider"], None, ["a joined chain and the two"], BOTH_OF_CHAINS),
         trial("texts as they are", "texts", [], 0, cases=200),
         trial("another number of one text's refusal", "texts", ["refusal"], 1),
         trial("another time in every written text, on both sides", "texts", ["other_time"], None, ["read of what was written"], BOTH_OF_CHAINS),

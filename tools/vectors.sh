@@ -1,6 +1,6 @@
 #!/usr/bin/env bash
 # Makes the fixed lists that the tests replay, questions in stdin and their expected answer lines in stdout: of crates/answers the groups below, in this order,
-# and of crates/chain_answers those of chains, sets, arcs, texts, rigid chains and poses that are tried. Each group's expected values come from outside the libraries:
+# and of crates/chain_answers those of chains, sets, arcs, texts, rigid chains, poses that are tried and joined chains. Each group's expected values come from outside the libraries:
 #   numbers                                        hardware float arithmetic   tools/number_vectors.rs
 #   angles                                         exact fractions             tools/angle_vectors.py
 #   matrices, boxes, zeros, moves, their queries   the original Rust, and for covers a second implementation beside it   oracle/ (which says where it looks for pbrt-rust's sources)
@@ -9,6 +9,7 @@
 #   move files written and read                    a second implementation of the layout, in oracle/
 #   rigid chains                                   a second implementation, in oracle/; of the original's their coefficients alone, with the identity for S
 #   poses that are tried                           chains with that pose changed, in oracle/
+#   joined chains                                  chains of all poses, in oracle/
 set -eu
 cd "$(dirname "$0")/.."
 made=$(mktemp -d)
@@ -44,6 +45,7 @@ mkdir -p crates/chain_answers
     "$vectors" texts 40 1
     "$vectors" rigid 60 1
     "$vectors" trials 40 1
+    "$vectors" joins 20 1
 } >crates/chain_answers/stdin
 "$made/oracle/release/chain_answers" <crates/chain_answers/stdin >crates/chain_answers/stdout
 wc -l crates/answers/stdin crates/answers/stdout crates/chain_answers/stdin crates/chain_answers/stdout

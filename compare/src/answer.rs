@@ -56,8 +56,8 @@ impl<'a> Kept<'a> {
         match (words.next(), words.next()) {
             (
                 Some(
-                    b"chain" | b"lone" | b"cpoint" | b"ctimes" | b"ccover" | b"cset" | b"cpad" | b"cinterp" | b"cparts" | b"cmotion" | b"cpmotion" | b"write"
-                    | b"try",
+                    b"chain" | b"lone" | b"join" | b"cpoint" | b"ctimes" | b"ccover" | b"cset" | b"cpad" | b"cinterp" | b"cparts" | b"cmotion" | b"cpmotion"
+                    | b"write" | b"try",
                 ),
                 Some([slot @ b'0'..=b'3']),
             ) => 1 + usize::from(slot - b'0'),
@@ -74,9 +74,11 @@ impl<'a> Kept<'a> {
         }
     }
 
+    /// A slot that was joined into keeps nothing that one question built.
     pub fn note(&mut self, question: &'a [u8], answer: &[u8]) {
-        if builds(question) && answer != b"error" {
-            self.0[Kept::place(question)] = question;
+        let is_join = question.starts_with(b"join ");
+        if (builds(question) || is_join) && answer != b"error" {
+            self.0[Kept::place(question)] = if is_join { b"" } else { question };
         }
     }
 }

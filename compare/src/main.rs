@@ -3,6 +3,7 @@
 mod answer;
 mod files;
 mod guarantee;
+mod joins;
 mod program;
 mod random;
 mod report;
@@ -20,16 +21,16 @@ use std::sync::{Arc, Mutex};
 use std::time::{Duration, Instant};
 
 const KINDS: &[&str] =
-    &["numbers", "angles", "matrices", "boxes", "moves", "bounds", "motion", "covers", "chains", "rigid", "sets", "texts", "trials", "arcs", "files"];
+    &["numbers", "angles", "matrices", "boxes", "moves", "bounds", "motion", "covers", "chains", "rigid", "sets", "texts", "trials", "arcs", "joins", "files"];
 
 const HELP: &str = "\
 compare/run [--moves N] [--chains N] [--seed N] [--kinds A,B,..] [--files N] [--no-build] ..
 
   --moves N              cases of each kind beside the fixed ones                20000
-  --chains N             chains, with their questions, sets, texts and trials   a quarter of the moves
+  --chains N             chains, with their questions, sets, texts, trials and joins   a quarter of the moves
   --files N              files for the programs `cover` and `rewrite`            a tenth of the moves
   --seed N               the same seed makes the same cases                      7
-  --kinds A,B            some of: numbers angles matrices boxes moves bounds motion covers chains rigid sets texts trials arcs files; all of them without it
+  --kinds A,B            some of: numbers angles matrices boxes moves bounds motion covers chains rigid sets texts trials arcs joins files; all of them without it
   --show N               how many differences are printed                        10
   --workers N            batches worked at once                                  the number of processors
   --no-build             takes the project's programs as they stand
@@ -108,7 +109,7 @@ const BATCH_BYTES: usize = 1 << 18;
 const BATCH_FILES: u64 = 200;
 
 fn are_chains(kind: &str) -> bool {
-    matches!(kind, "chains" | "rigid" | "sets" | "texts" | "trials")
+    matches!(kind, "chains" | "rigid" | "sets" | "texts" | "trials" | "joins")
 }
 
 /// Cuts what `vectors` prints for a kind into batches: before a move, or anywhere as long as there was none; chains at the comment before a case.
@@ -172,6 +173,9 @@ fn compare(options: &Options, batch: &Batch, number: u64) -> Report {
             } else if kind == "trials" {
                 trials::test(sides, questions, &runs[0].output, &mut report);
             } else if kind == "covers" || are_chains(kind) {
+                if kind == "joins" {
+                    joins::test(questions, &runs[0].output, &mut report);
+                }
                 guarantee::test(sides, questions, &runs[0].output, &mut Random::new(options.seed, number), &mut report);
             }
         }

@@ -94,7 +94,7 @@ const MOST_FOUND: usize = 100;
 const NAMES: &[&str] = &[
     "move", "parts", "point", "interp", "motion", "pmotion", "cover", "zeros", "sin", "cos", "acos", "abs", "root", "least", "greatest", "lerp", "clamp", "whole",
     "inverse", "mul", "quat", "rotation", "dot", "normalize", "slerp", "decompose", "bounds",
-    "chain", "lone", "cpoint", "ctimes", "ccover", "cset", "cpad", "try", "cinterp", "cparts", "cmotion", "cpmotion", "acosn",
+    "chain", "lone", "join", "cpoint", "ctimes", "ccover", "cset", "cpad", "try", "cinterp", "cparts", "cmotion", "cpmotion", "acosn",
     "write", "read",
 ];
 

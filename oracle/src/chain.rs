@@ -18,6 +18,13 @@ pub struct Pose {
     pub pad: f32,
 }
 
+impl Pose {
+    /// The bits of its time, of all sixteen entries and of its pad.
+    pub fn bits(&self) -> Vec<u32> {
+        [&[self.time], self.matrix.m.as_flattened(), &[self.pad]].concat().into_iter().map(f32::to_bits).collect()
+    }
+}
+
 /// A chain that was built: a move for each neighbouring pair of its poses.
 #[derive(Debug, Clone)]
 pub struct Chain {
@@ -72,6 +79,19 @@ impl Chain {
     pub fn lone(kind: Kind, poses: &[Pose; 2]) -> Judged<Chain> {
         check_poses(poses)?;
         Ok(Chain { kind, poses: poses.to_vec(), moves: vec![build_move(kind, &poses[0], &poses[1])?] })
+    }
+
+    /// One chain of two, with the pose that they share once: 20 where it differs in a bit, or the kinds do, then 12 for more than 32 poses. Built from its poses.
+    pub fn join(&self, other: &Chain) -> Judged<Chain> {
+        let (last, first) = (&self.poses[self.poses.len() - 1], &other.poses[0]);
+        if last.bits() != first.bits() || self.kind != other.kind {
+            return Err(MISMATCH);
+        }
+        let poses = [&self.poses, &other.poses[1..]].concat();
+        if poses.len() > MOST_POSES {
+            return Err(CHAIN);
+        }
+        Chain::build(self.kind, &poses)
     }
 
     /// The move that a time belongs to: the first that isn't over before it, else the last. Any, for a NaN, which each refuses.
@@ -288,6 +308,47 @@ mod tests {
             let ends = covers.iter().map(|c| c[i]);
             assert_eq!(all[i], if i < 3 { ends.fold(f32::INFINITY, f32::min) } else { ends.fold(f32::NEG_INFINITY, f32::max) });
         }
+    }
+
+    #[test]
+    fn chains_are_joined() {
+        let poses: Vec<Pose> = (0..33).map(|i| padded(shifted(i as f32, (i * i) as f32), i as f32)).collect();
+        let join_as = |kinds: [Kind; 2], first: &[Pose], second: &[Pose]| {
+            let [first, second] = [(kinds[0], first), (kinds[1], second)].map(|(kind, poses)| Chain::build(kind, poses).unwrap());
+            first.join(&second).map(|chain| chain.poses.len())
+        };
+        let join = |first: &[Pose], second: &[Pose]| join_as([Kind::Plain; 2], first, second);
+        assert_eq!(join(&poses[..2], &poses[1..4]), Ok(4));
+        assert_eq!(join(&poses[..17], &poses[16..32]), Ok(32));
+        assert_eq!(join(&poses[..17], &poses[16..33]), Err(CHAIN));
+        assert_eq!(join(&poses[..17], &poses[15..33]), Err(MISMATCH));
+        // Both rigid or both plain, whatever else would be refused.
+        assert_eq!(join_as([Kind::Rigid; 2], &poses[..2], &poses[1..4]), Ok(4));
+        for kinds in [[Kind::Plain, Kind::Rigid], [Kind::Rigid, Kind::Plain]] {
+            assert_eq!(join_as(kinds, &poses[..2], &poses[1..4]), Err(MISMATCH));
+            assert_eq!(join_as(kinds, &poses[..17], &poses[16..33]), Err(MISMATCH));
+        }
+        // Every bit of the shared pose counts, a zero's sign too; m33 is 1.
+        for place in (0..18).filter(|place| *place != 16) {
+            let mut second = poses[1..4].to_vec();
+            let shared = &mut second[0];
+            let value = match place {
+                0 => &mut shared.time,
+                17 => &mut shared.pad,
+                _ => &mut shared.matrix.m.as_flattened_mut()[place - 1],
+            };
+            *value = if *value == 0.0 { -0.0 } else { value.next_up() };
+            assert_eq!(join(&poses[..2], &second), Err(MISMATCH), "{place}");
+        }
+        // Up to the shared time the first answers, above it the second; the cover is the union.
+        let [first, second] = [&poses[..3], &poses[2..5]].map(|poses| Chain::build(Kind::Plain, poses).unwrap());
+        let joined = first.join(&second).unwrap();
+        for time in [f32::NEG_INFINITY, 0.5, 2.0, 2.0f32.next_up(), 3.5, f32::INFINITY] {
+            let own = if time <= 2.0 { &first } else { &second };
+            assert_eq!((x_at(&joined, time), joined.pad(time)), (x_at(own, time), own.pad(time)));
+        }
+        let b = [0.0, 0.0, 0.0, 0.5, 0.0, 0.0];
+        assert_eq!(joined.cover(&b, 3), Ok(cover::union(first.cover(&b, 3).unwrap(), second.cover(&b, 3).unwrap())));
     }
 
     #[test]

@@ -17,6 +17,7 @@ type Question = fn(&mut Slots, Words) -> Answer;
 const QUESTIONS: &[(&str, Question)] = &[
     ("chain", chain),
     ("lone", lone),
+    ("join", join),
     ("cpoint", point),
     ("ctimes", times),
     ("ccover", cover),
@@ -151,6 +152,15 @@ fn lone(slots: &mut Slots, words: Words) -> Answer {
     let (slot, kind, words) = slot_and_kind(words)?;
     let poses: [Pose; 2] = poses(words)?.try_into().ok()?;
     slots.keep(slot, Chain::lone(kind, &poses), true)
+}
+
+/// join S A B
+fn join(slots: &mut Slots, words: Words) -> Answer {
+    let (into, words) = slot(words)?;
+    let (first, words) = slot(words)?;
+    let (second, []) = slot(words)? else { return None };
+    let joined = slots.chain(first)?.join(slots.chain(second)?);
+    slots.keep(into, joined, false)
 }
 
 /// cpoint S T X Y Z

@@ -38,3 +38,5 @@ pub const NOT_RIGID: u8 = 17;
 pub const DETERMINANT: u8 = 18;
 /// A trial: a place beyond the last pose.
 pub const PLACE: u8 = 19;
+/// Two chains to be joined whose shared pose differs in a bit, or their kinds.
+pub const MISMATCH: u8 = 20;

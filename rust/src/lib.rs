@@ -177,7 +177,7 @@ pub struct Covers {
     pub union: Bounds,
 }
 
-/// A built chain: the moves between neighbouring poses. It is only made by [`Chain::new`] and [`Chain::rigid`], so that the guarantee of [`Chain::cover`] holds of every value of this type.
+/// A built chain: the moves between neighbouring poses. It is only made by [`Chain::new`], [`Chain::rigid`] and [`Chain::join`], so that the guarantee of [`Chain::cover`] holds of every value of this type.
 #[derive(Clone, Debug)]
 pub struct Chain {
     moves: Vec<library::Rows>,
@@ -200,6 +200,16 @@ impl Chain {
         let mut moves = [library::EMPTY; library::MOVES];
         let number = unsafe { library::jellyplain_build_moves(rigid, poses.as_ptr(), poses.len(), &mut moves) };
         let count = if number == 0 { poses.len() - 1 } else { 0 };
+        answered(number, Chain { moves: moves[..count].to_vec() })
+    }
+
+    /// One chain of this one and another, with the pose that they share once: the same as that of all poses. Up to the shared time it answers as this chain, above it as the other,
+    /// and its cover is the union of theirs. Refused with [`Refusal::Mismatch`] where the last pose here and the first there differ in a bit of time, matrix or pad, a zero's
+    /// sign too, or one chain is rigid and the other isn't, then with [`Refusal::Chain`] for more than 32 poses.
+    pub fn join(&self, other: &Chain) -> Result<Chain, Refusal> {
+        let (first, second, mut moves) = (&self.moves, &other.moves, [library::EMPTY; library::MOVES]);
+        let number = unsafe { library::jellyplain_moves_join(first.as_ptr(), first.len(), second.as_ptr(), second.len(), &mut moves) };
+        let count = if number == 0 { first.len() + second.len() } else { 0 };
         answered(number, Chain { moves: moves[..count].to_vec() })
     }
 

@@ -56,6 +56,7 @@ extern "C" {
     ) -> u8;
     pub fn jellyplain_moves_cover(moves: *const Rows, count: usize, b: &[f32; 6], depth: u32, out: &mut [f32; 6]) -> u8;
     pub fn jellyplain_moves_try(moves: *const Rows, count: usize, place: usize, pose: &Pose, b: &[f32; 6], depth: u32, out: &mut [f32; 6]) -> u8;
+    pub fn jellyplain_moves_join(first: *const Rows, first_count: usize, second: *const Rows, second_count: usize, moves: &mut [Rows; MOVES]) -> u8;
     pub fn jellyplain_moves_covers(
         moves: *const Rows,
         count: usize,

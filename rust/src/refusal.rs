@@ -42,10 +42,12 @@ pub enum Refusal {
     Determinant = 18,
     /// A pose is tried at a place beyond the last.
     Place = 19,
+    /// Two chains to be joined differ in a bit of the pose that they share, or in their kind.
+    Mismatch = 20,
 }
 
 impl Refusal {
-    const ALL: [Refusal; 19] = {
+    const ALL: [Refusal; 20] = {
         use Refusal::*;
         [
             PoseNotFinite,
@@ -67,6 +69,7 @@ impl Refusal {
             NotRigid,
             Determinant,
             Place,
+            Mismatch,
         ]
     };
 
@@ -74,7 +77,7 @@ impl Refusal {
         self as u8
     }
 
-    /// The refusal of a number from 1 to 19.
+    /// The refusal of a number from 1 to 20.
     pub fn from_number(number: u8) -> Option<Refusal> {
         Refusal::ALL.into_iter().find(|refusal| refusal.number() == number)
     }
@@ -102,6 +105,7 @@ impl fmt::Display for Refusal {
             Refusal::NotRigid => "a pose of a rigid move scales or shears",
             Refusal::Determinant => "a pose of a rigid move mirrors",
             Refusal::Place => "the place is beyond the last pose",
+            Refusal::Mismatch => "the chains don't share a pose to the bit, or differ in their kind",
         };
         write!(f, "refused with {}: {reason}", self.number())
     }
@@ -115,7 +119,7 @@ mod tests {
 
     #[test]
     fn numbers() {
-        assert!((1..=19).all(|number| Refusal::from_number(number).unwrap().number() == number));
-        assert_eq!((Refusal::from_number(0), Refusal::from_number(20)), (None, None));
+        assert!((1..=20).all(|number| Refusal::from_number(number).unwrap().number() == number));
+        assert_eq!((Refusal::from_number(0), Refusal::from_number(21)), (None, None));
     }
 }

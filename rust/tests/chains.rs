@@ -292,3 +292,43 @@ fn trials() {
     assert_eq!(chain.try_pose(1, &at(0.5, IDENTITY), &b, 13), Err(Refusal::Depth));
     assert_eq!(chain.cover(&b, 6), before);
 }
+
+/// Two parts of a chain make it again; a bit of the shared pose or the kind is 20, before the 12 of too many poses.
+#[test]
+fn joins() {
+    let moved = |x: f32| {
+        let mut m = IDENTITY;
+        m[0][3] = x;
+        m
+    };
+    let poses: Vec<Pose> = (0..40).map(|i| Pose { pad: (i % 3) as f32, ..at(i as f32, moved((i * i % 7) as f32)) }).collect();
+    let chain = |poses: &[Pose]| Chain::new(poses).unwrap();
+    let b = Bounds { p_min: [0.0; 3], p_max: [1.0; 3] };
+    for (place, last) in [(1, 2), (1, 31), (30, 31), (16, 31), (2, 5)] {
+        let (first, second, whole) = (chain(&poses[..=place]), chain(&poses[place..=last]), chain(&poses[..=last]));
+        let joined = first.join(&second).unwrap();
+        assert_eq!(joined.moves().len(), last);
+        assert_eq!(joined.write(&b), whole.write(&b));
+        let shared = place as f32;
+        for time in [f32::NEG_INFINITY, 0.5, shared, shared.next_up(), f32::INFINITY] {
+            let own = if time <= shared { &first } else { &second };
+            assert_eq!((joined.point(time, [1.0; 3]), joined.pad(time)), (own.point(time, [1.0; 3]), own.pad(time)));
+        }
+        assert_eq!(joined.cover(&b, 5), whole.cover(&b, 5));
+    }
+    let refused = |first: &Chain, second: &Chain| first.join(second).err();
+    let first = chain(&poses[..3]);
+    assert_eq!(refused(&first, &first), Some(Refusal::Mismatch));
+    let changes: [fn(&mut Pose); 4] = [|p| p.time = p.time.next_up(), |p| p.pad = p.pad.next_up(), |p| p.matrix[1][0] = -0.0, |p| p.matrix[3][0] = -0.0];
+    for change in changes {
+        let mut other = poses[2..5].to_vec();
+        change(&mut other[0]);
+        assert_eq!(refused(&first, &chain(&other)), Some(Refusal::Mismatch));
+    }
+    let rigid = |poses: &[Pose]| Chain::rigid(poses).unwrap();
+    assert_eq!(refused(&rigid(&poses[..3]), &rigid(&poses[2..5])), None);
+    assert_eq!(refused(&first, &rigid(&poses[2..5])), Some(Refusal::Mismatch));
+    assert_eq!(refused(&rigid(&poses[..3]), &chain(&poses[2..5])), Some(Refusal::Mismatch));
+    assert_eq!(refused(&chain(&poses[..17]), &chain(&poses[16..33])), Some(Refusal::Chain));
+    assert_eq!(refused(&chain(&poses[..17]), &rigid(&poses[16..33])), Some(Refusal::Mismatch));
+}

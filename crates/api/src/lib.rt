@@ -27,6 +27,8 @@ ghost use Rattle.chain_rows.specs.Finer.{KeptChainFiner};
 ghost use Rattle.changed_chain.specs.Trial.{Chain·try};
 ghost use Rattle.chain_trial.specs.Theorem.{TrialContainsMotion};
 ghost use Rattle.chain_build.specs.Build.{ChainAnswer·left};
+ghost use Rattle.chain_join.specs.Rows.{Moves·joinRefusal, Moves·joinLeft};
+ghost use Rattle.chain_join.specs.Theorem.{Joined};
 ghost use Rattle.box_set.specs.Set.{SetAnswer·refusal};
 ghost use Rattle.chain_covers.specs.Kept.{Moves·covers, SetAnswer·coversLeft, SetAnswer·unionLeft};
 ghost use Rattle.chain_covers.specs.Theorem.{KeptSetContainsMotion};
@@ -212,6 +214,21 @@ pub extern "C" fn jellyplain_build_moves(
     ensures holds { λ _. ⌜ ((c : Chain) → Chain·new rigid (Poses·ofLists (now (poses .entry))) ≡ built c → Moves·Holds (take (length (now (poses .entry)) - 1) (now (moves .exit))) c) ⌝ }
 {
     chain_build::build(rigid, poses, moves)
+}
+
+// Makes one chain of two, with the pose that they share once; the rows of the first's moves and then of the second's stand in the front blocks. Refused with 12 where either has no
+// moves, then with 20 where the last pose of the first and the first of the second differ in a bit, or the chains in their kind, then with 12 for more than 32 poses. Accuracy: exact.
+#[no_mangle]
+pub extern "C" fn jellyplain_moves_join(
+    first: &[[[f32; 4]; 45]],
+    second: &[[[f32; 4]; 45]],
+    moves: &mut [[[f32; 4]; 45]; 31],
+) -> u8
+    ensures refusal { λ r. ⌜ r ≡ Moves·joinRefusal (now (first .entry)) (now (second .entry)) ⌝ }
+    ensures left { λ _. ⌜ now (moves .exit) ≡ Moves·joinLeft (now (first .entry)) (now (second .entry)) (now (moves .entry)) ⌝ }
+    ensures kept { λ r. ⌜ ((c d : Chain) → Moves·Holds (now (first .entry)) c → Moves·Holds (now (second .entry)) d → Joined (now (first .entry)) (now (second .entry)) (now (moves .entry)) (now (moves .exit)) r c d) ⌝ }
+{
+    chain_join::join(first, second, moves)
 }
 
 // Where a point stands at a time of a chain. Refused with 5 or 6, and with 12 where there are no moves.

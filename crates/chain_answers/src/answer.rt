@@ -27,6 +27,7 @@ pub fn put_answer(
     match kind {
         0 => chains::build_chain(q.rigid, slot, floats / 18, x, out, at, kept, poses),
         1 => chains::build_lone(q.rigid, slot, x, out, at, kept, poses),
+        14 => chains::join(slot, wholes[1], wholes[2], out, at, kept, poses),
         _ => put_asked(
             kind,
             wholes,

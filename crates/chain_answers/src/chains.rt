@@ -49,6 +49,40 @@ pub fn build_lone(
     put_count(refusal, 2, out, at)
 }
 
+// Joins the chains of two slots and keeps what is made of them, or none where it is refused. Of a slot that is no chain nothing is joined.
+pub fn join(
+    slot: usize,
+    a: u64,
+    b: u64,
+    out: &mut [u8; 32768],
+    at: usize,
+    kept: &mut [[[[f32; 4]; 45]; 31]; 4],
+    poses: &mut [usize; 4],
+) -> usize
+    requires { ⌜ slot < 4 ⌝ }
+{
+    if 3 < a {
+        return put_error(out, at);
+    }
+    if 3 < b {
+        return put_error(out, at);
+    }
+    let i = a as usize;
+    let j = b as usize;
+    let first = kept_moves(kept, i, poses[i], 2);
+    let second = kept_moves(kept, j, poses[j], 2);
+    if (first.len() == 0) | (second.len() == 0) {
+        return put_error(out, at);
+    }
+    let count = first.len() + second.len() + 1;
+    // The slot may be one of the two.
+    let mut joined = [[[0.0f32; 4]; 45]; 31];
+    let refusal = api::jellyplain_moves_join(first, second, &mut joined);
+    kept[slot] = joined;
+    poses[slot] = kept_count(refusal, count);
+    put_count(refusal, count, out, at)
+}
+
 fn kept_count(refusal: u8, count: usize) -> usize {
     if refusal == 0 { count } else { 0 }
 }

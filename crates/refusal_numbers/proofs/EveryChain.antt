@@ -5,6 +5,7 @@ use Rattle.motion_chain.proofs.Numbers.{chain-cover-numbered}
 use Rattle.motion_chain.proofs.Times.{chain-point-numbered, times-numbers}
 use Rattle.box_set.proofs.Contains.{chain-set-numbered}
 use Rattle.chain_covers.proofs.Number.{kept-set-numbered}
+use Rattle.chain_join.proofs.Numbers.{moves-join-number}
 use Rattle.refusal_numbers.specs.Chain.{EveryChainAnswer}
 use Rattle.refusal_numbers.proofs.Chain.{building-numbered}
 use Rattle.refusal_numbers.proofs.Pad.{chain-pad-numbered, kept-pad-numbered}
@@ -27,4 +28,5 @@ every-chain-answer = record {
   rows-cover = rows-cover-numbered;
   rows-set = kept-set-numbered;
   rows-trial = rows-trial-numbered;
+  rows-join = moves-join-number;
 }

@@ -1,4 +1,4 @@
--- What is promised of every answer about a chain: which numbers building, the point query, also with a list of times, the pad query and the cover query, also of a set of boxes and of a pose that is tried, give, 0 being none,
+-- What is promised of every answer about a chain: which numbers building, the point query, also with a list of times, the pad query and the cover query, also of a set of boxes and of a pose that is tried, give, and joining two kept chains, 0 being none,
 -- and that an accepted cover's corners are finite and in order; and the same of a kept chain, whatever its rows. The statement of `every-chain-answer`.
 use Prim.Native.Nat.{ℕ}
 use mathlib.Core.Path.{_≡_}
@@ -24,6 +24,7 @@ use Rattle.box_set.specs.Theorem.{SetAnswer·Numbered}
 use Rattle.chain_covers.specs.Kept.{Moves·covers}
 use Rattle.changed_chain.specs.Trial.{Chain·try}
 use Rattle.chain_trial.specs.Try.{Moves·try}
+use Rattle.chain_join.specs.Rows.{Moves·joinRefusal}
 use Rattle.refusal_numbers.specs.Numbers.{PadAnswer·Numbered}
 
 -- The number is one of those listed, and an answer whose number is 0 is a chain.
@@ -39,7 +40,7 @@ buildingNumbers rigid = 0 ∷ 1 ∷ 2 ∷ 3 ∷ 4 ∷ 5 ∷ 12 ∷ 16 ∷ kindNu
 abbrev pub trialNumbers : Bool → List ℕ
 trialNumbers rigid = 0 ∷ 1 ∷ 2 ∷ 3 ∷ 4 ∷ 5 ∷ 6 ∷ 7 ∷ 8 ∷ 10 ∷ 12 ∷ 16 ∷ 19 ∷ kindNumbers rigid
 
--- document 01's numbers, and document 02's: 12 and 16 of building, 17 and 18 of building as rigid, 13 of a list of times, 14 of a set, 19 of a place
+-- document 01's numbers, and document 02's: 12 and 16 of building, 17 and 18 of building as rigid, 13 of a list of times, 14 of a set, 19 of a place, 20 of joining
 pub record EveryChainAnswer : Type 0 where
   pub building : (rigid : Bool) (poses : List Pose) → ChainAnswer·Numbered (buildingNumbers rigid) (Chain·new rigid poses)
   pub point : (c : Chain) (time : Float) (p : Point3f) → PointAnswer·Numbered (0 ∷ 5 ∷ 6 ∷ []) (Chain·transformPoint c time p)
@@ -57,3 +58,4 @@ pub record EveryChainAnswer : Type 0 where
   pub rows-set : (rows : List Rows) (boxes : List (List Float)) (depth : ℕ)
       → SetAnswer·Numbered (0 ∷ 5 ∷ 6 ∷ 7 ∷ 8 ∷ 10 ∷ 12 ∷ 14 ∷ []) (Moves·covers rows boxes depth)
   pub rows-trial : (rows : List Rows) (place : ℕ) (p : Pose) (b : Bounds3f) (depth : ℕ) → BoundsAnswer·Numbered (trialNumbers (Chain·isRigid (Moves·chain rows))) (Moves·try rows place p b depth)
+  pub rows-join : (first second : List Rows) → OneOf (Moves·joinRefusal first second) (0 ∷ 12 ∷ 20 ∷ [])

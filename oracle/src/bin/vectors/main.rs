@@ -3,6 +3,7 @@
 //! every machine makes the same, but for the bits of a NaN.
 
 mod chains;
+mod joins;
 mod rigid;
 mod sets;
 mod texts;
@@ -546,7 +547,8 @@ impl Random {
 }
 
 /// The kinds of question: from `chains` on they are `chain_answers`', the others `answers`'.
-const KINDS: &[&str] = &["numbers", "angles", "matrices", "bounds", "moves", "motion", "covers", "boxes", "chains", "sets", "arcs", "texts", "rigid", "trials"];
+const KINDS: &[&str] =
+    &["numbers", "angles", "matrices", "bounds", "moves", "motion", "covers", "boxes", "chains", "sets", "arcs", "texts", "rigid", "trials", "joins"];
 
 /// A box that a matrix carries: turned about, mirrored, carried to infinity, with wp of zero and a bottom row that isn't 0 0 0 1.
 fn fixed_boxes<W: Write>(q: &mut Questions<W>) {
@@ -1161,6 +1163,7 @@ fn main() {
         "sets" => (sets::fixed, sets::random),
         "texts" => (texts::fixed, texts::random),
         "trials" => (trials::fixed, trials::random),
+        "joins" => (joins::fixed, joins::random),
         "arcs" => (fixed_arcs, random_arc),
         "rigid" => (rigid::fixed, rigid::random),
         _ => usage(),

@@ -1,0 +1,4 @@
+pub mod Same
+pub mod Blocks
+pub mod Clauses
+pub mod Numbers

@@ -1,0 +1,30 @@
+-- Joining is refused with 12 or 20 and with no other number, whatever the rows: `moves-join-number`.
+use Prim.Native.Nat.{ℕ}
+use mathlib.Core.Path.{refl}
+use mathlib.Core.Bool.{Bool, true, false, Bool·beq, _&&_, _||_, cond}
+use mathlib.Core.Logic.{_⊎_, inl, inr}
+use mathlib.Core.List.{List, [], _∷_}
+use lib.Dec.{eqb, ltb}
+use lib.ListN.{length}
+use Rattle.matrix4x4.specs.Rows.{Rows}
+use Rattle.transform.specs.Answer.{OneOf}
+use Rattle.animated_transform.specs.New.{firstRefusal}
+use Rattle.motion_chain.specs.Chain.{maxPoses}
+use Rattle.built_poses.specs.Poses.{Chain·isRigid}
+use Rattle.chain_rows.specs.Kept.{Moves·chain}
+use Rattle.joined_chains.specs.Join.{Pose·sameBits, Chain·lastPose, Chain·firstPose, Chain·joinedPoses, mismatchRefusal, Chain·joinRefusal}
+use Rattle.chain_join.specs.Rows.{Moves·joinRefusal}
+
+pub moves-join-number : (first second : List Rows) → OneOf (Moves·joinRefusal first second) (0 ∷ 12 ∷ 20 ∷ [])
+unfolding Moves·joinRefusal Chain·joinRefusal mismatchRefusal
+moves-join-number first second =
+    let c = Moves·chain first in
+    let d = Moves·chain second in
+    go (eqb (length first) 0 || eqb (length second) 0) (Pose·sameBits (Chain·lastPose c) (Chain·firstPose d) && Bool·beq (Chain·isRigid c) (Chain·isRigid d))
+    (ltb maxPoses (length (Chain·joinedPoses c d)))
+  where
+    go : (a b n : Bool) → OneOf (cond a 12 (firstRefusal (cond b 0 20) (cond n 12 0))) (0 ∷ 12 ∷ 20 ∷ [])
+    go true b n = inr (inl refl)
+    go false true true = inr (inl refl)
+    go false true false = inl refl
+    go false false n = inr (inr (inl refl))

@@ -1,0 +1,132 @@
+// Document 02's "Two chains made one": the rows of two kept chains, the first's and then the second's, in the first of 31 lent blocks, and behind them what stood there.
+// After a refusal all blocks are as they were.
+ghost use Prim.Native.Nat.{_+_, _<_, _≤_};
+ghost use mathlib.Core.Path.{_≡_};
+ghost use mathlib.Core.Bool.{true, Bool·beq};
+ghost use lib.ListN.{length};
+ghost use lib.Seq.{paste};
+ghost use Rattle.animated_transform.specs.New.{firstRefusal};
+ghost use Rattle.motion_rows.specs.Rows.{matrixAt, AnimatedTransform·fromRows};
+ghost use Rattle.built_poses.specs.Poses.{AnimatedTransform·startPose, AnimatedTransform·endPose};
+ghost use Rattle.motion_chain.specs.Chain.{Chain};
+ghost use Rattle.chain_rows.specs.Kept.{Moves·chain};
+ghost use Rattle.chain_rows.specs.Theorem.{Moves·Holds};
+ghost use Rattle.joined_chains.specs.Join.{Float·sameBits, Row·sameBits, Matrix4x4·sameBits, Pose·sameBits, Chain·lastPose, Chain·firstPose, mismatchRefusal, countRefusal};
+ghost use Rattle.chain_join.specs.Rows.{Moves·joinRefusal, Moves·joinLeft};
+ghost use Rattle.chain_join.specs.Theorem.{Joined};
+
+// Two floats of the same bits are one float.
+fn same_bits(x: f32, y: f32) -> bool
+    ensures value { λ r. ⌜ r ≡ Float·sameBits x y ⌝ }
+    ensures same { λ r. ⌜ (r ≡ true → x ≡ y) ⌝ }
+{
+    let a = hexadecimal::bits_of_float(x);
+    let b = hexadecimal::bits_of_float(y);
+    a == b
+}
+
+fn same_row(a: [f32; 4], b: [f32; 4]) -> bool
+    ensures value { λ r. ⌜ r ≡ Row·sameBits a b ⌝ }
+    ensures same { λ r. ⌜ (r ≡ true → a ≡ b) ⌝ }
+{
+    same_bits(a[0], b[0]) & same_bits(a[1], b[1]) & same_bits(a[2], b[2]) & same_bits(a[3], b[3])
+}
+
+// The end's matrix of a block and the start's of another.
+fn same_matrix(last: &[[f32; 4]; 45], first: &[[f32; 4]; 45]) -> bool
+    ensures value { λ r. ⌜ r ≡ Matrix4x4·sameBits (matrixAt (now (last .entry)) 8) (matrixAt (now (first .entry)) 0) ⌝ }
+    ensures same { λ r. ⌜ (r ≡ true → matrixAt (now (last .entry)) 8 ≡ matrixAt (now (first .entry)) 0) ⌝ }
+{
+    same_row(last[8], first[0])
+        & same_row(last[9], first[1])
+        & same_row(last[10], first[2])
+        & same_row(last[11], first[3])
+}
+
+// The end's pose of a block and the start's of another.
+fn same_pose(last: &[[f32; 4]; 45], first: &[[f32; 4]; 45]) -> bool
+    ensures value { λ r. ⌜ r ≡ Pose·sameBits (AnimatedTransform·endPose (AnimatedTransform·fromRows (now (last .entry)))) (AnimatedTransform·startPose (AnimatedTransform·fromRows (now (first .entry)))) ⌝ }
+    ensures same { λ r. ⌜ (r ≡ true → AnimatedTransform·endPose (AnimatedTransform·fromRows (now (last .entry))) ≡ AnimatedTransform·startPose (AnimatedTransform·fromRows (now (first .entry)))) ⌝ }
+{
+    same_bits(last[17][3], first[16][3])
+        & same_matrix(last, first)
+        & same_bits(last[44][1], first[44][0])
+}
+
+// The kinds of two moves, rigid or not.
+fn same_kind(a: &[[f32; 4]; 45], b: &[[f32; 4]; 45]) -> bool
+    ensures value { λ r. ⌜ r ≡ Bool·beq (AnimatedTransform·fromRows (now (a .entry)) .rigid) (AnimatedTransform·fromRows (now (b .entry)) .rigid) ⌝ }
+{
+    kept_poses::is_rigid(a) == kept_poses::is_rigid(b)
+}
+
+// 20 where the last pose of the first and the first pose of the second differ in a bit, or the chains in their kind, and 0.
+fn mismatch_refusal(first: &[[[f32; 4]; 45]], second: &[[[f32; 4]; 45]]) -> u8
+    requires { ⌜ 0 < length (now first) ⌝ }
+    requires { ⌜ 0 < length (now second) ⌝ }
+    ensures value { λ r. ⌜ r ≡ mismatchRefusal (Moves·chain (now (first .entry))) (Moves·chain (now (second .entry))) ⌝ }
+    ensures same { λ r. ⌜ (r ≡ 0 → Chain·lastPose (Moves·chain (now (first .entry))) ≡ Chain·firstPose (Moves·chain (now (second .entry)))) ⌝ }
+{
+    if same_pose(&first[first.len() - 1], &second[0]) & same_kind(&first[0], &second[0]) {
+        0
+    } else {
+        20
+    }
+}
+
+// 12 for more than 32 poses, and 0.
+fn count_refusal(poses: usize) -> u8
+    ensures value { λ r. ⌜ r ≡ countRefusal poses ⌝ }
+{
+    if 32 < poses { 12 } else { 0 }
+}
+
+fn first_refusal(a: u8, b: u8) -> u8
+    ensures value { λ r. ⌜ r ≡ firstRefusal a b ⌝ }
+{
+    if a == 0 { b } else { a }
+}
+
+// The blocks with others put over them from `at` on.
+fn with_blocks(
+    others: &[[[f32; 4]; 45]],
+    at: usize,
+    blocks: [[[f32; 4]; 45]; 31],
+) -> [[[f32; 4]; 45]; 31]
+    requires { ⌜ at + length (now others) ≤ 31 ⌝ }
+    ensures places { λ _. ⌜ length blocks ≡ 31 ⌝ }
+    ensures value { λ r. ⌜ r ≡ paste blocks at (now (others .entry)) (length (now (others .entry))) ⌝ }
+{
+    let mut filled = blocks;
+    let mut i = 0;
+    while i < others.len() {
+        filled[at + i] = others[i];
+        i = i + 1;
+    }
+    filled
+}
+
+// Makes one chain of two kept ones, with the pose that they share once, in the first blocks of `joined`. Refused with 12 where either has no moves, then with 20 where the last pose of
+// the first and the first pose of the second differ in a bit, or the chains in their kind, then with 12 for more than 32 poses. Accuracy: exact.
+pub fn join(
+    first: &[[[f32; 4]; 45]],
+    second: &[[[f32; 4]; 45]],
+    joined: &mut [[[f32; 4]; 45]; 31],
+) -> u8
+    ensures refusal { λ r. ⌜ r ≡ Moves·joinRefusal (now (first .entry)) (now (second .entry)) ⌝ }
+    ensures left { λ _. ⌜ now (joined .exit) ≡ Moves·joinLeft (now (first .entry)) (now (second .entry)) (now (joined .entry)) ⌝ }
+    ensures kept { λ r. ⌜ ((c d : Chain) → Moves·Holds (now (first .entry)) c → Moves·Holds (now (second .entry)) d → Joined (now (first .entry)) (now (second .entry)) (now (joined .entry)) (now (joined .exit)) r c d) ⌝ }
+{
+    if (first.len() == 0) | (second.len() == 0) {
+        return 12;
+    }
+    let mismatch = mismatch_refusal(first, second);
+    let count = count_refusal(first.len() + second.len() + 1);
+    let refusal = first_refusal(mismatch, count);
+    if refusal != 0 {
+        return refusal;
+    }
+    let front = with_blocks(first, 0, *joined);
+    *joined = with_blocks(second, first.len(), front);
+    0
+}

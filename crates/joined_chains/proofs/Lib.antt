@@ -1,0 +1,4 @@
+pub mod Union
+pub mod Bits
+pub mod Built
+pub mod Answers
