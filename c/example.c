@@ -66,6 +66,9 @@ int main(void)
     jellyplain_pose longer = end;
     longer.matrix[1][1] = 1.1f;
     printf("a boom that grows by a tenth, as rigid: refused with %d\n", jellyplain_build(true, &start, &longer, &move));
+    jellyplain_run run = jellyplain_refused_run(true, (jellyplain_pose[]){start, longer}, 2);
+    if (run.refusal == JELLYPLAIN_NONE)
+        printf("the poses that are refused: %zu from place %zu on\n", run.length, run.place);
     if (jellyplain_build_chain(true, there_and_back, 3, &chain) == JELLYPLAIN_NONE && jellyplain_chain_cover(&chain, boom, 10, bounds) == JELLYPLAIN_NONE)
         printf("reserved as rigid: %g %g %g to %g %g %g\n", bounds[0], bounds[1], bounds[2], bounds[3], bounds[4], bounds[5]);
     printf("at depth 13: refused with %d\n", jellyplain_cover(&move, boom, 13, bounds));

@@ -108,6 +108,17 @@ uint8_t jellyplain_build_moves(bool rigid, const jellyplain_pose *poses, size_t 
  * time, matrix or pad, or one chain is rigid and the other isn't, then 12 for more than 32 poses; before both 12 where either has no moves. */
 uint8_t jellyplain_moves_join(const jellyplain_move *first, size_t first_count, const jellyplain_move *second, size_t second_count, jellyplain_move moves[JELLYPLAIN_MOVES]);
 
+/* A run's first place and its length and JELLYPLAIN_NONE, or 0, 0 and a refusal. */
+typedef struct {
+    size_t place;
+    size_t length;
+    uint8_t refusal;
+} jellyplain_run;
+
+/* Of poses that are refused as a chain, the shortest run of neighbouring ones that is refused with the same number, the leftmost among equals: one pose, as a move from it to itself, or two.
+ * Place and length are 0 where the poses are a chain. Number 12, where they are refused with it. */
+jellyplain_run jellyplain_refused_run(bool rigid, const jellyplain_pose *poses, size_t count);
+
 /* Where the point p stands at a time: a time equal to an inner pose's belongs to the earlier move. Numbers 5 and 6, and 12 for no moves. */
 uint8_t jellyplain_moves_point(const jellyplain_move *moves, size_t count, float time, const float p[3], float moved[3]);
 

@@ -4,7 +4,7 @@
   self_test.py [KIND..]   runs every trial, or those of some kinds, and says what was seen; status 0 if all was as it should be
 
 With WRONG in the environment it is itself the program that answers: the one behind it, and then the changes that WRONG names. In the place of `cover`, or under the
-name of `rewrite`, it is the oracle, with tools/move_files.py for a reader.
+name of `rewrite` or `stretch`, it is the oracle, with tools/move_files.py for a reader.
 """
 import os
 import re
@@ -33,6 +33,7 @@ WORDS = {
     "texts": "chain write read",
     "trials": "chain try ccover",
     "joins": "chain join ctimes",
+    "stretches": "stretch",
     "arcs": "acosn",
 }
 
@@ -226,16 +227,25 @@ def answers(changes):
         sys.exit(1)
 
 
-def answer_of_file(data, question, has_pads=True):
-    """The answer to a question about a file's chain and box, or to building the chain where it is refused."""
+def poses_and_box(data, has_pads=True):
+    """The poses and the box of a file, None for one that departs from the layout."""
     sys.path.insert(0, os.path.join(ROOT, "tools"))
     import move_files
     bits = move_files.read(data)
     if bits is None:
-        return b"refused 11"
+        return None
     words = [b"%08x" % b for b in bits]
     poses = [b" ".join(words[i:i + 13] + [b"00000000"] * 3 + [b"3f800000", words[i + 13] if has_pads else b"00000000"]) for i in range(0, len(words) - 6, 14)]
-    built, answer = answers_to([b" ".join([b"chain 0 plain"] + poses), b" ".join([question] + words[-6:])], ["--any-length"])
+    return poses, words[-6:]
+
+
+def answer_of_file(data, question, has_pads=True):
+    """The answer to a question about a file's chain and box, or to building the chain where it is refused."""
+    read = poses_and_box(data, has_pads)
+    if read is None:
+        return b"refused 11"
+    poses, box = read
+    built, answer = answers_to([b" ".join([b"chain 0 plain"] + poses), b" ".join([question] + box)], ["--any-length"])
     return answer if built.startswith(b"ok") else built
 
 
@@ -244,6 +254,18 @@ def rewrite(change):
     printed = bytes.fromhex(answer.split()[2].decode()) if answer.startswith(b"ok") else answer.replace(b" ", b"\n") + b"\n"
     if change in ("wrong_text", "old_names") and answer.startswith(b"ok") and first_time("text"):
         printed = printed[:-1] + b" \n" if change == "wrong_text" else without_pads(printed)
+    sys.stdout.buffer.write(printed)
+
+
+def stretch(change):
+    read = poses_and_box(sys.stdin.buffer.read())
+    built, run = answers_to([b" ".join([word] + read[0]) for word in (b"chain 0 plain", b"stretch plain")], ["--any-length"]) if read else [b"refused 11"] * 2
+    printed = built.replace(b" ", b"\n") + b"\n" if built.startswith(b"refused") else b"accepted\n"
+    if built.startswith(b"refused") and run.startswith(b"ok"):
+        place, length = map(int, run.split()[1:])
+        if change == "wrong_lines" and first_time("lines"):
+            place += 1
+        printed += b"lines %d to %d\n" % (place + 2, place + length + 1)
     sys.stdout.buffer.write(printed)
 
 
@@ -266,14 +288,18 @@ def trial(title, kind, changes, different, shown=(), sides=None, cases=40):
     """`different` is how many differences are to be told; None for some. The changes are on some sides, or on the project's alone."""
     if len(sys.argv) > 1 and not set(kind.split(",")) & set(sys.argv[1:]):
         return None
-    is_of_chains = kind in ("chains", "rigid", "sets", "texts", "trials", "joins", "arcs", "files")
+    is_of_chains = kind in ("chains", "rigid", "sets", "texts", "trials", "joins", "stretches", "arcs", "files")
     sides = sides or ("--chain-answers" if is_of_chains else "--answers",)
     with tempfile.TemporaryDirectory() as folder:
         command = [os.path.join(HERE, "run"), "--no-build", "--kinds", kind, "--moves", str(cases), "--chains", str(cases), "--files", str(cases), "--show", "100"]
         for side, program in SIDES.items():
             command += [side, os.path.abspath(__file__) if side in sides and kind != "files" else program]
-        os.symlink(os.path.abspath(__file__), os.path.join(folder, "rewrite"))
-        command += ["--cover", os.path.abspath(__file__), "--rewrite", os.path.join(folder, "rewrite")]
+        command += ["--cover", os.path.abspath(__file__)]
+        for name in ("rewrite", "stretch"):
+            program = os.path.join(folder, "programs", name)
+            os.makedirs(os.path.dirname(program), exist_ok=True)
+            os.symlink(os.path.abspath(__file__), program)
+            command += ["--" + name, program]
         environment = dict(os.environ, WRONG=" ".join(changes), TRIAL=folder, BEHIND=CHAIN_ORACLE if is_of_chains else ORACLE)
         run = subprocess.run(command, env=environment, stdout=subprocess.PIPE, stderr=subprocess.PIPE, text=True)
     if run.returncode == 2:
@@ -365,6 +391,9 @@ def main():
         trial("a digit of one file's box and of one file's refusal", "files", ["wrong_file"], 2, ["cover, the program"], cases=200),
         trial("a space at the end of one rewritten file", "files", ["wrong_text"], None, ["rewrite, the program"], cases=200),
         trial("one file rewritten with the old thirteen names", "files", ["old_names"], None, ["rewrite, the program"], cases=200),
+        trial("stretches as they are", "stretches", [], 0, cases=200),
+        trial("another number of one stretch's refusal", "stretches", ["refusal"], 1),
+        trial("the lines of one file's stretch", "files", ["wrong_lines"], 1, ["stretch, the program"], cases=200),
         trial("files of fourteen names taken as if their pads were zero", "files", ["no_pads"], None, ["cover, the program"], cases=200),
     ]
     results = [right for right in results if right is not None]
@@ -377,7 +406,9 @@ if __name__ == "__main__":
         main()
     elif os.path.basename(sys.argv[0]) == "rewrite":
         rewrite(os.environ["WRONG"])
-    elif os.environ["WRONG"] in ("file", "wrong_file", "wrong_text", "old_names", "no_pads"):
+    elif os.path.basename(sys.argv[0]) == "stretch":
+        stretch(os.environ["WRONG"])
+    elif os.environ["WRONG"] in ("file", "wrong_file", "wrong_text", "old_names", "no_pads", "wrong_lines"):
         cover(os.environ["WRONG"])
     else:
         answers(os.environ["WRONG"].split())

@@ -3,8 +3,9 @@
 # whatever their sign. Then on a file of as many bytes as one may have, and of one more: `main` has no contract, and these runs hold what it reads and prints.
 # Runs the program `rewrite` on the same: the one form of a file of examples/ is the file with its pads, +0 where it has none, that of
 # examples/rewritten/NAME.*.txt is that of examples/NAME.txt, byte for byte, and the refused ones are refused with the same numbers.
+# Runs the program `stretch` on the same: it accepts the files of examples/, and for one of examples/refused/ prints its .stretch, or its .expected where it has none.
 # Exit status 1 where one differs.
-#   tools/examples.sh                     compares; target/bin/cover and target/bin/rewrite must be built
+#   tools/examples.sh                     compares; target/bin/cover, target/bin/rewrite and target/bin/stretch must be built
 #   tools/examples.sh --expect PROGRAM    writes the .expected files of examples/ by what PROGRAM answers at depth 10: the oracle's `chain_answers`, so that
 #                                         they come from outside the libraries; those of examples/refused/ are the documents' numbers
 set -u
@@ -28,7 +29,7 @@ if [ $# -eq 2 ] && [ "$1" = --expect ]; then
     done
     exit
 fi
-[ $# -eq 0 ] || { sed -n '2,9s/^# \{0,1\}//p' "$0"; exit 2; }
+[ $# -eq 0 ] || { sed -n '2,10s/^# \{0,1\}//p' "$0"; exit 2; }
 # A file of thirteen names with its pads of +0.
 with_pads() { awk 'NR == 1 { old = NF == 13; print $0 (old ? " pad" : ""); next } $1 == "x0" { old = 0 } { print $0 (old ? " 00000000" : "") }' "$1"; }
 same_zeros() { sed 's/\b80000000\b/00000000/g' "$1"; }
@@ -41,6 +42,9 @@ try() { # NAME FILE EXPECTED [WORDS FOR IT]
 }
 try_rewrite() { # NAME FILE EXPECTED [WORDS FOR IT]
     compared rewrite cat "$@"
+}
+try_stretch() { # NAME FILE EXPECTED [WORDS FOR IT]
+    compared stretch cat "$@"
 }
 compared() { # PROGRAM FILTER NAME FILE EXPECTED [WORDS FOR IT]
     if "target/bin/$1" <"$4" >"$made" 2>&1 && [ -s "$5" ] && diff -q <("$2" "$5") <("$2" "$made") >/dev/null; then
@@ -68,6 +72,7 @@ swing_of() { # BYTES
     swing_of 65537 >"$input"
     try "swing.txt of 65,537 bytes" "$input" "$eleven" "refusal 11"
     try_rewrite "swing.txt of 65,537 bytes" "$input" "$eleven" "refusal 11"
+    try_stretch "swing.txt of 65,537 bytes" "$input" "$eleven" "refusal 11"
     swing_of 65536 >"$input"
     with_pads examples/swing.txt >"$form"
     try_rewrite "swing.txt of 65,536 bytes" "$input" "$form" "swing.txt with its pads"
@@ -82,6 +87,15 @@ swing_of() { # BYTES
     done
     for file in examples/refused/*.txt; do
         try_rewrite "$file" "$file" "${file%.txt}.expected"
+    done
+    echo accepted >"$form"
+    for file in examples/*.txt; do
+        try_stretch "$file" "$file" "$form" "\`accepted\`"
+    done
+    for file in examples/refused/*.txt; do
+        expected=${file%.txt}.stretch
+        [ -f "$expected" ] || expected=${file%.txt}.expected
+        try_stretch "$file" "$file" "$expected"
     done
 } 2>&1
 [ "$status" -ne 0 ] || echo "examples: $count runs on move files, each with the expected output"

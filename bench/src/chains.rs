@@ -1,4 +1,5 @@
-//! A chain of 32 poses beside its own 31 moves: its cover beside theirs, a list of times beside a query for each, a set of boxes beside a cover for each, and a pose that is tried beside a changed copy.
+//! A chain of 32 poses beside its own 31 moves: its cover beside theirs, a list of times beside a query for each, a set of boxes beside a cover for each, a pose that is tried beside a changed copy, and the
+//! shortest refused run of a chain beside building it.
 
 use crate::inputs::{cases, Kind, Random};
 use crate::{compare, Bounds};
@@ -47,6 +48,23 @@ pub fn compare_chains(random: &mut Random) {
         compare_sets(&poses[..count], &bounds);
     }
     compare_trials(&poses, &chain, &bounds);
+    compare_refused(&poses);
+}
+
+/// A chain for which as many moves are built as for any: its last two poses alone are refused, so that all moves are built, each pose by itself and each pair again.
+fn compare_refused(poses: &[Pose]) {
+    let spread = |far: f32| {
+        let mut poses = poses.to_vec();
+        (poses[POSES - 2].matrix[0][3], poses[POSES - 1].matrix[0][3]) = (-far, far);
+        poses
+    };
+    let last = Ok(POSES - 2..POSES);
+    let worst = [3e38, 2.5e38, 2e38, 1.8e38]
+        .map(spread)
+        .into_iter()
+        .find(|poses| Chain::refused_run(poses) == last)
+        .expect("one of them is refused in the last move alone");
+    compare("refused run, beside building", 100, 1, &mut || asked(Chain::refused_run(black_box(&worst))), &mut || asked(Chain::new(black_box(&worst))));
 }
 
 /// A pose of 32 tried, beside changing a copy and asking that: what differs is the building of 31 moves and of two. At depth 0 little else is left.

@@ -232,14 +232,21 @@ fn main() {
     if arguments == ["rigid"] {
         return compare_rigid(&turning, &shifting);
     }
+    if arguments == ["chains"] {
+        return compare_chains(&mut random);
+    }
     println!("{:32} {:>12} {:>12} {:>8}   quartiles", "nanoseconds a call, medians", "port", "other", "ratio");
     compare_all("turning", &turning);
     compare_all("shifting", &shifting);
     compare_boost(&[("turning", &turning), ("shifting", &shifting)]);
     growth("turning", &turning[..2]);
-    println!("\n{:32} {:>12} {:>12} {:>8}   quartiles", "a chain, nanoseconds a call", "chain", "moves", "ratio");
-    chains::compare_chains(&mut random);
+    compare_chains(&mut random);
     compare_rigid(&turning, &shifting);
+}
+
+fn compare_chains(random: &mut Random) {
+    println!("\n{:32} {:>12} {:>12} {:>8}   quartiles", "a chain, nanoseconds a call", "chain", "moves", "ratio");
+    chains::compare_chains(random);
 }
 
 fn compare_rigid(turning: &[Case], shifting: &[Case]) {

@@ -1,6 +1,6 @@
-//! Move files, good and damaged: what the programs `cover` and `rewrite` print for each, against what the oracle says of it.
+//! Move files, good and damaged: what the programs `cover`, `rewrite` and `stretch` print for each, against what the oracle says of it.
 //! tools/move_files.py makes the files, around the moves and boxes of `vectors covers` and the chains and boxes of `vectors chains`, and reads their layout; the
-//! oracle builds the chain, covers the box at depth 10 and writes both. What `rewrite` prints for a file it prints for that text too.
+//! oracle builds the chain, covers the box at depth 10, writes both and looks for the shortest refused stretch. What `rewrite` prints for a file it prints for that text too.
 
 use crate::answer::{bytes, lines, poses, same, text, words};
 use crate::program::{give_up, output_of, run, Programs, Run};
@@ -47,7 +47,7 @@ fn split(mut stream: &[u8]) -> Vec<&[u8]> {
     files
 }
 
-/// The questions that a good file's values ask: its poses as a chain, with their bottom rows, the cover of its box, and its text.
+/// The questions that a good file's values ask: its poses as a chain, with their bottom rows, the cover of its box, its text, and the shortest refused stretch of the poses.
 fn questions_of(values: &[u8]) -> Vec<u8> {
     let values: Vec<&[u8]> = words(values).collect();
     let (poses, bounds) = values.split_at(values.len() - 6);
@@ -56,7 +56,8 @@ fn questions_of(values: &[u8]) -> Vec<u8> {
     let build = [&[b"chain".as_slice(), b"0", b"plain"], poses.as_slice()].concat().join(&b' ');
     let cover = [&[b"ccover".as_slice(), b"0", b"10"], bounds].concat().join(&b' ');
     let write = [&[b"write".as_slice(), b"0", b"65536"], bounds].concat().join(&b' ');
-    [build, cover, write, vec![]].join(&b'\n')
+    let stretch = [&[b"stretch".as_slice(), b"plain"], poses.as_slice()].concat().join(&b' ');
+    [build, cover, write, stretch, vec![]].join(&b'\n')
 }
 
 /// What document 01 has the program print for an answer of the oracle.
@@ -72,6 +73,16 @@ fn rewritten(answer: &[u8]) -> Vec<u8> {
     match answer.strip_prefix(b"ok ").and_then(|values| bytes(words(values).nth(1)?)) {
         Some(text) => text,
         None => printed(answer),
+    }
+}
+
+/// What the program `stretch` prints for a file whose chain was answered so: the file's lines count from 1, and its first pose stands in line 2.
+fn stretched(built: &[u8], stretch: &[u8]) -> Vec<u8> {
+    let numbers: Option<Vec<usize>> = stretch.strip_prefix(b"ok ").map(|run| words(run).map(|word| text(word).parse().unwrap_or(0)).collect());
+    match numbers.as_deref() {
+        Some([0, 0]) => b"accepted\n".to_vec(),
+        Some([place, length]) => [printed(built), format!("lines {} to {}\n", place + 2, place + length + 1).into_bytes()].concat(),
+        _ => printed(stretch),
     }
 }
 
@@ -97,16 +108,17 @@ pub fn compare(programs: &Programs, count: usize, seed: u64, report: &mut Report
     let answers = output_of(&programs.chains.oracle, &["--any-length"], &asked);
     let mut answers = lines(&answers);
     for (i, (file, layout)) in files.iter().zip(&layout).enumerate() {
-        let (cover, form) = if is_good(&layout) {
+        let (cover, form, stretch) = if is_good(&layout) {
             let mut next = || answers.next().unwrap_or_else(|| give_up("the oracle has too few answers for the files"));
-            let (built, cover, form) = (next(), next(), next());
+            let (built, cover, form, stretch) = (next(), next(), next(), next());
+            let stretch = stretched(built, stretch);
             if built.starts_with(b"ok") {
-                (cover, form)
+                (cover, form, stretch)
             } else {
-                (built, built)
+                (built, built, stretch)
             }
         } else {
-            (*layout, *layout)
+            (*layout, *layout, printed(layout))
         };
         let mut tell = |row: &'static str, title: &str, expected: &[u8], run: &Run, is_same: bool| {
             report.compared(row, expected, run.ended_well && is_same);
@@ -122,6 +134,8 @@ pub fn compare(programs: &Programs, count: usize, seed: u64, report: &mut Report
         tell("move file, to the program `cover`", "cover, the program", cover, &run_of_cover, is_same);
         let (run_of_rewrite, text) = (run(&programs.rewrite, &[], file), rewritten(form));
         tell("move file, to the program `rewrite`", "rewrite, the program", form, &run_of_rewrite, run_of_rewrite.output == text);
+        let run_of_stretch = run(&programs.stretch, &[], file);
+        tell("move file, to the program `stretch`", "stretch, the program", &stretch, &run_of_stretch, run_of_stretch.output == stretch);
         if form.starts_with(b"ok") {
             let again = run(&programs.rewrite, &[], &run_of_rewrite.output);
             tell("what `rewrite` printed, to it again", "rewrite, of its own text", form, &again, again.output == text);

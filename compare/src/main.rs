@@ -20,17 +20,34 @@ use std::sync::mpsc::{channel, sync_channel, RecvTimeoutError, SyncSender};
 use std::sync::{Arc, Mutex};
 use std::time::{Duration, Instant};
 
-const KINDS: &[&str] =
-    &["numbers", "angles", "matrices", "boxes", "moves", "bounds", "motion", "covers", "chains", "rigid", "sets", "texts", "trials", "arcs", "joins", "files"];
+const KINDS: &[&str] = &[
+    "numbers",
+    "angles",
+    "matrices",
+    "boxes",
+    "moves",
+    "bounds",
+    "motion",
+    "covers",
+    "chains",
+    "rigid",
+    "sets",
+    "texts",
+    "trials",
+    "arcs",
+    "joins",
+    "stretches",
+    "files",
+];
 
 const HELP: &str = "\
 compare/run [--moves N] [--chains N] [--seed N] [--kinds A,B,..] [--files N] [--no-build] ..
 
   --moves N              cases of each kind beside the fixed ones                20000
-  --chains N             chains, with their questions, sets, texts, trials and joins   a quarter of the moves
-  --files N              files for the programs `cover` and `rewrite`            a tenth of the moves
+  --chains N             chains, with their questions, sets, texts, trials, joins and stretches   a quarter of the moves
+  --files N              files for the programs `cover`, `rewrite`, `stretch`    a tenth of the moves
   --seed N               the same seed makes the same cases                      7
-  --kinds A,B            some of: numbers angles matrices boxes moves bounds motion covers chains rigid sets texts trials arcs joins files; all of them without it
+  --kinds A,B            some of: numbers angles matrices boxes moves bounds motion covers chains rigid sets texts trials arcs joins stretches files; all of them without it
   --show N               how many differences are printed                        10
   --workers N            batches worked at once                                  the number of processors
   --no-build             takes the project's programs as they stand
@@ -38,6 +55,7 @@ compare/run [--moves N] [--chains N] [--seed N] [--kinds A,B,..] [--files N] [--
   --chain-answers PATH   the project's program `chain_answers`                   target/bin/chain_answers
   --cover PATH           the project's program `cover`                           target/bin/cover
   --rewrite PATH         the project's program `rewrite`                         target/bin/rewrite
+  --stretch PATH         the project's program `stretch`                         target/bin/stretch
   --oracle PATH          the oracle's program `answers`                          oracle/target/release/answers
   --chain-oracle PATH    the oracle's program `chain_answers`                    oracle/target/release/chain_answers
 Exit status: 0 no difference, 1 a difference, 2 nothing could be compared.";
@@ -63,6 +81,7 @@ fn options() -> Options {
         chains: Sides { project: "target/bin/chain_answers".into(), oracle: "oracle/target/release/chain_answers".into() },
         cover: "target/bin/cover".into(),
         rewrite: "target/bin/rewrite".into(),
+        stretch: "target/bin/stretch".into(),
         vectors: "oracle/target/release/vectors".into(),
         move_files: "tools/move_files.py".into(),
     };
@@ -88,6 +107,7 @@ fn options() -> Options {
             "--chain-answers" => options.programs.chains.project = value.into(),
             "--cover" => options.programs.cover = value.into(),
             "--rewrite" => options.programs.rewrite = value.into(),
+            "--stretch" => options.programs.stretch = value.into(),
             "--oracle" => options.programs.moves.oracle = value.into(),
             "--chain-oracle" => options.programs.chains.oracle = value.into(),
             _ => give_up(&format!("no option {option}; --help lists them")),
@@ -109,7 +129,7 @@ const BATCH_BYTES: usize = 1 << 18;
 const BATCH_FILES: u64 = 200;
 
 fn are_chains(kind: &str) -> bool {
-    matches!(kind, "chains" | "rigid" | "sets" | "texts" | "trials" | "joins")
+    matches!(kind, "chains" | "rigid" | "sets" | "texts" | "trials" | "joins" | "stretches")
 }
 
 /// Cuts what `vectors` prints for a kind into batches: before a move, or anywhere as long as there was none; chains at the comment before a case.

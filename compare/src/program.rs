@@ -13,6 +13,7 @@ pub struct Programs {
     pub chains: Sides,
     pub cover: PathBuf,
     pub rewrite: PathBuf,
+    pub stretch: PathBuf,
     pub vectors: PathBuf,
     pub move_files: PathBuf,
 }

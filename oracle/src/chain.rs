@@ -1,5 +1,5 @@
 //! Document 02's chains: 2 to 32 poses, each neighbouring pair a move of the original's. What is the chain's own (its checks, which move a time belongs to,
-//! lists of times, the union of covers, sets of boxes) is written from document 02.
+//! lists of times, the union of covers, sets of boxes, the shortest refused stretch) is written from document 02.
 
 use crate::core::geometry::point::Point3f;
 use crate::core::transform::Matrix4x4;
@@ -144,6 +144,27 @@ impl Chain {
         let union = covers.iter().copied().reduce(cover::union).ok_or(SET)?;
         Ok((union, covers))
     }
+}
+
+/// What a run of neighbouring poses is refused with: one pose as a move from it to itself, any other run as a chain.
+fn run_number(kind: Kind, run: &[Pose]) -> Option<u8> {
+    match run {
+        [pose] => Chain::lone(kind, &[*pose, *pose]).err(),
+        _ => Chain::build(kind, run).err(),
+    }
+}
+
+/// The place and the length of the shortest run with the chain's number, the leftmost among equals: every run is built, up to that one. 0 and 0 where the chain is
+/// accepted; 12 where it is refused with 12.
+pub fn stretch(kind: Kind, poses: &[Pose]) -> Judged<[usize; 2]> {
+    let number = match Chain::build(kind, poses) {
+        Ok(_) => return Ok([0, 0]),
+        Err(CHAIN) => return Err(CHAIN),
+        Err(number) => number,
+    };
+    let mut runs = (1..=poses.len()).flat_map(|length| (0..=poses.len() - length).map(move |place| [place, length]));
+    let shortest = runs.find(|[place, length]| run_number(kind, &poses[*place..place + length]) == Some(number));
+    Ok(shortest.expect("a refused chain is one of its runs"))
 }
 
 #[cfg(test)]
@@ -422,5 +443,49 @@ mod tests {
         far.matrix.m[2][2] = 1.0004;
         assert_eq!(Chain::build(Kind::Rigid, &[rising[0], far]).err(), None);
         assert_eq!(Chain::build(Kind::Plain, &[rising[0], far]).err(), Some(NOT_FINITE));
+    }
+
+    /// One pose before two, and among equals the leftmost; a place above 31; the kind.
+    #[test]
+    fn stretches() {
+        let rising: Vec<Pose> = (0..40).map(|i| shifted(i as f32, 0.0)).collect();
+        let of = |kind, changed: &[(usize, Pose)], count: usize| {
+            let mut poses = rising[..count].to_vec();
+            changed.iter().for_each(|(place, pose)| poses[*place] = *pose);
+            stretch(kind, &poses)
+        };
+        let plain = |changed: &[(usize, Pose)]| of(Kind::Plain, changed, 6);
+        let singular = |time: f32| {
+            let mut pose = shifted(time, 0.0);
+            pose.matrix.m[0][0] = 0.0;
+            pose
+        };
+        assert_eq!(plain(&[]), Ok([0, 0]));
+        assert_eq!(stretch(Kind::Plain, &[]), Err(CHAIN));
+        assert_eq!(plain(&[(2, shifted(1.0, 0.0))]), Err(CHAIN));
+        assert_eq!(plain(&[(2, shifted(f32::NAN, 0.0)), (4, shifted(f32::NAN, 0.0))]), Ok([2, 1]));
+        assert_eq!(plain(&[(3, padded(rising[3], -1.0))]), Ok([3, 1]));
+        assert_eq!(plain(&[(2, singular(2.0)), (3, singular(3.0))]), Ok([2, 1]));
+        // 3 takes two poses, and so does a 5 of a pair; a pose that has the 5 by itself is further right.
+        assert_eq!(stretch(Kind::Plain, &[shifted(-3.2e38, 0.0), shifted(-3e38, 0.0), shifted(3e38, 0.0)]), Ok([1, 2]));
+        let (left, mut right) = (shifted(1.0, -3e38), turned(2.0));
+        right.matrix.m[0][3] = 3e38;
+        assert_eq!(plain(&[(1, left), (2, right)]), Ok([1, 2]));
+        let mut flat = shifted(4.0, 0.0);
+        flat.matrix.m[0][0] = 1e-39;
+        assert_eq!(run_number(Kind::Plain, &[flat]), Some(NOT_FINITE));
+        assert_eq!(plain(&[(1, left), (2, right), (4, flat)]), Ok([4, 1]));
+        // More than 32 poses, and none.
+        assert_eq!(of(Kind::Plain, &[(37, padded(rising[37], -1.0))], 40), Ok([37, 1]));
+        assert_eq!(of(Kind::Plain, &[(37, singular(37.0))], 40), Err(CHAIN));
+        assert_eq!(stretch(Kind::Plain, &[padded(rising[0], -1.0)]), Ok([0, 1]));
+        // A scaled pose is refused as rigid alone. A mirrored one has 18 by itself; as plain it is refused beside its neighbours.
+        let stretched = |x: f32| {
+            let mut pose = shifted(3.0, 0.0);
+            pose.matrix.m[0][0] = x;
+            [(3, pose)]
+        };
+        assert_eq!((of(Kind::Rigid, &stretched(2.0), 6), plain(&stretched(2.0))), (Ok([3, 1]), Ok([0, 0])));
+        assert_eq!((of(Kind::Rigid, &stretched(-1.0), 6), plain(&stretched(-1.0))), (Ok([3, 1]), Ok([2, 2])));
     }
 }

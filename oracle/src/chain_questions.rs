@@ -1,7 +1,7 @@
 //! Document 02's questions: those of the program `chain_answers`, about chains that are kept in slots.
 
 use crate::angles;
-use crate::chain::{Chain, Pose};
+use crate::chain::{self, Chain, Pose};
 use crate::core::geometry::point::Point3f;
 use crate::file::File;
 use crate::judged::{point_values, Judged, Kind, Move};
@@ -31,6 +31,7 @@ const QUESTIONS: &[(&str, Question)] = &[
     ("write", write),
     ("read", read_file),
     ("acosn", arc_cosine),
+    ("stretch", stretch),
 ];
 
 const SLOTS: usize = 4;
@@ -106,14 +107,20 @@ fn slot(words: Words) -> Option<(usize, Words)> {
     (slot < SLOTS).then_some((slot, rest))
 }
 
+/// A kind of chain.
+fn kind(words: Words) -> Option<(Kind, Words)> {
+    match words.split_first()? {
+        (&b"plain", rest) => Some((Kind::Plain, rest)),
+        (&b"rigid", rest) => Some((Kind::Rigid, rest)),
+        _ => None,
+    }
+}
+
 /// A slot, and a kind of chain.
 fn slot_and_kind(words: Words) -> Option<(usize, Kind, Words)> {
     let (slot, words) = slot(words)?;
-    match words.split_first()? {
-        (&b"plain", rest) => Some((slot, Kind::Plain, rest)),
-        (&b"rigid", rest) => Some((slot, Kind::Rigid, rest)),
-        _ => None,
-    }
+    let (kind, words) = kind(words)?;
+    Some((slot, kind, words))
 }
 
 /// Floats to the end.
@@ -276,6 +283,12 @@ fn read_file(_: &mut Slots, words: Words) -> Answer {
         let answer = Values::default().number(file.poses.len()).bits(&file.bounds);
         file.poses.iter().fold(answer, |answer, pose| answer.bits(&[pose.time]).bits(pose.matrix.m.as_flattened()).bits(&[pose.pad]))
     }))
+}
+
+/// stretch KIND P*
+fn stretch(_: &mut Slots, words: Words) -> Answer {
+    let (kind, words) = kind(words)?;
+    Some(chain::stretch(kind, &poses(words)?).map(|[place, length]| Values::default().number(place).number(length)))
 }
 
 #[cfg(test)]

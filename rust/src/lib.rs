@@ -26,6 +26,7 @@ mod library;
 mod refusal;
 
 pub use refusal::Refusal;
+use std::ops::Range;
 
 /// Four rows of four numbers.
 pub type Matrix = [[f32; 4]; 4];
@@ -211,6 +212,23 @@ impl Chain {
         let number = unsafe { library::jellyplain_moves_join(first.as_ptr(), first.len(), second.as_ptr(), second.len(), &mut moves) };
         let count = if number == 0 { first.len() + second.len() } else { 0 };
         answered(number, Chain { moves: moves[..count].to_vec() })
+    }
+
+    /// Of poses that [`Chain::new`] refuses, the places of the shortest run of neighbouring ones that is refused in the same way, the leftmost among equals: one pose, as a move from it to
+    /// itself, or two. An empty range where the poses are a chain; refused with [`Refusal::Chain`] where they are refused with it.
+    pub fn refused_run(poses: &[Pose]) -> Result<Range<usize>, Refusal> {
+        Chain::run(false, poses)
+    }
+
+    /// The same of poses that [`Chain::rigid`] refuses.
+    pub fn refused_rigid_run(poses: &[Pose]) -> Result<Range<usize>, Refusal> {
+        Chain::run(true, poses)
+    }
+
+    fn run(rigid: bool, poses: &[Pose]) -> Result<Range<usize>, Refusal> {
+        library::check_layout();
+        let run = unsafe { library::jellyplain_refused_run(rigid, poses.as_ptr(), poses.len()) };
+        answered(run.refusal, run.place..run.place + run.length)
     }
 
     /// The moves, one fewer than the poses: the one at place i goes from pose i to the next.

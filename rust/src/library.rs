@@ -33,6 +33,15 @@ pub struct Written {
     pub refusal: u8,
 }
 
+/// A run's first place and its length, or the number of a refusal.
+#[derive(Debug, PartialEq)]
+#[repr(C)]
+pub struct Run {
+    pub place: usize,
+    pub length: usize,
+    pub refusal: u8,
+}
+
 extern "C" {
     pub fn jellyplain_build(rigid: bool, start: &Pose, end: &Pose, motion: &mut Rows) -> u8;
     pub fn jellyplain_point(motion: &Rows, time: f32, p: &[f32; 3], moved: &mut [f32; 3]) -> u8;
@@ -43,6 +52,7 @@ extern "C" {
     pub fn jellyplain_cover(motion: &Rows, b: &[f32; 6], depth: u32, out: &mut [f32; 6]) -> u8;
     pub fn jellyplain_layout() -> u32;
     pub fn jellyplain_build_moves(rigid: bool, poses: *const Pose, count: usize, moves: &mut [Rows; MOVES]) -> u8;
+    pub fn jellyplain_refused_run(rigid: bool, poses: *const Pose, count: usize) -> Run;
     pub fn jellyplain_moves_point(moves: *const Rows, count: usize, time: f32, p: &[f32; 3], moved: &mut [f32; 3]) -> u8;
     pub fn jellyplain_moves_pad(moves: *const Rows, count: usize, time: f32, pad: &mut [f32; 1]) -> u8;
     pub fn jellyplain_moves_points(

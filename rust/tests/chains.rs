@@ -332,3 +332,29 @@ fn joins() {
     assert_eq!(refused(&chain(&poses[..17]), &chain(&poses[16..33])), Some(Refusal::Chain));
     assert_eq!(refused(&chain(&poses[..17]), &rigid(&poses[16..33])), Some(Refusal::Mismatch));
 }
+
+/// The shortest run that is refused as the chain is, the leftmost among equals; in the chain's kind.
+#[test]
+fn refused_runs() {
+    let changed = |changes: &[(usize, Pose)]| {
+        let mut chain = poses().to_vec();
+        changes.iter().for_each(|(place, pose)| chain[*place] = *pose);
+        chain
+    };
+    let stretched = |time: f32, x: f32| at(time, [[x, 0.0, 0.0, 0.0], IDENTITY[1], IDENTITY[2], IDENTITY[3]]);
+    let run = |changes: &[(usize, Pose)]| Chain::refused_run(&changed(changes));
+    assert_eq!(run(&[]), Ok(0..0));
+    assert_eq!(run(&[(1, at(f32::NAN, IDENTITY)), (3, at(f32::NAN, IDENTITY))]), Ok(1..2));
+    assert_eq!(run(&[(2, stretched(3.0, 0.0))]), Ok(2..3));
+    assert_eq!(run(&[(0, at(-3e38, IDENTITY)), (3, at(3e38, IDENTITY))]), Ok(0..0));
+    assert_eq!(run(&[(0, at(-3e38, IDENTITY)), (1, at(2e38, IDENTITY)), (2, at(2.5e38, IDENTITY)), (3, at(3e38, IDENTITY))]), Ok(0..2));
+    assert_eq!(run(&[(1, at(0.0, IDENTITY))]), Err(Refusal::Chain));
+    assert_eq!(Chain::refused_run(&[]), Err(Refusal::Chain));
+    let scaled = changed(&[(2, stretched(3.0, 2.0))]);
+    assert_eq!((Chain::refused_run(&scaled), Chain::refused_rigid_run(&scaled)), (Ok(0..0), Ok(2..3)));
+    // More poses than a chain may have.
+    let mut many: Vec<Pose> = (0..40).map(|i| at(i as f32, IDENTITY)).collect();
+    assert_eq!(Chain::refused_run(&many), Err(Refusal::Chain));
+    many[37].pad = -1.0;
+    assert_eq!(Chain::refused_run(&many), Ok(37..38));
+}

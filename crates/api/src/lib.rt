@@ -5,6 +5,7 @@
 use animated_transform::AnimatedTransform;
 use chain_text::Written;
 use motion_bounds::MotionBoundsAnswer;
+use refused_run::Run;
 ghost use Prim.Native.Nat.{_-_};
 ghost use mathlib.Core.Path.{_≡_};
 ghost use mathlib.Core.List.{[], _∷_};
@@ -29,6 +30,8 @@ ghost use Rattle.chain_trial.specs.Theorem.{TrialContainsMotion};
 ghost use Rattle.chain_build.specs.Build.{ChainAnswer·left};
 ghost use Rattle.chain_join.specs.Rows.{Moves·joinRefusal, Moves·joinLeft};
 ghost use Rattle.chain_join.specs.Theorem.{Joined};
+ghost use Rattle.refused_run.specs.Run.{shortestRun};
+ghost use Rattle.refused_run.specs.Theorem.{ShortestRefused};
 ghost use Rattle.box_set.specs.Set.{SetAnswer·refusal};
 ghost use Rattle.chain_covers.specs.Kept.{Moves·covers, SetAnswer·coversLeft, SetAnswer·unionLeft};
 ghost use Rattle.chain_covers.specs.Theorem.{KeptSetContainsMotion};
@@ -229,6 +232,16 @@ pub extern "C" fn jellyplain_moves_join(
     ensures kept { λ r. ⌜ ((c d : Chain) → Moves·Holds (now (first .entry)) c → Moves·Holds (now (second .entry)) d → Joined (now (first .entry)) (now (second .entry)) (now (moves .entry)) (now (moves .exit)) r c d) ⌝ }
 {
     chain_join::join(first, second, moves)
+}
+
+// The shortest run of neighbouring poses that is refused with the number of their chain, the leftmost among equals: its first place, from 0, and its length, 1 or 2; 0 and 0 where the
+// chain is accepted. Refused with 12 where the chain is. Accuracy: exact.
+#[no_mangle]
+pub extern "C" fn jellyplain_refused_run(rigid: bool, poses: &[[f32; 18]]) -> Run
+    ensures value { λ r. ⌜ r ≡ shortestRun rigid (Poses·ofLists (now (poses .entry))) ⌝ }
+    ensures shortest { λ r. ⌜ ShortestRefused rigid (Poses·ofLists (now (poses .entry))) r ⌝ }
+{
+    refused_run::shortest_run(rigid, poses)
 }
 
 // Where a point stands at a time of a chain. Refused with 5 or 6, and with 12 where there are no moves.

@@ -20,6 +20,9 @@ pub fn put_answer(
     if kind == 10 {
         return put_arc_cosine(x[0], out, at);
     }
+    if kind == 15 {
+        return chains::stretch(q.rigid, floats / 18, x, out, at);
+    }
     if 3 < wholes[0] {
         return put_error(out, at);
     }

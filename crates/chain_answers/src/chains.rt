@@ -83,6 +83,30 @@ pub fn join(
     put_count(refusal, count, out, at)
 }
 
+// The shortest refused run of poses, its place and its length.
+pub fn stretch(
+    rigid: bool,
+    count: usize,
+    x: &[f32; 900],
+    out: &mut [u8; 32768],
+    at: usize,
+) -> usize {
+    // No line holds so many.
+    if 50 < count {
+        return put_error(out, at);
+    }
+    let mut given = [[0.0f32; 18]; 50];
+    put_poses(x, &mut given);
+    let run = api::jellyplain_refused_run(rigid, &given[0..count]);
+    if run.refusal != 0 {
+        return question_lines::put_refused(run.refusal, out, at);
+    }
+    let ok = put_text(b"ok", out, at);
+    let place = question_lines::put_decimal(run.place as u64, out, ok);
+    let end = question_lines::put_decimal(run.length as u64, out, place);
+    put_text(b"\n", out, end)
+}
+
 fn kept_count(refusal: u8, count: usize) -> usize {
     if refusal == 0 { count } else { 0 }
 }

@@ -13,7 +13,7 @@ pub struct Question {
 
 // Of each question: how many poses the slot that it asks must have, where a move by itself counts as one; and what follows the name: how many whole numbers,
 // whether the word that says how a chain is built, how many floats at least, and how many floats each thing has of which any number may follow, 0 for none.
-const SHAPES: [[usize; 5]; 15] = [
+const SHAPES: [[usize; 5]; 16] = [
     [0, 1, 1, 0, 18], // chain S KIND P*
     [0, 1, 1, 36, 0], // lone S KIND P P
     [1, 1, 0, 4, 0], // cpoint S T X Y Z
@@ -29,6 +29,7 @@ const SHAPES: [[usize; 5]; 15] = [
     [1, 1, 0, 1, 0], // cpad S T
     [2, 3, 0, 24, 0], // try S PLACE D P BOX
     [0, 3, 0, 0, 0], // join S A B
+    [0, 0, 1, 0, 18], // stretch KIND P*
 ];
 
 pub fn parse(line: &[u8], wholes: &mut [u64; 4], x: &mut [f32; 900]) -> Question {
@@ -38,9 +39,9 @@ pub fn parse(line: &[u8], wholes: &mut [u64; 4], x: &mut [f32; 900]) -> Question
     let end = word_end(line, 0);
     let kind = position(
         part(line, 0, end),
-        b"chain lone cpoint ctimes ccover cinterp cparts cmotion cpmotion cset acosn write cpad try join",
+        b"chain lone cpoint ctimes ccover cinterp cparts cmotion cpmotion cset acosn write cpad try join stretch",
     );
-    if 15 <= kind {
+    if 16 <= kind {
         return malformed();
     }
     let shape = SHAPES[kind];

@@ -6,6 +6,7 @@ use Rattle.motion_chain.proofs.Times.{chain-point-numbered, times-numbers}
 use Rattle.box_set.proofs.Contains.{chain-set-numbered}
 use Rattle.chain_covers.proofs.Number.{kept-set-numbered}
 use Rattle.chain_join.proofs.Numbers.{moves-join-number}
+use Rattle.refused_run.proofs.Search.{run-refusal}
 use Rattle.refusal_numbers.specs.Chain.{EveryChainAnswer}
 use Rattle.refusal_numbers.proofs.Chain.{building-numbered}
 use Rattle.refusal_numbers.proofs.Pad.{chain-pad-numbered, kept-pad-numbered}
@@ -22,6 +23,7 @@ every-chain-answer = record {
   proper = λ built b depth. chain-cover-proper b depth built;
   set = chain-set-numbered;
   trial = trial-numbered;
+  run = run-refusal;
   rows-point = rows-point-numbered;
   rows-pad = kept-pad-numbered;
   rows-points = rows-points-numbered;

@@ -25,6 +25,7 @@ use Rattle.chain_covers.specs.Kept.{Moves·covers}
 use Rattle.changed_chain.specs.Trial.{Chain·try}
 use Rattle.chain_trial.specs.Try.{Moves·try}
 use Rattle.chain_join.specs.Rows.{Moves·joinRefusal}
+use Rattle.refused_run.specs.Run.{shortestRun}
 use Rattle.refusal_numbers.specs.Numbers.{PadAnswer·Numbered}
 
 -- The number is one of those listed, and an answer whose number is 0 is a chain.
@@ -50,6 +51,8 @@ pub record EveryChainAnswer : Type 0 where
   pub proper : {c : Chain} → BuiltChain c → (b : Bounds3f) (depth : ℕ) → Proper (Chain·cover c b depth)
   pub set : (c : Chain) (boxes : List Bounds3f) (depth : ℕ) → SetAnswer·Numbered (0 ∷ 5 ∷ 6 ∷ 7 ∷ 8 ∷ 10 ∷ 14 ∷ []) (Chain·covers c boxes depth)
   pub trial : (c : Chain) (place : ℕ) (p : Pose) (b : Bounds3f) (depth : ℕ) → BoundsAnswer·Numbered (trialNumbers (Chain·isRigid c)) (Chain·try c place p b depth)
+  -- the shortest refused stretch, whatever the poses
+  pub run : (rigid : Bool) (poses : List Pose) → OneOf (shortestRun rigid poses .refusal) (0 ∷ 12 ∷ [])
   -- the same queries of a kept chain, whatever its rows: no moves are 12
   pub rows-point : (rows : List Rows) (time : Float) (p : Point3f) → PointAnswer·Numbered (0 ∷ 5 ∷ 6 ∷ 12 ∷ []) (Moves·transformPoint rows time p)
   pub rows-pad : (rows : List Rows) (time : Float) → PadAnswer·Numbered (0 ∷ 5 ∷ 6 ∷ 12 ∷ []) (Moves·pad rows time)

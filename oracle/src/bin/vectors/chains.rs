@@ -5,7 +5,7 @@ use oracle::chain;
 
 pub const SLOTS: usize = 4;
 /// More poses than this don't go into a line.
-const MOST_POSES: usize = 49;
+pub const MOST_POSES: usize = 49;
 
 /// A pose with its time and pad.
 #[derive(Clone, Copy)]

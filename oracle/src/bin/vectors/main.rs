@@ -6,6 +6,7 @@ mod chains;
 mod joins;
 mod rigid;
 mod sets;
+mod stretches;
 mod texts;
 mod trials;
 
@@ -547,8 +548,24 @@ impl Random {
 }
 
 /// The kinds of question: from `chains` on they are `chain_answers`', the others `answers`'.
-const KINDS: &[&str] =
-    &["numbers", "angles", "matrices", "bounds", "moves", "motion", "covers", "boxes", "chains", "sets", "arcs", "texts", "rigid", "trials", "joins"];
+const KINDS: &[&str] = &[
+    "numbers",
+    "angles",
+    "matrices",
+    "bounds",
+    "moves",
+    "motion",
+    "covers",
+    "boxes",
+    "chains",
+    "sets",
+    "arcs",
+    "texts",
+    "rigid",
+    "trials",
+    "joins",
+    "stretches",
+];
 
 /// A box that a matrix carries: turned about, mirrored, carried to infinity, with wp of zero and a bottom row that isn't 0 0 0 1.
 fn fixed_boxes<W: Write>(q: &mut Questions<W>) {
@@ -1166,6 +1183,7 @@ fn main() {
         "joins" => (joins::fixed, joins::random),
         "arcs" => (fixed_arcs, random_arc),
         "rigid" => (rigid::fixed, rigid::random),
+        "stretches" => (stretches::fixed, stretches::random),
         _ => usage(),
     };
     // Each kind has numbers of its own, whatever the seed. A kind more leaves those of the others as they are.

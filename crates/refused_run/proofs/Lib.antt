@@ -1,0 +1,5 @@
+pub mod Least
+pub mod SameTime
+pub mod ShortRun
+pub mod Search
+pub mod Lent
