@@ -63,6 +63,15 @@ int main(void)
         && jellyplain_chain_join(&there, &back, &joined) == JELLYPLAIN_NONE && jellyplain_chain_cover(&joined, boom, 10, bounds) == JELLYPLAIN_NONE)
         printf("handed over in two files: %zu moves, x from %g to %g; the other way round: refused with %d\n", joined.count, bounds[0], bounds[3],
                jellyplain_chain_join(&back, &there, &joined));
+    const float ticks[4] = {0, 0.5f, 1.5f, 2};
+    const float gate[6] = {0.75f, 0, 0, 3, 2, 0};
+    uint32_t places[JELLYPLAIN_WINDOWS];
+    const jellyplain_pose still[2] = {start, {9, {{1, 0, 0, 0}, {0, 1, 0, 0}, {0, 0, 1, 0}, {0, 0, 0, 1}}, 0}};
+    if (jellyplain_build_chain(false, still, 2, &back) == JELLYPLAIN_NONE) {
+        jellyplain_windows windows = jellyplain_chain_windows(&chain, &back, boom, gate, 6, ticks, 4, places);
+        if (windows.refusal == JELLYPLAIN_NONE)
+            printf("beside a boom that stands: %zu window of 3 in which they meet, number %u\n", windows.count, (unsigned)places[0]);
+    }
     jellyplain_pose longer = end;
     longer.matrix[1][1] = 1.1f;
     printf("a boom that grows by a tenth, as rigid: refused with %d\n", jellyplain_build(true, &start, &longer, &move));

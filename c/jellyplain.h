@@ -2,7 +2,7 @@
  * caller, and asked many times. Their contracts are proved in crates/api, whose specs/ say what each returns and leaves for all arguments; this header itself is not checked
  * against them, nor are its inline functions, each of which makes one call.
  *
- * Each function answers a refusal number, 0 for none (the enum below), those of move files in a struct. Where nothing is refused it writes what it is lent for its answer, the
+ * Each function answers a refusal number, 0 for none (the enum below), those of move files and of windows in a struct. Where nothing is refused it writes what it is lent for its answer, the
  * arguments that are not const, whole (those of move files the front of an array); after a refusal that is as it was. Any floats may be handed in. Pointers must be valid for the sizes that are written here and aligned for what they point to, and what is
  * written overlaps nothing else.
  * Nothing is kept between calls and nothing is allocated, so that calls from several threads need no lock.
@@ -69,7 +69,8 @@ enum jellyplain_refusal {
     JELLYPLAIN_NOT_RIGID = 17,      /* a pose of a rigid move or chain scales or shears */
     JELLYPLAIN_DETERMINANT = 18,    /* a pose of a rigid move or chain mirrors: its determinant isn't above zero */
     JELLYPLAIN_PLACE = 19,          /* a pose is tried at a place beyond the last */
-    JELLYPLAIN_MISMATCH = 20        /* two chains to be joined differ in a bit of the pose that they share, or in their kind */
+    JELLYPLAIN_MISMATCH = 20,       /* two chains to be joined differ in a bit of the pose that they share, or in their kind */
+    JELLYPLAIN_TICKS = 21           /* ticks are NaN, fewer than 2, more than 64 or don't rise strictly */
 };
 
 /* The move from one pose to another. A boom that neither stretches nor shears may be built as rigid: between the poses a turn and a shift alone, so that its covers are tighter.
@@ -140,6 +141,28 @@ uint8_t jellyplain_moves_try(const jellyplain_move *moves, size_t count, size_t 
  * It costs far less than that query for each box. Numbers 14, then 5, 6, 7, 8 and 10 of the first refused box, and 12 for no moves; `covers` and `all` stay after a refusal. */
 uint8_t jellyplain_moves_covers(const jellyplain_move *moves, size_t count, const float (*boxes)[6], size_t boxes_count, uint32_t depth, float covers[JELLYPLAIN_BOXES][6],
                                 float all[6]);
+
+/* ---- two chains over one bay */
+
+/* The most ticks, and the most windows between them. */
+#define JELLYPLAIN_TICK_COUNT 64
+#define JELLYPLAIN_WINDOWS 63
+
+/* How many windows are listed and JELLYPLAIN_NONE, or 0 and a refusal. */
+typedef struct {
+    size_t count;
+    uint8_t refusal;
+} jellyplain_windows;
+
+/* A box that holds every point of the box b at every time from one tick to a later one, both included, less and plus its pad as above; each move's share of the window is cut depth
+ * times. Greater depths as above. Ticks may be infinite. Numbers 21 where the ticks don't rise, then 5, 6, 7, 8 and 10, and 12 for no moves. */
+uint8_t jellyplain_moves_window_cover(const jellyplain_move *moves, size_t count, const float b[6], uint32_t depth, float earlier, float later, float bounds[6]);
+
+/* The windows between neighbouring ticks, counted from 0, in which the boxes of two chains meet, touching included, into the front of `places`, 0 behind them. In any other window, ticks included,
+ * no point of b and no point of `other`, each less or plus its pad or anything between, are ever at the same place. A greater depth, up to 12, lists no other. Numbers 21 of the ticks, 6 and 7 of b, 6 and
+ * 7 of `other`, 8, then 5 and 10, the earlier window first, then the first chain; 12 before all where a chain has no moves. All places stay after a refusal. */
+jellyplain_windows jellyplain_moves_windows(const jellyplain_move *moves, size_t count, const jellyplain_move *others, size_t others_count, const float b[6], const float other[6],
+                                            uint32_t depth, const float *ticks, size_t ticks_count, uint32_t places[JELLYPLAIN_WINDOWS]);
 
 /* ---- move files */
 
@@ -213,6 +236,17 @@ static inline uint8_t jellyplain_chain_covers(const jellyplain_chain *chain, con
                                               float all[6])
 {
     return jellyplain_moves_covers(chain->moves, chain->count, boxes, boxes_count, depth, covers, all);
+}
+
+static inline uint8_t jellyplain_chain_window_cover(const jellyplain_chain *chain, const float b[6], uint32_t depth, float earlier, float later, float bounds[6])
+{
+    return jellyplain_moves_window_cover(chain->moves, chain->count, b, depth, earlier, later, bounds);
+}
+
+static inline jellyplain_windows jellyplain_chain_windows(const jellyplain_chain *chain, const jellyplain_chain *others, const float b[6], const float other[6], uint32_t depth,
+                                                          const float *ticks, size_t ticks_count, uint32_t places[JELLYPLAIN_WINDOWS])
+{
+    return jellyplain_moves_windows(chain->moves, chain->count, others->moves, others->count, b, other, depth, ticks, ticks_count, places);
 }
 
 static inline jellyplain_written jellyplain_chain_write(const jellyplain_chain *chain, const float b[6], uint8_t *out, size_t size)

@@ -142,6 +142,17 @@ def changed(change, question, answer):
         return b"refused 12" if first_time(change) else answer
     if change == "joined_wider" and word == "ccover" and values[1] in ("2", "3") and answer.startswith(b"ok "):
         return wider(answer)
+    if change == "twenty_one" and answer == b"refused 21":
+        return b"refused 12" if first_time(change) else answer
+    if word == "windows" and answer.startswith(b"ok "):
+        places, depth = answer.split()[2:], int(values[3])
+        if change == "left_off" and places:
+            return b" ".join([b"ok", b"%d" % (len(places) - 1)] + places[:-1])
+        if change == "windows_added" and depth > 2:
+            count = len(values) - 17
+            return b" ".join([b"ok", b"%d" % count] + [b"%d" % place for place in range(count)])
+    if change == "window_narrow" and word == "wcover" and answer.startswith(b"ok "):
+        return answer_of([box[:3] * 2 for box in boxes_in(answer)])
     if change == "nan_bits":
         return answer.replace(b"7fc00000", b"ffc12345")
     if change == "many_boxes" and word == "cset" and answer == b"refused 14" and len(values) == 3 + 17 * 6:
@@ -187,7 +198,7 @@ def asked_otherwise(changes, asked, given):
         if "one_slot" in changes and len(words) > 1 and words[1] in (b"0", b"1", b"2", b"3"):
             words[1] = b"0"
         question = b" ".join(words)
-        if chain and "covers_unpadded" in changes and words[0] in (b"ccover", b"cset"):
+        if chain and "covers_unpadded" in changes and words[0] in (b"ccover", b"cset", b"wcover"):
             unpadded = [b"00000000" if i > 3 and (i - 3) % 18 == 17 else word for i, word in enumerate(chain)]
             stream += [b" ".join(unpadded), question, b" ".join(chain)]
             places.append(len(stream) - 2)
@@ -288,7 +299,7 @@ def trial(title, kind, changes, different, shown=(), sides=None, cases=40):
     """`different` is how many differences are to be told; None for some. The changes are on some sides, or on the project's alone."""
     if len(sys.argv) > 1 and not set(kind.split(",")) & set(sys.argv[1:]):
         return None
-    is_of_chains = kind in ("chains", "rigid", "sets", "texts", "trials", "joins", "stretches", "arcs", "files")
+    is_of_chains = kind in ("chains", "rigid", "sets", "texts", "trials", "joins", "stretches", "windows", "arcs", "files")
     sides = sides or ("--chain-answers" if is_of_chains else "--answers",)
     with tempfile.TemporaryDirectory() as folder:
         command = [os.path.join(HERE, "run"), "--no-build", "--kinds", kind, "--moves", str(cases), "--chains", str(cases), "--files", str(cases), "--show", "100"]
@@ -381,6 +392,13 @@ def main():
         trial("joins as they are", "joins", [], 0, cases=200),
         trial("another number of one mismatch", "joins", ["twenty"], 1, ["join"]),
         trial("joined covers wider than the union, on both sides", "joins", ["joined_wider"], None, ["a joined chain and the two"], BOTH_OF_CHAINS),
+        trial("windows as they are", "windows", [], 0, cases=200),
+        trial("another number of ticks", "windows", ["twenty_one"], 1),
+        trial("the last window left off every list, on both sides", "windows", ["left_off"], None, ["windows, and the covers of each"], BOTH_OF_CHAINS),
+        trial("every window listed above depth 2, on both sides", "windows", ["windows_added"], None, ["windows at a greater depth"], BOTH_OF_CHAINS),
+        trial("covers of windows that are a corner, on both sides", "windows", ["window_narrow"], None, ["a point in its window's cover"], BOTH_OF_CHAINS),
+        trial("covers of windows that don't grow by the pads, on both sides", "windows", ["covers_unpadded"], None, ["a point in its window's cover"], BOTH_OF_CHAINS),
+        trial("points in windows refused, on both sides", "windows", ["unanswered"], None, ["a point in its window's cover"], BOTH_OF_CHAINS),
         trial("texts as they are", "texts", [], 0, cases=200),
         trial("another number of one text's refusal", "texts", ["refusal"], 1),
         trial("another time in every written text, on both sides", "texts", ["other_time"], None, ["read of what was written"], BOTH_OF_CHAINS),

@@ -1,5 +1,5 @@
-//! A chain of 32 poses beside its own 31 moves: its cover beside theirs, a list of times beside a query for each, a set of boxes beside a cover for each, a pose that is tried beside a changed copy, and the
-//! shortest refused run of a chain beside building it.
+//! A chain of 32 poses beside its own 31 moves: its cover beside theirs, a list of times beside a query for each, a set of boxes beside a cover for each, a pose that is tried beside a changed copy, the
+//! shortest refused run of a chain beside building it, and the windows of two chains beside covers of all their moves.
 
 use crate::inputs::{cases, Kind, Random};
 use crate::{compare, Bounds};
@@ -49,6 +49,7 @@ pub fn compare_chains(random: &mut Random) {
     }
     compare_trials(&poses, &chain, &bounds);
     compare_refused(&poses);
+    compare_windows(&poses, &chain, &bounds);
 }
 
 /// A chain for which as many moves are built as for any: its last two poses alone are refused, so that all moves are built, each pose by itself and each pair again.
@@ -84,6 +85,24 @@ fn compare_trials(poses: &[Pose], chain: &Chain, bounds: &Bounds) {
     // Building's share of a trial: two moves beside the whole.
     let pairs = || poses[place - 1..=place + 1].windows(2).for_each(|pair| asked(Move::new(&pair[0], black_box(&pair[1]))));
     compare("two moves, beside a try of depth 8", 40, 1, &mut || pairs(), &mut || asked(chain.try_pose(place, black_box(&pose), bounds, 8)));
+}
+
+/// The 63 windows between 64 ticks of two chains of 32 poses, at depth 6. Beside them stand the covers of both chains at that depth, one of each a window, as if every move were worked in each; and the covers
+/// of the same windows one by one.
+fn compare_windows(poses: &[Pose], chain: &Chain, bounds: &Bounds) {
+    const TICKS: usize = 64;
+    let last = (POSES - 1) as f32;
+    let ticks: Vec<f32> = (0..TICKS).map(|k| last * k as f32 / (TICKS - 1) as f32).collect();
+    let matrices = poses.iter().rev().map(|pose| pose.matrix);
+    let back: Vec<Pose> = poses.iter().zip(matrices).map(|(pose, matrix)| Pose { matrix, ..*pose }).collect();
+    let other = Chain::new(&back).expect("poses that are built are built in the other order");
+    let listed = chain.windows(&other, bounds, bounds, 6, &ticks).expect("a window's pieces are finer than a move's slices");
+    println!("63 windows of depth 6: {} listed", listed.len());
+    let windows = || asked(chain.windows(&other, black_box(bounds), bounds, 6, &ticks));
+    let covers = || ticks.windows(2).for_each(|_| [chain, &other].into_iter().for_each(|chain| asked(chain.cover(black_box(bounds), 6))));
+    compare("63 windows, beside 126 covers", 20, 1, &mut || windows(), &mut || covers());
+    let singles = || ticks.windows(2).for_each(|w| [chain, &other].into_iter().for_each(|chain| asked(chain.window_cover(black_box(bounds), 6, w[0], w[1]))));
+    compare("63 windows, beside 126 of one", 20, 1, &mut || windows(), &mut || singles());
 }
 
 /// The parts of a boom, cut across its length.

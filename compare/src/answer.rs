@@ -57,7 +57,7 @@ impl<'a> Kept<'a> {
             (
                 Some(
                     b"chain" | b"lone" | b"join" | b"cpoint" | b"ctimes" | b"ccover" | b"cset" | b"cpad" | b"cinterp" | b"cparts" | b"cmotion" | b"cpmotion"
-                    | b"write" | b"try",
+                    | b"write" | b"try" | b"wcover" | b"windows",
                 ),
                 Some([slot @ b'0'..=b'3']),
             ) => 1 + usize::from(slot - b'0'),
@@ -124,5 +124,5 @@ pub fn same(is_box: bool, a: &[u8], b: &[u8]) -> bool {
 
 /// The questions whose answer is a box, or boxes.
 pub fn answers_a_box(question: &[u8]) -> bool {
-    matches!(words(question).next(), Some(b"motion" | b"pmotion" | b"cover" | b"bounds" | b"ccover" | b"cset" | b"cmotion" | b"cpmotion" | b"try"))
+    matches!(words(question).next(), Some(b"motion" | b"pmotion" | b"cover" | b"bounds" | b"ccover" | b"cset" | b"cmotion" | b"cpmotion" | b"try" | b"wcover"))
 }

@@ -6,6 +6,7 @@ use crate::core::geometry::point::Point3f;
 use crate::file::File;
 use crate::judged::{point_values, Judged, Kind, Move};
 use crate::lines::{bounds, bytes, counted, float, floats, matrix, matrix_floats, parts, read, whole, Answer, Session, Values};
+use crate::windows::Window;
 
 /// The words of a question behind its name.
 type Words<'a> = &'a [&'a [u8]];
@@ -32,6 +33,8 @@ const QUESTIONS: &[(&str, Question)] = &[
     ("read", read_file),
     ("acosn", arc_cosine),
     ("stretch", stretch),
+    ("windows", windows),
+    ("wcover", window_cover),
 ];
 
 const SLOTS: usize = 4;
@@ -289,6 +292,26 @@ fn read_file(_: &mut Slots, words: Words) -> Answer {
 fn stretch(_: &mut Slots, words: Words) -> Answer {
     let (kind, words) = kind(words)?;
     Some(chain::stretch(kind, &poses(words)?).map(|[place, length]| Values::default().number(place).number(length)))
+}
+
+/// windows A B D BOXA BOXB T*
+fn windows(slots: &mut Slots, words: Words) -> Answer {
+    let (first_slot, words) = slot(words)?;
+    let (second_slot, words) = slot(words)?;
+    let (depth, words) = first(words)?;
+    let values = list(words)?;
+    let (boxes, ticks) = values.split_at_checked(12)?;
+    let ([b, c], []) = boxes.as_chunks() else { return None };
+    let met = slots.chain(first_slot)?.windows(slots.chain(second_slot)?, b, c, depth, ticks);
+    Some(met.map(|met| met.iter().fold(Values::default().number(met.len()), |values, place| values.number(*place))))
+}
+
+/// wcover S D BOX T0 T1
+fn window_cover(slots: &mut Slots, words: Words) -> Answer {
+    let (slot, words) = slot(words)?;
+    let (depth, words) = first(words)?;
+    let [x0, y0, z0, x1, y1, z1, earlier, later] = read(words)?;
+    Some(box_floats(slots.chain(slot)?.window_cover(&[x0, y0, z0, x1, y1, z1], depth, Window { earlier, later })))
 }
 
 #[cfg(test)]

@@ -35,7 +35,7 @@ fn least(a: f32, b: f32) -> f32 {
     }
 }
 
-fn greatest(a: f32, b: f32) -> f32 {
+pub fn greatest(a: f32, b: f32) -> f32 {
     if b > a {
         b
     } else {
@@ -250,7 +250,7 @@ fn union_of_boxes(m: &Move, b: &[f32; 6], depth: u64, grow: impl Fn(Part, [f32; 
     if depth > MAX_DEPTH {
         return Err(DEPTH);
     }
-    let b: [Interval; 3] = std::array::from_fn(|i| Interval { low: b[i], high: b[i + 3], refusal: 0 });
+    let b = intervals(b);
     let f = &m.fields;
     let start = moved(&matrix(&f.start.m.m), &b)?;
     if f.start == f.end {
@@ -286,12 +286,31 @@ pub fn padded_cover(m: &Move, b: &[f32; 6], depth: u64) -> Judged<[f32; 6]> {
         Part::Start => grown(moved, start),
         Part::End => grown(moved, end),
         Part::EqualPoses => grown(moved, greatest(start, end)),
-        Part::Slice(dt) => {
-            let pad = (ONE - dt) * constant(start) + dt * constant(end);
-            judge(&[pad])?;
-            grown(moved, pad.high)
-        }
+        Part::Slice(dt) => grown_slice(m, dt, moved),
     })
+}
+
+/// A box that an interval of dt has moved, grown by the high end of the pad over it.
+fn grown_slice(m: &Move, dt: Interval, moved: [f32; 6]) -> Judged<[f32; 6]> {
+    let [start, end] = m.pads;
+    let pad = (ONE - dt) * constant(start) + dt * constant(end);
+    judge(&[pad])?;
+    grown(moved, pad.high)
+}
+
+fn intervals(b: &[f32; 6]) -> [Interval; 3] {
+    std::array::from_fn(|i| Interval { low: b[i], high: b[i + 3], refusal: 0 })
+}
+
+/// A pose over a box, grown by a pad.
+pub fn padded_pose(pose: &Matrix4x4, pad: f32, b: &[f32; 6]) -> Judged<[f32; 6]> {
+    grown(moved(&matrix(&pose.m), &intervals(b))?, pad)
+}
+
+/// The poses of a move from one dt to another over a box, grown by the high end of the pad over them.
+pub fn padded_piece(m: &Move, low: f32, high: f32, b: &[f32; 6]) -> Judged<[f32; 6]> {
+    let dt = Interval { low, high, refusal: 0 };
+    grown_slice(m, dt, slice(m, dt, &intervals(b))?)
 }
 
 #[cfg(test)]

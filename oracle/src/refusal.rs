@@ -40,3 +40,5 @@ pub const DETERMINANT: u8 = 18;
 pub const PLACE: u8 = 19;
 /// Two chains to be joined whose shared pose differs in a bit, or their kinds.
 pub const MISMATCH: u8 = 20;
+/// Ticks that are NaN, too few, too many or not rising.
+pub const TICKS: u8 = 21;

@@ -286,6 +286,38 @@ impl Chain {
         answered(number, Covers { each, union: Bounds::from_array(union) })
     }
 
+    /// A box that holds every point of `b` at every time from one tick to a later one, both included, as [`Chain::cover`] does at all times. Ticks may be infinite. Refused with
+    /// [`Refusal::Ticks`] where they don't rise, then as [`Chain::cover`].
+    pub fn window_cover(&self, b: &Bounds, depth: u32, earlier: f32, later: f32) -> Result<Bounds, Refusal> {
+        let mut bounds = [0.0; 6];
+        let number =
+            unsafe { library::jellyplain_moves_window_cover(self.moves.as_ptr(), self.moves.len(), &b.to_array(), depth, earlier, later, &mut bounds) };
+        answered(number, Bounds::from_array(bounds))
+    }
+
+    /// The windows between neighbouring ticks, counted from 0, in which the boxes that hold `b` here and `c` there meet, touching included. In any other window, ticks included, no point of
+    /// `b` and none of `c`, each less or plus its pad or anything between, are ever at the same place; a greater depth, up to 12, lists no other. Refused with [`Refusal::Ticks`] unless 2 to 64 ticks rise strictly,
+    /// with the numbers of `b`, of `c` and of the depth, then with [`Refusal::NotFinite`] or [`Refusal::SquaredLength`] of the first window that is refused.
+    pub fn windows(&self, other: &Chain, b: &Bounds, c: &Bounds, depth: u32, ticks: &[f32]) -> Result<Vec<u32>, Refusal> {
+        let (first, second, mut places) = (&self.moves, &other.moves, [0; library::WINDOWS]);
+        let (b, c) = (b.to_array(), c.to_array());
+        let windows = unsafe {
+            library::jellyplain_moves_windows(
+                first.as_ptr(),
+                first.len(),
+                second.as_ptr(),
+                second.len(),
+                &b,
+                &c,
+                depth,
+                ticks.as_ptr(),
+                ticks.len(),
+                &mut places,
+            )
+        };
+        answered(windows.refusal, places[..windows.count].to_vec())
+    }
+
     /// The move file of the chain's poses and a box, in the one way that it is written, with fourteen names: [`MoveFile::read`] gives the same bits back, a bottom row's zeros as +0.
     /// Refused with [`Refusal::Query`] and [`Refusal::Corners`].
     pub fn write(&self, b: &Bounds) -> Result<String, Refusal> {

@@ -14,6 +14,9 @@ pub const MOVES: usize = 31;
 /// The most boxes of a set.
 pub const BOXES: usize = 16;
 
+/// The most windows between ticks.
+pub const WINDOWS: usize = 63;
+
 /// The most poses that a move file has room for.
 pub const FILE_POSES: usize = 559;
 
@@ -39,6 +42,14 @@ pub struct Written {
 pub struct Run {
     pub place: usize,
     pub length: usize,
+    pub refusal: u8,
+}
+
+/// How many windows are listed, or the number of a refusal.
+#[derive(Debug, PartialEq)]
+#[repr(C)]
+pub struct Windows {
+    pub count: usize,
     pub refusal: u8,
 }
 
@@ -76,6 +87,19 @@ extern "C" {
         covers: &mut [[f32; 6]; BOXES],
         union: &mut [f32; 6],
     ) -> u8;
+    pub fn jellyplain_moves_window_cover(moves: *const Rows, count: usize, b: &[f32; 6], depth: u32, earlier: f32, later: f32, out: &mut [f32; 6]) -> u8;
+    pub fn jellyplain_moves_windows(
+        moves: *const Rows,
+        count: usize,
+        others: *const Rows,
+        others_count: usize,
+        b: &[f32; 6],
+        other: &[f32; 6],
+        depth: u32,
+        ticks: *const f32,
+        ticks_count: usize,
+        places: &mut [u32; WINDOWS],
+    ) -> Windows;
     pub fn jellyplain_read_file(bytes: *const u8, size: usize, poses: &mut [Pose; FILE_POSES], bounds: &mut [f32; 6]) -> FileRead;
     pub fn jellyplain_write_file(moves: *const Rows, count: usize, b: &[f32; 6], out: *mut u8, size: usize) -> Written;
 }
@@ -183,6 +207,38 @@ mod tests {
         let mut expected = [[0.0; 6]; BOXES];
         (expected[0], expected[1]) = (own, own);
         assert_eq!(ask(1, &boxes[..2], 8), (0, expected, own));
+    }
+
+    #[test]
+    fn windows_in_their_places() {
+        let moves = [built()];
+        let (near, far, nan) = ([0.0f32, 0.0, 0.0, 0.5, 0.5, 0.5], [1.25f32, 0.0, 0.0, 2.0, 0.5, 0.5], [f32::NAN; 6]);
+        let ticks = [0.0, 0.25, 0.75, 1.0, 2.0];
+        let mut places = [7u32; WINDOWS];
+        let mut ask = |counts: [usize; 2], b: &[f32; 6], other: &[f32; 6], depth: u32, ticks: &[f32]| {
+            let rows = moves.as_ptr();
+            let windows = unsafe { jellyplain_moves_windows(rows, counts[0], rows, counts[1], b, other, depth, ticks.as_ptr(), ticks.len(), &mut places) };
+            (windows, places)
+        };
+        let refused = |refusal: u8| (Windows { count: 0, refusal }, [7; WINDOWS]);
+        assert_eq!(ask([0, 1], &nan, &nan, 13, &[]), refused(12));
+        assert_eq!(ask([1, 0], &nan, &nan, 13, &[]), refused(12));
+        assert_eq!(ask([1, 1], &nan, &nan, 13, &[1.0, 1.0]), refused(21));
+        assert_eq!(ask([1, 1], &nan, &[1.0, 0.0, 0.0, 0.0, 0.0, 0.0], 13, &ticks), refused(6));
+        assert_eq!(ask([1, 1], &near, &[1.0, 0.0, 0.0, 0.0, 0.0, 0.0], 13, &ticks), refused(7));
+        assert_eq!(ask([1, 1], &near, &far, 13, &ticks), refused(8));
+        // Both boxes move alike, so that they never meet but in a window that is long enough.
+        let (windows, places) = ask([1, 1], &near, &far, 8, &[0.0, 0.5, 1.0]);
+        assert_eq!((windows, places), (Windows { count: 0, refusal: 0 }, [0; WINDOWS]));
+        let mut first = [0; WINDOWS];
+        first[0] = 1;
+        assert_eq!(ask([1, 1], &near, &far, 8, &[-1.0, 0.0, 1.0, 2.0]), (Windows { count: 1, refusal: 0 }, first));
+        let mut six = [7.0; 6];
+        let mut cover = |count: usize, ticks: [f32; 2], depth: u32| unsafe {
+            jellyplain_moves_window_cover(moves.as_ptr(), count, &near, depth, ticks[0], ticks[1], &mut six)
+        };
+        assert_eq!([cover(0, [1.0, 1.0], 13), cover(1, [1.0, 1.0], 13), cover(1, [f32::NAN, 1.0], 13), cover(1, [0.0, 1.0], 13)], [12, 21, 21, 8]);
+        assert_eq!(six, [7.0; 6]);
     }
 
     #[test]

@@ -44,10 +44,12 @@ pub enum Refusal {
     Place = 19,
     /// Two chains to be joined differ in a bit of the pose that they share, or in their kind.
     Mismatch = 20,
+    /// Ticks are NaN, fewer than 2, more than 64 or don't rise strictly.
+    Ticks = 21,
 }
 
 impl Refusal {
-    const ALL: [Refusal; 20] = {
+    const ALL: [Refusal; 21] = {
         use Refusal::*;
         [
             PoseNotFinite,
@@ -70,6 +72,7 @@ impl Refusal {
             Determinant,
             Place,
             Mismatch,
+            Ticks,
         ]
     };
 
@@ -77,7 +80,7 @@ impl Refusal {
         self as u8
     }
 
-    /// The refusal of a number from 1 to 20.
+    /// The refusal of a number from 1 to 21.
     pub fn from_number(number: u8) -> Option<Refusal> {
         Refusal::ALL.into_iter().find(|refusal| refusal.number() == number)
     }
@@ -106,6 +109,7 @@ impl fmt::Display for Refusal {
             Refusal::Determinant => "a pose of a rigid move mirrors",
             Refusal::Place => "the place is beyond the last pose",
             Refusal::Mismatch => "the chains don't share a pose to the bit, or differ in their kind",
+            Refusal::Ticks => "there are 2 to 64 ticks that rise strictly",
         };
         write!(f, "refused with {}: {reason}", self.number())
     }
@@ -119,7 +123,7 @@ mod tests {
 
     #[test]
     fn numbers() {
-        assert!((1..=20).all(|number| Refusal::from_number(number).unwrap().number() == number));
-        assert_eq!((Refusal::from_number(0), Refusal::from_number(21)), (None, None));
+        assert!((1..=21).all(|number| Refusal::from_number(number).unwrap().number() == number));
+        assert_eq!((Refusal::from_number(0), Refusal::from_number(22)), (None, None));
     }
 }

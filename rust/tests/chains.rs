@@ -358,3 +358,41 @@ fn refused_runs() {
     many[37].pad = -1.0;
     assert_eq!(Chain::refused_run(&many), Ok(37..38));
 }
+
+/// Windows are listed where the two windows' covers meet; a pose's larger pad at a rest holds at its end; the order of the numbers.
+#[test]
+fn windows() {
+    let poses = poses();
+    let chain = Chain::new(&poses).unwrap();
+    let other = Chain::new(&[at(0.0, translation(-9.0)), at(5.0, translation(9.0))]).unwrap();
+    let (b, c) = (Bounds { p_min: [0.0; 3], p_max: [1.0; 3] }, Bounds { p_min: [0.0, -2.0, 0.0], p_max: [0.5, 2.0, 1.0] });
+    let ticks = [-1.0, 0.0, 1.0, 2.0, 2.5, 3.0, 4.0, 5.0, 6.0];
+    let listed = chain.windows(&other, &b, &c, 6, &ticks).unwrap();
+    let meets = |x: &Bounds, y: &Bounds| (0..3).all(|i| x.p_min[i] <= y.p_max[i] && y.p_min[i] <= x.p_max[i]);
+    let expected: Vec<u32> = (0..8)
+        .filter(|&k| {
+            let (from, to) = (ticks[k as usize], ticks[k as usize + 1]);
+            meets(&chain.window_cover(&b, 6, from, to).unwrap(), &other.window_cover(&c, 6, from, to).unwrap())
+        })
+        .collect();
+    assert_eq!(listed, expected);
+    assert!(!listed.is_empty() && listed.len() < 8);
+    assert!(chain.windows(&other, &b, &c, 9, &ticks).unwrap().iter().all(|k| listed.contains(k)));
+    // Before the first pose there is but that pose, and after the last the last.
+    assert_eq!(chain.window_cover(&b, 3, f32::NEG_INFINITY, -1.0), Ok(b));
+    let mut resting = poses;
+    (resting[1].pad, resting[2].pad) = (2.0, 0.5);
+    let resting = Chain::new(&resting).unwrap();
+    let (at_end, after) = (resting.window_cover(&b, 3, 3.0, 3.5).unwrap(), resting.window_cover(&b, 3, 3.0f32.next_up(), 3.5).unwrap());
+    assert!(at_end.p_min[2] < after.p_min[2]);
+    let nan = Bounds { p_min: [f32::NAN; 3], ..b };
+    let crossed = Bounds { p_min: [2.0; 3], ..b };
+    let refused = |b: &Bounds, c: &Bounds, depth: u32, ticks: &[f32]| chain.windows(&other, b, c, depth, ticks).err();
+    for ticks in [&[][..], &[0.0], &[0.0, 0.0], &[-0.0, 0.0], &[0.0, f32::NAN], &[0.0; 65]] {
+        assert_eq!(refused(&nan, &nan, 13, ticks), Some(Refusal::Ticks));
+    }
+    assert_eq!(refused(&crossed, &nan, 13, &ticks), Some(Refusal::Corners));
+    assert_eq!(refused(&b, &nan, 13, &ticks), Some(Refusal::Query));
+    assert_eq!(refused(&b, &c, 13, &ticks), Some(Refusal::Depth));
+    assert_eq!(chain.window_cover(&nan, 13, 1.0, 1.0), Err(Refusal::Ticks));
+}

@@ -1,5 +1,5 @@
 -- A kept move is the move that was built: what building leaves holds it (`build-clauses`), the point query of the rows is the move's (`kept-point`), and the cover of the rows
--- holds what the point query of the rows answers, and is no narrower than a finer one (`cover-clauses`); the last also of a kept chain (`moves-cover-clauses`), and what it shows of a pose that is tried (`moves-try-clauses`).
+-- holds what the point query of the rows answers, and is no narrower than a finer one (`cover-clauses`); the last also of a kept chain (`moves-cover-clauses`), also in a window of times (`moves-window-clauses`), and what it shows of a pose that is tried (`moves-try-clauses`).
 use Prim.Native.Nat.{ℕ, _+_, _-_}
 use mathlib.Core.Path.{_≡_, ap, sym, subst, _∙_}
 use mathlib.Core.Bool.{Bool}
@@ -21,6 +21,9 @@ use Rattle.motion_cover.proofs.Contains.{cover-contains}
 use Rattle.cover_depth.specs.Finer.{Within}
 use Rattle.cover_depth.proofs.Finer.{cover-finer}
 use Rattle.bounds3.specs.List.{Bounds3f·list, Bounds3f·ofList}
+use Rattle.window_times.specs.declared.Window.{Window}
+use Rattle.window_cover.specs.Kept.{Moves·windowCover, KeptWindowContainsMotion, KeptWindowFiner}
+use Rattle.window_cover.proofs.Kept.{kept-window-contains, kept-window-finer, kept-window-numbered}
 use Rattle.lent_arrays.specs.Arrays.{Pose·ofList, BoundsAnswer·left}
 use Rattle.motion_rows.specs.Rows.{AnimatedTransform·toRows, AnimatedTransform·fromRows, AnimatedTransformAnswer·left}
 use Rattle.motion_rows.specs.Holds.{Rows·Holds}
@@ -120,3 +123,19 @@ moves-try-clauses rows place pose b d r bounds old shown value contains number l
     box-left none =
         let answered = try-answered rows place (Pose·ofList pose) (Bounds3f·ofList b) d (ap BoundsAnswer·refusal (sym value) ∙ (sym number ∙ none)) in
         left ∙ (ap (λ (a : BoundsAnswer). BoundsAnswer·left a old) (value ∙ answered) ∙ ap (λ (a : BoundsAnswer). Bounds3f·list (BoundsAnswer·bounds a)) (sym value))
+
+pub moves-window-clauses : (rows : List Rows) (b : List Float) (d : ℕ) (w : Window) (r : ℕ) (bounds old : List Float)
+    → r ≡ BoundsAnswer·refusal (Moves·windowCover rows (Bounds3f·ofList b) d w) → bounds ≡ BoundsAnswer·left (Moves·windowCover rows (Bounds3f·ofList b) d w) old
+    → (r ≡ BoundsAnswer·refusal (Moves·windowCover rows (Bounds3f·ofList b) d w)) × ((bounds ≡ BoundsAnswer·left (Moves·windowCover rows (Bounds3f·ofList b) d w) old)
+    × ((r ≡ 0 → KeptWindowContainsMotion rows (Bounds3f·ofList b) w (Bounds3f·ofList bounds))
+    × (r ≡ 0 → KeptWindowFiner rows (Bounds3f·ofList b) d w (Bounds3f·ofList bounds))))
+moves-window-clauses rows b d w r bounds old number left = (number, (left, (contains, finer)))
+  where
+    box-left : r ≡ 0 → bounds ≡ Bounds3f·list (BoundsAnswer·bounds (Moves·windowCover rows (Bounds3f·ofList b) d w))
+    box-left none = left ∙ ap (λ (c : BoundsAnswer). BoundsAnswer·left c old) (kept-window-numbered rows (Bounds3f·ofList b) d w .none (sym number ∙ none))
+
+    contains : r ≡ 0 → KeptWindowContainsMotion rows (Bounds3f·ofList b) w (Bounds3f·ofList bounds)
+    contains none = rw (box-left none) (kept-window-contains rows (Bounds3f·ofList b) d w (sym number ∙ none))
+
+    finer : r ≡ 0 → KeptWindowFiner rows (Bounds3f·ofList b) d w (Bounds3f·ofList bounds)
+    finer none = rw (box-left none) (kept-window-finer rows (Bounds3f·ofList b) d w (sym number ∙ none))

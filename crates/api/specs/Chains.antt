@@ -9,6 +9,9 @@ use Rattle.transform.specs.declared.PointAnswer.{PointAnswer}
 use Rattle.transform.specs.declared.BoundsAnswer.{BoundsAnswer}
 use Rattle.lent_arrays.specs.Arrays.{Pose·ofList}
 use Rattle.motion_chain.specs.Times.{PointsAnswer}
+use Rattle.window_cover.specs.Kept.{Moves·windowCover}
+use Rattle.window_meetings.specs.Windows.{WindowsAnswer}
+use Rattle.window_pairs.specs.Kept.{Moves·windows}
 use Rattle.chain_rows.specs.Kept.{Moves·transformPoint, Moves·transformPoints, Moves·cover}
 use Rattle.chain_trial.specs.Try.{Moves·try}
 
@@ -27,3 +30,9 @@ Moves·coverOf rows b depth = Moves·cover rows (Bounds3f·ofList b) depth
 
 abbrev pub Moves·tryOf : List Rows → ℕ → List Float → List Float → ℕ → BoundsAnswer
 Moves·tryOf rows place pose b depth = Moves·try rows place (Pose·ofList pose) (Bounds3f·ofList b) depth
+
+abbrev pub Moves·windowCoverOf : List Rows → List Float → ℕ → Float → Float → BoundsAnswer
+Moves·windowCoverOf rows b depth earlier later = Moves·windowCover rows (Bounds3f·ofList b) depth (record { earlier = earlier; later = later })
+
+abbrev pub Moves·windowsOf : List Rows → List Rows → List Float → List Float → ℕ → List Float → WindowsAnswer
+Moves·windowsOf rows rows' b b' depth ticks = Moves·windows rows rows' (Bounds3f·ofList b) (Bounds3f·ofList b') depth ticks

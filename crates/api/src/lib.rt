@@ -6,6 +6,8 @@ use animated_transform::AnimatedTransform;
 use chain_text::Written;
 use motion_bounds::MotionBoundsAnswer;
 use refused_run::Run;
+use window_pairs::Windows;
+use window_times::Window;
 ghost use Prim.Native.Nat.{_-_};
 ghost use mathlib.Core.Path.{_≡_};
 ghost use mathlib.Core.List.{[], _∷_};
@@ -41,7 +43,10 @@ ghost use Rattle.motion_file.specs.Front.{front as posesFront};
 ghost use Rattle.chain_text.specs.Write.{TextAnswer·refusal, TextAnswer·length, TextAnswer·left};
 ghost use Rattle.chain_text.specs.Theorem.{WrittenBack};
 ghost use Rattle.api.specs.Files.{MoveFile·boundsLeft, Moves·written};
-ghost use Rattle.api.specs.Chains.{layoutNumber, Moves·point, Moves·points, Moves·coverOf, Moves·tryOf};
+ghost use Rattle.window_meetings.specs.Windows.{WindowsAnswer·refusal, WindowsAnswer·windows, WindowsAnswer·left};
+ghost use Rattle.window_pairs.specs.Kept.{KeptWindowsApart, KeptWindowsFiner};
+ghost use Rattle.window_cover.specs.Kept.{KeptWindowContainsMotion, KeptWindowFiner};
+ghost use Rattle.api.specs.Chains.{layoutNumber, Moves·point, Moves·points, Moves·coverOf, Moves·tryOf, Moves·windowCoverOf, Moves·windowsOf};
 ghost use Rattle.api.specs.Answers.{Rows·new, Rows·point, Rows·interpolate, Rows·boundPointMotion, Rows·motionBounds, Rows·cover};
 ghost use Rattle.api.specs.Examined.{MotionBoundsAnswer·left, MotionBoundsAnswer·examinedLeft};
 ghost use Rattle.api.specs.Kept.{KeptCoverContainsMotion, KeptCoverFiner};
@@ -401,4 +406,56 @@ pub extern "C" fn jellyplain_write_file(
     ensures written_back { λ r. ⌜ (r .refusal ≡ 0 → WrittenBack (now (moves .entry)) (Bounds3f·ofList (now (b .entry))) (take (r .length) (now (out .exit)))) ⌝ }
 {
     chain_text::write(moves, lent_arrays::bounds(b), out)
+}
+
+// A box that holds the box b at every time of a window of a chain, from one tick to a later one, both included. Refused with 21, then 6, 7 or 8, then 5 or 10, and
+// with 12 where there are no moves. Accuracy: encloses.
+#[no_mangle]
+pub extern "C" fn jellyplain_moves_window_cover(
+    moves: &[[[f32; 4]; 45]],
+    b: &[f32; 6],
+    depth: u32,
+    earlier: f32,
+    later: f32,
+    bounds: &mut [f32; 6],
+) -> u8
+    ensures refusal { λ r. ⌜ r ≡ BoundsAnswer·refusal (Moves·windowCoverOf (now (moves .entry)) (now (b .entry)) depth earlier later) ⌝ }
+    ensures left { λ _. ⌜ now (bounds .exit) ≡ BoundsAnswer·left (Moves·windowCoverOf (now (moves .entry)) (now (b .entry)) depth earlier later) (now (bounds .entry)) ⌝ }
+    ensures contains_motion { λ r. ⌜ (r ≡ 0 → KeptWindowContainsMotion (now (moves .entry)) (Bounds3f·ofList (now (b .entry))) (record { earlier = earlier; later = later }) (Bounds3f·ofList (now (bounds .exit)))) ⌝ }
+    ensures finer { λ r. ⌜ (r ≡ 0 → KeptWindowFiner (now (moves .entry)) (Bounds3f·ofList (now (b .entry))) depth (record { earlier = earlier; later = later }) (Bounds3f·ofList (now (bounds .exit)))) ⌝ }
+{
+    let w = Window { earlier, later };
+    lent_arrays::put_bounds(
+        window_cover::cover(moves, lent_arrays::bounds(b), depth, w),
+        bounds,
+    )
+}
+
+// Puts the windows between neighbouring ticks, counted from 0, in which the covers of two chains meet into the first places, 0 into the others, and gives how many
+// there are. Refused with 21 of the ticks, 6 and 7 of each box, 8, then 5 or 10, and with 12 where a chain has no moves. Accuracy: encloses.
+#[no_mangle]
+pub extern "C" fn jellyplain_moves_windows(
+    moves: &[[[f32; 4]; 45]],
+    others: &[[[f32; 4]; 45]],
+    b: &[f32; 6],
+    other: &[f32; 6],
+    depth: u32,
+    ticks: &[f32],
+    places: &mut [u32; 63],
+) -> Windows
+    ensures refusal { λ r. ⌜ r .refusal ≡ WindowsAnswer·refusal (Moves·windowsOf (now (moves .entry)) (now (others .entry)) (now (b .entry)) (now (other .entry)) depth (now (ticks .entry))) ⌝ }
+    ensures count { λ r. ⌜ r .count ≡ length (WindowsAnswer·windows (Moves·windowsOf (now (moves .entry)) (now (others .entry)) (now (b .entry)) (now (other .entry)) depth (now (ticks .entry)))) ⌝ }
+    ensures left { λ _. ⌜ now (places .exit) ≡ WindowsAnswer·left (Moves·windowsOf (now (moves .entry)) (now (others .entry)) (now (b .entry)) (now (other .entry)) depth (now (ticks .entry))) (now (places .entry)) ⌝ }
+    ensures apart { λ r. ⌜ (r .refusal ≡ 0 → KeptWindowsApart (now (moves .entry)) (now (others .entry)) (Bounds3f·ofList (now (b .entry))) (Bounds3f·ofList (now (other .entry))) (now (ticks .entry)) (take (r .count) (now (places .exit)))) ⌝ }
+    ensures finer { λ r. ⌜ (r .refusal ≡ 0 → KeptWindowsFiner (now (moves .entry)) (now (others .entry)) (Bounds3f·ofList (now (b .entry))) (Bounds3f·ofList (now (other .entry))) depth (now (ticks .entry)) (take (r .count) (now (places .exit)))) ⌝ }
+{
+    window_pairs::list_windows(
+        moves,
+        others,
+        lent_arrays::bounds(b),
+        lent_arrays::bounds(other),
+        depth,
+        ticks,
+        places,
+    )
 }

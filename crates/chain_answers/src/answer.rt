@@ -31,6 +31,7 @@ pub fn put_answer(
         0 => chains::build_chain(q.rigid, slot, floats / 18, x, out, at, kept, poses),
         1 => chains::build_lone(q.rigid, slot, x, out, at, kept, poses),
         14 => chains::join(slot, wholes[1], wholes[2], out, at, kept, poses),
+        16 => chains::windows(wholes, floats, x, out, at, kept, poses),
         _ => put_asked(
             kind,
             wholes,
@@ -74,6 +75,7 @@ fn put_asked(
         11 => files::write(moves, n, &chains::bounds_at(x, 0), out, at),
         12 => chains::pad(moves, x, out, at),
         13 => chains::try_pose(moves, n, wholes[2], x, out, at),
+        17 => chains::window_cover(moves, n, x, out, at),
         _ => put_asked_move(kind, n, x, moves, out, at),
     }
 }

@@ -335,6 +335,101 @@ pub fn bound_point_motion(
     put_counted(refusal, &b, examined, out, at)
 }
 
+// The cover of one window of a chain's times.
+pub fn window_cover(
+    moves: &[[[f32; 4]; 45]],
+    depth: u64,
+    x: &[f32; 900],
+    out: &mut [u8; 32768],
+    at: usize,
+) -> usize {
+    let asked = bounds_at(x, 0);
+    let mut b = [0.0f32; 6];
+    let refusal = api::jellyplain_moves_window_cover(
+        moves,
+        &asked,
+        question_lines::saturated(depth),
+        x[6],
+        x[7],
+        &mut b,
+    );
+    put_bounds(refusal, &b, out, at)
+}
+
+// The windows in which the covers of the chains in two slots meet.
+pub fn windows(
+    wholes: &[u64; 4],
+    floats: usize,
+    x: &[f32; 900],
+    out: &mut [u8; 32768],
+    at: usize,
+    kept: &[[[[f32; 4]; 45]; 31]; 4],
+    poses: &[usize; 4],
+) -> usize {
+    if 3 < wholes[0] {
+        return put_error(out, at);
+    }
+    if 3 < wholes[1] {
+        return put_error(out, at);
+    }
+    let a = wholes[0] as usize;
+    let c = wholes[1] as usize;
+    let moves = kept_moves(kept, a, poses[a], 2);
+    let others = kept_moves(kept, c, poses[c], 2);
+    if moves.len() == 0 {
+        return put_error(out, at);
+    }
+    if others.len() == 0 {
+        return put_error(out, at);
+    }
+    let b = bounds_at(x, 0);
+    let other = bounds_at(x, 1);
+    let mut places = [0u32; 63];
+    let met = api::jellyplain_moves_windows(
+        moves,
+        others,
+        &b,
+        &other,
+        question_lines::saturated(wholes[2]),
+        ticks_of(x, floats),
+        &mut places,
+    );
+    put_windows(met.refusal, places, met.count, out, at)
+}
+
+// The floats of a line behind two boxes.
+fn ticks_of(x: &[f32], floats: usize) -> &[f32] {
+    if floats < 12 {
+        return &x[..0];
+    }
+    if x.len() < floats {
+        return &x[..0];
+    }
+    &x[12..floats]
+}
+
+// How many windows there are, and then their places.
+fn put_windows(
+    refusal: u8,
+    places: [u32; 63],
+    count: usize,
+    out: &mut [u8; 32768],
+    at: usize,
+) -> usize {
+    if refusal != 0 {
+        return question_lines::put_refused(refusal, out, at);
+    }
+    let ok = put_text(b"ok", out, at);
+    let mut end = question_lines::put_decimal(count as u64, out, ok);
+    for i in 0..63 {
+        if count <= i {
+            break;
+        }
+        end = question_lines::put_decimal(places[i] as u64, out, end);
+    }
+    put_text(b"\n", out, end)
+}
+
 fn put_point(refusal: u8, p: &[f32; 3], out: &mut [u8; 32768], at: usize) -> usize {
     put_values(refusal, p, 3, out, at)
 }

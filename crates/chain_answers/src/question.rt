@@ -13,7 +13,7 @@ pub struct Question {
 
 // Of each question: how many poses the slot that it asks must have, where a move by itself counts as one; and what follows the name: how many whole numbers,
 // whether the word that says how a chain is built, how many floats at least, and how many floats each thing has of which any number may follow, 0 for none.
-const SHAPES: [[usize; 5]; 16] = [
+const SHAPES: [[usize; 5]; 18] = [
     [0, 1, 1, 0, 18], // chain S KIND P*
     [0, 1, 1, 36, 0], // lone S KIND P P
     [1, 1, 0, 4, 0], // cpoint S T X Y Z
@@ -30,6 +30,8 @@ const SHAPES: [[usize; 5]; 16] = [
     [2, 3, 0, 24, 0], // try S PLACE D P BOX
     [0, 3, 0, 0, 0], // join S A B
     [0, 0, 1, 0, 18], // stretch KIND P*
+    [2, 3, 0, 12, 1], // windows A B D BOXA BOXB T*
+    [2, 2, 0, 8, 0], // wcover S D BOX T0 T1
 ];
 
 pub fn parse(line: &[u8], wholes: &mut [u64; 4], x: &mut [f32; 900]) -> Question {
@@ -39,9 +41,9 @@ pub fn parse(line: &[u8], wholes: &mut [u64; 4], x: &mut [f32; 900]) -> Question
     let end = word_end(line, 0);
     let kind = position(
         part(line, 0, end),
-        b"chain lone cpoint ctimes ccover cinterp cparts cmotion cpmotion cset acosn write cpad try join stretch",
+        b"chain lone cpoint ctimes ccover cinterp cparts cmotion cpmotion cset acosn write cpad try join stretch windows wcover",
     );
-    if 16 <= kind {
+    if 18 <= kind {
         return malformed();
     }
     let shape = SHAPES[kind];

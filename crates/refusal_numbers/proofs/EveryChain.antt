@@ -7,6 +7,10 @@ use Rattle.box_set.proofs.Contains.{chain-set-numbered}
 use Rattle.chain_covers.proofs.Number.{kept-set-numbered}
 use Rattle.chain_join.proofs.Numbers.{moves-join-number}
 use Rattle.refused_run.proofs.Search.{run-refusal}
+use Rattle.chain_window.proofs.Numbers.{window-numbered}
+use Rattle.window_cover.proofs.Kept.{kept-window-numbered}
+use Rattle.window_meetings.proofs.Numbers.{windows-numbered}
+use Rattle.window_pairs.proofs.Kept.{kept-windows-numbered}
 use Rattle.refusal_numbers.specs.Chain.{EveryChainAnswer}
 use Rattle.refusal_numbers.proofs.Chain.{building-numbered}
 use Rattle.refusal_numbers.proofs.Pad.{chain-pad-numbered, kept-pad-numbered}
@@ -24,6 +28,8 @@ every-chain-answer = record {
   set = chain-set-numbered;
   trial = trial-numbered;
   run = run-refusal;
+  window-cover = window-numbered;
+  windows = windows-numbered;
   rows-point = rows-point-numbered;
   rows-pad = kept-pad-numbered;
   rows-points = rows-points-numbered;
@@ -31,4 +37,6 @@ every-chain-answer = record {
   rows-set = kept-set-numbered;
   rows-trial = rows-trial-numbered;
   rows-join = moves-join-number;
+  rows-window-cover = kept-window-numbered;
+  rows-windows = kept-windows-numbered;
 }

@@ -1,4 +1,4 @@
--- What is promised of every answer about a chain: which numbers building, the point query, also with a list of times, the pad query and the cover query, also of a set of boxes and of a pose that is tried, give, and joining two kept chains, 0 being none,
+-- What is promised of every answer about a chain: which numbers building, the point query, also with a list of times, the pad query and the cover query, also of a set of boxes, of a pose that is tried and of a window, give, joining two kept chains, and the windows of two, 0 being none,
 -- and that an accepted cover's corners are finite and in order; and the same of a kept chain, whatever its rows. The statement of `every-chain-answer`.
 use Prim.Native.Nat.{ℕ}
 use mathlib.Core.Path.{_≡_}
@@ -26,6 +26,12 @@ use Rattle.changed_chain.specs.Trial.{Chain·try}
 use Rattle.chain_trial.specs.Try.{Moves·try}
 use Rattle.chain_join.specs.Rows.{Moves·joinRefusal}
 use Rattle.refused_run.specs.Run.{shortestRun}
+use Rattle.window_times.specs.declared.Window.{Window}
+use Rattle.chain_window.specs.Cover.{Chain·windowCover}
+use Rattle.window_cover.specs.Kept.{Moves·windowCover}
+use Rattle.window_meetings.specs.Windows.{Chain·windows}
+use Rattle.window_meetings.specs.Numbers.{WindowsAnswer·Numbered}
+use Rattle.window_pairs.specs.Kept.{Moves·windows}
 use Rattle.refusal_numbers.specs.Numbers.{PadAnswer·Numbered}
 
 -- The number is one of those listed, and an answer whose number is 0 is a chain.
@@ -41,7 +47,7 @@ buildingNumbers rigid = 0 ∷ 1 ∷ 2 ∷ 3 ∷ 4 ∷ 5 ∷ 12 ∷ 16 ∷ kindNu
 abbrev pub trialNumbers : Bool → List ℕ
 trialNumbers rigid = 0 ∷ 1 ∷ 2 ∷ 3 ∷ 4 ∷ 5 ∷ 6 ∷ 7 ∷ 8 ∷ 10 ∷ 12 ∷ 16 ∷ 19 ∷ kindNumbers rigid
 
--- document 01's numbers, and document 02's: 12 and 16 of building, 17 and 18 of building as rigid, 13 of a list of times, 14 of a set, 19 of a place, 20 of joining
+-- document 01's numbers, and document 02's: 12 and 16 of building, 17 and 18 of building as rigid, 13 of a list of times, 14 of a set, 19 of a place, 20 of joining, 21 of ticks
 pub record EveryChainAnswer : Type 0 where
   pub building : (rigid : Bool) (poses : List Pose) → ChainAnswer·Numbered (buildingNumbers rigid) (Chain·new rigid poses)
   pub point : (c : Chain) (time : Float) (p : Point3f) → PointAnswer·Numbered (0 ∷ 5 ∷ 6 ∷ []) (Chain·transformPoint c time p)
@@ -53,6 +59,8 @@ pub record EveryChainAnswer : Type 0 where
   pub trial : (c : Chain) (place : ℕ) (p : Pose) (b : Bounds3f) (depth : ℕ) → BoundsAnswer·Numbered (trialNumbers (Chain·isRigid c)) (Chain·try c place p b depth)
   -- the shortest refused stretch, whatever the poses
   pub run : (rigid : Bool) (poses : List Pose) → OneOf (shortestRun rigid poses .refusal) (0 ∷ 12 ∷ [])
+  pub window-cover : (c : Chain) (b : Bounds3f) (depth : ℕ) (w : Window) → BoundsAnswer·Numbered (0 ∷ 5 ∷ 6 ∷ 7 ∷ 8 ∷ 10 ∷ 21 ∷ []) (Chain·windowCover c b depth w)
+  pub windows : (c c' : Chain) (b b' : Bounds3f) (depth : ℕ) (ticks : List Float) → WindowsAnswer·Numbered (0 ∷ 5 ∷ 6 ∷ 7 ∷ 8 ∷ 10 ∷ 21 ∷ []) (Chain·windows c c' b b' depth ticks)
   -- the same queries of a kept chain, whatever its rows: no moves are 12
   pub rows-point : (rows : List Rows) (time : Float) (p : Point3f) → PointAnswer·Numbered (0 ∷ 5 ∷ 6 ∷ 12 ∷ []) (Moves·transformPoint rows time p)
   pub rows-pad : (rows : List Rows) (time : Float) → PadAnswer·Numbered (0 ∷ 5 ∷ 6 ∷ 12 ∷ []) (Moves·pad rows time)
@@ -62,3 +70,6 @@ pub record EveryChainAnswer : Type 0 where
       → SetAnswer·Numbered (0 ∷ 5 ∷ 6 ∷ 7 ∷ 8 ∷ 10 ∷ 12 ∷ 14 ∷ []) (Moves·covers rows boxes depth)
   pub rows-trial : (rows : List Rows) (place : ℕ) (p : Pose) (b : Bounds3f) (depth : ℕ) → BoundsAnswer·Numbered (trialNumbers (Chain·isRigid (Moves·chain rows))) (Moves·try rows place p b depth)
   pub rows-join : (first second : List Rows) → OneOf (Moves·joinRefusal first second) (0 ∷ 12 ∷ 20 ∷ [])
+  pub rows-window-cover : (rows : List Rows) (b : Bounds3f) (depth : ℕ) (w : Window) → BoundsAnswer·Numbered (0 ∷ 5 ∷ 6 ∷ 7 ∷ 8 ∷ 10 ∷ 12 ∷ 21 ∷ []) (Moves·windowCover rows b depth w)
+  pub rows-windows : (rows rows' : List Rows) (b b' : Bounds3f) (depth : ℕ) (ticks : List Float)
+      → WindowsAnswer·Numbered (0 ∷ 5 ∷ 6 ∷ 7 ∷ 8 ∷ 10 ∷ 12 ∷ 21 ∷ []) (Moves·windows rows rows' b b' depth ticks)

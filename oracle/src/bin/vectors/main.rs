@@ -9,6 +9,7 @@ mod sets;
 mod stretches;
 mod texts;
 mod trials;
+mod windows;
 
 use oracle::angles;
 use oracle::core::geometry::point::Point3f;
@@ -565,6 +566,7 @@ const KINDS: &[&str] = &[
     "trials",
     "joins",
     "stretches",
+    "windows",
 ];
 
 /// A box that a matrix carries: turned about, mirrored, carried to infinity, with wp of zero and a bottom row that isn't 0 0 0 1.
@@ -1181,6 +1183,7 @@ fn main() {
         "texts" => (texts::fixed, texts::random),
         "trials" => (trials::fixed, trials::random),
         "joins" => (joins::fixed, joins::random),
+        "windows" => (windows::fixed, windows::random),
         "arcs" => (fixed_arcs, random_arc),
         "rigid" => (rigid::fixed, rigid::random),
         "stretches" => (stretches::fixed, stretches::random),

@@ -1,0 +1,27 @@
+-- `jellyplain_moves_window_cover` meets its contract: the cover of a window of the chain in the rows, and the guarantee of it (`moves-window-clauses`).
+use Rattle.api.proofs.Kept.{moves-window-clauses}
+use borrow.Author.Needs.{needs}
+use Rattle.api.proofs.jellyplain_moves_window_cover.Statement.{statement}
+use Rattle.api.proofs.jellyplain_moves_window_cover.Tie as tie
+
+bounds-requires : tie.Need-bounds-requires
+bounds-requires c κs = search needs
+
+cover-requires : tie.Need-cover-requires
+cover-requires c κs = search needs
+
+put-bounds-requires : tie.Need-put-bounds-requires
+put-bounds-requires c κs = search needs
+
+returns : tie.Need-returns
+returns c =
+    let a = c .before .before .before .before .args in
+    let cover = c .before .before .cover in
+    let bounds = c .before .before .before .bounds in
+    moves-window-clauses (a .moves .now) (a .b .now) (a .depth) (record { earlier = a .earlier; later = a .later }) _ _ (a .bounds .now)
+    (rw (c .put-bounds .ensures .0, cover .ensures .0, bounds .ensures))
+    (rw (c .put-bounds .ensures .1, cover .ensures .0, bounds .ensures))
+
+pub jellyplain-moves-window-cover-spec : {M : Type 1} → statement M
+jellyplain-moves-window-cover-spec =
+    tie.close (tie.spec bounds-requires cover-requires put-bounds-requires returns)

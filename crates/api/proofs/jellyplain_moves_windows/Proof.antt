@@ -1,0 +1,21 @@
+-- `jellyplain_moves_windows` meets its contract: the windows of the chains in the rows.
+use borrow.Author.Needs.{needs}
+use Rattle.api.proofs.jellyplain_moves_windows.Statement.{statement}
+use Rattle.api.proofs.jellyplain_moves_windows.Tie as tie
+
+bounds-requires : tie.Need-bounds-requires
+bounds-requires c κs = search needs
+
+bounds-requires-2 : tie.Need-bounds-requires-2
+bounds-requires-2 c κs = search needs
+
+list-windows-requires : tie.Need-list-windows-requires
+list-windows-requires c κs = search needs
+
+returns : tie.Need-returns
+returns c =
+    let second = c .before .before in
+    rw (← second .before .bounds .ensures, ← second .bounds2 .ensures) (c .list-windows .ensures)
+
+pub jellyplain-moves-windows-spec : {M : Type 1} → statement M
+jellyplain-moves-windows-spec = tie.close (tie.spec bounds-requires bounds-requires-2 list-windows-requires returns)

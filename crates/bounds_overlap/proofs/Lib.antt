@@ -1,0 +1,2 @@
+-- Laws of boxes that meet.
+pub mod Overlap

@@ -1,0 +1,105 @@
+-- A finer cover of a window is never a wider one: `window-finer`. Only slices depend on the depth, and a piece of a deeper cut lies in a piece of the shallower one.
+use Prim.Native.Nat.{ℕ, _+_, _≤_}
+use mathlib.Core.Logic.{inl, inr}
+use mathlib.Core.Path.{_≡_, refl, sym, subst}
+use mathlib.Core.Bool.{Bool, true, false, cond}
+use mathlib.Core.List.{_++_, map, List·Memᴰ, List·Memᴰ·append-cases, Memᴰ·of-map, Memᴰ·map}
+use lib.Dec.{T}
+use lib.Ieee.{lt}
+use borrow.Author.Tests.{eqb-false, le-ltb}
+use Rattle.rounding.specs.Order.{_≼_}
+use Rattle.rounding.proofs.Order.{lt-≼}
+use Rattle.bounds3.specs.declared.Bounds3f.{Bounds3f}
+use Rattle.bounds3.specs.Bounds3f.{Bounds3f·default}
+use Rattle.transform.specs.declared.BoundsAnswer.{BoundsAnswer}
+use Rattle.transform.specs.declared.BoundsAnswer.the-variants.{Bounds}
+use Rattle.transform.specs.Answer.{BoundsAnswer·bounds}
+use Rattle.bounds_query.specs.Query.{Bounds3f·refusal, maxDepth, coverRefusal}
+use Rattle.interval.specs.declared.Interval.{Interval}
+use Rattle.animated_transform.specs.declared.AnimatedTransform.{AnimatedTransform}
+use Rattle.motion_point.specs.TransformPoint.{AnimatedTransform·constants}
+use Rattle.motion_cover.specs.Cover.{AnimatedTransform·encloseBounds}
+use Rattle.motion_cover.proofs.Contains.{cover-box}
+use Rattle.motion_cover.proofs.Proper.{BoxRefines, box-refines}
+use Rattle.cover_depth.proofs.Finer.{BoxWithin, box-within, piece-isotone}
+use Rattle.bounds_answers.proofs.UnionAll.{union-all-within}
+use Rattle.motion_chain.specs.Chain.{Chain, Chain·moves}
+use Rattle.motion_chain.specs.Built.{BuiltChain}
+use Rattle.dt_share.specs.Share.{pieces}
+use Rattle.dt_share.proofs.Pieces.{pieces-part, pieces-finer}
+use Rattle.window_times.specs.declared.Window.{Window}
+use Rattle.window_times.specs.Window.{Window·refusal}
+use Rattle.chain_window.specs.Cover.{movesIn, shareIn, sliceBoxes, firstPoseBoxes, endPoseBoxes, boxesFrom, windowBoxes, Chain·encloseWindow, Chain·windowCover}
+use Rattle.chain_window.specs.Theorem.{WindowCoverFiner}
+use Rattle.chain_window.proofs.Members.{member-if, member-only, each-member, boxes-along}
+use Rattle.chain_window.proofs.Parts.{default-self, union-parts}
+use Rattle.chain_window.proofs.Boxes.{Rising, chain-rising, move-part, boxes-self}
+use Rattle.chain_window.proofs.Contains.{in-slices, in-first, in-ends, in-equals, window-accepted}
+use Rattle.chain_window.proofs.Numbers.{window-numbered}
+
+module _ (b : Bounds3f) (ok : BoxRefines b) (w : Window) (rise : w .earlier ≼ w .later) (d n : ℕ) (box : Bounds3f) where
+  slices-finer : (first last : Bool) (m : AnimatedTransform) → Rising m → ((r : BoundsAnswer) → List·Memᴰ r (sliceBoxes b d w m) → BoxWithin r box)
+      → (r : BoundsAnswer) → List·Memᴰ r (sliceBoxes b (d + n) w m) → BoxWithin r box
+  unfolding sliceBoxes
+  slices-finer first last m h coarse r i =
+      let f : Interval → BoundsAnswer = λ D. AnimatedTransform·encloseBounds m (AnimatedTransform·constants m) D b in
+      let part = move-part h w rise in
+      let (t, k) = member-only (map f (pieces (d + n) (shareIn w m))) (movesIn w m) i in
+      let (D, j, e) = Memᴰ·of-map f (pieces (d + n) (shareIn w m)) k in
+      let whole = pieces-finer d n part D j in
+      let u = pieces-part d part (whole .piece) (whole .member) .unit .subset in
+      subst (λ (x : BoundsAnswer). BoxWithin x box) e
+      (piece-isotone (h .built) b ok D (whole .piece) box (whole .subset) u (coarse (f (whole .piece)) (member-if (movesIn w m) t (Memᴰ·map f (whole .member)))))
+
+  boxes-finer : {c : Chain} → BuiltChain c → ((r : BoundsAnswer) → List·Memᴰ r (windowBoxes c b d w) → BoxWithin r box)
+      → (r : BoundsAnswer) → List·Memᴰ r (windowBoxes c b (d + n) w) → BoxWithin r box
+  unfolding windowBoxes
+  boxes-finer {c} built coarse r i =
+      let slices = boxesFrom (λ first last m. sliceBoxes b (d + n) w m) true (Chain·moves c) in
+      let poses = slices ++ firstPoseBoxes b w (c .first) in
+      let ends = boxesFrom (λ first last m. endPoseBoxes b w last m) true (Chain·moves c) in
+      elim (List·Memᴰ·append-cases (poses ++ ends) i) [
+        | inl j ↦ elim (List·Memᴰ·append-cases poses j) [
+          | inl k ↦ elim (List·Memᴰ·append-cases slices k) [
+            | inl l ↦
+                boxes-along Rising (λ s. BoxWithin s box) (λ first last m. sliceBoxes b d w m) (λ first last m. sliceBoxes b (d + n) w m) slices-finer true (Chain·moves c)
+                (chain-rising built) (λ s m. coarse s (in-slices c b d w s m)) r l
+            | inr l ↦ coarse r (in-first c b d w r l)
+          ]
+          | inr k ↦ coarse r (in-ends c b d w r k)
+        ]
+        | inr j ↦ coarse r (in-equals c b d w r j)
+      ]
+
+arguments-finer : (b : Bounds3f) (d : ℕ) → Bounds3f·refusal b ≡ 0 → d ≤ maxDepth → coverRefusal b d ≡ 0
+unfolding coverRefusal
+arguments-finer b d e l = rw (e, le-ltb maxDepth d l)
+
+pub window-box-finer : {c : Chain} → BuiltChain c → (b : Bounds3f) (w : Window) (d n : ℕ) (box : Bounds3f) → w .earlier ≼ w .later → d + n ≤ maxDepth
+    → Chain·windowCover c b d w ≡ Bounds box → BoxWithin (Chain·windowCover c b (d + n) w) box
+unfolding Chain·encloseWindow
+window-box-finer {c} built b w d n box rise l e =
+    let a = window-accepted c b d w box e in
+    let B = cover-box b d (a .arguments) in
+    let ok = box-refines b B in
+    let (empty, coarse) = union-parts (Bounds Bounds3f·default) (windowBoxes c b d w) box default-self (boxes-self c b d w) (a .work) in
+    let fine = boxes-finer b ok w rise d n box built coarse in
+    subst (λ (r : BoundsAnswer). BoxWithin r box) (sym (accepted (a .window) (arguments-finer b (d + n) B l)))
+    (union-all-within box (Bounds Bounds3f·default) (windowBoxes c b (d + n) w) empty (each-member (windowBoxes c b (d + n) w) fine))
+  where
+    accepted : Window·refusal w ≡ 0 → coverRefusal b (d + n) ≡ 0 → Chain·windowCover c b (d + n) w ≡ Chain·encloseWindow c b (d + n) w
+    accepted p q = unfold Chain·windowCover in rw (p, q)
+
+-- Ticks that are not refused rise.
+pub window-rises : (w : Window) → Window·refusal w ≡ 0 → w .earlier ≼ w .later
+window-rises w = go (lt (w .earlier) (w .later)) (lt-≼ (w .earlier) (w .later))
+  where
+    go : (t : Bool) → (T t → w .earlier ≼ w .later) → _≡_ {A = ℕ} (cond t 0 21) 0 → w .earlier ≼ w .later
+    go true f e = f tt
+    go false f e = absurd (eqb-false 21 0 refl e)
+
+pub window-finer : (c : Chain) (b : Bounds3f) (w : Window) → WindowCoverFiner c b w
+window-finer c b w d n built l e =
+    let box = BoundsAnswer·bounds (Chain·windowCover c b d w) in
+    let a = window-numbered c b d w .none e in
+    box-within (window-box-finer built b w d n box (window-rises w (window-accepted c b d w box a .window)) l a)

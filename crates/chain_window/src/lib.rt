@@ -1,0 +1,1 @@
+// Laws only: the cover of one window of a chain's times.

@@ -1,0 +1,35 @@
+-- The union over pieces as the code takes it: `pieces-whole`, an interval that is not cut, and `pieces-halves`, the pieces of the lower half and then those of the upper. A union over two
+-- lists in a row is that over the first and then the second, `union-append`.
+use Prim.Native.Nat.{ℕ, zero, suc, _-_}
+use mathlib.Core.Path.{_≡_, refl}
+use mathlib.Core.List.{List, [], _∷_, _++_, map}
+use native.Mathlib.Omega.{arith}
+use Rattle.transform.specs.declared.BoundsAnswer.{BoundsAnswer}
+use Rattle.bounds_query.specs.Query.{BoundsAnswer·unionBounds}
+use Rattle.interval.specs.declared.Interval.{Interval}
+use Rattle.dt_share.specs.Share.{lowerHalf, upperHalf, pieces}
+use Rattle.bounds_answers.specs.UnionAll.{BoundsAnswer·unionAll}
+use Rattle.dt_pieces.specs.Pieces.{unionPieces}
+
+pub union-append : (r : BoundsAnswer) (xs ys : List BoundsAnswer) → BoundsAnswer·unionAll r (xs ++ ys) ≡ BoundsAnswer·unionAll (BoundsAnswer·unionAll r xs) ys
+union-append r [] ys = refl
+union-append r (x ∷ xs) ys = union-append (BoundsAnswer·unionBounds r x) xs ys
+
+map-append : {A B : Type 0} (f : A → B) (xs ys : List A) → map f (xs ++ ys) ≡ map f xs ++ map f ys
+map-append f [] ys = refl
+map-append f (x ∷ xs) ys = rw (map-append f xs ys)
+
+module _ (box : Interval → BoundsAnswer) (r : BoundsAnswer) where
+  pub pieces-whole : (d : ℕ) (i : Interval) → d ≡ 0 → unionPieces box r d i ≡ BoundsAnswer·unionBounds r (box i)
+  unfolding unionPieces pieces
+  pieces-whole zero i e = refl
+  pieces-whole (suc d) i e = absurd (omega (arith, e))
+
+  halves : (d : ℕ) (i : Interval) → unionPieces box r (suc d) i ≡ unionPieces box (unionPieces box r d (lowerHalf i)) d (upperHalf i)
+  unfolding unionPieces pieces
+  halves d i =
+      rw (map-append box (pieces d (lowerHalf i)) (pieces d (upperHalf i))) (union-append r (map box (pieces d (lowerHalf i))) (map box (pieces d (upperHalf i))))
+
+  pub pieces-halves : (d : ℕ) (i : Interval) → (d ≡ 0 → ⊥) → unionPieces box r d i ≡ unionPieces box (unionPieces box r (d - 1) (lowerHalf i)) (d - 1) (upperHalf i)
+  pieces-halves zero i e = absurd (e refl)
+  pieces-halves (suc d) i e = let k : suc d - 1 ≡ d = omega arith in rw k (halves d i)

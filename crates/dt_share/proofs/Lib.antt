@@ -1,0 +1,4 @@
+pub mod Between
+pub mod Limits
+pub mod DtShare
+pub mod Pieces

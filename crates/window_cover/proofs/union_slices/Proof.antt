@@ -1,0 +1,36 @@
+-- `union_slices` meets its contract: a move that the window asks for is its pieces, any other nothing.
+use mathlib.Core.Bool.{_&&_}
+use borrow.Author.Needs.{needs}
+use borrow.Author.Tests.{not-true, not-false}
+use Rattle.window_cover.proofs.Slices.{slices-pieces, slices-none}
+use Rattle.window_cover.proofs.union_slices.Statement.{statement}
+use Rattle.window_cover.proofs.union_slices.Tie as tie
+
+overlaps-requires : tie.Need-overlaps-requires
+overlaps-requires c κs = search needs
+
+returns : tie.Need-returns
+returns c =
+    let a = c .before .before .before .args in
+    let t = c .before .before .overlaps in
+    slices-none (a .m) (a .b) (a .depth) (a .w) (a .r) (rw (t .ensures) at (not-true (a .m .«actually_animated» && t .result) (c .if1 .taken)))
+
+constants-requires : tie.Need-constants-requires
+constants-requires c κs = search needs
+
+share-requires : tie.Need-share-requires
+share-requires c κs = search needs
+
+union-pieces-requires : tie.Need-union-pieces-requires
+union-pieces-requires c κs = search needs
+
+returns-2 : tie.Need-returns-2
+returns-2 c =
+    let test = c .before .before .before in
+    let a = test .before .before .before .args in
+    let t = test .before .before .overlaps in
+    rw (c .union-pieces .ensures, c .before .share .ensures, c .before .before .constants .ensures)
+    (slices-pieces (a .m) (a .b) (a .depth) (a .w) (a .r) (rw (t .ensures) at (not-false (a .m .«actually_animated» && t .result) (test .if1 .left))))
+
+pub union-slices-spec : {M : Type 1} → statement M
+union-slices-spec = tie.close (tie.spec overlaps-requires returns constants-requires share-requires union-pieces-requires returns-2)

@@ -1,0 +1,5 @@
+pub mod Meets
+pub mod Listed
+pub mod Numbers
+pub mod Apart
+pub mod Finer

@@ -1,0 +1,1 @@
+// Laws only: the windows in which the boxes of two chains meet.
