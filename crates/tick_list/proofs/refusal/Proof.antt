@@ -8,7 +8,7 @@ use Rattle.tick_list.proofs.refusal.Statement.{statement}
 use Rattle.tick_list.proofs.refusal.Tie as tie
 
 returns : tie.Need-returns
-returns c = count-refused _ (c .if1 .taken)
+returns c = count-refused (c .before .before .args .ticks .now) (c .if1 .taken)
 
 rise-requires : tie.Need-rise-requires
 rise-requires c κs = search needs
