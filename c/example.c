@@ -15,12 +15,14 @@ int main(void)
     const float times[3] = {0.5f, 1, 1.5f};
     const float mast_and_arm[2][6] = {{0, 0, 0, 0, 2, 0}, {-3, 2, 0, 3, 2, 0}};
     const jellyplain_pose wide_spray = {1, {{1, 0, 0, 1}, {0, 1, 0, 0}, {0, 0, 1, 0}, {0, 0, 0, 1}}, 2};
+    const float day_boxes[JELLYPLAIN_BOOMS][6] = {{0, 0, 0, 2, 1, 1}, {2, 0, 0, 4, 1, 1}, {5, 0, 0, 6, 1, 1}};
+    const uint32_t lengths[JELLYPLAIN_BOOMS] = {30, 20, 10};
     static jellyplain_chain chain, there, back, joined;
     static jellyplain_pose poses[JELLYPLAIN_FILE_POSES];
     static uint8_t text[JELLYPLAIN_TEXT];
     jellyplain_move move, spraying;
     float moved[3], pad[1], transform[2][4][4], bounds[6], points[9], covers[JELLYPLAIN_BOXES][6];
-    uint32_t examined[3];
+    uint32_t examined[3], starts[JELLYPLAIN_BOOMS];
 
     if (jellyplain_layout() != JELLYPLAIN_LAYOUT) {
         printf("the archive has another layout\n");
@@ -80,6 +82,8 @@ int main(void)
         printf("the poses that are refused: %zu from place %zu on\n", run.length, run.place);
     if (jellyplain_build_chain(true, there_and_back, 3, &chain) == JELLYPLAIN_NONE && jellyplain_chain_cover(&chain, boom, 10, bounds) == JELLYPLAIN_NONE)
         printf("reserved as rigid: %g %g %g to %g %g %g\n", bounds[0], bounds[1], bounds[2], bounds[3], bounds[4], bounds[5]);
+    if (jellyplain_day(day_boxes, lengths, 3, starts) == JELLYPLAIN_NONE)
+        printf("three booms start in ticks %u, %u and %u\n", (unsigned)starts[0], (unsigned)starts[1], (unsigned)starts[2]);
     printf("at depth 13: refused with %d\n", jellyplain_cover(&move, boom, 13, bounds));
     return 0;
 }

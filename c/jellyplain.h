@@ -70,7 +70,8 @@ enum jellyplain_refusal {
     JELLYPLAIN_DETERMINANT = 18,    /* a pose of a rigid move or chain mirrors: its determinant isn't above zero */
     JELLYPLAIN_PLACE = 19,          /* a pose is tried at a place beyond the last */
     JELLYPLAIN_MISMATCH = 20,       /* two chains to be joined differ in a bit of the pose that they share, or in their kind */
-    JELLYPLAIN_TICKS = 21           /* ticks are NaN, fewer than 2, more than 64 or don't rise strictly */
+    JELLYPLAIN_TICKS = 21,          /* ticks are NaN, fewer than 2, more than 64 or don't rise strictly */
+    JELLYPLAIN_DAY = 22             /* a day has no boom or more than 8, or a run length outside 1 to 1,000 */
 };
 
 /* The move from one pose to another. A boom that neither stretches nor shears may be built as rigid: between the poses a turn and a shift alone, so that its covers are tighter.
@@ -189,6 +190,16 @@ jellyplain_file_read jellyplain_read_file(const uint8_t *bytes, size_t size, jel
 /* The poses of a chain and the box b as a move file, in the one way that it is written: fourteen names, lower-case digits, single spaces, line feeds, no space at a line's end. The text goes
  * into the front of `out`, and the bytes behind it stay. Numbers 6 and 7, then 15 where `size` is too small, and 12 for no moves; all bytes then stay. */
 jellyplain_written jellyplain_write_file(const jellyplain_move *moves, size_t count, const float b[6], uint8_t *out, size_t size);
+
+/* ---- a day of booms */
+
+/* The most booms of a day. */
+#define JELLYPLAIN_BOOMS 8
+
+/* The tick in which each of the first `count` booms starts, a cover and a run length of 1 to 1,000 ticks each; all wait from tick 0 and are taken in their order, and one starts where its box meets,
+ * even by touching, no running boom's box. No two that run meet, and each starts no later than the sum of the others' run lengths. The places behind them are 0.
+ * Numbers 22, then 6 and 7 of the first refused box; `starts` stays after a refusal. */
+uint8_t jellyplain_day(const float boxes[JELLYPLAIN_BOOMS][6], const uint32_t lengths[JELLYPLAIN_BOOMS], size_t count, uint32_t starts[JELLYPLAIN_BOOMS]);
 
 static inline uint8_t jellyplain_build_chain(bool rigid, const jellyplain_pose *poses, size_t count, jellyplain_chain *chain)
 {

@@ -165,6 +165,11 @@ def changed(change, question, answer):
             return answer_of([all_boxes] + [covers[0]] * len(covers))
         if change == "last_missing" and len(covers) > 1:
             return answer_of([all_boxes] + covers[:-1])
+    if word == "day" and answer.startswith(b"ok"):
+        if change == "all_at_once":
+            return b"ok" + b" 0" * (len(answer.split()) - 1)
+        if change == "one_late":
+            return answer + b"0000"
     if word in ("cover", "ccover", "cset") and answer.startswith(b"ok"):
         depth, boxes = int(values[1 if word == "cover" else 2]), boxes_in(answer)
         if change == "narrow":
@@ -299,7 +304,7 @@ def trial(title, kind, changes, different, shown=(), sides=None, cases=40):
     """`different` is how many differences are to be told; None for some. The changes are on some sides, or on the project's alone."""
     if len(sys.argv) > 1 and not set(kind.split(",")) & set(sys.argv[1:]):
         return None
-    is_of_chains = kind in ("chains", "rigid", "sets", "texts", "trials", "joins", "stretches", "windows", "arcs", "files")
+    is_of_chains = kind in ("chains", "rigid", "sets", "texts", "trials", "joins", "stretches", "windows", "arcs", "days", "files")
     sides = sides or ("--chain-answers" if is_of_chains else "--answers",)
     with tempfile.TemporaryDirectory() as folder:
         command = [os.path.join(HERE, "run"), "--no-build", "--kinds", kind, "--moves", str(cases), "--chains", str(cases), "--files", str(cases), "--show", "100"]
@@ -405,6 +410,11 @@ def main():
         trial("another pad in every written text, on both sides", "texts", ["other_pad"], None, ["read of what was written"], BOTH_OF_CHAINS),
         trial("every text written without its pads, on both sides", "texts", ["pads_left_out"], None, ["read of what was written"], BOTH_OF_CHAINS),
         trial("sets that don't grow by the pads, on both sides", "sets", ["covers_unpadded"], None, ["guarantee: a point leaves"], BOTH_OF_CHAINS),
+        trial("days as they are", "days", [], 0, cases=200),
+        trial("a digit of one day's answer", "days", ["day"], None, ["day"]),
+        trial("another number of one day's refusal", "days", ["refusal"], 1),
+        trial("all booms started at once, on both sides", "days", ["all_at_once"], None, ["day: two booms that run meet"], BOTH_OF_CHAINS),
+        trial("a boom that starts late, on both sides", "days", ["one_late"], None, ["day: a boom starts late"], BOTH_OF_CHAINS),
         trial("files as they are", "files", ["file"], 0, cases=200),
         trial("a digit of one file's box and of one file's refusal", "files", ["wrong_file"], 2, ["cover, the program"], cases=200),
         trial("a space at the end of one rewritten file", "files", ["wrong_text"], None, ["rewrite, the program"], cases=200),

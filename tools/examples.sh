@@ -4,8 +4,9 @@
 # Runs the program `rewrite` on the same: the one form of a file of examples/ is the file with its pads, +0 where it has none, that of
 # examples/rewritten/NAME.*.txt is that of examples/NAME.txt, byte for byte, and the refused ones are refused with the same numbers.
 # Runs the program `stretch` on the same: it accepts the files of examples/, and for one of examples/refused/ prints its .stretch, or its .expected where it has none.
+# Runs the program `day` on each day file of examples/days/ and examples/days/refused/ in the same way.
 # Exit status 1 where one differs.
-#   tools/examples.sh                     compares; target/bin/cover, target/bin/rewrite and target/bin/stretch must be built
+#   tools/examples.sh                     compares; target/bin/cover, target/bin/rewrite, target/bin/stretch and target/bin/day must be built
 #   tools/examples.sh --expect PROGRAM    writes the .expected files of examples/ by what PROGRAM answers at depth 10: the oracle's `chain_answers`, so that
 #                                         they come from outside the libraries; those of examples/refused/ are the documents' numbers
 set -u
@@ -29,7 +30,7 @@ if [ $# -eq 2 ] && [ "$1" = --expect ]; then
     done
     exit
 fi
-[ $# -eq 0 ] || { sed -n '2,10s/^# \{0,1\}//p' "$0"; exit 2; }
+[ $# -eq 0 ] || { sed -n '2,11s/^# \{0,1\}//p' "$0"; exit 2; }
 # A file of thirteen names with its pads of +0.
 with_pads() { awk 'NR == 1 { old = NF == 13; print $0 (old ? " pad" : ""); next } $1 == "x0" { old = 0 } { print $0 (old ? " 00000000" : "") }' "$1"; }
 same_zeros() { sed 's/\b80000000\b/00000000/g' "$1"; }
@@ -97,6 +98,9 @@ swing_of() { # BYTES
         [ -f "$expected" ] || expected=${file%.txt}.expected
         try_stretch "$file" "$file" "$expected"
     done
+    for file in examples/days/*.txt examples/days/refused/*.txt; do
+        compared day cat "$file" "$file" "${file%.txt}.expected"
+    done
 } 2>&1
-[ "$status" -ne 0 ] || echo "examples: $count runs on move files, each with the expected output"
+[ "$status" -ne 0 ] || echo "examples: $count runs on move files and day files, each with the expected output"
 exit "$status"

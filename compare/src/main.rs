@@ -1,6 +1,7 @@
 //! Holds the answers of the project's programs to the oracle's, and tests the guarantee from outside: README.md says how.
 
 mod answer;
+mod day;
 mod files;
 mod guarantee;
 mod joins;
@@ -39,6 +40,7 @@ const KINDS: &[&str] = &[
     "joins",
     "stretches",
     "windows",
+    "days",
     "files",
 ];
 
@@ -46,10 +48,10 @@ const HELP: &str = "\
 compare/run [--moves N] [--chains N] [--seed N] [--kinds A,B,..] [--files N] [--no-build] ..
 
   --moves N              cases of each kind beside the fixed ones                20000
-  --chains N             chains, with their questions, sets, texts, trials, joins, stretches and windows   a quarter of the moves
+  --chains N             chains, with their questions, sets, texts, trials, joins, stretches, windows and days   a quarter of the moves
   --files N              files for the programs `cover`, `rewrite`, `stretch`    a tenth of the moves
   --seed N               the same seed makes the same cases                      7
-  --kinds A,B            some of: numbers angles matrices boxes moves bounds motion covers chains rigid sets texts trials arcs joins stretches windows files; all of them without it
+  --kinds A,B            some of: numbers angles matrices boxes moves bounds motion covers chains rigid sets texts trials arcs joins stretches windows days files; all of them without it
   --show N               how many differences are printed                        10
   --workers N            batches worked at once                                  the number of processors
   --no-build             takes the project's programs as they stand
@@ -131,7 +133,7 @@ const BATCH_BYTES: usize = 1 << 18;
 const BATCH_FILES: u64 = 200;
 
 fn are_chains(kind: &str) -> bool {
-    matches!(kind, "chains" | "rigid" | "sets" | "texts" | "trials" | "joins" | "stretches" | "windows")
+    matches!(kind, "chains" | "rigid" | "sets" | "texts" | "trials" | "joins" | "stretches" | "windows" | "days")
 }
 
 /// Cuts what `vectors` prints for a kind into batches: before a move, or anywhere as long as there was none; chains at the comment before a case.
@@ -196,6 +198,8 @@ fn compare(options: &Options, batch: &Batch, number: u64) -> Report {
                 trials::test(sides, questions, &runs[0].output, &mut report);
             } else if kind == "windows" {
                 windows::test(sides, questions, &runs[0].output, &mut Random::new(options.seed, number), &mut report);
+            } else if kind == "days" {
+                day::test(questions, &runs[0].output, &mut report);
             } else if kind == "covers" || are_chains(kind) {
                 if kind == "joins" {
                     joins::test(questions, &runs[0].output, &mut report);

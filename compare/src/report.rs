@@ -83,6 +83,9 @@ pub struct Report {
     pub rigid_guarantee: Guarantee,
     /// That of sets of boxes: a cover for each box.
     pub set_guarantee: Guarantee,
+    /// Accepted days of booms, and those of which a promise does not hold.
+    pub days: u64,
+    pub days_broken: u64,
     rows: Vec<(&'static str, Count)>,
     found: Vec<String>,
 }
@@ -95,7 +98,7 @@ const NAMES: &[&str] = &[
     "move", "parts", "point", "interp", "motion", "pmotion", "cover", "zeros", "sin", "cos", "acos", "abs", "root", "least", "greatest", "lerp", "clamp", "whole",
     "inverse", "mul", "quat", "rotation", "dot", "normalize", "slerp", "decompose", "bounds",
     "chain", "lone", "join", "cpoint", "ctimes", "ccover", "cset", "cpad", "try", "cinterp", "cparts", "cmotion", "cpmotion", "acosn",
-    "write", "read", "stretch", "windows", "wcover",
+    "write", "read", "stretch", "windows", "wcover", "day",
 ];
 
 /// The question's first word; every line that starts otherwise is `another line`.
@@ -184,7 +187,7 @@ impl Report {
 
     pub fn different(&self) -> u64 {
         let guarantees = [&self.guarantee, &self.chain_guarantee, &self.rigid_guarantee, &self.set_guarantee];
-        self.rows.iter().map(|(_, count)| count.different).sum::<u64>() + guarantees.iter().map(|g| g.different()).sum::<u64>()
+        self.rows.iter().map(|(_, count)| count.different).sum::<u64>() + guarantees.iter().map(|g| g.different()).sum::<u64>() + self.days_broken
     }
 
     pub fn answers(&self) -> u64 {
@@ -208,6 +211,8 @@ impl Report {
         self.chain_guarantee.add(&other.chain_guarantee);
         self.rigid_guarantee.add(&other.rigid_guarantee);
         self.set_guarantee.add(&other.set_guarantee);
+        self.days += other.days;
+        self.days_broken += other.days_broken;
         self.moves += other.moves;
         self.chains += other.chains;
     }
@@ -231,6 +236,9 @@ impl Report {
             out.push('\n');
             tested.iter().for_each(|(of, g)| out += &g.finer_line(of));
             tested.iter().filter(|(_, g)| g.without_pads > 0).for_each(|(of, g)| out += &g.without_pads_line(of));
+        }
+        if self.days > 0 {
+            writeln!(out, "\naccepted days of booms: {}, {} with booms that meet or start late", grouped(self.days), grouped(self.days_broken)).unwrap();
         }
         out
     }

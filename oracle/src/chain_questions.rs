@@ -3,6 +3,7 @@
 use crate::angles;
 use crate::chain::{self, Chain, Pose};
 use crate::core::geometry::point::Point3f;
+use crate::day::{starting_ticks, Boom};
 use crate::file::File;
 use crate::judged::{point_values, Judged, Kind, Move};
 use crate::lines::{bounds, bytes, counted, float, floats, matrix, matrix_floats, parts, read, whole, Answer, Session, Values};
@@ -35,6 +36,7 @@ const QUESTIONS: &[(&str, Question)] = &[
     ("stretch", stretch),
     ("windows", windows),
     ("wcover", window_cover),
+    ("day", day),
 ];
 
 const SLOTS: usize = 4;
@@ -314,6 +316,18 @@ fn window_cover(slots: &mut Slots, words: Words) -> Answer {
     Some(box_floats(slots.chain(slot)?.window_cover(&[x0, y0, z0, x1, y1, z1], depth, Window { earlier, later })))
 }
 
+/// A box and a decimal run length.
+fn boom(words: Words) -> Option<Boom> {
+    let (ticks, cover) = words.split_last()?;
+    Some(Boom { cover: read(cover)?, ticks: whole(ticks)? })
+}
+
+/// day [BOX LENGTH]*
+fn day(_: &mut Slots, words: Words) -> Answer {
+    let booms: Vec<Boom> = words.chunks(7).map(boom).collect::<Option<_>>()?;
+    Some(starting_ticks(&booms).map(|starts| starts.iter().fold(Values::default(), |values, start| values.number(*start as usize))))
+}
+
 #[cfg(test)]
 mod tests {
     use super::*;
@@ -370,6 +384,8 @@ mod tests {
         assert_eq!(words(&format!("ccover 2 3 {ORIGIN} {ORIGIN}")), 1 + 6);
         assert_eq!(words(&format!("cset 2 3{}", format!(" {ORIGIN} {ORIGIN}").repeat(16))), 1 + 6 * 17);
         assert_eq!(answers(&[&build, "cset 2 3"])[1], "refused 14");
+        assert_eq!(words(&format!("day{}", format!(" {ORIGIN} {ORIGIN} 5").repeat(8))), 1 + 8);
+        assert_eq!(answers(&["day", &format!("day {ORIGIN} {ORIGIN} 007 {ORIGIN} {ORIGIN} 1")]), ["refused 22", "ok 0 7"]);
         assert_eq!(words(&format!("ctimes 2 6 {ORIGIN} 3f000000 3f800000")), 1 + 6);
         assert_eq!(words(&format!("ctimes 2 0 {ORIGIN}")), 1);
         assert_eq!(answers(&[&build, &format!("ctimes 2 18446744073709551615 {ORIGIN}")])[1], "refused 13");
@@ -440,6 +456,10 @@ mod tests {
             "read 0",
             "read 0g",
             "read 00 00",
+            "day 0",
+            "day 00000000 00000000 00000000 00000000 00000000 00000000",
+            "day 00000000 00000000 00000000 00000000 00000000 00000000 x",
+            "day 00000000 00000000 00000000 00000000 00000000 1 00000000",
             "sin 00000000",
             "acosn",
             "acosn 0",

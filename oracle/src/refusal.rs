@@ -42,3 +42,5 @@ pub const PLACE: u8 = 19;
 pub const MISMATCH: u8 = 20;
 /// Ticks that are NaN, too few, too many or not rising.
 pub const TICKS: u8 = 21;
+/// A day of no boom, or of more than 8, or a run length outside 1 to 1,000.
+pub const DAY: u8 = 22;

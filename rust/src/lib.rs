@@ -345,3 +345,22 @@ impl MoveFile {
         answered(read.refusal, MoveFile { poses: poses[..read.count].to_vec(), bounds: Bounds::from_array(bounds) })
     }
 }
+
+/// A boom of a day: its chain's cover, and for how many ticks it runs.
+#[derive(Clone, Copy, Debug, PartialEq)]
+pub struct Boom {
+    pub cover: Bounds,
+    pub ticks: u32,
+}
+
+/// The tick in which each of 1 to 8 booms starts, in their order. All wait from tick 0; in each tick those whose run is over stop first, then the waiting ones are taken in order, and one starts if its
+/// cover meets, even by touching, no running boom's. No two that run ever have covers that meet, and each starts no later than the sum of the others' run lengths.
+/// Refused with [`Refusal::Day`], then with [`Refusal::Query`] and [`Refusal::Corners`] of the first cover in order that is refused.
+pub fn starting_ticks(booms: &[Boom]) -> Result<Vec<u32>, Refusal> {
+    let (mut boxes, mut lengths, mut starts) = ([[0.0; 6]; library::BOOMS], [0; library::BOOMS], [0; library::BOOMS]);
+    for (i, boom) in booms.iter().enumerate().take(library::BOOMS) {
+        (boxes[i], lengths[i]) = (boom.cover.to_array(), boom.ticks);
+    }
+    let number = unsafe { library::jellyplain_day(&boxes, &lengths, booms.len(), &mut starts) };
+    answered(number, starts.into_iter().take(booms.len()).collect())
+}

@@ -53,6 +53,9 @@ pub struct Windows {
     pub refusal: u8,
 }
 
+/// The most booms of a day.
+pub const BOOMS: usize = 8;
+
 extern "C" {
     pub fn jellyplain_build(rigid: bool, start: &Pose, end: &Pose, motion: &mut Rows) -> u8;
     pub fn jellyplain_point(motion: &Rows, time: f32, p: &[f32; 3], moved: &mut [f32; 3]) -> u8;
@@ -102,6 +105,7 @@ extern "C" {
     ) -> Windows;
     pub fn jellyplain_read_file(bytes: *const u8, size: usize, poses: &mut [Pose; FILE_POSES], bounds: &mut [f32; 6]) -> FileRead;
     pub fn jellyplain_write_file(moves: *const Rows, count: usize, b: &[f32; 6], out: *mut u8, size: usize) -> Written;
+    pub fn jellyplain_day(boxes: &[[f32; 6]; BOOMS], lengths: &[u32; BOOMS], count: usize, starts: &mut [u32; BOOMS]) -> u8;
 }
 
 /// The layout in which poses, moves and chains cross to the archive.
@@ -271,6 +275,24 @@ mod tests {
         assert_eq!((read, b), (FileRead { count: 2, refusal: 0 }, [0.0; 6]));
         assert_eq!((poses[1].time, poses[1].matrix[0][3], poses[1].matrix[3], poses[1].pad), (1.0, 1.0, IDENTITY[3], 0.0));
         assert_eq!(poses[2..], [seven; FILE_POSES - 2]);
+    }
+
+    #[test]
+    fn starting_ticks_in_their_places() {
+        let mut boxes = [[0.0, 0.0, 0.0, 1.0, 1.0, 1.0]; BOOMS];
+        let mut starts = [7; BOOMS];
+        let mut ask = |boxes: &[[f32; 6]; BOOMS], lengths: &[u32; BOOMS], count: usize| {
+            let number = unsafe { jellyplain_day(boxes, lengths, count, &mut starts) };
+            (number, starts)
+        };
+        for count in [0, 9, usize::MAX] {
+            assert_eq!(ask(&boxes, &[1; BOOMS], count), (22, [7; BOOMS]));
+        }
+        // What stands behind the booms is not looked at.
+        boxes[3] = [f32::NAN; 6];
+        assert_eq!(ask(&boxes, &[1; BOOMS], 4), (6, [7; BOOMS]));
+        assert_eq!(ask(&boxes, &[1, 2, 3, 0, 5, 6, 7, 8], 4), (22, [7; BOOMS]));
+        assert_eq!(ask(&boxes, &[1, 2, 1000, 0, 1001, 6, 7, 8], 3), (0, [0, 1, 3, 0, 0, 0, 0, 0]));
     }
 
     /// Rows that no building made are answered too: here a move at rest whose matrices are all zeros, so that a point's wp is zero.

@@ -46,10 +46,12 @@ pub enum Refusal {
     Mismatch = 20,
     /// Ticks are NaN, fewer than 2, more than 64 or don't rise strictly.
     Ticks = 21,
+    /// A day has no boom or more than 8, or a run length outside 1 to 1,000.
+    Day = 22,
 }
 
 impl Refusal {
-    const ALL: [Refusal; 21] = {
+    const ALL: [Refusal; 22] = {
         use Refusal::*;
         [
             PoseNotFinite,
@@ -73,6 +75,7 @@ impl Refusal {
             Place,
             Mismatch,
             Ticks,
+            Day,
         ]
     };
 
@@ -80,7 +83,7 @@ impl Refusal {
         self as u8
     }
 
-    /// The refusal of a number from 1 to 21.
+    /// The refusal of a number from 1 to 22.
     pub fn from_number(number: u8) -> Option<Refusal> {
         Refusal::ALL.into_iter().find(|refusal| refusal.number() == number)
     }
@@ -110,6 +113,7 @@ impl fmt::Display for Refusal {
             Refusal::Place => "the place is beyond the last pose",
             Refusal::Mismatch => "the chains don't share a pose to the bit, or differ in their kind",
             Refusal::Ticks => "there are 2 to 64 ticks that rise strictly",
+            Refusal::Day => "a day has 1 to 8 booms with run lengths of 1 to 1,000 ticks",
         };
         write!(f, "refused with {}: {reason}", self.number())
     }
@@ -123,7 +127,7 @@ mod tests {
 
     #[test]
     fn numbers() {
-        assert!((1..=21).all(|number| Refusal::from_number(number).unwrap().number() == number));
-        assert_eq!((Refusal::from_number(0), Refusal::from_number(22)), (None, None));
+        assert!((1..=22).all(|number| Refusal::from_number(number).unwrap().number() == number));
+        assert_eq!((Refusal::from_number(0), Refusal::from_number(23)), (None, None));
     }
 }

@@ -42,6 +42,9 @@ ghost use Rattle.motion_file.specs.Layout.{MoveFile·read, MoveFile·poses};
 ghost use Rattle.motion_file.specs.Front.{front as posesFront};
 ghost use Rattle.chain_text.specs.Write.{TextAnswer·refusal, TextAnswer·length, TextAnswer·left};
 ghost use Rattle.chain_text.specs.Theorem.{WrittenBack};
+ghost use Rattle.run_schedule.specs.Day.{dayRefusal};
+ghost use Rattle.run_schedule.specs.Theorem.{DayKeeps};
+ghost use Rattle.run_starts.specs.Booms.{Booms·ofLists, startsLeft};
 ghost use Rattle.api.specs.Files.{MoveFile·boundsLeft, Moves·written};
 ghost use Rattle.window_meetings.specs.Windows.{WindowsAnswer·refusal, WindowsAnswer·windows, WindowsAnswer·left};
 ghost use Rattle.window_pairs.specs.Kept.{KeptWindowsApart, KeptWindowsFiner};
@@ -458,4 +461,20 @@ pub extern "C" fn jellyplain_moves_windows(
         ticks,
         places,
     )
+}
+
+// The starting tick of each of 1 to 8 booms in list order, a box and a run length of 1 to 1,000 ticks each; unused places are 0. No two that run have boxes that meet, and each starts
+// no later than the sum of the others' run lengths. Refused with 22, then with 6 or 7 of the first refused box in order. Accuracy: exact.
+#[no_mangle]
+pub extern "C" fn jellyplain_day(
+    boxes: &[[f32; 6]; 8],
+    lengths: &[u32; 8],
+    count: usize,
+    starts: &mut [u32; 8],
+) -> u8
+    ensures refusal { λ r. ⌜ r ≡ dayRefusal (Booms·ofLists count (now (boxes .entry)) (now (lengths .entry))) ⌝ }
+    ensures left { λ _. ⌜ now (starts .exit) ≡ startsLeft (Booms·ofLists count (now (boxes .entry)) (now (lengths .entry))) (now (starts .entry)) ⌝ }
+    ensures day { λ r. ⌜ (r ≡ 0 → DayKeeps (Booms·ofLists count (now (boxes .entry)) (now (lengths .entry))) (now (starts .exit))) ⌝ }
+{
+    run_starts::start_ticks(boxes, lengths, count, starts)
 }

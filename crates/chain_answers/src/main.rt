@@ -1,7 +1,8 @@
-// A test program: answers questions about chains of poses, a question a line of standard input, an answer line each, in order, so that any other
-// implementation can be compared with the library through a pipe. What is read at once is answered before more is read.
+// A test program: answers questions about chains of poses and days of booms, a question a line of standard input, an answer line each, in order, so that any
+// other implementation can be compared with the library through a pipe. What is read at once is answered before more is read.
 mod answer;
 mod chains;
+mod day;
 mod files;
 mod question;
 
@@ -88,6 +89,10 @@ fn answer_line(
     let at = make_room(out, written);
     if question::is_read(line) {
         return files::read(line, out, at);
+    }
+    let booms = day::words_start(line);
+    if booms != usize::MAX {
+        return day::put_day(line, booms, out, at);
     }
     let mut wholes = [0u64; 4];
     let mut x = [0.0f32; 900];

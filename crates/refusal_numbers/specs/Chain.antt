@@ -33,6 +33,7 @@ use Rattle.window_meetings.specs.Windows.{Chain·windows}
 use Rattle.window_meetings.specs.Numbers.{WindowsAnswer·Numbered}
 use Rattle.window_pairs.specs.Kept.{Moves·windows}
 use Rattle.refusal_numbers.specs.Numbers.{PadAnswer·Numbered}
+use Rattle.run_schedule.specs.Day.{Boom, dayRefusal}
 
 -- The number is one of those listed, and an answer whose number is 0 is a chain.
 pub record ChainAnswer·Numbered (numbers : List ℕ) (a : ChainAnswer) : Type 0 where
@@ -47,7 +48,7 @@ buildingNumbers rigid = 0 ∷ 1 ∷ 2 ∷ 3 ∷ 4 ∷ 5 ∷ 12 ∷ 16 ∷ kindNu
 abbrev pub trialNumbers : Bool → List ℕ
 trialNumbers rigid = 0 ∷ 1 ∷ 2 ∷ 3 ∷ 4 ∷ 5 ∷ 6 ∷ 7 ∷ 8 ∷ 10 ∷ 12 ∷ 16 ∷ 19 ∷ kindNumbers rigid
 
--- document 01's numbers, and document 02's: 12 and 16 of building, 17 and 18 of building as rigid, 13 of a list of times, 14 of a set, 19 of a place, 20 of joining, 21 of ticks
+-- document 01's numbers, and document 02's: 12 and 16 of building, 17 and 18 of building as rigid, 13 of a list of times, 14 of a set, 19 of a place, 20 of joining, 21 of ticks, 22 of a day
 pub record EveryChainAnswer : Type 0 where
   pub building : (rigid : Bool) (poses : List Pose) → ChainAnswer·Numbered (buildingNumbers rigid) (Chain·new rigid poses)
   pub point : (c : Chain) (time : Float) (p : Point3f) → PointAnswer·Numbered (0 ∷ 5 ∷ 6 ∷ []) (Chain·transformPoint c time p)
@@ -73,3 +74,5 @@ pub record EveryChainAnswer : Type 0 where
   pub rows-window-cover : (rows : List Rows) (b : Bounds3f) (depth : ℕ) (w : Window) → BoundsAnswer·Numbered (0 ∷ 5 ∷ 6 ∷ 7 ∷ 8 ∷ 10 ∷ 12 ∷ 21 ∷ []) (Moves·windowCover rows b depth w)
   pub rows-windows : (rows rows' : List Rows) (b b' : Bounds3f) (depth : ℕ) (ticks : List Float)
       → WindowsAnswer·Numbered (0 ∷ 5 ∷ 6 ∷ 7 ∷ 8 ∷ 10 ∷ 12 ∷ 21 ∷ []) (Moves·windows rows rows' b b' depth ticks)
+  -- a day of booms
+  pub day : (booms : List Boom) → OneOf (dayRefusal booms) (0 ∷ 6 ∷ 7 ∷ 22 ∷ [])

@@ -3,6 +3,7 @@
 //! every machine makes the same, but for the bits of a NaN.
 
 mod chains;
+mod days;
 mod joins;
 mod rigid;
 mod sets;
@@ -567,6 +568,7 @@ const KINDS: &[&str] = &[
     "joins",
     "stretches",
     "windows",
+    "days",
 ];
 
 /// A box that a matrix carries: turned about, mirrored, carried to infinity, with wp of zero and a bottom row that isn't 0 0 0 1.
@@ -1187,6 +1189,7 @@ fn main() {
         "arcs" => (fixed_arcs, random_arc),
         "rigid" => (rigid::fixed, rigid::random),
         "stretches" => (stretches::fixed, stretches::random),
+        "days" => (days::fixed, days::random),
         _ => usage(),
     };
     // Each kind has numbers of its own, whatever the seed. A kind more leaves those of the others as they are.

@@ -1,0 +1,143 @@
+// A day of booms, `day [BOX LENGTH]*`: a question about no slot, whose words are six floats and a whole number for each boom, with one space before each.
+use crate::answer::put_error;
+use question_lines::Decimal;
+use question_lines::part;
+use question_lines::position;
+use question_lines::put_text;
+ghost use Prim.Native.Nat.{_<_};
+ghost use lib.ListN.{length};
+
+// Where the words of the booms begin, and one that no line has where it asks for no day.
+pub fn words_start(line: &[u8]) -> usize {
+    if position(part(line, 0, 3), b"day") != 0 {
+        return usize::MAX;
+    }
+    if line.len() == 3 {
+        return 3;
+    }
+    if line.len() < 3 {
+        return usize::MAX;
+    }
+    if line[3] == b' ' { 3 } else { usize::MAX }
+}
+
+// Answers a line of which the words of the booms begin at `start`.
+pub fn put_day(line: &[u8], start: usize, out: &mut [u8; 32768], at: usize) -> usize {
+    if 8000 < line.len() {
+        return put_error(out, at);
+    }
+    let mut boxes = [[0.0f32; 6]; 8];
+    let mut lengths = [0u32; 8];
+    let count = read_booms(line, start, &mut boxes, &mut lengths);
+    if count == usize::MAX {
+        return put_error(out, at);
+    }
+    let mut starts = [0u32; 8];
+    let refusal = api::jellyplain_day(&boxes, &lengths, count, &mut starts);
+    put_starts(refusal, &starts, count, out, at)
+}
+
+// How many booms the words from `start` on are, and a number that no line has where one is malformed.
+fn read_booms(
+    line: &[u8],
+    start: usize,
+    boxes: &mut [[f32; 6]; 8],
+    lengths: &mut [u32; 8],
+) -> usize {
+    let mut count = 0;
+    let mut place = start;
+    while place < line.len() {
+        let end = boom_end(line, place);
+        if !put_boom(part(line, place, end), count, boxes, lengths) {
+            return usize::MAX;
+        }
+        count += 1;
+        place = end;
+    }
+    count
+}
+
+// The place behind the words of the boom that starts at a place: six floats, and a whole number up to the next space.
+fn boom_end(line: &[u8], at: usize) -> usize
+    requires { ⌜ at < length (now line) ⌝ }
+    ensures { λ r. ⌜ at < r ⌝ }
+{
+    if line.len() - at <= 55 {
+        return line.len();
+    }
+    bytes::scan::find(line, at + 55, line.len(), b' ')
+}
+
+// Whether a text is the words of a boom, which then stands at its place. Of more than 8 booms none but the first are kept: their number is refused.
+fn put_boom(text: &[u8], place: usize, boxes: &mut [[f32; 6]; 8], lengths: &mut [u32; 8]) -> bool {
+    let mut b = [0.0f32; 6];
+    let ticks = read_boom(text, &mut b);
+    if is_malformed(ticks) {
+        return false;
+    }
+    if 8 <= place {
+        return true;
+    }
+    boxes[place] = b;
+    lengths[place] = ticks_of(ticks);
+    true
+}
+
+// The run length of a boom, whose box `b` then holds.
+fn read_boom(text: &[u8], b: &mut [f32; 6]) -> Decimal {
+    if text.len() < 56 {
+        return Decimal::Malformed;
+    }
+    if text[54] != b' ' {
+        return Decimal::Malformed;
+    }
+    if question_lines::read_floats(part(text, 0, 54), 6, b) {
+        return question_lines::read_decimal(part(text, 55, text.len()));
+    }
+    Decimal::Malformed
+}
+
+fn is_malformed(ticks: Decimal) -> bool {
+    match ticks {
+        Decimal::Value(_) => false,
+        Decimal::Malformed => true,
+    }
+}
+
+fn ticks_of(ticks: Decimal) -> u32 {
+    match ticks {
+        Decimal::Value(n) => question_lines::saturated(n),
+        Decimal::Malformed => 0,
+    }
+}
+
+// The starting ticks, or the number of a refusal.
+fn put_starts(
+    refusal: u8,
+    starts: &[u32; 8],
+    count: usize,
+    out: &mut [u8; 32768],
+    at: usize,
+) -> usize {
+    if refusal != 0 {
+        return question_lines::put_refused(refusal, out, at);
+    }
+    let ok = put_text(b"ok", out, at);
+    let a = put_start(starts[0], 0 < count, out, ok);
+    let b = put_start(starts[1], 1 < count, out, a);
+    let c = put_start(starts[2], 2 < count, out, b);
+    let d = put_start(starts[3], 3 < count, out, c);
+    let e = put_start(starts[4], 4 < count, out, d);
+    let f = put_start(starts[5], 5 < count, out, e);
+    let g = put_start(starts[6], 6 < count, out, f);
+    let h = put_start(starts[7], 7 < count, out, g);
+    put_text(b"\n", out, h)
+}
+
+// A starting tick, where there is a boom.
+fn put_start(start: u32, is_boom: bool, out: &mut [u8; 32768], at: usize) -> usize {
+    if is_boom {
+        return question_lines::put_decimal(start as u64, out, at);
+    }
+    at
+}

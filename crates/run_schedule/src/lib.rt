@@ -1,0 +1,1 @@
+// Laws only: a day of booms, tick by tick.

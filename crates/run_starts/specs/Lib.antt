@@ -1,0 +1,2 @@
+pub mod Booms
+pub mod Ends
