@@ -48,31 +48,33 @@ typedef struct {
 #define JELLYPLAIN_LAYOUT 3
 uint32_t jellyplain_layout(void);
 
+/* made by tools/numbers --write */
 enum jellyplain_refusal {
     JELLYPLAIN_NONE = 0,
     JELLYPLAIN_POSE_NOT_FINITE = 1, /* a matrix entry, a time or a pad of a pose isn't finite */
-    JELLYPLAIN_BOTTOM_ROW = 2,      /* a bottom row isn't 0, 0, 0, 1 */
+    JELLYPLAIN_BOTTOM_ROW = 2,      /* a bottom row of a pose's matrix isn't 0 0 0 1 */
     JELLYPLAIN_TIMES = 3,           /* the end time is below the start time, or their difference isn't finite */
-    JELLYPLAIN_ZERO_PIVOT = 4,      /* a pose, or a scale on the way, flattens space */
+    JELLYPLAIN_ZERO_PIVOT = 4,      /* a pose, or a scale on the way, flattens space: it has no inverse */
     JELLYPLAIN_NOT_FINITE = 5,      /* numbers leave the range of floats on the way */
-    JELLYPLAIN_QUERY = 6,           /* the time is NaN, or a coordinate isn't finite */
-    JELLYPLAIN_CORNERS = 7,         /* a least corner is above its greatest corner on some axis */
+    JELLYPLAIN_QUERY = 6,           /* the time asked for is NaN, or a coordinate isn't finite */
+    JELLYPLAIN_CORNERS = 7,         /* a least corner of a box is above its greatest corner on some axis */
     JELLYPLAIN_DEPTH = 8,           /* the depth is above 12 */
     JELLYPLAIN_NINTH_ZERO = 9,      /* a motion box's search finds more than eight zeros on an axis */
-    JELLYPLAIN_SQUARED_LENGTH = 10, /* a cover's slices are too wide for the rotation in them: ask with a greater depth */
-    JELLYPLAIN_FILE = 11,           /* a move file departs from its layout */
+    JELLYPLAIN_SQUARED_LENGTH = 10, /* a cover's slices are too wide for the rotation in them */
+    JELLYPLAIN_FILE = 11,           /* a file departs from its layout */
     JELLYPLAIN_CHAIN = 12,          /* a chain has fewer than 2 poses or more than 32, or its times don't rise strictly */
-    JELLYPLAIN_TIME_LIST = 13,      /* a list of times falls, or the answers aren't three places a time */
-    JELLYPLAIN_SET = 14,            /* a set has no box or more than 16 */
+    JELLYPLAIN_TIME_LIST = 13,      /* a list of times falls, or the answers lent for it aren't three places a time */
+    JELLYPLAIN_SET = 14,            /* a set has no box, or more than 16 */
     JELLYPLAIN_ROOM = 15,           /* a buffer is too short for the text of a move file */
     JELLYPLAIN_PAD = 16,            /* a pad is below zero */
     JELLYPLAIN_NOT_RIGID = 17,      /* a pose of a rigid move or chain scales or shears */
     JELLYPLAIN_DETERMINANT = 18,    /* a pose of a rigid move or chain mirrors: its determinant isn't above zero */
     JELLYPLAIN_PLACE = 19,          /* a pose is tried at a place beyond the last */
-    JELLYPLAIN_MISMATCH = 20,       /* two chains to be joined differ in a bit of the pose that they share, or in their kind */
-    JELLYPLAIN_TICKS = 21,          /* ticks are NaN, fewer than 2, more than 64 or don't rise strictly */
-    JELLYPLAIN_DAY = 22             /* a day has no boom or more than 8, or a run length outside 1 to 1,000 */
+    JELLYPLAIN_MISMATCH = 20,       /* two chains to be joined differ in a bit of the pose that they share, a zero's sign too, or in their kind */
+    JELLYPLAIN_TICKS = 21,          /* a tick is NaN, there are fewer than 2 or more than 64, or they don't rise strictly */
+    JELLYPLAIN_DAY = 22             /* a day has no boom or more than 8, or a run length outside 1 to 1,000 ticks */
 };
+/* end of what tools/numbers makes */
 
 /* The move from one pose to another. A boom that neither stretches nor shears may be built as rigid: between the poses a turn and a shift alone, so that its covers are tighter.
  * Numbers 1 to 5 and 16; of a rigid one also 17 and 18, pose by pose, after 3. */

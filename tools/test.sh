@@ -1,5 +1,6 @@
 #!/usr/bin/env bash
-# The test command of README.md: `rt ci`, and before its verdict what refused each must-fail edit and what `cover` prints for the examples.
+# The test command of README.md: `rt ci`, and before its verdict what refused each must-fail edit, what `cover` prints for the examples, and, where python3 is at hand, whether the list of
+# definitions in docs/GUARANTEE.md and every text made from docs/REFUSALS.md are up to date, and the stamp from which tools/certificate tells commit, toolchain and programs.
 # An edit that is refused only because a proof file no longer fits the code fails the run, and so does an example whose box is not the expected one.
 set -u
 cd "$(dirname "$0")/.." || exit 2
@@ -13,5 +14,12 @@ sed '$d' "$log"
 fail() { echo "$1"; [ "$status" -ne 0 ] || { verdict="0 passed, 1 failed"; status=1; }; }
 tools/why.sh || fail "tools/why.sh: an edit above shows nothing"
 tools/examples.sh || fail "tools/examples.sh: an example above differs"
+if command -v python3 >/dev/null; then
+    tools/trusted --check || fail "tools/trusted --check: docs/GUARANTEE.md and the definitions differ"
+    tools/numbers --check || fail "tools/numbers --check: a text and the table of refusal numbers differ"
+    tools/certificate --stamp
+else
+    echo "tools/trusted --check, tools/numbers --check and tools/certificate --stamp: skipped, there is no python3 here"
+fi
 echo "$verdict"
 exit "$status"

@@ -1,0 +1,24 @@
+"""The table of refusal numbers, docs/REFUSALS.md, for the tools: `table` is its rows, `said` a refusal in words."""
+import re
+from typing import NamedTuple
+
+import pages
+
+PAGE = "docs/REFUSALS.md"
+ROW = re.compile(r"\| (\d+) \| ([A-Z_]+) \| ([^|]+) \| ([^|]+) \|$", re.M)
+
+
+class Refusal(NamedTuple):
+    number: int
+    name: str
+    what: str
+    advice: str
+
+
+def table():
+    return [Refusal(int(number), name, what, advice) for number, name, what, advice in ROW.findall(pages.read(PAGE))]
+
+
+def said(number):
+    """`refused 12, a chain has ..`"""
+    return "refused %d, %s" % (number, next((row.what for row in table() if row.number == number), "a number that is not known"))
