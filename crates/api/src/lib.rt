@@ -385,7 +385,7 @@ pub extern "C" fn jellyplain_read_file(
     ensures poses { λ _. ⌜ now (poses .exit) ≡ posesFront (MoveFile·poses (now (bytes .entry))) (now (poses .entry)) ⌝ }
     ensures bounds { λ _. ⌜ now (bounds .exit) ≡ MoveFile·boundsLeft (MoveFile·read (now (bytes .entry))) (now (bounds .entry)) ⌝ }
 {
-    let file = motion_file::read(bytes, poses);
+    let file = file_reader::read(bytes, poses);
     let refusal = file.refusal;
     let count = file.count;
     if refusal == 0 {

@@ -50,7 +50,7 @@ pub fn rewrite(bytes: &[u8], out: &mut [u8]) -> usize
     ensures counts { λ r. ⌜ (r ≤ length (now (out .exit))) × (r ≡ length (take r (now (out .exit)))) ⌝ }
 {
     let mut poses = [[0.0f32; 18]; 559];
-    let file = motion_file::read(bytes, &mut poses);
+    let file = file_reader::read(bytes, &mut poses);
     if file.refusal != 0 {
         return motion_text::write_refusal(file.refusal, out);
     }

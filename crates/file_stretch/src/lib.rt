@@ -109,7 +109,7 @@ fn put_file(bytes: &[u8], out: &mut [u8]) -> usize
     ensures bound { λ r. ⌜ r ≤ 32 ⌝ }
 {
     let mut poses = [[0.0f32; 18]; 559];
-    let file = motion_file::read(bytes, &mut poses);
+    let file = file_reader::read(bytes, &mut poses);
     if file.refusal != 0 {
         return motion_text::write_refusal(file.refusal, out);
     }

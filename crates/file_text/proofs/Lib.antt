@@ -4,3 +4,4 @@ pub mod Length
 pub mod Written
 pub mod Same
 pub mod Cases
+pub mod ReadCases

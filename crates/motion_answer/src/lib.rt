@@ -32,7 +32,7 @@ fn file_cover(bytes: &[u8]) -> BoundsAnswer
     ensures value { λ r. ⌜ r ≡ MoveFile·cover (now (bytes .entry)) ⌝ }
 {
     let mut poses = [[0.0f32; 18]; 559];
-    let file = motion_file::read(bytes, &mut poses);
+    let file = file_reader::read(bytes, &mut poses);
     if file.refusal != 0 {
         return BoundsAnswer::Refused(file.refusal);
     }

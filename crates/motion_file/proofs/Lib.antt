@@ -1,11 +1,5 @@
 pub mod Pieces
-pub mod Spaces
-pub mod Names
-pub mod Words
-pub mod Values
-pub mod ReadUpTo
 pub mod Room
 pub mod Lines
 pub mod Files
 pub mod Shapes
-pub mod Cases

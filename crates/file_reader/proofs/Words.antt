@@ -14,10 +14,10 @@ use borrow.Author.Tests.{eqb-false, ne-eqb}
 use Rattle.hexadecimal.specs.Digit.{position, digitValue}
 use Rattle.hexadecimal.specs.Word.{digitsOnly}
 use Rattle.hexadecimal.proofs.Digits.{position-bound}
 use Rattle.motion_file.specs.Text.{space, split, singleSpaced}
 use Rattle.motion_file.specs.Layout.{words}
 use Rattle.motion_file.proofs.Pieces.{position-drop, split-whole}
-use Rattle.motion_file.proofs.Spaces.{singleSpaced-first, singleSpaced-other}
+use Rattle.file_reader.proofs.Spaces.{singleSpaced-first, singleSpaced-other}
 
 singleSpaced-nil : singleSpaced [] ≡ []
 unfolding singleSpaced

@@ -6,12 +6,12 @@ use mathlib.Core.List.{List}
 use borrow.Author.Needs.{needs}
 use Rattle.hexadecimal.specs.Digit.{position}
 use Rattle.hexadecimal.proofs.Digits.{position-bound}
 use Rattle.motion_file.specs.Text.{ascii, lineFeed}
 use Rattle.motion_file.specs.Layout.{names, paddedNames, fits, hasPads}
 use Rattle.motion_file.proofs.Pieces.{split-first}
 use Rattle.motion_file.proofs.Lines.{line-slice}
-use Rattle.motion_file.proofs.has_pads.Statement.{statement}
-use Rattle.motion_file.proofs.has_pads.Tie as tie
+use Rattle.file_reader.proofs.has_pads.Statement.{statement}
+use Rattle.file_reader.proofs.has_pads.Tie as tie
 
 line-end-requires : tie.Need-line-end-requires
 line-end-requires c κs = search needs

@@ -3,10 +3,10 @@ use native.Mathlib.Omega.{arith}
 use mathlib.Core.Path.{sym, _∙_}
 use mathlib.Core.Bool.{true, false}
 use borrow.Author.Needs.{needs}
 use Rattle.motion_file.specs.Text.{ascii}
 use Rattle.motion_file.proofs.Files.{told}
-use Rattle.motion_file.proofs.read.Statement.{statement}
-use Rattle.motion_file.proofs.read.Tie as tie
+use Rattle.file_reader.proofs.read.Statement.{statement}
+use Rattle.file_reader.proofs.read.Tie as tie
 
 has-pads-requires : tie.Need-has-pads-requires
 has-pads-requires c κs = search needs

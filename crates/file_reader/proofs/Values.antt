@@ -16,12 +16,12 @@ use Rattle.hexadecimal.specs.Digit.{position}
 use Rattle.hexadecimal.specs.Word.{digitsOnly, number, Word·read}
 use Rattle.hexadecimal.specs.declared.Word.the-variants.{Bits, Malformed}
 use Rattle.hexadecimal.proofs.Digits.{position-bound}
 use Rattle.motion_file.specs.Text.{space, singleSpaced}
 use Rattle.motion_file.specs.Layout.{words, isValue, valueOf, allValues, areValues}
 use Rattle.motion_file.specs.Place.{NextByte}
 use Rattle.motion_file.proofs.Pieces.{position-here, position-next, split-first}
-use Rattle.motion_file.proofs.Spaces.{singleSpaced-first}
-use Rattle.motion_file.proofs.Words.{words-cut, words-whole, words-first, digits-position}
+use Rattle.file_reader.proofs.Spaces.{singleSpaced-first}
+use Rattle.file_reader.proofs.Words.{words-cut, words-whole, words-first, digits-position}
 
 -- eight digits stand at a place and write a number
 record Reads (line : List ℕ) (at n : ℕ) : Type 0 where

@@ -6,11 +6,11 @@ use mathlib.Core.Path.{_≡_, refl, sym, _∙_}
 use mathlib.Core.Bool.{false≢true}
 use lib.ListN.{length, length-set}
 use borrow.Author.Needs.{needs}
 use Rattle.motion_file.specs.Layout.{fits, valuesOf}
-use Rattle.motion_file.proofs.Values.{bits-inside}
-use Rattle.motion_file.proofs.ReadUpTo.{ReadUpTo, read-start, read-malformed, read-short, read-unspaced, read-final, read-filled, read-more}
-use Rattle.motion_file.proofs.read_values.Statement.{statement}
-use Rattle.motion_file.proofs.read_values.Tie as tie
+use Rattle.file_reader.proofs.Values.{bits-inside}
+use Rattle.file_reader.proofs.ReadUpTo.{ReadUpTo, read-start, read-malformed, read-short, read-unspaced, read-final, read-filled, read-more}
+use Rattle.file_reader.proofs.read_values.Statement.{statement}
+use Rattle.file_reader.proofs.read_values.Tie as tie
 
 abbrev Inv-loop : tie.InvT-loop
 Inv-loop line out₀ at₀ k₀ out at k = (length out ≡ length out₀) × ReadUpTo line out at k

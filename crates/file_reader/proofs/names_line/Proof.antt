@@ -2,10 +2,10 @@
 use native.Mathlib.Omega.{arith}
 use mathlib.Core.Path.{sym, _∙_}
 use borrow.Author.Needs.{needs}
 use Rattle.motion_file.specs.Layout.{names}
 use Rattle.motion_file.proofs.Lines.{after-fits, after-unfit, after-unended}
-use Rattle.motion_file.proofs.names_line.Statement.{statement}
-use Rattle.motion_file.proofs.names_line.Tie as tie
+use Rattle.file_reader.proofs.names_line.Statement.{statement}
+use Rattle.file_reader.proofs.names_line.Tie as tie
 
 line-end-requires : tie.Need-line-end-requires
 line-end-requires c κs = search needs

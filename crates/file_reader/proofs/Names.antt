@@ -11,9 +11,9 @@ use lib.Dec.{eqb}
 use lib.ListN.{length, drop, getD, drop-of-length-le}
 use lib.Seq.{drop-cons}
 use borrow.Author.Tests.{eq-eqb, ne-eqb}
 use Rattle.motion_file.specs.Text.{singleSpaced, equal}
 use Rattle.motion_file.specs.Place.{NextByte}
-use Rattle.motion_file.proofs.Spaces.{singleSpaced-first}
+use Rattle.file_reader.proofs.Spaces.{singleSpaced-first}
 
 module _ (line names : List ℕ) where
   -- whether the line from a place on is the names from a place on

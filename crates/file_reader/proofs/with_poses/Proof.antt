@@ -9,12 +9,12 @@ use lib.ListN.{length, replicate}
 use lib.Ieee.{binary32, ofBits}
 use lib.Seq.{length-take-le, sets}
 use borrow.Author.Needs.{needs}
 use Rattle.motion_file.specs.Layout.{values, maxBytes, poseOf}
 use Rattle.motion_file.specs.Place.{afterLine, linesThrough}
 use Rattle.motion_file.proofs.Lines.{placeFrom, linesFrom, place-next, lines-from-end, through-begins}
 use Rattle.motion_file.proofs.Files.{line-length, read-pose, pose-put, poses-put}
-use Rattle.motion_file.proofs.with_poses.Statement.{statement}
-use Rattle.motion_file.proofs.with_poses.Tie as tie
+use Rattle.file_reader.proofs.with_poses.Statement.{statement}
+use Rattle.file_reader.proofs.with_poses.Tie as tie
 
 abbrev Inv-loop : tie.InvT-loop
 Inv-loop s at count columns filled₀ place₀ i₀ filled place i =

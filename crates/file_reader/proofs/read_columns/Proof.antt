@@ -6,12 +6,12 @@ use lib.Ieee.{binary32, ofBits}
 use lib.ListN.{length, replicate}
 use lib.Seq.{length-take-le}
 use borrow.Author.Needs.{needs}
 use Rattle.motion_file.specs.Text.{ascii}
 use Rattle.motion_file.specs.Layout.{values as values′, maxBytes}
 use Rattle.motion_file.specs.Place.{through}
 use Rattle.motion_file.proofs.Files.{file-long, file-departs, file-poses, file-room, file-contents}
-use Rattle.motion_file.proofs.read_columns.Statement.{statement}
-use Rattle.motion_file.proofs.read_columns.Tie as tie
+use Rattle.file_reader.proofs.read_columns.Statement.{statement}
+use Rattle.file_reader.proofs.read_columns.Tie as tie
 
 departs-requires : tie.Need-departs-requires
 departs-requires c κs = search needs

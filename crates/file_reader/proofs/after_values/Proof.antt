@@ -5,11 +5,11 @@ use native.Mathlib.Omega.{arith}
 use mathlib.Core.Path.{_≡_, refl, sym, ap, _∙_}
 use lib.ListN.{length, replicate}
 use borrow.Author.Needs.{needs}
 use Rattle.motion_file.specs.Layout.{values}
 use Rattle.motion_file.specs.Place.{through}
 use Rattle.motion_file.proofs.Lines.{placeFrom, place-next, place-end}
-use Rattle.motion_file.proofs.after_values.Statement.{statement}
-use Rattle.motion_file.proofs.after_values.Tie as tie
+use Rattle.file_reader.proofs.after_values.Statement.{statement}
+use Rattle.file_reader.proofs.after_values.Tie as tie
 
 abbrev Inv-loop : tie.InvT-loop
 Inv-loop s at count scratch₀ place₀ i₀ scratch place i =

@@ -3,10 +3,10 @@ use native.Mathlib.Omega.{arith}
 use mathlib.Core.Path.{sym, _∙_, ap}
 use lib.ListN.{length}
 use borrow.Author.Needs.{needs}
 use Rattle.motion_file.specs.Layout.{values, valuesOf}
 use Rattle.motion_file.proofs.Lines.{line-slice, after-fits, after-unfit, after-unended}
-use Rattle.motion_file.proofs.values_line.Statement.{statement}
-use Rattle.motion_file.proofs.values_line.Tie as tie
+use Rattle.file_reader.proofs.values_line.Statement.{statement}
+use Rattle.file_reader.proofs.values_line.Tie as tie
 
 line-end-requires : tie.Need-line-end-requires
 line-end-requires c κs = search needs

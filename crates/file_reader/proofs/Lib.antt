@@ -1,0 +1,5 @@
+pub mod Spaces
+pub mod Names
+pub mod Words
+pub mod Values
+pub mod ReadUpTo
