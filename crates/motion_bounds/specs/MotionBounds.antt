@@ -23,7 +23,7 @@ use Rattle.transform.specs.TransformBounds.{BoundsAnswer·fromMoved, BoundsAnsw
 use Rattle.bounds_query.specs.Query.{Bounds3f·refusal, BoundsAnswer·unionBounds}
 use Rattle.axis_derivative.specs.declared.DerivativeTerm.{DerivativeTerm}
 use Rattle.axis_derivative.specs.declared.Derivative.{Derivative}
-use Rattle.zero_search.specs.declared.Zeros.{Zeros}
+use Rattle.zero_list.specs.declared.Zeros.{Zeros}
 use Rattle.zero_search.specs.declared.Search.{Search}
 use Rattle.zero_search.specs.Search.{intervalFindZeros}
 use Rattle.pose_steps.specs.declared.PoseConstants.{PoseConstants}

@@ -31,7 +31,7 @@ use Rattle.transform.specs.TransformBounds.{BoundsAnswer·fromMoved, BoundsAnsw
 use Rattle.transform.proofs.Judged.{transform-point-judged, transform-bounds-judged}
 use Rattle.bounds_query.specs.Query.{Bounds3f·refusal, BoundsAnswer·unionBounds}
 use Rattle.axis_derivative.specs.declared.Derivative.{Derivative}
-use Rattle.zero_search.specs.declared.Zeros.{Zeros}
+use Rattle.zero_list.specs.declared.Zeros.{Zeros}
 use Rattle.zero_search.specs.Stored.{Stored}
 use Rattle.pose_steps.specs.declared.PoseConstants.{PoseConstants}
 use Rattle.animated_transform.specs.declared.AnimatedTransform.{AnimatedTransform}

@@ -9,7 +9,8 @@ use Rattle.interval.specs.Interval.{Interval·new}
 use Rattle.motion_derivative.specs.declared.MotionDerivative.{MotionDerivative}
 use Rattle.trig.specs.SinCos.{near}
 use Rattle.motion_derivative.specs.Derivative.{MotionDerivative·angles, MotionDerivative·newton}
-use Rattle.zero_search.specs.Search.{Zeros·empty, unitInterval}
+use Rattle.zero_search.specs.Search.{unitInterval}
+use Rattle.zero_list.specs.Zeros.{Zeros·empty}
 use Rattle.zero_search.specs.Computing.{computing}
 use Rattle.search_range.specs.Examined.{searchIntervals, examinedIntervals}
 use Rattle.search_range.specs.Assertions.{rangeLimit, Interval·asserted}

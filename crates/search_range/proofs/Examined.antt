@@ -21,10 +21,11 @@ use Rattle.unit_interval.specs.Unit.{unitInterval}
 use Rattle.pose_steps.proofs.Angle.{unit-finite}
 use Rattle.motion_derivative.specs.declared.MotionDerivative.{MotionDerivative}
 use Rattle.motion_derivative.specs.Derivative.{MotionDerivative·excludesZero}
-use Rattle.zero_search.specs.declared.Zeros.{Zeros}
+use Rattle.zero_list.specs.declared.Zeros.{Zeros}
 use Rattle.zero_search.specs.declared.Search.{Search}
 use Rattle.zero_search.specs.Search as search
-use Rattle.zero_search.specs.Search.{midpoint, lowerHalf, upperHalf, findZeros, intervalFindZeros, searchDepth, Zeros·empty}
+use Rattle.zero_search.specs.Search.{midpoint, lowerHalf, upperHalf, findZeros, intervalFindZeros, searchDepth}
+use Rattle.zero_list.specs.Zeros.{Zeros·empty}
 use Rattle.search_range.specs.Examined.{searchIntervals, examinedIntervals, Examined}
 
 -- ---- the halves of an interval in 0 to 1

@@ -39,8 +39,9 @@ use Rattle.pose_steps.specs.Pose.{PoseConstants·new}
 use Rattle.pose_steps.proofs.Angle.{unit-finite, theta-quarter}
 use Rattle.motion_derivative.specs.declared.MotionDerivative.{MotionDerivative}
 use Rattle.motion_derivative.specs.Derivative.{MotionDerivative·newton}
-use Rattle.zero_search.specs.declared.Zeros.{Zeros}
-use Rattle.zero_search.specs.Search.{midpoint, tolerance, nearInterval, newtonZero, Zeros·store, Zeros·accept}
+use Rattle.zero_list.specs.declared.Zeros.{Zeros}
+use Rattle.zero_search.specs.Search.{midpoint, newtonZero}
+use Rattle.zero_list.specs.Zeros.{tolerance, nearInterval, Zeros·store, Zeros·accept}
 use Rattle.zero_search.proofs.Stored.{accept-nan}
 use Rattle.animated_transform.specs.declared.AnimatedTransform.{AnimatedTransform}
 use Rattle.animated_transform.specs.Built.{Built}

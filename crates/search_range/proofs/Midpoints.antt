@@ -25,9 +25,10 @@ use Rattle.unit_interval.proofs.Slices.{sliceEnd-mono, slice-unit}
 use Rattle.pose_steps.proofs.Angle.{unit-finite}
 use Rattle.motion_derivative.specs.declared.MotionDerivative.{MotionDerivative}
 use Rattle.motion_derivative.specs.Derivative.{MotionDerivative·excludesZero}
-use Rattle.zero_search.specs.declared.Zeros.{Zeros}
+use Rattle.zero_list.specs.declared.Zeros.{Zeros}
 use Rattle.zero_search.specs.Search as search
-use Rattle.zero_search.specs.Search.{midpoint, lowerHalf, upperHalf, findZeros, searchDepth, Zeros·empty}
+use Rattle.zero_search.specs.Search.{midpoint, lowerHalf, upperHalf, findZeros, searchDepth}
+use Rattle.zero_list.specs.Zeros.{Zeros·empty}
 use Rattle.search_range.specs.Examined.{searchIntervals, examinedIntervals, Examined}
 use Rattle.search_range.proofs.Examined.{half-encloses, lower-unit, upper-unit, cond-member, whole-unit, examined-unit}
 

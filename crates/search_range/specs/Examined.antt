@@ -8,8 +8,9 @@ use lib.Dec.{eqb}
 use Rattle.interval.specs.declared.Interval.{Interval}
 use Rattle.motion_derivative.specs.declared.MotionDerivative.{MotionDerivative}
 use Rattle.motion_derivative.specs.Derivative.{MotionDerivative·excludesZero}
-use Rattle.zero_search.specs.declared.Zeros.{Zeros}
-use Rattle.zero_search.specs.Search.{lowerHalf, upperHalf, findZeros, searchDepth, unitInterval, Zeros·empty}
+use Rattle.zero_list.specs.declared.Zeros.{Zeros}
+use Rattle.zero_search.specs.Search.{lowerHalf, upperHalf, findZeros, searchDepth, unitInterval}
+use Rattle.zero_list.specs.Zeros.{Zeros·empty}
 
 -- The search's own interval; then, unless the range test leaves it out or the depth is 0, those of its lower half, and those of its upper half unless 9 was met.
 unfoldable pub searchIntervals : ℕ → Bool → MotionDerivative → Interval → Zeros → List Interval

@@ -16,8 +16,9 @@ use Rattle.interval.specs.Enclosure.{Interval·mulEnclosure}
 use Rattle.unit_interval.specs.Unit.{unitInterval, dt}
 use Rattle.motion_derivative.specs.declared.MotionDerivative.{MotionDerivative}
 use Rattle.motion_derivative.specs.Derivative.{MotionDerivative·angles, MotionDerivative·value, MotionDerivative·slope, MotionDerivative·newton}
-use Rattle.zero_search.specs.declared.Zeros.{Zeros}
-use Rattle.zero_search.specs.Search.{midpoint, newtonZero, Zeros·accept}
+use Rattle.zero_list.specs.declared.Zeros.{Zeros}
+use Rattle.zero_search.specs.Search.{midpoint, newtonZero}
+use Rattle.zero_list.specs.Zeros.{Zeros·accept}
 use Rattle.animated_transform.specs.declared.AnimatedTransform.{AnimatedTransform}
 use Rattle.motion_point.specs.TransformPoint.{AnimatedTransform·constants}
 use Rattle.search_range.specs.Examined.{Examined}

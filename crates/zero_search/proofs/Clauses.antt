@@ -6,9 +6,10 @@ use native.Mathlib.Numerals.{sub-one}
 use borrow.Author.Tests.{eq-eqb, ne-eqb}
 use Rattle.interval.specs.declared.Interval.{Interval}
 use Rattle.motion_derivative.specs.declared.MotionDerivative.{MotionDerivative}
-use Rattle.zero_search.specs.declared.Zeros.{Zeros}
+use Rattle.zero_list.specs.declared.Zeros.{Zeros}
 use Rattle.zero_search.specs.declared.Search.{Search}
-use Rattle.zero_search.specs.Search.{Zeros·accept, newtonZero, lowerHalf, upperHalf, search, findZeros}
+use Rattle.zero_search.specs.Search.{newtonZero, lowerHalf, upperHalf, search, findZeros}
+use Rattle.zero_list.specs.Zeros.{Zeros·accept}
 
 -- What holds of two searches holds of the one chosen.
 pub either-search : (P : Search → Type 0) (b : Bool) (x y : Search) → P x → P y → P (cond b x y)

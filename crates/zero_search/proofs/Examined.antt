@@ -8,10 +8,11 @@ use lib.Dec.{eqb}
 use lib.Ieee.{Float}
 use Rattle.interval.specs.declared.Interval.{Interval}
 use Rattle.motion_derivative.specs.declared.MotionDerivative.{MotionDerivative}
-use Rattle.zero_search.specs.declared.Zeros.{Zeros}
+use Rattle.zero_list.specs.declared.Zeros.{Zeros}
 use Rattle.zero_search.specs.declared.Search.{Search}
 use Rattle.motion_derivative.specs.Derivative.{MotionDerivative·excludesZero}
-use Rattle.zero_search.specs.Search.{lowerHalf, upperHalf, search, findZeros, intervalFindZeros, searchDepth, Zeros·empty, unitInterval}
+use Rattle.zero_search.specs.Search.{lowerHalf, upperHalf, search, findZeros, intervalFindZeros, searchDepth, unitInterval}
+use Rattle.zero_list.specs.Zeros.{Zeros·empty}
 use Rattle.zero_search.proofs.Clauses.{either-search}
 
 pub search-examined-below : (d : ℕ) (b : Bool) (f : MotionDerivative) (i : Interval) (z : Zeros) → search d b f i z .examined < 2 ^ suc d

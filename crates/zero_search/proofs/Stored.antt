@@ -17,8 +17,9 @@ use Rattle.interval.specs.declared.Interval.{Interval}
 use Rattle.motion_derivative.specs.declared.MotionDerivative.{MotionDerivative}
 use Rattle.float32.specs.Operators.{_⊕_, _⊖_, positiveZero}
 use Rattle.motion_derivative.specs.Derivative.{MotionDerivative·excludesZero}
-use Rattle.zero_search.specs.declared.Zeros.{Zeros}
-use Rattle.zero_search.specs.Search.{tolerance, eightZeros, nearInterval, newtonZero, lowerHalf, upperHalf, Zeros·empty, Zeros·store, Zeros·accept}
+use Rattle.zero_list.specs.declared.Zeros.{Zeros}
+use Rattle.zero_search.specs.Search.{newtonZero, lowerHalf, upperHalf}
+use Rattle.zero_list.specs.Zeros.{tolerance, eightZeros, nearInterval, Zeros·empty, Zeros·store, Zeros·accept}
 use Rattle.zero_search.specs.Search.{search, findZeros, searchDepth, unitInterval, intervalFindZeros}
 use Rattle.zero_search.specs.Stored.{Stored}
 use Rattle.zero_search.proofs.Clauses.{either-search}

@@ -2,7 +2,8 @@
 use Rattle.interval.specs.Computing as interval
 use Rattle.motion_derivative.specs.Derivative.{affine, MotionDerivative·rangeAt, MotionDerivative·excludesZeroAt, MotionDerivative·excludesZero}
 use Rattle.motion_derivative.specs.Derivative.{MotionDerivative·valueAt, MotionDerivative·value, MotionDerivative·slopeAt, MotionDerivative·slope, MotionDerivative·newton}
-use Rattle.zero_search.specs.Search.{Zeros·store, Zeros·accept, search, intervalFindZeros}
+use Rattle.zero_search.specs.Search.{search, intervalFindZeros}
+use Rattle.zero_list.specs.Zeros.{Zeros·store, Zeros·accept}
 
 unfoldable pub computing : Unit {0}
 unfolding interval.computing affine MotionDerivative·rangeAt MotionDerivative·excludesZeroAt MotionDerivative·excludesZero MotionDerivative·valueAt MotionDerivative·value MotionDerivative·slopeAt MotionDerivative·slope MotionDerivative·newton Zeros·store Zeros·accept search intervalFindZeros

@@ -7,7 +7,7 @@ use lib.ListN.{length, getD}
 use lib.Dec.{T}
 use lib.Ieee.{nan, isNan}
 use Rattle.float32.specs.Operators.{positiveZero}
-use Rattle.zero_search.specs.declared.Zeros.{Zeros}
+use Rattle.zero_list.specs.declared.Zeros.{Zeros}
 
 -- At most eight are stored, every place after them is +0, no place holds a NaN, and there is no refusal but 9, which leaves none.
 pub record Stored (z : Zeros) : Type 0 where

@@ -5,28 +5,18 @@ ghost use Prim.Native.Nat.{_≤_};
 ghost use Rattle.sine_table.specs.Table.{sineTable};
 ghost use Rattle.interval.specs.Interval.{Interval·new};
 ghost use Rattle.motion_derivative.specs.Derivative.{MotionDerivative·excludesZero, MotionDerivative·newton};
-ghost use Rattle.zero_search.specs.Search.{midpoint, Zeros·empty, Zeros·store, Zeros·accept, findZeros, unitSearch, intervalFindZeros};
+ghost use Rattle.zero_search.specs.Search.{midpoint, findZeros, unitSearch, intervalFindZeros};
 ghost use Rattle.zero_search.specs.EndAngles.{SinCosOf, AngleAt, AnglesAt};
 use interval::Interval;
 use interval::IntervalSinCos;
 use motion_derivative::MotionDerivative;
 use trig::SinCos;
-
-// How far outside its interval a zero is still taken.
-const TOLERANCE: f32 = 0.001;
+use zero_list::Zeros;
 
 // How often the interval from 0 to 1 is halved.
 const DEPTH: u32 = 8;
 
 const NEWTON_STEPS: u32 = 4;
-
-// The zeros found, in the order of their intervals, in the first `count` places; unused places are +0. The refusal is 9 where a ninth zero would be stored, and
-// then there are no zeros.
-pub struct Zeros {
-    pub zeros: [f32; 8],
-    pub count: usize,
-    pub refusal: u8,
-}
 
 // What a search finds, and how many intervals it examines: each once, also one that the range test leaves out.
 pub struct Search {
@@ -44,46 +34,6 @@ fn midpoint(i: Interval) -> f32
     ensures value { λ r. ⌜ r ≡ midpoint i ⌝ }
 {
     (i.low + i.high) * 0.5
-}
-
-impl Zeros {
-    // No zeros, with a refusal or, where it is 0, without.
-    fn empty(refusal: u8) -> Zeros
-        ensures value { λ r. ⌜ r ≡ Zeros·empty refusal ⌝ }
-    {
-        Zeros {
-            zeros: [0.0; 8],
-            count: 0,
-            refusal,
-        }
-    }
-
-    // One more zero; 9 where there are eight.
-    fn store(self, t: f32) -> Zeros
-        ensures value { λ r. ⌜ r ≡ Zeros·store self t ⌝ }
-    {
-        let n = self.count;
-        if n < 8 {
-            let mut zeros = self.zeros;
-            zeros[n] = t;
-            return Zeros {
-                zeros,
-                count: n + 1,
-                refusal: 0,
-            };
-        }
-        Zeros::empty(9)
-    }
-
-    // Stores what Newton's steps found, unless it lies too far outside the interval.
-    fn accept(self, i: Interval, t: f32) -> Zeros
-        ensures value { λ r. ⌜ r ≡ Zeros·accept self i t ⌝ }
-    {
-        if (t >= i.low - TOLERANCE) & (t < i.high + TOLERANCE) {
-            return self.store(t);
-        }
-        self
-    }
 }
 
 fn end_at(table: &[u32; 2049], f: MotionDerivative, t: f32) -> SinCos

@@ -11,8 +11,8 @@ use Rattle.zero_search.proofs.find_zeros.Kinds as find-zeros-kinds
 use Rattle.zero_search.proofs.+find_zeros.Lts-find_zeros as find-zeros-lts
 use Rattle.interval.proofs.Interval.new.Reads as new-reads
 use Rattle.interval.proofs.Interval.new.Kinds as new-kinds
-use Rattle.zero_search.proofs.Zeros.accept.Reads as accept-reads
-use Rattle.zero_search.proofs.Zeros.accept.Kinds as accept-kinds
+use Rattle.zero_list.proofs.Zeros.accept.Reads as accept-reads
+use Rattle.zero_list.proofs.Zeros.accept.Kinds as accept-kinds
 use Rattle.zero_search.proofs.end_angles.Reads as end-angles-reads
 use Rattle.zero_search.proofs.end_angles.Kinds as end-angles-kinds
 use Rattle.zero_search.proofs.end_at.Reads as end-at-reads

@@ -1,9 +1,9 @@
 -- `Zeros::store` meets its contract: one return for each case of the count.
 use borrow.Author.Needs.{needs}
 use borrow.Author.Tests.{lt-ltb, le-ltb}
-use Rattle.zero_search.specs.Search.{Zeros·store}
-use Rattle.zero_search.proofs.Zeros.store.Statement.{statement}
-use Rattle.zero_search.proofs.Zeros.store.Tie as tie
+use Rattle.zero_list.specs.Zeros.{Zeros·store}
+use Rattle.zero_list.proofs.Zeros.store.Statement.{statement}
+use Rattle.zero_list.proofs.Zeros.store.Tie as tie
 
 returns : tie.Need-returns
 unfolding Zeros·store

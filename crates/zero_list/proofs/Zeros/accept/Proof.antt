@@ -1,7 +1,7 @@
 -- `Zeros::accept` meets its contract: one return for each outcome of its test.
-use Rattle.zero_search.specs.Search.{Zeros·accept}
-use Rattle.zero_search.proofs.Zeros.accept.Statement.{statement}
-use Rattle.zero_search.proofs.Zeros.accept.Tie as tie
+use Rattle.zero_list.specs.Zeros.{Zeros·accept}
+use Rattle.zero_list.proofs.Zeros.accept.Statement.{statement}
+use Rattle.zero_list.proofs.Zeros.accept.Tie as tie
 
 returns : tie.Need-returns
 unfolding Zeros·accept
