@@ -81,7 +81,7 @@ fn value(kind: usize, n: u64, x: &[f32; 34]) -> f32 {
         1 => square_root::sqrt(a),
         2 => trig::sin(a),
         3 => trig::cos(a),
-        4 => trig::acos(a),
+        4 => arc_cosine::acos(a),
         5 => float32::min(a, b),
         6 => float32::max(a, b),
         7 => float32::lerp(a, b, c),

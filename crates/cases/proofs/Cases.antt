@@ -10,7 +10,7 @@ use lib.IntN.{negsuc}
 use lib.Ieee.{fin, binary32, round}
 use Rattle.sine_table.specs.Table.{quarterTurn}
 use Rattle.trig.specs.Units.{cosUnits}
-use Rattle.trig.specs.Acos.{acos}
+use Rattle.arc_cosine.specs.Acos.{floorUnits, acos}
 use Rattle.trig.specs.Biased.{biased}
 use Rattle.trig.specs.Computing as trig
 use Rattle.trig_laws.proofs.Acos.{acos-unique}
@@ -93,7 +93,7 @@ equal-poses-keep-box-holds = refl
 -- ---- angles
 
 acos-of-one-holds : holds acos-of-one
-unfolding trig.computing
+unfolding trig.computing floorUnits
 acos-of-one-holds = ap number (acos-unique one (2 ^ 31) 0 refl refl (lit≤ tt) (lit≤ tt) (λ k e. absurd (omega (arith, e))))
 
 before-quarter : 2 ^ 30 < biased (cosUnits (quarterTurn - 1))
@@ -110,7 +110,7 @@ unfolding trig.computing
 zero-result = refl
 
 zero-value : acos zero ≡ round binary32 false quarterTurn (2 ^ 28)
-unfolding trig.computing
+unfolding trig.computing floorUnits
 zero-value =
     acos-unique zero (2 ^ 30) quarterTurn refl refl (lit≤ tt) (lit≤ tt)
     (λ k e. subst (λ (u : ℕ). 2 ^ 30 < biased (cosUnits u)) (let f : quarterTurn - 1 ≡ k = omega (arith, e) in f) before-quarter)

@@ -5,7 +5,7 @@ use mathlib.Core.Bool.{false, cond}
 use lib.Dec.{eqb}
 use lib.Ieee.{Float}
 use Rattle.trig.specs.SinCos.{sin}
-use Rattle.trig.specs.Acos.{acos}
+use Rattle.arc_cosine.specs.Acos.{acos}
 use Rattle.bounds3.specs.declared.Point3f.{Point3f}
 use Rattle.bounds3.specs.declared.Bounds3f.{Bounds3f}
 use Rattle.transform.specs.declared.PointAnswer.{PointAnswer}

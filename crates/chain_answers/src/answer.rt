@@ -46,7 +46,7 @@ pub fn put_answer(
 
 // Answers acosn C: the arc cosine, and how many cosines were worked out for it.
 fn put_arc_cosine(c: f32, out: &mut [u8; 32768], at: usize) -> usize {
-    let arc = trig::acos_counted(c);
+    let arc = arc_cosine::acos_counted(c);
     let ok = put_text(b"ok", out, at);
     let angle = question_lines::put_floats(&[arc.angle], 1, out, ok);
     let end = question_lines::put_decimal(arc.cosines as u64, out, angle);

@@ -33,7 +33,7 @@ pub fn constants(
     ensures value { λ r. ⌜ r ≡ PoseConstants·new rigid t0 t1 r0 r1 ⌝ }
 {
     let cos_theta = r0.dot(r1);
-    let theta = trig::acos(float32::clamp(cos_theta, -1.0, 1.0));
+    let theta = arc_cosine::acos(float32::clamp(cos_theta, -1.0, 1.0));
     PoseConstants {
         t0,
         t1,

@@ -13,7 +13,7 @@ use Rattle.rounding.proofs.Corners.{Bounds}
 use Rattle.float32.specs.Operators.{one}
 use Rattle.float32.specs.MinMax.{minNum, maxNum}
 use Rattle.float32.specs.Clamp.{clamp}
-use Rattle.trig.specs.Acos.{acos, inDomain}
+use Rattle.arc_cosine.specs.Acos.{acos, inDomain}
 use Rattle.trig_laws.specs.Range.{quarterTurnFloat, fullTurnFloat}
 use Rattle.trig_laws.proofs.Acos.{acos-range, acos-quarter}
 use Rattle.matrix4x4.specs.Rows.{positiveZero}

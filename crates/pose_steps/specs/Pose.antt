@@ -7,7 +7,7 @@ use lib.Dec.{eqb}
 use lib.Ieee.{Float, lt, neg}
 use Rattle.float32.specs.Operators.{one}
 use Rattle.float32.specs.Clamp.{clamp}
-use Rattle.trig.specs.Acos.{acos}
+use Rattle.arc_cosine.specs.Acos.{acos}
 use Rattle.vector3.specs.declared.Vector3f.{Vector3f}
 use Rattle.quaternion.specs.declared.Quaternion.{Quaternion}
 use Rattle.quaternion.specs.Quaternion.{Quaternion·dot}

@@ -5,7 +5,7 @@ use lib.Ieee.{Float, binary32, ofBits, neg, lt}
 use Rattle.float32.specs.Operators.{_⊖_, _⊗_, one}
 use Rattle.float32.specs.Clamp.{clamp}
 use Rattle.trig.specs.SinCos.{sin, cos}
-use Rattle.trig.specs.Acos.{acos}
+use Rattle.arc_cosine.specs.Acos.{acos}
 use Rattle.quaternion.specs.declared.Quaternion.{Quaternion}
 use Rattle.quaternion.specs.Quaternion.{Quaternion·dot, Quaternion·normalize, Quaternion·add, Quaternion·sub, Quaternion·mul}
 

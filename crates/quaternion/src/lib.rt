@@ -91,7 +91,7 @@ fn slerp_near(q1: Quaternion, q2: Quaternion, t: f32) -> Quaternion
 fn slerp_far(q1: Quaternion, q2: Quaternion, t: f32, cos_theta: f32) -> Quaternion
     ensures value { λ r. ⌜ r ≡ slerpFar q1 q2 t «cos_theta» ⌝ }
 {
-    let theta = trig::acos(float32::clamp(cos_theta, -1.0, 1.0));
+    let theta = arc_cosine::acos(float32::clamp(cos_theta, -1.0, 1.0));
     let thetap = theta * t;
     let qperp = q2.sub(q1.mul(cos_theta)).normalize();
     let angle = trig::sin_cos(thetap);

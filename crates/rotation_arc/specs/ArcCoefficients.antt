@@ -3,7 +3,7 @@ use mathlib.Core.Bool.{Bool, true, false, _&&_, cond}
 use lib.Ieee.{Float, neg}
 use Rattle.float32.specs.Operators.{one}
 use Rattle.float32.specs.Clamp.{clamp}
-use Rattle.trig.specs.Acos.{acos}
+use Rattle.arc_cosine.specs.Acos.{acos}
 use Rattle.vector3.specs.declared.Vector3f.{Vector3f}
 use Rattle.quaternion.specs.declared.Quaternion.{Quaternion}
 use Rattle.quaternion.specs.Quaternion.{Quaternion·normalize, Quaternion·sub, Quaternion·mul}

@@ -57,7 +57,7 @@ fn rotation_coefficients(
 ) -> CoefficientsAnswer
     ensures value { λ r. ⌜ r ≡ rotationCoefficients t0 t1 r0 r1 s0 s1 «cos_theta» ⌝ }
 {
-    let theta = trig::acos(float32::clamp(cos_theta, -1.0, 1.0));
+    let theta = arc_cosine::acos(float32::clamp(cos_theta, -1.0, 1.0));
     let qperp = r1.sub(r0.mul(cos_theta)).normalize();
     judged(
         qperp,

@@ -22,7 +22,7 @@ use Rattle.float32.specs.MinMax.{minNum, maxNum}
 use Rattle.float32.specs.Operators.{_⊕_, _⊖_, _⊗_, positiveZero, one, two}
 use Rattle.float32.specs.Clamp.{clamp}
 use Rattle.trig.specs.SinCos.{near}
-use Rattle.trig.specs.Acos.{inDomain, leastAngle, floorUnits, acos}
+use Rattle.arc_cosine.specs.Acos.{inDomain, leastAngle, floorUnits, acos}
 use Rattle.trig_laws.specs.Range.{quarterTurnFloat, halfTurnFloat, fullTurnFloat}
 use Rattle.trig_laws.proofs.Monotone.{angle-near}
 use Rattle.quaternion.specs.Quaternion.{Quaternion·dot}

@@ -1,8 +1,6 @@
 pub mod Units
 pub mod Quarters
 pub mod OverTable
-pub mod Least
-pub mod Halving
 pub mod Shift
 pub mod Fixed
 pub mod Values

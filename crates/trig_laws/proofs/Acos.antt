@@ -17,11 +17,11 @@ use Rattle.rounding.proofs.Corners.{Bounds}
 use Rattle.rounding.proofs.Rational.{numNeg}
 use Rattle.sine_table.specs.Table.{quarterTurn}
 use Rattle.trig.specs.Units.{cosUnits}
-use Rattle.trig.specs.Acos.{inDomain, leastAngle, floorUnits, acos}
+use Rattle.arc_cosine.specs.Acos.{inDomain, leastAngle, floorUnits, acos}
 use Rattle.trig.specs.Biased.{biased}
 use Rattle.trig.specs.Computing.{computing}
-use Rattle.trig.proofs.Fixed.{unit-finite}
-use Rattle.trig.proofs.Least.{leastAngle-unique, leastAngle-le, leastAngle-below}
+use Rattle.arc_cosine.proofs.Floor.{unit-finite}
+use Rattle.arc_cosine.proofs.Least.{leastAngle-unique, leastAngle-le, leastAngle-below}
 use Rattle.trig_laws.specs.Range.{Angle, quarterTurnFloat, halfTurnFloat, fullTurnFloat}
 use Rattle.trig_laws.proofs.Monotone.{numNeg-none}
 

@@ -33,7 +33,7 @@ use Rattle.trig.specs.SinCos.{near, farSin, farCos, sin, cos}
 use Rattle.trig.specs.Biased.{biased, biasedSin}
 use Rattle.trig.specs.Computing.{computing}
 use Rattle.trig.proofs.Units.{biased-negative, unbiased-positive, unbiased-negative, sin-unbiased, cos-unbiased}
-use Rattle.trig.proofs.Least.{minus-le}
+use Rattle.arc_cosine.proofs.Least.{minus-le}
 use Rattle.trig_laws.specs.Range.{Angle, fullTurnFloat}
 
 -- ---- the float nearest to units

@@ -3,10 +3,10 @@ use Prim.Native.Nat.{ℕ, _≤_}
 use mathlib.Core.Path.{sym, subst}
 use native.Mathlib.Omega.{arith}
 use borrow.Author.Needs.{needs}
-use Rattle.trig.proofs.Values.{acos-value, acos-outside, acos-counted, acos-uncounted}
-use Rattle.trig.proofs.Halving.{acos-cosines-le}
-use Rattle.trig.proofs.acos_counted.Statement.{statement}
-use Rattle.trig.proofs.acos_counted.Tie as tie
+use Rattle.arc_cosine.proofs.Values.{acos-value, acos-outside, acos-counted, acos-uncounted}
+use Rattle.arc_cosine.proofs.Halving.{acos-cosines-le}
+use Rattle.arc_cosine.proofs.acos_counted.Statement.{statement}
+use Rattle.arc_cosine.proofs.acos_counted.Tie as tie
 
 table-requires : tie.Need-table-requires
 table-requires c κs = search needs

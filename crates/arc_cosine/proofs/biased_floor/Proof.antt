@@ -1,10 +1,10 @@
 -- Rounded down on either side of zero: a shift of the significand, and below zero of one less (`floor-positive`, `floor-negative`).
 use Prim.Native.Nat.{_^_, _*_, _%_}
 use native.Mathlib.Omega.{arith}
-use Rattle.trig.proofs.Fixed.{unit-digits, unit-exponent, positive-part, floor-positive, floor-negative}
+use Rattle.arc_cosine.proofs.Floor.{unit-digits, unit-exponent, positive-part, floor-positive, floor-negative}
 use borrow.Author.Needs.{needs}
-use Rattle.trig.proofs.biased_floor.Statement.{statement}
-use Rattle.trig.proofs.biased_floor.Tie as tie
+use Rattle.arc_cosine.proofs.biased_floor.Statement.{statement}
+use Rattle.arc_cosine.proofs.biased_floor.Tie as tie
 
 integer-decode-requires : tie.Need-integer-decode-requires
 integer-decode-requires c κs = search needs

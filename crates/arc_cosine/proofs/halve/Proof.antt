@@ -1,8 +1,8 @@
 -- One cosine, in the middle: where it is above w the middle is the lower end and its cosine is carried (`halve-upper`), otherwise the upper end (`halve-lower`).
 use borrow.Author.Needs.{needs}
-use Rattle.trig.proofs.Halving.{halve-upper, halve-lower}
-use Rattle.trig.proofs.halve.Statement.{statement}
-use Rattle.trig.proofs.halve.Tie as tie
+use Rattle.arc_cosine.proofs.Halving.{halve-upper, halve-lower}
+use Rattle.arc_cosine.proofs.halve.Statement.{statement}
+use Rattle.arc_cosine.proofs.halve.Tie as tie
 
 add-middle : tie.Need-add-middle
 add-middle c = search needs

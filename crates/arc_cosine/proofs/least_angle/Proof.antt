@@ -3,10 +3,10 @@
 use Prim.Native.Nat.{_-_}
 use native.Mathlib.Omega.{arith}
 use borrow.Author.Needs.{needs}
-use Rattle.trig.proofs.Halving.{Searching, searching-starts, searching-inside, searching-again, searching-closer, searching-counted}
-use Rattle.trig.proofs.Halving.{halving-ends, halving-zero}
-use Rattle.trig.proofs.least_angle.Statement.{statement}
-use Rattle.trig.proofs.least_angle.Tie as tie
+use Rattle.arc_cosine.proofs.Halving.{Searching, searching-starts, searching-inside, searching-again, searching-closer, searching-counted}
+use Rattle.arc_cosine.proofs.Halving.{halving-ends, halving-zero}
+use Rattle.arc_cosine.proofs.least_angle.Statement.{statement}
+use Rattle.arc_cosine.proofs.least_angle.Tie as tie
 
 abbrev Inv-loop : tie.InvT-loop
 Inv-loop table w b₀ b = Searching w b

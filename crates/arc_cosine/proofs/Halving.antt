@@ -11,14 +11,14 @@ use borrow.Author.Tests.{ltb-true, ltb-false, lt-ltb, le-ltb}
 use lib.Dec.{ltb, lit<, lit≤}
 use lib.Ieee.{Float, minus}
 use Rattle.sine_table.specs.Table.{quarterTurn}
-use Rattle.trig.specs.declared.Bracket.{Bracket}
+use Rattle.arc_cosine.specs.declared.Bracket.{Bracket}
 use Rattle.trig.specs.Units.{cosUnits}
-use Rattle.trig.specs.Acos.{leastAngle, inDomain, floorUnits}
+use Rattle.arc_cosine.specs.Acos.{leastAngle, inDomain, floorUnits}
 use Rattle.trig.specs.Biased.{biased}
-use Rattle.trig.specs.Search.{Bracket·Carries, Bracket·Inside, Bracket·first, Bracket·middle, Bracket·upper, Bracket·lower, Bracket·half, Bracket·halve}
-use Rattle.trig.specs.Search.{Bracket·isOpen, Bracket·search, searchCosines, acosCosines}
+use Rattle.arc_cosine.specs.Search.{Bracket·Carries, Bracket·Inside, Bracket·first, Bracket·middle, Bracket·upper, Bracket·lower, Bracket·half, Bracket·halve}
+use Rattle.arc_cosine.specs.Search.{Bracket·isOpen, Bracket·search, searchCosines, acosCosines}
 use Rattle.trig.proofs.Units.{cos-half-turn}
-use Rattle.trig.proofs.Least.{leastAngle-unique}
+use Rattle.arc_cosine.proofs.Least.{leastAngle-unique}
 
 pub record Halving (n k : ℕ) (b : Bracket) : Type 0 where
   pub order : b .low < b .high

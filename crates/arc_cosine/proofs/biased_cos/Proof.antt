@@ -4,9 +4,9 @@ use Prim.Native.Nat.{ℕ, _+_, _-_, _^_}
 use native.Mathlib.Omega.{arith}
 use borrow.Author.Needs.{needs}
 use Rattle.sine_table.specs.Table.{quarterTurn}
 use Rattle.trig.proofs.Units.{read, cos-first, cos-second}
-use Rattle.trig.proofs.biased_cos.Statement.{statement}
-use Rattle.trig.proofs.biased_cos.Tie as tie
+use Rattle.arc_cosine.proofs.biased_cos.Statement.{statement}
+use Rattle.arc_cosine.proofs.biased_cos.Tie as tie
 
 sub-quarter-sine-in : tie.Need-sub-quarter-sine-in
 sub-quarter-sine-in c = search needs

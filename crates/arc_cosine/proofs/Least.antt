@@ -13,10 +13,10 @@ use lib.IntN.{ℤ}
 use lib.Signed.{leZ}
 use lib.Ieee.{minus}
 use Rattle.sine_table.specs.Table.{quarterTurn}
 use Rattle.trig.specs.Units.{cosUnits}
-use Rattle.trig.specs.Acos.{leastFrom, leastAngle}
+use Rattle.arc_cosine.specs.Acos.{leastFrom, leastAngle}
 use Rattle.trig.specs.Biased.{biased}
 use Rattle.trig.proofs.Units.{minus-above, minus-below, cos-unbiased, cos-falls}
 
 -- ---- the least that passes a test
 

@@ -6,10 +6,10 @@ use mathlib.Core.Bool.{Bool, cond, _&&_}
 use lib.Dec.{ltb}
 use lib.Ieee.{Float}
 use Rattle.sine_table.specs.Table.{quarterTurn}
-use Rattle.trig.specs.declared.Bracket.{Bracket}
+use Rattle.arc_cosine.specs.declared.Bracket.{Bracket}
 use Rattle.trig.specs.Units.{cosUnits}
-use Rattle.trig.specs.Acos.{inDomain, floorUnits}
+use Rattle.arc_cosine.specs.Acos.{inDomain, floorUnits}
 use Rattle.trig.specs.Biased.{biased}
 
 -- "the cosine at its lower bound .. what document 01's rule gives there"
 abbrev pub Bracket·Carries : Bracket → Type 0

@@ -1,0 +1,4 @@
+pub mod Least
+pub mod Halving
+pub mod Floor
+pub mod Values

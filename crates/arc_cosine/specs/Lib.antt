@@ -1,0 +1,2 @@
+pub mod Acos
+pub mod Search
