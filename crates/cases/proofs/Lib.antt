@@ -1,2 +1,3 @@
 pub mod Cases
+mod Covers
 pub mod Guarantee

@@ -7,4 +7,3 @@ pub mod Stored
 pub mod Slices
 mod Values
 mod Borders
-mod Cases

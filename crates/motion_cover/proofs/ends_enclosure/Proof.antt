@@ -1,4 +1,6 @@
 -- `ends_enclosure` meets its contract: a chain of calls.
+use mathlib.Core.Path.{ap₂, _∙_}
+use Rattle.bounds_query.specs.Query.{BoundsAnswer·unionBounds}
 use Rattle.motion_cover.specs.Cover.{AnimatedTransform·encloseEnds}
 use borrow.Author.Needs.{needs}
 use Rattle.motion_cover.proofs.ends_enclosure.Statement.{statement}
@@ -15,7 +17,7 @@ union-bounds-requires c κs = search needs
 
 returns : tie.Need-returns
 unfolding AnimatedTransform·encloseEnds
-returns c = cc
+returns c = c .union-bounds .ensures ∙ ap₂ BoundsAnswer·unionBounds (c .before .before .transform-padded .ensures) (c .before .transform-padded2 .ensures)
 
 pub ends-enclosure-spec : {M : Type 1} → statement M
 ends-enclosure-spec =

@@ -18,7 +18,12 @@ from-enclosure-requires c κs = search needs
 
 returns : tie.Need-returns
 unfolding Transform·encloseBounds
-returns c = cc
+returns c = rw (
+  c .from-enclosure .ensures,
+  c .before .transform-point-enclosure .ensures,
+  c .before .before .intervals .ensures,
+  c .before .before .before .matrix-point .ensures,
+)
 
 pub transform-enclosure-spec : {M : Type 1} → statement M
 transform-enclosure-spec =
