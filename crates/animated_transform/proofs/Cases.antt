@@ -8,7 +8,7 @@ use Rattle.quaternion.specs.declared.Quaternion.{Quaternion}
 use Rattle.coefficients.specs.Coefficients.{Coefficients·zero}
 use Rattle.animated_transform.specs.declared.AnimatedTransformAnswer.{AnimatedTransformAnswer}
 use Rattle.animated_transform.specs.New.{AnimatedTransformAnswer·refused, AnimatedTransform·new}
-use Rattle.animated_transform.specs.Computing.{computing}
+use Rattle.animated_transform.specs.means.Computing.{computing}
 
 -- floats by their bits
 abbrev o : Float

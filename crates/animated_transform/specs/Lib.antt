@@ -2,4 +2,4 @@ pub mod New
 pub mod Numbers
 pub mod AtTime
 pub mod Built
-pub mod Computing
+pub mod means

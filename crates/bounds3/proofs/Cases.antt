@@ -6,7 +6,7 @@ use Prim.Native.Nat.{ℕ}
 use lib.Ieee.{Float, nan, binary32, round}
 use Rattle.bounds3.specs.declared.Point3f.{Point3f}
 use Rattle.bounds3.specs.Bounds3f.{Bounds3f·default, Bounds3f·fromPoint, Bounds3f·fromPoints, Bounds3f·corner, Bounds3f·unionPoint}
-use Rattle.bounds3.specs.Computing.{computing}
+use Rattle.bounds3.specs.means.Computing.{computing}
 
 abbrev whole : ℕ → Float
 whole n = round binary32 false n 1

@@ -4,4 +4,4 @@ pub mod Bounds3f
 pub mod List
 pub mod Finite
 pub mod Inside
-pub mod Computing
+pub mod means

@@ -10,7 +10,7 @@ use lib.ListN.{length}
 use lib.Ieee.{Float}
 use Rattle.bounds_query.specs.Query.{coverRefusal}
 use Rattle.box_front.specs.declared.Front.{Front}
-use Rattle.box_front.specs.Front.{boxAt, Judged}
+use Rattle.box_front.specs.means.Front.{boxAt, Judged}
 
 module _ (boxes : List (List Float)) (depth : ℕ) where
   -- The first k boxes pass.

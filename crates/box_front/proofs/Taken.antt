@@ -22,9 +22,9 @@ use Rattle.motion_piece.specs.declared.PaddedPose.{PaddedPose}
 use Rattle.pose_steps.specs.Enclose.{Pose·encloseTransformPoint, Bounds3f·intervals, IntervalVector·bounds}
 use Rattle.motion_cover.specs.Cover.{BoundsAnswer·fromEnclosure}
 use Rattle.motion_cover.proofs.NonZero.{BoundsAnswer·NonZero, nonzero-box, tested-nonzero, grow-nonzero}
-use Rattle.motion_piece.specs.Piece.{PaddedPose·encloseBounds}
+use Rattle.motion_piece.specs.means.Piece.{PaddedPose·encloseBounds}
 use Rattle.box_front.specs.declared.Front.{Front}
-use Rattle.box_front.specs.Front.{boxAt, BoundsAnswer·put, Put, Taken}
+use Rattle.box_front.specs.means.Front.{boxAt, BoundsAnswer·put, Put, Taken}
 
 -- ---- one box
 pub enclose-nonzero : (pose : PaddedPose) (b : Bounds3f) → BoundsAnswer·NonZero (PaddedPose·encloseBounds pose b)

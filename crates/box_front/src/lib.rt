@@ -6,8 +6,8 @@ ghost use Prim.Native.Nat.{_<_};
 ghost use mathlib.Core.Path.{_≡_};
 ghost use lib.ListN.{length};
 ghost use Rattle.transform.specs.Answer.{BoundsAnswer·refusal};
-ghost use Rattle.motion_piece.specs.Piece.{PaddedPose·encloseBounds};
-ghost use Rattle.box_front.specs.Front.{boxAt, BoundsAnswer·put, Judged, Takes};
+ghost use Rattle.motion_piece.specs.means.Piece.{PaddedPose·encloseBounds};
+ghost use Rattle.box_front.specs.means.Front.{boxAt, BoundsAnswer·put, Judged, Takes};
 
 const PLACE_COUNT: usize = 16;
 

@@ -10,7 +10,7 @@ use Rattle.transform.specs.Transform.{translation}
 use Rattle.transform.specs.declared.BoundsAnswer.the-variants.{Bounds}
 use Rattle.animated_transform.specs.declared.AnimatedTransform.{AnimatedTransform}
 use Rattle.animated_transform.specs.New.{AnimatedTransform·new}
-use Rattle.animated_transform.specs.Computing as building
+use Rattle.animated_transform.specs.means.Computing as building
 use Rattle.motion_cover.specs.Cover.{AnimatedTransform·cover}
 use Rattle.motion_cover.specs.Computing.{computing}
 

@@ -4,7 +4,7 @@ use mathlib.Core.Path.{refl, subst}
 use lib.Ieee.{fits}
 use Rattle.rounding.specs.Order.{_≼_}
 use Rattle.bounds3.specs.declared.Bounds3f.{Bounds3f}
-use Rattle.animated_transform.specs.Computing as building
+use Rattle.animated_transform.specs.means.Computing as building
 use Rattle.motion_point.specs.TransformPoint.{AnimatedTransform·transformPoint}
 use Rattle.motion_point.specs.PadAt.{AnimatedTransform·padAt}
 use Rattle.motion_cover.specs.Computing as cover

@@ -25,7 +25,7 @@ use Rattle.chain_rows.specs.Kept.{Chain·toRows}
 use Rattle.chain_rows.specs.Theorem.{Moves·Holds}
 use Rattle.chain_poses.proofs.Loops.{pairs-count}
 use Rattle.chain_build.specs.Build.{front, ChainAnswer·left}
-use Rattle.chain_build.specs.Pairs.{Pair·refusal, Pair·rows, Pair·Built}
+use Rattle.chain_build.specs.means.Pairs.{Pair·refusal, Pair·rows, Pair·Built}
 
 -- ---- one pair
 pub pair-clauses : (rigid : Bool) (p q : Pose) (a : AnimatedTransformAnswer) (old : Rows) {r : ℕ} {rows : Rows}

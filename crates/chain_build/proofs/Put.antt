@@ -8,7 +8,7 @@ use lib.ListN.{length, set, drop, length-map}
 use Rattle.matrix4x4.specs.Rows.{Rows}
 use Rattle.pose_pair.specs.declared.Pose.{Pose}
 use Rattle.chain_build.specs.Build.{front}
-use Rattle.chain_build.specs.Pairs.{Pair·rows}
+use Rattle.chain_build.specs.means.Pairs.{Pair·rows}
 
 -- The rows of each pair's move, from place i on.
 unfoldable pub put : Bool → List Rows → ℕ → List (Pose × Pose) → List Rows

@@ -1,2 +1,2 @@
 pub mod Build
-pub mod Pairs
+pub mod means

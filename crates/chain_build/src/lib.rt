@@ -10,7 +10,7 @@ ghost use Rattle.motion_chain.specs.Built.{Each};
 ghost use Rattle.chain_rows.specs.Theorem.{Moves·Holds};
 ghost use Rattle.chain_poses.specs.Poses.{Poses·ofLists, Poses·pairAt};
 ghost use Rattle.chain_build.specs.Build.{front, ChainAnswer·left};
-ghost use Rattle.chain_build.specs.Pairs.{Pair·refusal, Pair·rows, Pair·Built};
+ghost use Rattle.chain_build.specs.means.Pairs.{Pair·refusal, Pair·rows, Pair·Built};
 
 // The move of the pair at a place, built and put into its block.
 fn put_pair(rigid: bool, poses: &[[f32; 18]], i: usize, moves: &mut [[[f32; 4]; 45]; 31]) -> u8

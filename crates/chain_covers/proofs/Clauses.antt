@@ -26,12 +26,12 @@ use Rattle.box_set.specs.Set.{maxBoxes, SetAnswer, covered, refused, SetAnswer�
 use Rattle.box_set.specs.Theorem.{SetContains, SetWithin}
 use Rattle.box_set.proofs.Contains.{moves-set-contains, moves-set-finer}
 use Rattle.box_front.specs.declared.Front.{Front}
-use Rattle.box_front.specs.Front.{boxAt}
-use Rattle.motion_fronts.specs.Worked.{Worked}
+use Rattle.box_front.specs.means.Front.{boxAt}
+use Rattle.motion_fronts.specs.means.Worked.{Worked}
 use Rattle.chain_covers.specs.Kept.{Moves·covers, SetAnswer·coversLeft, SetAnswer·unionLeft}
 use Rattle.chain_covers.specs.Theorem.{KeptSetContainsMotion}
 use Rattle.chain_covers.specs.Finer.{KeptSetFiner}
-use Rattle.chain_covers.specs.Union.{unionPlaces}
+use Rattle.chain_covers.specs.means.Union.{unionPlaces}
 use Rattle.chain_covers.proofs.Places.{zeros, SetAccepted, places-accepted, places-refused}
 
 -- ---- what the clauses say

@@ -20,9 +20,9 @@ use Rattle.bounds_answers.specs.UnionAll.{BoundsAnswer·unionAll, Each}
 use Rattle.box_set.specs.Set.{maxBoxes, SetAnswer, covered, refused, Boxes·covers}
 use Rattle.box_set.proofs.Set.{AcceptedSet, set-of-accepted, first-refused}
 use Rattle.box_front.specs.declared.Front.{Front}
-use Rattle.box_front.specs.Front.{boxAt}
-use Rattle.motion_fronts.specs.Worked.{Holding, FrontOf, Worked}
-use Rattle.chain_covers.specs.Union.{unionBoxes, unionPlaces}
+use Rattle.box_front.specs.means.Front.{boxAt}
+use Rattle.motion_fronts.specs.means.Worked.{Holding, FrontOf, Worked}
+use Rattle.chain_covers.specs.means.Union.{unionBoxes, unionPlaces}
 
 abbrev pub zeros : ℕ → List (List Float)
 zeros n = replicate n (replicate 6 positiveZero)

@@ -9,7 +9,7 @@ use lib.Ieee.{Float}
 use Rattle.bounds3.specs.declared.Bounds3f.{Bounds3f}
 use Rattle.bounds3.specs.Bounds3f.{Bounds3f·unionBounds}
 use Rattle.bounds3.specs.List.{Bounds3f·ofList}
-use Rattle.chain_covers.specs.Union.{unionBoxes}
+use Rattle.chain_covers.specs.means.Union.{unionBoxes}
 
 module _ (places : List (List Float)) (n : ℕ) (l : n ≤ length places) (u : Bounds3f) where
   pub union-next : (i : ℕ) → i < n

@@ -1,4 +1,4 @@
 pub mod Kept
 pub mod Theorem
 pub mod Finer
-pub mod Union
+pub mod means

@@ -7,7 +7,7 @@ ghost use Rattle.box_set.specs.Set.{maxBoxes, SetAnswer·refusal};
 ghost use Rattle.chain_covers.specs.Kept.{Moves·covers, SetAnswer·coversLeft, SetAnswer·unionLeft};
 ghost use Rattle.chain_covers.specs.Theorem.{KeptSetContainsMotion};
 ghost use Rattle.chain_covers.specs.Finer.{KeptSetFiner};
-ghost use Rattle.chain_covers.specs.Union.{unionPlaces};
+ghost use Rattle.chain_covers.specs.means.Union.{unionPlaces};
 
 const MAX_BOXES: usize = 16;
 

@@ -15,9 +15,9 @@ use Rattle.transform.specs.declared.BoundsAnswer.{BoundsAnswer}
 use Rattle.transform.specs.declared.BoundsAnswer.the-variants.{Bounds, Refused}
 use Rattle.bounds_query.specs.Query.{BoundsAnswer·unionBounds}
 use Rattle.box_front.specs.declared.Front.{Front}
-use Rattle.box_front.specs.Front.{placeCount, boxAt}
-use Rattle.motion_fronts.specs.Worked.{Holding, FrontOf, Worked}
-use Rattle.chain_fronts.specs.Joined.{joinedBox, Joined}
+use Rattle.box_front.specs.means.Front.{placeCount, boxAt}
+use Rattle.motion_fronts.specs.means.Worked.{Holding, FrontOf, Worked}
+use Rattle.chain_fronts.specs.means.Joined.{joinedBox, Joined}
 
 -- ---- one box after the other
 module _ (moved : List (List Float)) where

@@ -17,8 +17,8 @@ use Rattle.motion_rows.specs.Rows.{AnimatedTransform·fromRows}
 use Rattle.motion_chain.specs.Chain.{unionCovers, Chain·cover}
 use Rattle.chain_rows.specs.Kept.{Moves·chain}
 use Rattle.box_front.specs.declared.Front.{Front}
-use Rattle.box_front.specs.Front.{placeCount}
-use Rattle.motion_fronts.specs.Worked.{Worked, Continues}
+use Rattle.box_front.specs.means.Front.{placeCount}
+use Rattle.motion_fronts.specs.means.Worked.{Worked, Continues}
 use Rattle.motion_fronts.proofs.Front.{worked-same, worked-trans}
 
 module _ (rows : List Rows) (boxes : List (List Float)) (depth : ℕ) where

@@ -11,9 +11,9 @@ ghost use Rattle.motion_cover.specs.Cover.{AnimatedTransform·cover};
 ghost use Rattle.motion_rows.specs.Rows.{AnimatedTransform·fromRows};
 ghost use Rattle.motion_chain.specs.Chain.{Chain·cover};
 ghost use Rattle.chain_rows.specs.Kept.{Moves·chain};
-ghost use Rattle.box_front.specs.Front.{placeCount};
-ghost use Rattle.motion_fronts.specs.Worked.{Works, Continues};
-ghost use Rattle.chain_fronts.specs.Joined.{Joined};
+ghost use Rattle.box_front.specs.means.Front.{placeCount};
+ghost use Rattle.motion_fronts.specs.means.Worked.{Works, Continues};
+ghost use Rattle.chain_fronts.specs.means.Joined.{Joined};
 
 const PLACE_COUNT: usize = 16;
 

@@ -17,7 +17,7 @@ use Rattle.motion_text.specs.Answer.{boundsText}
 use Rattle.motion_text.proofs.Written.{length-values, length-bounds}
 use Rattle.file_text.specs.Text.{valuesText, linesText, fileText}
 use Rattle.chain_text.specs.Write.{Pose·values, Moves·text}
-use Rattle.chain_text.specs.Lines.{Rows·startValues, Rows·endValues}
+use Rattle.chain_text.specs.means.Lines.{Rows·startValues, Rows·endValues}
 
 abbrev pub namesLine : List ℕ
 namesLine = ascii "time m00 m01 m02 m03 m10 m11 m12 m13 m20 m21 m22 m23 pad\n"

@@ -13,7 +13,7 @@ use Rattle.motion_text.proofs.Pastes.{front-fits, paste-paste}
 use Rattle.motion_text.proofs.Written.{length-values}
 use Rattle.file_text.specs.Text.{valuesText, linesText}
 use Rattle.chain_text.specs.Write.{Moves·text}
-use Rattle.chain_text.specs.Lines.{Rows·startValues, Rows·endValues}
+use Rattle.chain_text.specs.means.Lines.{Rows·startValues, Rows·endValues}
 use Rattle.chain_text.proofs.Parts.{paste-next}
 use Rattle.chain_text.proofs.Lines.{namesLine, names-length, bounds-length, text-lines, endsText, ends-length, ends-drop, ends-take}
 

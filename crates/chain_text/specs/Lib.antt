@@ -1,3 +1,3 @@
 pub mod Write
-pub mod Lines
 pub mod Theorem
+pub mod means

@@ -9,7 +9,7 @@ ghost use Rattle.bounds3.specs.List.{Bounds3f·list};
 ghost use Rattle.animated_transform.specs.New.{firstRefusal};
 ghost use Rattle.motion_text.specs.Answer.{boundsText, front};
 ghost use Rattle.file_text.specs.Text.{valuesText, linesText};
-ghost use Rattle.chain_text.specs.Lines.{Rows·startValues, Rows·endValues};
+ghost use Rattle.chain_text.specs.means.Lines.{Rows·startValues, Rows·endValues};
 ghost use Rattle.chain_text.specs.Write.{poseLine, Moves·text, roomRefusal, Moves·write, TextAnswer·refusal, TextAnswer·length, TextAnswer·left};
 ghost use Rattle.chain_text.specs.Theorem.{WrittenBack};
 

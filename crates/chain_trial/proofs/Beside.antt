@@ -17,7 +17,7 @@ use Rattle.built_poses.specs.Poses.{AnimatedTransform·startPose, AnimatedTrans
 use Rattle.chain_rows.specs.Kept.{Moves·chain}
 use Rattle.changed_chain.specs.Beside.{Chain·beside}
 use Rattle.trial_blocks.specs.Place.{besideCount}
-use Rattle.chain_trial.specs.Blocks.{NewMoves}
+use Rattle.chain_trial.specs.means.Blocks.{NewMoves}
 
 last-taken : {A : Type 0} (l : List A) (i : ℕ) (d : A) → 0 < i → i ≤ length l → drop (i - 1) (take i l) ≡ getD l (i - 1) d ∷ []
 last-taken l zero d z h = absurd (omega (arith, z))

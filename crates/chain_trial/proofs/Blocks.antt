@@ -18,7 +18,7 @@ use Rattle.chain_rows.specs.Kept.{Chain·toRows}
 use Rattle.chain_rows.specs.Theorem.{Moves·Holds}
 use Rattle.chain_build.specs.Build.{ChainAnswer·left}
 use Rattle.changed_chain.proofs.Changed.{new-none}
-use Rattle.chain_trial.specs.Blocks.{NewMoves}
+use Rattle.chain_trial.specs.means.Blocks.{NewMoves}
 
 left-length : (a : ChainAnswer) (old : List Rows) → length old ≡ 31 → ((c : Chain) → a ≡ built c → BuiltChain c) → length (ChainAnswer·left a old) ≡ 31
 left-length (built c) old h f =

@@ -31,7 +31,7 @@ use Rattle.changed_chain.proofs.Changed.{changed-beside, changed-built}
 use Rattle.trial_blocks.specs.Place.{placeRefusal}
 use Rattle.chain_trial.specs.Try.{posesIn, Moves·coverBeside, Moves·try, Moves·changeRefusal}
 use Rattle.chain_trial.specs.Theorem.{ChangedContainsMotion, TrialContainsMotion}
-use Rattle.chain_trial.specs.Blocks.{NewMoves}
+use Rattle.chain_trial.specs.means.Blocks.{NewMoves}
 use Rattle.chain_trial.proofs.Try.{place-passed, change-place}
 
 poses-count : (c : Chain) → length (Chain·poses c) ≡ length (Chain·moves c) + 1

@@ -26,7 +26,7 @@ use Rattle.changed_chain.specs.Beside.{Chain·beside}
 use Rattle.changed_chain.proofs.Changed.{new-none}
 use Rattle.trial_blocks.specs.Place.{placeRefusal, besideCount}
 use Rattle.chain_trial.specs.Try.{posesIn, Moves·coverBeside, Moves·try, Moves·changeRefusal}
-use Rattle.chain_trial.specs.Blocks.{NewMoves}
+use Rattle.chain_trial.specs.means.Blocks.{NewMoves}
 use Rattle.chain_trial.proofs.Beside.{beside-count}
 
 -- ---- the place

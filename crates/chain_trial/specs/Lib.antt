@@ -1,3 +1,3 @@
 pub mod Try
 pub mod Theorem
-pub mod Blocks
+pub mod means

@@ -18,7 +18,7 @@ ghost use Rattle.chain_rows.specs.Theorem.{Moves·Holds};
 ghost use Rattle.trial_blocks.specs.Place.{besideCount};
 ghost use Rattle.chain_trial.specs.Try.{posesIn, Moves·changeRefusal, Moves·try};
 ghost use Rattle.chain_trial.specs.Theorem.{TrialContainsMotion};
-ghost use Rattle.chain_trial.specs.Blocks.{NewMoves};
+ghost use Rattle.chain_trial.specs.means.Blocks.{NewMoves};
 
 // The chain of two poses, its rows in the first of the blocks.
 fn build_two(rigid: bool, start: [f32; 18], end: [f32; 18], blocks: &mut [[[f32; 4]; 45]; 31]) -> u8

@@ -1,3 +1,3 @@
 pub mod Coefficients
 pub mod IsFinite
-pub mod Computing
+pub mod means

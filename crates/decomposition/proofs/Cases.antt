@@ -7,7 +7,7 @@ use lib.Ieee.{Float, binary32, ofBits}
 use Rattle.matrix4x4.specs.Rows.{Row, Rows, tabulate, Matrix4x4·fromRows}
 use Rattle.decomposition.specs.declared.Decomposition.{Decomposition}
 use Rattle.decomposition.specs.Decompose.{Decomposition·refused, Matrix4x4·decompose}
-use Rattle.decomposition.specs.Computing.{computing}
+use Rattle.decomposition.specs.means.Computing.{computing}
 
 -- a float and a row by their bits
 abbrev float : ℕ → Float

@@ -1,3 +1,3 @@
 pub mod Polar
 pub mod Decompose
-pub mod Computing
+pub mod means

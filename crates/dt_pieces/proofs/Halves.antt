@@ -9,7 +9,7 @@ use Rattle.bounds_query.specs.Query.{BoundsAnswer·unionBounds}
 use Rattle.interval.specs.declared.Interval.{Interval}
 use Rattle.dt_share.specs.Share.{lowerHalf, upperHalf, pieces}
 use Rattle.bounds_answers.specs.UnionAll.{BoundsAnswer·unionAll}
-use Rattle.dt_pieces.specs.Pieces.{unionPieces}
+use Rattle.dt_pieces.specs.means.Pieces.{unionPieces}
 
 pub union-append : (r : BoundsAnswer) (xs ys : List BoundsAnswer) → BoundsAnswer·unionAll r (xs ++ ys) ≡ BoundsAnswer·unionAll (BoundsAnswer·unionAll r xs) ys
 union-append r [] ys = refl

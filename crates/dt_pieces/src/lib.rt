@@ -6,7 +6,7 @@ use pose_steps::PoseConstants;
 use transform::BoundsAnswer;
 ghost use mathlib.Core.Path.{_≡_};
 ghost use Rattle.bounds_query.specs.Query.{BoundsAnswer·unionBounds};
-ghost use Rattle.dt_pieces.specs.Pieces.{pieceBox, unionPieces};
+ghost use Rattle.dt_pieces.specs.means.Pieces.{pieceBox, unionPieces};
 
 // The box of the poses over an interval of dt, grown by the high end of their pad interval, joined to r. Accuracy: encloses.
 fn union_piece(

@@ -10,7 +10,7 @@ use Rattle.hexadecimal.specs.Word.{digits, digitsOnly, number}
 use Rattle.animated_transform.specs.New.{AnimatedTransform·new}
 use Rattle.lent_arrays.specs.Arrays.{Pose·ofList}
 use Rattle.motion_chain.specs.Chain.{Chain, built, Chain·new}
-use Rattle.motion_chain.specs.Computing as chain
+use Rattle.motion_chain.specs.means.Computing as chain
 use Rattle.chain_poses.specs.Poses.{Poses·ofLists}
 use Rattle.motion_file.specs.Text.{ascii, split, singleSpaced, equal}
 use Rattle.motion_file.specs.Layout.{allValues, fits, valuesOf, conforms, keepsColumns, hasPads, keepsLayout, poseOf, MoveFile·read, MoveFile·poses}

@@ -5,4 +5,4 @@ pub mod Promise
 pub mod Stop
 pub mod Stage
 pub mod Regular
-pub mod Computing
+pub mod means

@@ -5,7 +5,7 @@ use Prim.Native.Nat.{ℕ}
 use mathlib.Core.Bool.{true, false}
 use lib.Ieee.{Float, binary32, round}
 use Rattle.interval.specs.Interval.{Interval·point}
-use Rattle.formula.specs.Computing.{computing}
+use Rattle.formula.specs.means.Computing.{computing}
 use Rattle.formula_example.specs.Normalize.{Vector2·normalize, Vector2·normalizeEnclosure}
 
 abbrev fraction : ℕ → ℕ → Float

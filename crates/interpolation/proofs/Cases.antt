@@ -16,7 +16,7 @@ use Rattle.coefficients.specs.Coefficients.{Coefficients·zero}
 use Rattle.animated_transform.specs.declared.AnimatedTransform.{AnimatedTransform}
 use Rattle.animated_transform.specs.New.{AnimatedTransform·new}
 use Rattle.interpolation.specs.Interpolate.{TransformAnswer·accepted, AnimatedTransform·interpolate}
-use Rattle.interpolation.specs.Computing.{computing}
+use Rattle.interpolation.specs.means.Computing.{computing}
 
 -- floats by their bits
 abbrev bits : ℕ → Float

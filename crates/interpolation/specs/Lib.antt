@@ -1,3 +1,3 @@
 pub mod Interpolate
 pub mod Promise
-pub mod Computing
+pub mod means

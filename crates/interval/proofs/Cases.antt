@@ -8,7 +8,7 @@ use Rattle.interval.specs.declared.Interval.{Interval}
 use Rattle.interval.specs.declared.Judged.{Judged}
 use Rattle.interval.specs.Interval.{Interval·hull, Interval·add, Interval·sub, Interval·mul, Interval·sin, Interval·cos, pi}
 use Rattle.interval.specs.Enclosure.{Judged·addEnclosure, Judged·subEnclosure, Judged·mulEnclosure, Judged·divEnclosure, Judged·sqrtEnclosure, Judged·sinEnclosure, Judged·cosEnclosure}
-use Rattle.interval.specs.Computing.{computing}
+use Rattle.interval.specs.means.Computing.{computing}
 
 abbrev plus : ℕ → Float
 plus n = round binary32 false n 1

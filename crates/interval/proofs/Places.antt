@@ -13,7 +13,7 @@ use Rattle.trig.specs.SinCos.{sin, cos}
 use Rattle.trig_laws.specs.Range.{lies, sinLow, sinHigh, cosLow, cosHigh}
 use Rattle.interval.specs.Enclosure.{Interval·sinEnclosure, Interval·cosEnclosure}
 use Rattle.interval.specs.declared.EndAngle.{EndAngle}
-use Rattle.interval.specs.EndAngle.{EndAngle·fromSinCos, EndAngle·new, EndAngle·sinRange, EndAngle·cosRange}
+use Rattle.interval.specs.means.EndAngle.{EndAngle·fromSinCos, EndAngle·new, EndAngle·sinRange, EndAngle·cosRange}
 
 same-test : (x y : Bool) → (T x → T y) → (T y → T x) → x ≡ y
 same-test true true h k = refl

@@ -9,7 +9,7 @@ use Rattle.interval.specs.declared.Interval.{Interval}
 use Rattle.interval.specs.Contains.{Finite}
 use Rattle.interval.specs.Interval.{Interval·point}
 pub use Rattle.interval.proofs.Finite.{add-finite, sub-finite, add-operands, sub-operands}
-use Rattle.interval_unjudged.specs.Ordered.{lesser, Interval·ofFourOrdered, Interval·mulOrdered, Interval·endsSum}
+use Rattle.interval_unjudged.specs.means.Ordered.{lesser, Interval·ofFourOrdered, Interval·mulOrdered, Interval·endsSum}
 
 never : (b u : Bool) → T (finite (cond b nan (inf u))) → ⊥
 never true u h = h

@@ -15,8 +15,8 @@ use Rattle.interval.proofs.Contains.{contains-finite, new-left, new-right, hull
 pub use Rattle.interval.proofs.Extends.{mul-number, div-number}
 use Rattle.interval.specs.Interval.{Interval·new, Interval·hull, Interval·ofFour}
 use Rattle.interval.specs.Enclosure.{Interval·mulEnclosure, Interval·divEnclosure}
-use Rattle.interval_unjudged.specs.Ordered.{lesser, greater, Interval·ofFourOrdered, Interval·mulOrdered, Interval·divOrdered}
-use Rattle.interval_unjudged.specs.Unjudged.{Positive}
+use Rattle.interval_unjudged.specs.means.Ordered.{lesser, greater, Interval·ofFourOrdered, Interval·mulOrdered, Interval·divOrdered}
+use Rattle.interval_unjudged.specs.means.Unjudged.{Positive}
 
 -- ---- of two
 same : (x y : Float) (b c : Bool) → T (not b) → cond c y x ≡ cond b y (cond c y x)

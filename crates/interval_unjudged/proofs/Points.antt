@@ -7,7 +7,7 @@ use Rattle.float32.specs.Operators.{_⊗_, _⊘_}
 use Rattle.interval.specs.declared.Interval.{Interval}
 use Rattle.interval.specs.Interval.{Interval·point}
 use Rattle.interval.proofs.InOrder.{lt-asym}
-use Rattle.interval_unjudged.specs.Ordered.{lesser, greater, Interval·ofFourOrdered, Interval·mulOrdered, Interval·divOrdered}
+use Rattle.interval_unjudged.specs.means.Ordered.{lesser, greater, Interval·ofFourOrdered, Interval·mulOrdered, Interval·divOrdered}
 
 same : (x : Float) (b : Bool) → cond b x x ≡ x
 same x true = refl

@@ -7,7 +7,7 @@ use Rattle.interval.specs.declared.Interval.{Interval}
 use Rattle.interval.specs.Interval.{Interval·point}
 use Rattle.formula.specs.Program.{Expr, var, con, binary, unary, Program, _>>=_, give}
 use Rattle.formula.specs.Enclose.{unbound}
-use Rattle.interval_unjudged.specs.Unjudged.{Binary·unjudged, Unary·unjudged, Expr·unjudged, Expr·unjudgedAll, Program·unjudged}
+use Rattle.interval_unjudged.specs.means.Unjudged.{Binary·unjudged, Unary·unjudged, Expr·unjudged, Expr·unjudgedAll, Program·unjudged}
 
 -- For each operation in working order, a result and the equation that its call gives; then K of the last.
 abbrev pub Calls : List Interval → Expr → (Interval → Type 0) → Type 0

@@ -15,7 +15,7 @@ use Rattle.interval.specs.Enclosure.{first, notFinite, Judged·judge, Judged·a
 use Rattle.interval.proofs.Refusal.{first-right, finite-accepted, positive-accepted}
 use Rattle.formula.specs.Program.{Binary, sum, difference, product, quotient, Unary, root, sine, cosine, Expr, var, con, binary, unary, Program, _>>=_, give}
 use Rattle.formula.specs.Enclose.{Binary·enclose, Unary·enclose, unbound, Expr·enclose, Enclosure, enclosure, Expr·encloseAll, extend, Program·enclose}
-use Rattle.interval_unjudged.specs.Unjudged.{Binary·unjudged, Unary·unjudged, Expr·unjudged, Expr·unjudgedAll, Program·unjudged, Expr·closed, Expr·closedAll, Program·closed, Expr·result, Binary·operands, Expr·tested, Expr·testedAll, Program·tested, Binary·divisor, Unary·rooted, Expr·divisors, Expr·divisorsAll, Program·divisors, All, Positive}
+use Rattle.interval_unjudged.specs.means.Unjudged.{Binary·unjudged, Unary·unjudged, Expr·unjudged, Expr·unjudgedAll, Program·unjudged, Expr·closed, Expr·closedAll, Program·closed, Expr·result, Binary·operands, Expr·tested, Expr·testedAll, Program·tested, Binary·divisor, Unary·rooted, Expr·divisors, Expr·divisorsAll, Program·divisors, All, Positive}
 use Rattle.interval_unjudged.proofs.Finite.{add-operands, sub-operands}
 use Rattle.interval_unjudged.proofs.Ordered.{mul-ordered, div-ordered}
 

@@ -1,3 +1,1 @@
-pub mod Ordered
-pub mod Unjudged
-pub mod After
+pub mod means

@@ -3,7 +3,7 @@
 // on the way.
 ghost use mathlib.Core.Path.{_≡_};
 ghost use Rattle.interval.specs.Enclosure.{Interval·addEnclosure, Interval·subEnclosure, Interval·sqrtEnclosure};
-ghost use Rattle.interval_unjudged.specs.Ordered.{lesser, greater, Interval·ofFourOrdered, Interval·mulOrdered, Interval·divOrdered, Interval·endsSum};
+ghost use Rattle.interval_unjudged.specs.means.Ordered.{lesser, greater, Interval·ofFourOrdered, Interval·mulOrdered, Interval·divOrdered, Interval·endsSum};
 use interval::Interval;
 
 // The sum. Accuracy: encloses.

@@ -1,1 +1,1 @@
-pub mod Poses
+pub mod means

@@ -3,7 +3,7 @@ ghost use mathlib.Core.Path.{_≡_};
 ghost use Rattle.lent_arrays.specs.Arrays.{Pose·ofList};
 ghost use Rattle.motion_rows.specs.Rows.{AnimatedTransform·fromRows};
 ghost use Rattle.built_poses.specs.Poses.{AnimatedTransform·startPose, AnimatedTransform·endPose};
-ghost use Rattle.kept_poses.specs.Poses.{pose};
+ghost use Rattle.kept_poses.specs.means.Poses.{pose};
 
 // A pose's time, the rows of its matrix and its pad, one after the other.
 fn pose_values(

@@ -4,4 +4,4 @@ pub mod Mul
 pub mod Eq
 pub mod IsFinite
 pub mod IsAffine
-pub mod Computing
+pub mod means

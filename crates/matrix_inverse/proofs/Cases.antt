@@ -5,7 +5,7 @@ use Prim.Native.Nat.{ℕ}
 use lib.Ieee.{binary32, ofBits}
 use Rattle.matrix4x4.specs.Rows.{Row, tabulate, Matrix4x4·fromRows}
 use Rattle.matrix_inverse.specs.Inverse.{refused, Matrix4x4·inverse}
-use Rattle.matrix_inverse.specs.Computing.{computing}
+use Rattle.matrix_inverse.specs.means.Computing.{computing}
 
 -- a row of floats by their bits
 abbrev bits : ℕ → ℕ → ℕ → ℕ → Row

@@ -2,4 +2,4 @@ pub mod Pivot
 pub mod Eliminate
 pub mod RestoreColumns
 pub mod Inverse
-pub mod Computing
+pub mod means

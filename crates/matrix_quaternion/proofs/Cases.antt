@@ -7,7 +7,7 @@ use lib.Ieee.{Float, binary32, round}
 use Rattle.matrix4x4.specs.Rows.{Row, Rows}
 use Rattle.quaternion.specs.declared.Quaternion.{Quaternion}
 use Rattle.matrix_quaternion.specs.FromMatrix.{Quaternion·fromMatrix}
-use Rattle.matrix_quaternion.specs.Computing.{computing}
+use Rattle.matrix_quaternion.specs.means.Computing.{computing}
 
 abbrev 0f : Float
 0f = round binary32 false 0 1

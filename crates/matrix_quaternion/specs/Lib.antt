@@ -1,3 +1,3 @@
 -- Definitions of the quaternion of a rotation's matrix.
 pub mod FromMatrix
-pub mod Computing
+pub mod means

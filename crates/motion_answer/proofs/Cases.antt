@@ -7,7 +7,7 @@ use mathlib.Core.List.{List, [], _∷_, map}
 use lib.Ieee.{ofBits, toBits}
 use Rattle.hexadecimal.specs.Digit.{digitValue}
 use Rattle.hexadecimal.specs.Word.{digits, digitsOnly, number}
-use Rattle.motion_chain.specs.Computing as chain
+use Rattle.motion_chain.specs.means.Computing as chain
 use Rattle.chain_poses.specs.Poses.{Poses·ofLists}
 use Rattle.motion_file.specs.Text.{ascii, split, singleSpaced, equal}
 use Rattle.motion_file.specs.Layout.{allValues, fits, valuesOf, conforms, keepsColumns, hasPads, keepsLayout, poseOf, MoveFile·read, MoveFile·poses}

@@ -18,7 +18,7 @@ use Rattle.motion_bounds.specs.declared.MotionBoundsAnswer.the-variants 
 use Rattle.motion_bounds.specs.MotionBounds.{allPlaces, axisSearch, unionAxis, pointBounds, unionCorner, unionCorners}
 use Rattle.motion_bounds.specs.Examined.{Examined·none, Examined·AtMost, Examined·add, pointExamined, cornersExamined}
 use Rattle.motion_bounds.specs.Answer.{MotionBoundsAnswer·examined, BoundsAnswer·counted}
-use Rattle.motion_bounds.specs.Steps.{axisExamined, unionAxes, axesExamined, MotionBoundsAnswer·unionBounds}
+use Rattle.motion_bounds.specs.means.Steps.{axisExamined, unionAxes, axesExamined, MotionBoundsAnswer·unionBounds}
 use Rattle.motion_bounds.proofs.Searched.{none-examined}
 
 -- Nothing is refused.

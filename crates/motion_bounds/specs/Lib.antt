@@ -2,5 +2,4 @@
 pub mod MotionBounds
 pub mod Examined
 pub mod Answer
-pub mod Steps
-pub mod Computing
+pub mod means

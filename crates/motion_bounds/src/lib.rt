@@ -17,7 +17,7 @@ ghost use Rattle.zero_search.specs.Stored.{Stored};
 ghost use Rattle.motion_bounds.specs.MotionBounds.{DerivativeTerm·eval, BoundsAnswer·fromEnds, pointAt, unionZero, unionZeros, allPlaces, axisSearch, unionAxis, pointBounds, unionCorners, boxBounds};
 ghost use Rattle.motion_bounds.specs.Examined.{Examined·AtMost, Examined·add, pointExamined, cornersExamined, boxExamined};
 ghost use Rattle.motion_bounds.specs.Answer.{BoundsAnswer·counted, AnimatedTransform·boundPointMotion, AnimatedTransform·motionBounds};
-ghost use Rattle.motion_bounds.specs.Steps.{axisBounds, unionAxes, axesExamined};
+ghost use Rattle.motion_bounds.specs.means.Steps.{axisBounds, unionAxes, axesExamined};
 
 // How many intervals the zero search examined on each axis.
 pub struct Examined {

@@ -16,11 +16,11 @@ use Rattle.quaternion.specs.declared.Quaternion.{Quaternion}
 use Rattle.pose_steps.specs.declared.PoseConstants.{PoseConstants}
 use Rattle.animated_transform.specs.declared.AnimatedTransform.{AnimatedTransform}
 use Rattle.animated_transform.specs.New.{AnimatedTransform·new}
-use Rattle.animated_transform.specs.Computing as animated
+use Rattle.animated_transform.specs.means.Computing as animated
 use Rattle.motion_bounds.specs.MotionBounds.{allPlaces, pointBounds}
 use Rattle.motion_bounds.specs.Examined.{Examined·none, pointExamined}
 use Rattle.motion_bounds.specs.Answer.{BoundsAnswer·counted, AnimatedTransform·boundPointMotion, AnimatedTransform·motionBounds}
-use Rattle.motion_bounds.specs.Computing.{computing}
+use Rattle.motion_bounds.specs.means.Computing.{computing}
 
 -- floats by their bits
 abbrev f : ℕ → Float

@@ -21,7 +21,7 @@ use Rattle.motion_chain.specs.MoveAt.{indexFrom, Chain·indexAt}
 use Rattle.motion_chain.specs.Times as times
 use Rattle.motion_chain.specs.Times.{Chain·transformPoints, Chain·pointsLeft}
 use Rattle.motion_chain.specs.Stretches.{Chain·stretches}
-use Rattle.motion_chain.specs.Computing.{computing}
+use Rattle.motion_chain.specs.means.Computing.{computing}
 use Rattle.motion_chain.proofs.Cover.{chain-contains}
 
 -- ---- floats, poses, a box

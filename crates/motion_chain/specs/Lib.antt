@@ -6,4 +6,4 @@ pub mod TwoPoses
 pub mod Times
 pub mod Stretches
 pub mod TimesAnswer
-pub mod Computing
+pub mod means

@@ -3,7 +3,7 @@ use mathlib.Core.Path.{_≡_, refl, sym, ap, _∙_}
 use mathlib.Core.Bool.{false}
 use lib.Ieee.{Float}
 use Rattle.float32.specs.Operators.{_⊗_}
-use Rattle.interval.specs.EndAngle.{EndAngle·new}
+use Rattle.interval.specs.means.EndAngle.{EndAngle·new}
 use Rattle.pose_steps.specs.declared.PoseConstants.{PoseConstants}
 use Rattle.pose_steps.specs.Pose.{isNear}
 use Rattle.motion_cover.specs.declared.Border.{Border}

@@ -3,7 +3,7 @@ use mathlib.Core.Bool.{cond}
 use lib.Ieee.{Float, binary32, ofBits}
 use Rattle.float32.specs.Operators.{_⊗_, one}
 use Rattle.interval.specs.declared.EndAngle.{EndAngle}
-use Rattle.interval.specs.EndAngle.{EndAngle·new}
+use Rattle.interval.specs.means.EndAngle.{EndAngle·new}
 use Rattle.pose_steps.specs.declared.PoseConstants.{PoseConstants}
 use Rattle.pose_steps.specs.Pose.{isNear}
 use Rattle.motion_cover.specs.declared.Border.{Border}

@@ -18,7 +18,7 @@ ghost use mathlib.Core.Path.{_≡_};
 ghost use Rattle.sine_table.specs.Table.{sineTable};
 ghost use Rattle.transform.specs.declared.BoundsAnswer.the-variants.{Bounds};
 ghost use Rattle.pose_steps.specs.Enclose.{Pose·encloseSlerp, Bounds3f·intervals, IntervalVector·bounds};
-ghost use Rattle.pose_slerp.specs.Unjudged.{Perpendicular·of};
+ghost use Rattle.pose_slerp.specs.means.Unjudged.{Perpendicular·of};
 ghost use Rattle.motion_point.specs.TransformPoint.{AnimatedTransform·constants};
 ghost use Rattle.bounds_query.specs.Query.{maxDepth};
 ghost use Rattle.motion_cover.specs.Cover.{BoundsAnswer·fromEnclosure, Transform·encloseBounds, Transform·enclosePadded, AnimatedTransform·encloseBounds, AnimatedTransform·encloseEnds, unionSlices, AnimatedTransform·encloseMotion, AnimatedTransform·cover};

@@ -14,10 +14,10 @@ use Rattle.transform.specs.declared.BoundsAnswer.{BoundsAnswer}
 use Rattle.transform.specs.declared.BoundsAnswer.the-variants.{Bounds, Refused}
 use Rattle.bounds_query.specs.Query.{BoundsAnswer·unionBounds}
 use Rattle.motion_piece.specs.declared.PaddedPose.{PaddedPose}
-use Rattle.motion_piece.specs.Piece.{PaddedPose·encloseBounds}
+use Rattle.motion_piece.specs.means.Piece.{PaddedPose·encloseBounds}
 use Rattle.box_front.specs.declared.Front.{Front}
-use Rattle.box_front.specs.Front.{boxAt, Put, Taken}
-use Rattle.motion_fronts.specs.Worked.{Holding, FrontOf, Worked}
+use Rattle.box_front.specs.means.Front.{boxAt, Put, Taken}
+use Rattle.motion_fronts.specs.means.Worked.{Holding, FrontOf, Worked}
 
 -- ---- two answers
 -- The second, unless the first is refused.

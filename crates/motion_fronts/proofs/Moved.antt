@@ -20,12 +20,12 @@ use Rattle.motion_cover.specs.Cover.{AnimatedTransform·encloseEnds, unionSlice
 use Rattle.motion_cover.proofs.Contains.{cover-depth, motion-stored, motion-slices}
 use Rattle.motion_cover.proofs.Slices.{refused-first}
 use Rattle.motion_piece.specs.declared.PaddedPose.{PaddedPose}
-use Rattle.motion_piece.specs.Piece.{PaddedPose·encloseBounds, PaddedPose·stored}
+use Rattle.motion_piece.specs.means.Piece.{PaddedPose·encloseBounds, PaddedPose·stored}
 use Rattle.motion_piece.proofs.Piece.{stored-composition}
 use Rattle.motion_pad.specs.Pad.{Pad·start}
 use Rattle.box_front.specs.declared.Front.{Front}
-use Rattle.box_front.specs.Front.{placeCount, boxAt, Judged, Takes}
-use Rattle.motion_fronts.specs.Worked.{FrontOf, Worked}
+use Rattle.box_front.specs.means.Front.{placeCount, boxAt, Judged, Takes}
+use Rattle.motion_fronts.specs.means.Worked.{FrontOf, Worked}
 use Rattle.motion_fronts.proofs.Front.{joined, take-worked}
 
 -- What the tests of a box leave of it.

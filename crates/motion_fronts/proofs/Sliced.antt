@@ -16,11 +16,11 @@ use Rattle.motion_piece.specs.declared.PaddedPose.{PaddedPose}
 use Rattle.animated_transform.specs.declared.AnimatedTransform.{AnimatedTransform}
 use Rattle.motion_point.specs.TransformPoint.{AnimatedTransform·constants}
 use Rattle.motion_cover.specs.Cover.{unionSlices}
-use Rattle.motion_piece.specs.Piece.{PaddedPose·encloseBounds, PaddedPose·over}
+use Rattle.motion_piece.specs.means.Piece.{PaddedPose·encloseBounds, PaddedPose·over}
 use Rattle.motion_piece.proofs.Piece.{piece-composition}
 use Rattle.box_front.specs.declared.Front.{Front}
-use Rattle.box_front.specs.Front.{placeCount, Takes}
-use Rattle.motion_fronts.specs.Worked.{Worked, Continues}
+use Rattle.box_front.specs.means.Front.{placeCount, Takes}
+use Rattle.motion_fronts.specs.means.Worked.{Worked, Continues}
 use Rattle.motion_fronts.proofs.Front.{worked-same, take-worked}
 
 module _ (m : AnimatedTransform) (a : PoseConstants) (boxes : List (List Float)) (d : ℕ) (from : Front) (old : List (List Float)) where

@@ -9,8 +9,8 @@ ghost use Rattle.bounds_query.specs.Query.{maxDepth};
 ghost use Rattle.unit_interval.specs.Unit.{slice};
 ghost use Rattle.motion_point.specs.TransformPoint.{AnimatedTransform·constants};
 ghost use Rattle.motion_cover.specs.Cover.{unionSlices, AnimatedTransform·cover};
-ghost use Rattle.box_front.specs.Front.{placeCount};
-ghost use Rattle.motion_fronts.specs.Worked.{Works, Continues};
+ghost use Rattle.box_front.specs.means.Front.{placeCount};
+ghost use Rattle.motion_fronts.specs.means.Worked.{Works, Continues};
 
 const PLACE_COUNT: usize = 16;
 

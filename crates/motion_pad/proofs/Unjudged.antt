@@ -10,12 +10,12 @@ use Rattle.interval.specs.declared.Interval.{Interval}
 use Rattle.interval.specs.Contains.{Finite}
 use Rattle.interval.specs.Interval.{Interval·point}
 use Rattle.interval.specs.Enclosure.{Interval·subEnclosure}
-use Rattle.interval_unjudged.specs.Ordered.{Interval·mulOrdered, Interval·endsSum}
-use Rattle.interval_unjudged.specs.Unjudged.{Expr·unjudged, Expr·unjudgedAll, Program·unjudged}
+use Rattle.interval_unjudged.specs.means.Ordered.{Interval·mulOrdered, Interval·endsSum}
+use Rattle.interval_unjudged.specs.means.Unjudged.{Expr·unjudged, Expr·unjudgedAll, Program·unjudged}
 use Rattle.interval_unjudged.proofs.Finite.{add-finite, add-operands, right-point, ends-finite}
 use Rattle.interval_unjudged.proofs.Unjudged.{program-unjudged}
 use Rattle.motion_pad.specs.Pad.{padStage, Pad·inputs, Judged·of, Pad·enclose}
-use Rattle.motion_pad.specs.Unjudged.{Pad·unjudged}
+use Rattle.motion_pad.specs.means.Unjudged.{Pad·unjudged}
 
 abbrev rest : Interval → Interval
 rest dt = Interval·subEnclosure (Interval·point one) dt

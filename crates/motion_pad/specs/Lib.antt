@@ -1,4 +1,3 @@
 pub mod Pad
 pub mod Grow
-pub mod Unjudged
-pub mod Computing
+pub mod means

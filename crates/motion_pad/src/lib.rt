@@ -8,7 +8,7 @@ ghost use mathlib.Core.Path.{_≡_};
 ghost use Rattle.transform.specs.declared.BoundsAnswer.the-variants.{Bounds};
 ghost use Rattle.motion_pad.specs.Pad.{Pad·enclose, Pad·stored, Pad·start};
 ghost use Rattle.motion_pad.specs.Grow.{Bounds3f·grow, BoundsAnswer·grow};
-ghost use Rattle.motion_pad.specs.Unjudged.{Pad·unjudged};
+ghost use Rattle.motion_pad.specs.means.Unjudged.{Pad·unjudged};
 
 // A pose's own pad, with equal ends. Accuracy: exact.
 pub fn stored_pad(pad: f32) -> Judged

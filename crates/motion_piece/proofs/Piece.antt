@@ -8,7 +8,7 @@ use Rattle.pose_steps.specs.declared.PoseConstants.{PoseConstants}
 use Rattle.pose_steps.specs.Enclose.{Pose·enclosePoint}
 use Rattle.animated_transform.specs.declared.AnimatedTransform.{AnimatedTransform}
 use Rattle.motion_cover.specs.Cover.{Transform·encloseBounds, Transform·enclosePadded, AnimatedTransform·encloseBounds}
-use Rattle.motion_piece.specs.Piece.{PaddedPose·encloseBounds, PaddedPose·over, PaddedPose·stored}
+use Rattle.motion_piece.specs.means.Piece.{PaddedPose·encloseBounds, PaddedPose·over, PaddedPose·stored}
 
 pub piece-composition : (m : AnimatedTransform) (a : PoseConstants) (dt : Interval) (b : Bounds3f)
     → AnimatedTransform·encloseBounds m a dt b ≡ PaddedPose·encloseBounds (PaddedPose·over a (m .s0) (m .s1) (m .pad0) (m .pad1) dt) b

@@ -11,7 +11,7 @@ use transform::BoundsAnswer;
 use transform::Transform;
 ghost use mathlib.Core.Path.{_≡_};
 ghost use Rattle.pose_steps.specs.Enclose.{Pose·encloseSlerp, Pose·encloseMatrix};
-ghost use Rattle.motion_piece.specs.Piece.{PaddedPose·encloseBounds, PaddedPose·over, PaddedPose·stored};
+ghost use Rattle.motion_piece.specs.means.Piece.{PaddedPose·encloseBounds, PaddedPose·over, PaddedPose·stored};
 
 // Poses as one judged matrix, with their pad.
 pub struct PaddedPose {

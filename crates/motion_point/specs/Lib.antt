@@ -1,4 +1,4 @@
 pub mod TransformPoint
 pub mod PadAt
 pub mod Answer
-pub mod Computing
+pub mod means

@@ -6,8 +6,8 @@ use lib.Ieee.Scale.{finite}
 use Rattle.float32.specs.Operators.{_⊕_}
 use Rattle.interval.specs.declared.Interval.{Interval}
 use Rattle.interval.specs.Contains.{Finite}
-use Rattle.interval_unjudged.specs.Ordered.{Interval·endsSum}
-use Rattle.interval_unjudged.specs.Unjudged.{All}
+use Rattle.interval_unjudged.specs.means.Ordered.{Interval·endsSum}
+use Rattle.interval_unjudged.specs.means.Unjudged.{All}
 use Rattle.interval_unjudged.proofs.Finite.{add-finite, ends-finite}
 use Rattle.interval_unjudged.proofs.Unjudged.{all-append}
 use Rattle.pose_steps.specs.declared.IntervalVector.{IntervalVector}
@@ -15,7 +15,7 @@ use Rattle.pose_steps.specs.declared.IntervalQuaternion.{IntervalQuaternion}
 use Rattle.pose_steps.specs.declared.IntervalRow.{IntervalRow}
 use Rattle.pose_steps.specs.declared.IntervalMatrix.{IntervalMatrix}
 use Rattle.pose_steps.specs.Enclose.{IntervalVector·list, IntervalQuaternion·list, IntervalRow·list, IntervalMatrix·list}
-use Rattle.pose_ends.specs.Ends.{IntervalVector·endsSum, IntervalQuaternion·endsSum, IntervalRow·endsSum, IntervalMatrix·endsSum}
+use Rattle.pose_ends.specs.means.Ends.{IntervalVector·endsSum, IntervalQuaternion·endsSum, IntervalRow·endsSum, IntervalMatrix·endsSum}
 
 -- ---- sums of three, and of the ends of two and four intervals
 pub three-finite : (x y z : Float) → T (finite (x ⊕ y ⊕ z)) → T (finite x) × (T (finite y) × T (finite z))

@@ -2,7 +2,7 @@
 // each.
 // Ends are added pair by pair, which keeps the sums independent of each other.
 ghost use mathlib.Core.Path.{_≡_};
-ghost use Rattle.pose_ends.specs.Ends.{IntervalVector·endsSum, IntervalQuaternion·endsSum, IntervalRow·endsSum, IntervalMatrix·endsSum};
+ghost use Rattle.pose_ends.specs.means.Ends.{IntervalVector·endsSum, IntervalQuaternion·endsSum, IntervalRow·endsSum, IntervalMatrix·endsSum};
 use interval_unjudged::ends_sum;
 use pose_steps::IntervalMatrix;
 use pose_steps::IntervalQuaternion;

@@ -1,2 +1,2 @@
 pub mod Pose
-pub mod Computing
+pub mod means

@@ -15,8 +15,8 @@ use Rattle.interval.specs.declared.Interval.{Interval}
 use Rattle.interval.specs.Contains.{Finite}
 use Rattle.interval.specs.Interval.{Interval·point}
 use Rattle.interval.specs.Enclosure.{Interval·addEnclosure, Interval·subEnclosure}
-use Rattle.interval_unjudged.specs.Ordered.{Interval·mulOrdered, Interval·endsSum}
-use Rattle.interval_unjudged.specs.Unjudged.{Expr·unjudged, Expr·unjudgedAll, Program·unjudged, All}
+use Rattle.interval_unjudged.specs.means.Ordered.{Interval·mulOrdered, Interval·endsSum}
+use Rattle.interval_unjudged.specs.means.Unjudged.{Expr·unjudged, Expr·unjudgedAll, Program·unjudged, All}
 use Rattle.interval_unjudged.proofs.Finite.{add-operands, left-point, right-point, ends-finite}
 use Rattle.interval_unjudged.proofs.Unjudged.{program-unjudged}
 use Rattle.pose_steps.specs.declared.IntervalVector.{IntervalVector}
@@ -24,9 +24,9 @@ use Rattle.pose_steps.specs.declared.IntervalRow.{IntervalRow}
 use Rattle.pose_steps.specs.declared.IntervalMatrix.{IntervalMatrix}
 use Rattle.pose_steps.specs.Stages.{translationStage, scaleRowStage}
 use Rattle.pose_steps.specs.Enclose.{IntervalVector·list, IntervalVector·point, IntervalRow·list, IntervalRow·three, IntervalRow·point, IntervalMatrix·point, JudgedVector·of, JudgedRow·of, Pose·encloseTranslation, Pose·encloseScaleRow, Pose·encloseScale}
-use Rattle.pose_ends.specs.Ends.{IntervalVector·endsSum, IntervalMatrix·endsSum}
+use Rattle.pose_ends.specs.means.Ends.{IntervalVector·endsSum, IntervalMatrix·endsSum}
 use Rattle.pose_ends.proofs.Finite.{three-finite, vector-finite, rows-finite}
-use Rattle.pose_parts.specs.Unjudged.{Pose·unjudgedTranslation, Pose·unjudgedScaleRow, Pose·unjudgedScale}
+use Rattle.pose_parts.specs.means.Unjudged.{Pose·unjudgedTranslation, Pose·unjudgedScaleRow, Pose·unjudgedScale}
 
 abbrev 𝟏 : Interval
 𝟏 = Interval·point one

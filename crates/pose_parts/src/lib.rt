@@ -3,7 +3,7 @@
 ghost use mathlib.Core.Path.{_≡_};
 ghost use Rattle.pose_steps.specs.Pose.{Pose·translation, Pose·scaleRow, Pose·scale, Pose·scaleBy};
 ghost use Rattle.pose_steps.specs.Enclose.{IntervalVector·point, IntervalRow·point, IntervalMatrix·point, Pose·encloseTranslation, Pose·encloseScale, encloseScaleBy};
-ghost use Rattle.pose_parts.specs.Unjudged.{Pose·unjudgedTranslation, Pose·unjudgedScaleRow, Pose·unjudgedScale};
+ghost use Rattle.pose_parts.specs.means.Unjudged.{Pose·unjudgedTranslation, Pose·unjudgedScaleRow, Pose·unjudgedScale};
 use interval::Interval;
 use matrix4x4::Matrix4x4;
 use pose_steps::IntervalMatrix;

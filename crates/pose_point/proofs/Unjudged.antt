@@ -7,15 +7,15 @@ use lib.Ieee.{Float}
 use lib.Ieee.Scale.{finite}
 use Rattle.float32.specs.Operators.{_⊕_}
 use Rattle.interval.specs.Contains.{Finite}
-use Rattle.interval_unjudged.specs.Unjudged.{Expr·unjudgedAll, Program·unjudged, All}
+use Rattle.interval_unjudged.specs.means.Unjudged.{Expr·unjudgedAll, Program·unjudged, All}
 use Rattle.interval_unjudged.proofs.Unjudged.{all-append, program-unjudged}
 use Rattle.pose_steps.specs.declared.IntervalVector.{IntervalVector}
 use Rattle.pose_steps.specs.declared.IntervalMatrix.{IntervalMatrix}
 use Rattle.pose_steps.specs.Stages.{transformPointStage}
 use Rattle.pose_steps.specs.Enclose.{IntervalVector·list, IntervalMatrix·list, JudgedVector·of, Pose·encloseTransformPoint}
-use Rattle.pose_ends.specs.Ends.{IntervalVector·endsSum, IntervalMatrix·endsSum}
+use Rattle.pose_ends.specs.means.Ends.{IntervalVector·endsSum, IntervalMatrix·endsSum}
 use Rattle.pose_ends.proofs.Finite.{three-finite, vector-finite, rows-finite, matrix-finite}
-use Rattle.pose_point.specs.Unjudged.{Pose·unjudgedTransformPoint}
+use Rattle.pose_point.specs.means.Unjudged.{Pose·unjudgedTransformPoint}
 
 transform-point-unjudged : (m : ℕ) (a : IntervalMatrix) (p : IntervalVector) → All Finite (IntervalMatrix·list a) → All Finite (IntervalVector·list p)
     → All Finite (IntervalVector·list (Pose·unjudgedTransformPoint a p)) → record { vector = Pose·unjudgedTransformPoint a p; refusal = m } ≡ Pose·encloseTransformPoint m a p

@@ -4,7 +4,7 @@
 ghost use mathlib.Core.Path.{_≡_};
 ghost use Rattle.pose_steps.specs.Pose.{Pose·transformPoint};
 ghost use Rattle.pose_steps.specs.Enclose.{IntervalVector·point, IntervalRow·point, IntervalMatrix·point, Pose·encloseTransformPoint};
-ghost use Rattle.pose_point.specs.Unjudged.{Pose·unjudgedTransformPoint};
+ghost use Rattle.pose_point.specs.means.Unjudged.{Pose·unjudgedTransformPoint};
 use bounds3::Point3f;
 use interval::Interval;
 use matrix4x4::Matrix4x4;

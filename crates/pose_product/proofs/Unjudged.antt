@@ -11,7 +11,7 @@ use Rattle.interval.specs.Contains.{Finite}
 use Rattle.interval.specs.Interval.{Interval·point}
 use Rattle.float32.specs.Operators as float
 use Rattle.matrix4x4.specs.Rows.{positiveZero}
-use Rattle.interval_unjudged.specs.Unjudged.{Expr·unjudged, Expr·unjudgedAll, Program·unjudged, All}
+use Rattle.interval_unjudged.specs.means.Unjudged.{Expr·unjudged, Expr·unjudgedAll, Program·unjudged, All}
 use Rattle.interval_unjudged.proofs.Unjudged.{all-append, program-unjudged}
 use Rattle.pose_steps.specs.declared.IntervalRow.{IntervalRow}
 use Rattle.pose_steps.specs.declared.IntervalMatrix.{IntervalMatrix}
@@ -20,9 +20,9 @@ use Rattle.pose_steps.specs.declared.JudgedRow.{JudgedRow}
 use Rattle.pose_steps.specs.declared.JudgedMatrix.{JudgedMatrix}
 use Rattle.pose_steps.specs.Stages.{mulRowStage}
 use Rattle.pose_steps.specs.Enclose.{IntervalRow·list, IntervalMatrix·list, JudgedRow·of, Pose·encloseMulRow, Pose·encloseMul, IntervalMatrix·translation}
-use Rattle.pose_ends.specs.Ends.{IntervalMatrix·endsSum}
+use Rattle.pose_ends.specs.means.Ends.{IntervalMatrix·endsSum}
 use Rattle.pose_ends.proofs.Finite.{three-finite, FiniteRows, rows-finite, matrix-finite}
-use Rattle.pose_product.specs.Unjudged.{Pose·unjudgedMulRow, Pose·unjudgedMul, IntervalVector·times, Pose·translatedColumn}
+use Rattle.pose_product.specs.means.Unjudged.{Pose·unjudgedMulRow, Pose·unjudgedMul, IntervalVector·times, Pose·translatedColumn}
 
 row-unjudged : (m : ℕ) (a : IntervalRow) (b : IntervalMatrix) → All Finite (IntervalRow·list a) → All Finite (IntervalMatrix·list b)
     → All Finite (IntervalRow·list (Pose·unjudgedMulRow a b)) → Pose·encloseMulRow m a b ≡ record { row = Pose·unjudgedMulRow a b; refusal = m }

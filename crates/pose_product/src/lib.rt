@@ -4,7 +4,7 @@ ghost use mathlib.Core.Path.{_≡_};
 ghost use Rattle.matrix4x4.specs.Rows.{Matrix4x4·toRows, Matrix4x4·fromRows};
 ghost use Rattle.pose_steps.specs.Pose.{Pose·mulRow, Pose·mul};
 ghost use Rattle.pose_steps.specs.Enclose.{Pose·encloseMul, IntervalMatrix·translation};
-ghost use Rattle.pose_product.specs.Unjudged.{Pose·unjudgedMulRow, Pose·unjudgedMul, IntervalVector·times, Pose·translatedColumn};
+ghost use Rattle.pose_product.specs.means.Unjudged.{Pose·unjudgedMulRow, Pose·unjudgedMul, IntervalVector·times, Pose·translatedColumn};
 use interval::Interval;
 use pose_steps::IntervalMatrix;
 use pose_steps::IntervalRow;

@@ -16,8 +16,8 @@ use Rattle.interval.specs.Contains.{Finite}
 use Rattle.interval.specs.Interval.{Interval·point}
 use Rattle.interval.specs.Enclosure.{Interval·addEnclosure, Interval·subEnclosure}
 use Rattle.formula.specs.Enclose.{enclosure}
-use Rattle.interval_unjudged.specs.Ordered.{Interval·mulOrdered, Interval·endsSum}
-use Rattle.interval_unjudged.specs.Unjudged.{Expr·unjudged, Expr·unjudgedAll, Program·unjudged, All}
+use Rattle.interval_unjudged.specs.means.Ordered.{Interval·mulOrdered, Interval·endsSum}
+use Rattle.interval_unjudged.specs.means.Unjudged.{Expr·unjudged, Expr·unjudgedAll, Program·unjudged, All}
 use Rattle.interval_unjudged.proofs.Ordered.{AllFour, corners-finite, mul-number}
 use Rattle.interval_unjudged.proofs.Finite.{mul-finite, sub-operands, ends-finite}
 use Rattle.interval_unjudged.proofs.Unjudged.{program-unjudged}
@@ -25,10 +25,10 @@ use Rattle.pose_steps.specs.declared.IntervalQuaternion.{IntervalQuaternion}
 use Rattle.pose_steps.specs.declared.IntervalMatrix.{IntervalMatrix}
 use Rattle.pose_steps.specs.Stages.{rotationStage}
 use Rattle.pose_steps.specs.Enclose.{IntervalQuaternion·list, IntervalRow·list, JudgedMatrix·of, Pose·encloseRotation}
-use Rattle.pose_ends.specs.Ends.{IntervalQuaternion·endsSum, IntervalMatrix·endsSum}
+use Rattle.pose_ends.specs.means.Ends.{IntervalQuaternion·endsSum, IntervalMatrix·endsSum}
 use Rattle.pose_ends.proofs.Finite.{three-finite, quaternion-finite, FiniteRows, rows-finite}
 use Rattle.pose_rotation.specs.declared.Products.{Products}
-use Rattle.pose_rotation.specs.Unjudged.{Products·of, Products·list, Products·endsSum, Pose·unjudgedRotation}
+use Rattle.pose_rotation.specs.means.Unjudged.{Products·of, Products·list, Products·endsSum, Pose·unjudgedRotation}
 
 abbrev 𝟏 : Interval
 𝟏 = Interval·point one

@@ -3,7 +3,7 @@
 ghost use mathlib.Core.Path.{_≡_};
 ghost use Rattle.pose_steps.specs.Pose.{Pose·rotation};
 ghost use Rattle.pose_steps.specs.Enclose.{Pose·encloseRotation};
-ghost use Rattle.pose_rotation.specs.Unjudged.{Products·of, Products·endsSum, Pose·unjudgedRotation};
+ghost use Rattle.pose_rotation.specs.means.Unjudged.{Products·of, Products·endsSum, Pose·unjudgedRotation};
 use interval::Interval;
 use interval_unjudged::ends_sum;
 use matrix4x4::Matrix4x4;

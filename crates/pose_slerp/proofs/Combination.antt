@@ -10,14 +10,14 @@ use Rattle.interval.specs.declared.Interval.{Interval}
 use Rattle.interval.specs.Contains.{Finite}
 use Rattle.interval.specs.Interval.{Interval·point}
 use Rattle.interval.specs.Enclosure.{Interval·sqrtEnclosure}
-use Rattle.interval_unjudged.specs.Ordered.{Interval·mulOrdered}
-use Rattle.interval_unjudged.specs.Unjudged.{All, Positive}
+use Rattle.interval_unjudged.specs.means.Ordered.{Interval·mulOrdered}
+use Rattle.interval_unjudged.specs.means.Unjudged.{All, Positive}
 use Rattle.interval_unjudged.proofs.Finite.{add-operands, left-point}
 use Rattle.interval_unjudged.proofs.Positive.{above-zero, positive-finite, rooted-positive}
 use Rattle.interval_unjudged.proofs.Unjudged.{all-append}
 use Rattle.pose_steps.specs.declared.IntervalQuaternion.{IntervalQuaternion}
 use Rattle.pose_steps.specs.Enclose.{IntervalQuaternion·list, IntervalQuaternion·point}
-use Rattle.pose_slerp.specs.Unjudged.{weighed, IntervalQuaternion·combination}
+use Rattle.pose_slerp.specs.means.Unjudged.{weighed, IntervalQuaternion·combination}
 
 weighed-points : (x y : Float) (a b : Interval) → Finite (weighed (Interval·point x) a (Interval·point y) b) → Finite (Interval·point x) × Finite (Interval·point y)
 weighed-points x y a b f =

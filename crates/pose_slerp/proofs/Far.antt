@@ -18,11 +18,11 @@ use Rattle.interval.specs.declared.EndAngle.{EndAngle}
 use Rattle.interval.specs.Contains.{Finite}
 use Rattle.interval.specs.Interval.{Interval·point}
 use Rattle.interval.specs.Enclosure.{Interval·addEnclosure, Interval·subEnclosure, Interval·sqrtEnclosure, Interval·sinEnclosure, Interval·cosEnclosure}
-use Rattle.interval.specs.EndAngle.{EndAngle·new, EndAngle·sinRange, EndAngle·cosRange}
+use Rattle.interval.specs.means.EndAngle.{EndAngle·new, EndAngle·sinRange, EndAngle·cosRange}
 use Rattle.interval.proofs.Places.{sin-range, cos-range}
 use Rattle.interval.proofs.Points.{add-point, sub-point, sqrt-point}
-use Rattle.interval_unjudged.specs.Ordered.{Interval·mulOrdered, Interval·divOrdered, Interval·endsSum}
-use Rattle.interval_unjudged.specs.Unjudged.{Expr·unjudged, Expr·unjudgedAll, Program·unjudged, All, Positive}
+use Rattle.interval_unjudged.specs.means.Ordered.{Interval·mulOrdered, Interval·divOrdered, Interval·endsSum}
+use Rattle.interval_unjudged.specs.means.Unjudged.{Expr·unjudged, Expr·unjudgedAll, Program·unjudged, All, Positive}
 use Rattle.interval_unjudged.proofs.Finite.{add-finite, sub-finite, mul-finite, div-finite, left-point, ends-finite}
 use Rattle.interval_unjudged.proofs.Positive.{above-zero, positive-finite, rooted-positive}
 use Rattle.interval_unjudged.proofs.Points.{mul-ordered-point, div-ordered-point, mul-ordered-rising}
@@ -30,10 +30,10 @@ use Rattle.interval_unjudged.proofs.Unjudged.{all-append, program-unjudged}
 use Rattle.pose_steps.specs.declared.IntervalQuaternion.{IntervalQuaternion}
 use Rattle.pose_steps.specs.Stages.{slerpFarStage}
 use Rattle.pose_steps.specs.Enclose.{IntervalQuaternion·list, IntervalQuaternion·point, JudgedQuaternion·of, Pose·encloseSlerpFar}
-use Rattle.pose_ends.specs.Ends.{IntervalQuaternion·endsSum}
+use Rattle.pose_ends.specs.means.Ends.{IntervalQuaternion·endsSum}
 use Rattle.pose_ends.proofs.Finite.{three-finite, quaternion-finite}
 use Rattle.pose_slerp.specs.declared.Perpendicular.{Perpendicular}
-use Rattle.pose_slerp.specs.Unjudged.{weighed, squares, length, IntervalQuaternion·combination, Perpendicular·of}
+use Rattle.pose_slerp.specs.means.Unjudged.{weighed, squares, length, IntervalQuaternion·combination, Perpendicular·of}
 use Rattle.pose_slerp.proofs.Combination.{combination-points}
 
 -- ---- intervals of one number

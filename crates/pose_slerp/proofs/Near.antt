@@ -15,16 +15,16 @@ use Rattle.interval.specs.declared.Interval.{Interval}
 use Rattle.interval.specs.Contains.{Finite}
 use Rattle.interval.specs.Interval.{Interval·point}
 use Rattle.interval.specs.Enclosure.{Interval·subEnclosure, Interval·sqrtEnclosure}
-use Rattle.interval_unjudged.specs.Ordered.{Interval·endsSum}
-use Rattle.interval_unjudged.specs.Unjudged.{Expr·unjudged, Expr·unjudgedAll, Program·unjudged, All, Positive}
+use Rattle.interval_unjudged.specs.means.Ordered.{Interval·endsSum}
+use Rattle.interval_unjudged.specs.means.Unjudged.{Expr·unjudged, Expr·unjudgedAll, Program·unjudged, All, Positive}
 use Rattle.interval_unjudged.proofs.Finite.{add-finite, ends-finite}
 use Rattle.interval_unjudged.proofs.Unjudged.{all-append, program-unjudged}
 use Rattle.pose_steps.specs.declared.IntervalQuaternion.{IntervalQuaternion}
 use Rattle.pose_steps.specs.Stages.{slerpNearStage}
 use Rattle.pose_steps.specs.Enclose.{IntervalQuaternion·list, IntervalQuaternion·point, JudgedQuaternion·of, Pose·encloseSlerpNear}
-use Rattle.pose_ends.specs.Ends.{IntervalQuaternion·endsSum}
+use Rattle.pose_ends.specs.means.Ends.{IntervalQuaternion·endsSum}
 use Rattle.pose_ends.proofs.Finite.{three-finite, quaternion-finite}
-use Rattle.pose_slerp.specs.Unjudged.{IntervalQuaternion·combination, IntervalQuaternion·squared, IntervalQuaternion·quotient}
+use Rattle.pose_slerp.specs.means.Unjudged.{IntervalQuaternion·combination, IntervalQuaternion·squared, IntervalQuaternion·quotient}
 use Rattle.pose_slerp.proofs.Combination.{combination-points, positive-interval, positive-interval-finite, squared-positive}
 
 abbrev 𝟏 : Interval

@@ -6,7 +6,7 @@ ghost use mathlib.Core.Path.{_≡_};
 ghost use Rattle.pose_steps.specs.Pose.{PoseConstants·new, Pose·slerpNear, Pose·slerpFar, Pose·slerp};
 ghost use Rattle.pose_steps.specs.Enclose.{IntervalQuaternion·point, Pose·encloseSlerpNear, Pose·encloseSlerpFar, Pose·encloseSlerp};
 ghost use Rattle.interval.specs.Interval.{Interval·point};
-ghost use Rattle.pose_slerp.specs.Unjudged.{Perpendicular·of, IntervalQuaternion·combination, IntervalQuaternion·squared, IntervalQuaternion·quotient};
+ghost use Rattle.pose_slerp.specs.means.Unjudged.{Perpendicular·of, IntervalQuaternion·combination, IntervalQuaternion·squared, IntervalQuaternion·quotient};
 use interval::Interval;
 use interval_unjudged::ends_sum;
 use pose_steps::IntervalQuaternion;

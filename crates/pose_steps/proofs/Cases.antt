@@ -22,7 +22,7 @@ use Rattle.pose_steps.specs.declared.IntervalVector.{IntervalVector}
 use Rattle.pose_steps.specs.declared.JudgedVector.{JudgedVector}
 use Rattle.pose_steps.specs.Pose.{Pose·movedPoint}
 use Rattle.pose_steps.specs.Enclose.{Pose·enclosePoint}
-use Rattle.pose_steps.specs.Computing.{computing}
+use Rattle.pose_steps.specs.means.Computing.{computing}
 
 abbrev bits : ℕ → Float
 bits n = ofBits binary32 n

@@ -3,4 +3,4 @@ pub mod Pose
 pub mod Enclose
 pub mod Promise
 pub mod Composition
-pub mod Computing
+pub mod means

@@ -4,7 +4,7 @@ use Prim.Native.Nat.{ℕ}
 use mathlib.Core.Bool.{false}
 use lib.Ieee.{Float, binary32, round}
 use Rattle.quaternion.specs.declared.Quaternion.{Quaternion}
-use Rattle.quaternion.specs.Computing.{computing}
+use Rattle.quaternion.specs.means.Computing.{computing}
 use Rattle.quaternion.specs.Quaternion.{Quaternion·normalize}
 use Rattle.quaternion.specs.Slerp.{Quaternion·slerp}
 

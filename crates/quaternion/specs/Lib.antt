@@ -2,4 +2,4 @@
 pub mod Quaternion
 pub mod IsFinite
 pub mod Slerp
-pub mod Computing
+pub mod means

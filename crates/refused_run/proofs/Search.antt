@@ -15,7 +15,7 @@ use Rattle.motion_chain.specs.Chain.{firstNumber, chainRefusal, Chain·new}
 use Rattle.chain_number.specs.Number.{Chain·number}
 use Rattle.refused_run.specs.declared.Run.{Run}
 use Rattle.refused_run.specs.Run.{runAt, runNumber, runPlaces, leftmostPlace, hasRun, shortestLength, leftmostRun, shortestRun}
-use Rattle.refused_run.specs.Tried.{firstOf}
+use Rattle.refused_run.specs.means.Tried.{firstOf}
 use Rattle.refused_run.specs.Theorem.{ShortestWith, ShortestRefused}
 use Rattle.refused_run.proofs.Least.{least-below, least-passes, least-first, least-is}
 use Rattle.refused_run.proofs.ShortRun.{ShortRun, short-run}

@@ -1,3 +1,3 @@
 pub mod Run
-pub mod Tried
 pub mod Theorem
+pub mod means

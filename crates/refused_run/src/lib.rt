@@ -5,7 +5,7 @@ ghost use mathlib.Core.Path.{_≡_};
 ghost use lib.ListN.{length};
 ghost use Rattle.chain_poses.specs.Poses.{Poses·ofLists};
 ghost use Rattle.refused_run.specs.Run.{runNumber, runPlaces, leftmostPlace, shortestRun};
-ghost use Rattle.refused_run.specs.Tried.{firstOf};
+ghost use Rattle.refused_run.specs.means.Tried.{firstOf};
 ghost use Rattle.refused_run.specs.Theorem.{ShortestRefused};
 
 // A run's first place and its length, and 0; or 0, 0 and the number of a refusal.

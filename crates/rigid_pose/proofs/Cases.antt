@@ -8,7 +8,7 @@ use Rattle.float32.specs.Operators.{positiveZero, one, two}
 use Rattle.matrix4x4.specs.Rows.{Rows}
 use Rattle.matrix4x4.specs.IsAffine.{bottomRow}
 use Rattle.rigid_pose.specs.Rigid.{Matrix4x4·rigidNumber}
-use Rattle.rigid_pose.specs.Computing.{computing}
+use Rattle.rigid_pose.specs.means.Computing.{computing}
 
 -- a b over c d in x and y, the identity in z
 abbrev linear : Float → Float → Float → Float → Rows

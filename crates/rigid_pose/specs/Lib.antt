@@ -1,3 +1,3 @@
 -- Definitions of a rigid pose.
 pub mod Rigid
-pub mod Computing
+pub mod means

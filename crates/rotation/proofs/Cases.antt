@@ -6,7 +6,7 @@ use lib.Ieee.{Float, binary32, round}
 use Rattle.matrix4x4.specs.Rows.{Rows, Matrix4x4·fromRows}
 use Rattle.quaternion.specs.declared.Quaternion.{Quaternion}
 use Rattle.rotation.specs.FromQuaternion.{Transform·fromQuaternion}
-use Rattle.rotation.specs.Computing.{computing}
+use Rattle.rotation.specs.means.Computing.{computing}
 
 abbrev 0f : Float
 0f = round binary32 false 0 1

@@ -1,3 +1,3 @@
 -- Definitions of the rotation of a quaternion.
 pub mod FromQuaternion
-pub mod Computing
+pub mod means

@@ -1,3 +1,3 @@
 pub mod ShorterArc
 pub mod ArcCoefficients
-pub mod Computing
+pub mod means

@@ -6,7 +6,7 @@ use mathlib.Core.Bool.{false}
 use mathlib.Core.List.{List, [], _∷_}
 use lib.ListN.{replicate}
 use lib.Ieee.{Float, nan, binary32, round, le, lt}
-use Rattle.bounds3.specs.Computing as bounds3
+use Rattle.bounds3.specs.means.Computing as bounds3
 use Rattle.bounds_overlap.specs.Meets.{Bounds3f·meets}
 use Rattle.bounds_query.specs.Query.{Bounds3f·isOrdered, Bounds3f·refusal}
 use Rattle.run_schedule.specs.Day.{Boom, someBelow, sumBelow, taken, takenBelow, before, startTicks, firstBoxRefusal, dayRefusal}

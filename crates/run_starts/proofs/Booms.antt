@@ -16,7 +16,7 @@ use Rattle.run_schedule.specs.Day.{Boom, someBelow, boomAt, Boom·badLength, so
 use Rattle.run_schedule.proofs.Places.{both-false, some-same}
 use Rattle.run_schedule.proofs.Accepted.{Accepted, day-accepted}
 use Rattle.run_starts.specs.Booms.{Booms·ofLists}
-use Rattle.run_starts.specs.Ends.{boxAt, badLengthAt, GoodLengths}
+use Rattle.run_starts.specs.means.Ends.{boxAt, badLengthAt, GoodLengths}
 
 abbrev boomOf : List (List Float) → List ℕ → ℕ → Boom
 boomOf boxes lengths i = record { box = boxAt boxes i; ticks = getD lengths i 0 }

@@ -15,7 +15,7 @@ use Rattle.run_schedule.proofs.Tick.{runAt, before-size}
 use Rattle.run_schedule.proofs.State.{ticksAt}
 use Rattle.run_schedule.proofs.Keeps.{all-started, day-keeps, keeps-same}
 use Rattle.run_starts.specs.Booms.{startsPlaces, startsLeft}
-use Rattle.run_starts.specs.Ends.{GoodLengths, Run·end, EndsOf, StartsOf}
+use Rattle.run_starts.specs.means.Ends.{GoodLengths, Run·end, EndsOf, StartsOf}
 use Rattle.run_starts.proofs.Booms.{booms-length, ticks-at}
 use Rattle.run_starts.proofs.Taken.{dayBooms}
 

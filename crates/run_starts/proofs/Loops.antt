@@ -12,7 +12,7 @@ use lib.ListN.{length, getD, set, replicate, length-set, length-replicate}
 use lib.Seq.{getD-set-same, getD-set-other}
 use Rattle.run_schedule.specs.Day.{someBelow}
 use Rattle.run_schedule.proofs.Places.{below-last, some-none, some-false}
-use Rattle.run_starts.specs.Ends.{lastTick, soonerStop, NextStop, StartsOf}
+use Rattle.run_starts.specs.means.Ends.{lastTick, soonerStop, NextStop, StartsOf}
 use Rattle.run_starts.proofs.Left.{zero-places}
 
 below-next : (P : ℕ → Type 0) (n i : ℕ) → i < n + 1 → (i < n → P i) → P n → P i

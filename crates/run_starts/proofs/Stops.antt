@@ -15,7 +15,7 @@ use Rattle.run_schedule.proofs.Tick.{runAt, started-not-waiting, run-cases, Tic
 use Rattle.run_schedule.proofs.Tick.{tick-blocks, meets-more, meets-runs, before-idle, before-size}
 use Rattle.run_schedule.proofs.State.{ticksAt, State, before-state, first-waits}
 use Rattle.run_starts.specs.Booms.{Booms·ofLists}
-use Rattle.run_starts.specs.Ends.{GoodLengths, Run·end, EndsOf, Ticks, lastTick, NextStop}
+use Rattle.run_starts.specs.means.Ends.{GoodLengths, Run·end, EndsOf, Ticks, lastTick, NextStop}
 use Rattle.run_starts.proofs.Booms.{booms-length, ticks-at}
 use Rattle.run_starts.proofs.Taken.{dayBooms, end-running, end-waiting, waiting-end}
 

@@ -15,7 +15,7 @@ use Rattle.run_schedule.specs.Day.{Boom, Run, waiting, started, Run·goesOn, so
 use Rattle.run_schedule.proofs.Places.{some-same}
 use Rattle.run_schedule.proofs.Tick.{runAt, started-not-waiting, run-cases, SetAt, set-at, Starts, Stays, taken-cases}
 use Rattle.run_starts.specs.Booms.{Booms·ofLists}
-use Rattle.run_starts.specs.Ends.{boxAt, GoodLengths, Run·end, EndsOf, runsAndMeets, endTaken, Ticks}
+use Rattle.run_starts.specs.means.Ends.{boxAt, GoodLengths, Run·end, EndsOf, runsAndMeets, endTaken, Ticks}
 use Rattle.run_starts.proofs.Booms.{booms-length, box-at, ticks-at}
 
 -- A run goes on in tick t where its end is later.

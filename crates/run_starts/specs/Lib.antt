@@ -1,2 +1,2 @@
 pub mod Booms
-pub mod Ends
+pub mod means

@@ -6,7 +6,7 @@ ghost use lib.ListN.{getD};
 ghost use Rattle.run_schedule.specs.Day.{someBelow, firstBoxRefusal, dayRefusal};
 ghost use Rattle.run_schedule.specs.Theorem.{DayKeeps};
 ghost use Rattle.run_starts.specs.Booms.{Booms·ofLists, startsLeft};
-ghost use Rattle.run_starts.specs.Ends.{badLengthAt, GoodLengths, DayEnds, runsAndMeets, endTaken, Ticks, lastTick, soonerStop, NextStop, StartsOf};
+ghost use Rattle.run_starts.specs.means.Ends.{badLengthAt, GoodLengths, DayEnds, runsAndMeets, endTaken, Ticks, lastTick, soonerStop, NextStop, StartsOf};
 
 const MAX_BOOMS: usize = 8;
 

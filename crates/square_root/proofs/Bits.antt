@@ -17,7 +17,7 @@ use lib.Ieee.Bits.{ofBits-toBits}
 use Rattle.rounding.proofs.Encoding.{pow-lt-cancel, size-exact, units-bits}
 use Rattle.square_root.specs.SquareRoot.{stickySqrt}
 use Rattle.square_root.specs.Nearest.{SameSide}
-use Rattle.square_root.specs.Steps.{NearestWhole, Widened, SqrtBits}
+use Rattle.square_root.specs.means.Steps.{NearestWhole, Widened, SqrtBits}
 use Rattle.square_root.proofs.Sticky.{sticky-side}
 use Rattle.square_root.proofs.RoundSqrt.{pow-four, root-nearest}
 

@@ -11,7 +11,7 @@ use lib.Ieee.{size}
 use lib.Ieee.Digits.{size-lt}
 use Rattle.square_root.specs.SquareRoot.{isqrtBelow, isqrt}
 use Rattle.square_root.specs.Nearest.{FloorSqrt}
-use Rattle.square_root.specs.Steps.{NearestWhole}
+use Rattle.square_root.specs.means.Steps.{NearestWhole}
 
 pub square-lt : (x y : ℕ) → x * x < y * y → x < y
 square-lt x y h = lt-of-not-le (λ (k : y ≤ x). not-le-of-lt h (mul-le-mul k k))

@@ -17,7 +17,7 @@ use Rattle.float_bits.specs.Decode.{integerDecode}
 use Rattle.float_bits.proofs.Decode.{decode-value}
 use Rattle.square_root.specs.SquareRoot.{sqrt}
 use Rattle.square_root.specs.Nearest.{+0}
-use Rattle.square_root.specs.Steps.{SqrtBits}
+use Rattle.square_root.specs.means.Steps.{SqrtBits}
 use Rattle.square_root.proofs.RoundSqrt.{roundSqrt-same}
 use Rattle.square_root.proofs.Monotone.{sqrt-is}
 

@@ -5,7 +5,7 @@ ghost use Prim.Native.Nat.{_^_, _≤_, _<_};
 ghost use lib.Dec.{T};
 ghost use lib.Ieee.{binary32, isNan};
 ghost use Rattle.square_root.specs.SquareRoot.{isqrt, sqrt};
-ghost use Rattle.square_root.specs.Steps.{NearestWhole, Widened, SqrtBits};
+ghost use Rattle.square_root.specs.means.Steps.{NearestWhole, Widened, SqrtBits};
 
 // The weight of the exponent's field in a float's bits, which is also a significand's leading digit.
 const FIELD: u64 = 0x80_0000;

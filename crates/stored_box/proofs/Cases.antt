@@ -12,10 +12,10 @@ use Rattle.bounds3.specs.Inside.{Subset}
 use Rattle.transform.specs.declared.Transform.{Transform}
 use Rattle.transform.specs.declared.BoundsAnswer.the-variants.{Refused}
 use Rattle.transform.specs.TransformBounds.{Transform·transformBounds}
-use Rattle.transform.specs.Computing as transform
-use Rattle.bounds_query.specs.Computing as query
+use Rattle.transform.specs.means.Computing as transform
+use Rattle.bounds_query.specs.means.Computing as query
 use Rattle.pose_steps.specs.Enclose.{IntervalVector·bounds}
-use Rattle.pose_steps.specs.Computing as pose
+use Rattle.pose_steps.specs.means.Computing as pose
 use Rattle.stored_box.specs.EnclosePoints.{Transform·enclosePoints}
 use Rattle.stored_box.proofs.StoredBox.{stored-box-same}
 

@@ -14,7 +14,7 @@ use Rattle.transform.specs.Transform.{Transform·fromMatrices, Transform
 use Rattle.transform.specs.TransformPoint.{Transform·transformPoint}
 use Rattle.transform.specs.TransformBounds.{Transform·transformBounds}
 use Rattle.transform.specs.HasScale.{Transform·hasScale}
-use Rattle.transform.specs.Computing.{computing}
+use Rattle.transform.specs.means.Computing.{computing}
 
 abbrev whole : ℕ → Float
 whole n = round binary32 false n 1

@@ -5,4 +5,4 @@ pub mod TransformPoint
 pub mod TransformVector
 pub mod TransformBounds
 pub mod HasScale
-pub mod Computing
+pub mod means

@@ -3,7 +3,7 @@ use mathlib.Core.Path.{_≡_, refl}
 use mathlib.Core.Bool.{true, false}
 use lib.Ieee.{binary32, ofBits, round}
 use Rattle.unit_interval.specs.Unit.{unitInterval, sliceEnd, slice, dt}
-use Rattle.unit_interval.specs.Computing.{computing}
+use Rattle.unit_interval.specs.means.Computing.{computing}
 
 one-slice : slice 0 0 ≡ unitInterval
 unfolding computing

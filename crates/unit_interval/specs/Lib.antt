@@ -1,2 +1,2 @@
 pub mod Unit
-pub mod Computing
+pub mod means

@@ -27,7 +27,7 @@ use Rattle.motion_point.specs.TransformPoint.{AnimatedTransform·movedPoint, An
 use Rattle.motion_cover.specs.Cover.{AnimatedTransform·cover}
 use Rattle.unpadded_cover.specs.Unpadded.{AnimatedTransform·coverUnpadded, BoundsAnswer·Same}
 use Rattle.unpadded_cover.proofs.Unpadded.{finite-self, union-same, cover-unpadded}
-use Rattle.motion_pad.specs.Computing as pad
+use Rattle.motion_pad.specs.means.Computing as pad
 use Rattle.motion_chain.specs.Chain.{neighbours, every, firstNumber, stage, Pose·number, Chain, Chain·moves, ChainAnswer, built, refused, Chain·new}
 use Rattle.motion_chain.specs.Chain.{moveFrom, Chain·moveAt, Chain·transformPoint, unionCovers, Chain·cover}
 use Rattle.motion_chain.specs.Built.{BuiltChain}

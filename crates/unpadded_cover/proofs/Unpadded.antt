@@ -50,7 +50,7 @@ use Rattle.motion_point.specs.TransformPoint.{AnimatedTransform·constants}
 use Rattle.motion_point.proofs.Built.{built-valid, built-scales}
 use Rattle.motion_pad.specs.Pad.{Pad·enclose, Pad·stored}
 use Rattle.motion_pad.specs.Grow.{Bounds3f·grow, BoundsAnswer·grow}
-use Rattle.motion_pad.specs.Computing as pad
+use Rattle.motion_pad.specs.means.Computing as pad
 use Rattle.motion_pad.proofs.Pad.{pad-high-within}
 use Rattle.motion_pad.proofs.Box.{Binary32, PadWithin, pad-within-finite, grow-subset, grow-box, grow-refused, grow-zero}
 use Rattle.motion_cover.specs.Cover.{BoundsAnswer·fromEnclosure, Transform·encloseBounds, Transform·enclosePadded, AnimatedTransform·encloseBounds, AnimatedTransform·encloseEnds, unionSlices, AnimatedTransform·encloseMotion, AnimatedTransform·cover}

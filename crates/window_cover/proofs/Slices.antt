@@ -12,7 +12,7 @@ use Rattle.motion_cover.specs.Cover.{AnimatedTransform·encloseBounds}
 use Rattle.motion_piece.proofs.Piece.{piece-composition}
 use Rattle.bounds_answers.specs.UnionAll.{BoundsAnswer·unionAll}
 use Rattle.dt_share.specs.Share.{pieces}
-use Rattle.dt_pieces.specs.Pieces.{pieceBox, unionPieces}
+use Rattle.dt_pieces.specs.means.Pieces.{pieceBox, unionPieces}
 use Rattle.window_times.specs.declared.Window.{Window}
 use Rattle.chain_window.specs.Cover.{movesIn, shareIn, sliceBoxes}
 

@@ -20,7 +20,7 @@ use Rattle.chain_rows.specs.Kept.{Moves·chain}
 use Rattle.window_times.specs.declared.Window.{Window}
 use Rattle.dt_pieces.proofs.Halves.{union-append}
 use Rattle.chain_window.specs.Cover.{sliceBoxes, firstPoseBoxes, endPoseBoxes, equalPoseBoxes, isNil, boxesFrom, windowBoxes, Chain·encloseWindow}
-use Rattle.window_cover.specs.Stage.{stageBoxes}
+use Rattle.window_cover.specs.means.Stage.{stageBoxes}
 
 -- ---- which move is the last
 eqb-suc : (i n : ℕ) → eqb (i + 1) n ≡ eqb (suc i + 1) (suc n)

@@ -18,7 +18,7 @@ ghost use Rattle.motion_rows.specs.Rows.{AnimatedTransform·fromRows};
 ghost use Rattle.motion_chain.specs.Chain.{Chain};
 ghost use Rattle.chain_rows.specs.Kept.{Chain·toRows};
 ghost use Rattle.chain_window.specs.Cover.{sliceBoxes, boxesFrom, Chain·windowCover};
-ghost use Rattle.window_cover.specs.Stage.{stageBoxes};
+ghost use Rattle.window_cover.specs.means.Stage.{stageBoxes};
 ghost use Rattle.window_cover.specs.Kept.{Moves·windowCover, KeptWindowContainsMotion, KeptWindowFiner};
 
 // The slices of a move, joined to r. Accuracy: encloses.

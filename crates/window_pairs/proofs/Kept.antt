@@ -33,7 +33,7 @@ use Rattle.window_meetings.proofs.Numbers.{windows-numbered}
 use Rattle.window_meetings.proofs.Apart.{windows-apart}
 use Rattle.window_meetings.proofs.Finer.{windows-finer}
 use Rattle.window_pairs.specs.declared.Found.{Found}
-use Rattle.window_pairs.specs.Found.{Found·Is}
+use Rattle.window_pairs.specs.means.Found.{Found·Is}
 use Rattle.window_pairs.specs.Kept.{Moves·windows, Moves·reached, Moves·Apart, KeptWindowsApart, KeptWindowsFiner}
 
 -- ---- the numbers

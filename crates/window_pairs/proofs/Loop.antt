@@ -14,7 +14,7 @@ use Rattle.tick_list.specs.Ticks.{maxTicks}
 use Rattle.window_times.specs.declared.Window.{Window}
 use Rattle.window_meetings.specs.Windows.{windowsOf, WindowsAnswer, listed, refused, WindowsAnswer·cons, windowsFrom, placeCount}
 use Rattle.window_pairs.specs.declared.Found.{Found}
-use Rattle.window_pairs.specs.Found.{windowAt, Found·none, Found·add, Found·Holds, Found·Is}
+use Rattle.window_pairs.specs.means.Found.{windowAt, Found·none, Found·add, Found·Holds, Found·Is}
 
 -- ---- lists
 append-nil : (xs : List ℕ) → xs ++ [] ≡ xs

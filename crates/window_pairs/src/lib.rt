@@ -9,7 +9,7 @@ ghost use Rattle.bounds_meeting.specs.Meeting.{Meeting·of};
 ghost use Rattle.tick_list.specs.Ticks.{maxTicks};
 ghost use Rattle.window_cover.specs.Kept.{Moves·windowCover};
 ghost use Rattle.window_meetings.specs.Windows.{windowsOf, windowsRefusal, WindowsAnswer·refusal, WindowsAnswer·windows, windowsFrom, placeCount, WindowsAnswer·left};
-ghost use Rattle.window_pairs.specs.Found.{windowAt, Found·none, Found·add, Found·Is};
+ghost use Rattle.window_pairs.specs.means.Found.{windowAt, Found·none, Found·add, Found·Is};
 ghost use Rattle.window_pairs.specs.Kept.{Moves·windows, KeptWindowsApart, KeptWindowsFiner};
 
 // How many windows are listed, and a refusal's number, 0 for none.

@@ -1,5 +1,5 @@
 -- What has to unfold for a search on given coefficients to compute, as one group: a case says `unfolding computing`.
-use Rattle.interval.specs.Computing as interval
+use Rattle.interval.specs.means.Computing as interval
 use Rattle.motion_derivative.specs.Derivative.{affine, MotionDerivative·rangeAt, MotionDerivative·excludesZeroAt, MotionDerivative·excludesZero}
 use Rattle.motion_derivative.specs.Derivative.{MotionDerivative·valueAt, MotionDerivative·value, MotionDerivative·slopeAt, MotionDerivative·slope, MotionDerivative·newton}
 use Rattle.zero_search.specs.Search.{search, intervalFindZeros}

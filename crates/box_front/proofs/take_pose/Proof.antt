@@ -4,7 +4,7 @@ use mathlib.Core.Path.{_≡_, refl, sym, ap, subst, _∙_}
 use native.Mathlib.Omega.{arith}
 use borrow.Author.Needs.{needs}
 use lib.ListN.{length, set}
-use Rattle.box_front.specs.Front.{placeCount}
+use Rattle.box_front.specs.means.Front.{placeCount}
 use Rattle.box_front.proofs.Taken.{Taking, taking-first, taking-next, taking-refused, taking-last}
 use Rattle.box_front.proofs.take_pose.Statement.{statement}
 use Rattle.box_front.proofs.take_pose.Tie as tie

@@ -9,7 +9,7 @@ use Rattle.motion_chain.proofs.Built.{checks-passed}
 use Rattle.chain_poses.specs.Poses.{Poses·ofLists}
 use Rattle.chain_poses.proofs.Loops.{poses-length}
 use Rattle.chain_build.specs.Build.{front}
-use Rattle.chain_build.specs.Pairs.{Pair·rows}
+use Rattle.chain_build.specs.means.Pairs.{Pair·rows}
 use Rattle.chain_build.proofs.Answer.{pair-refused, all-built}
 use Rattle.chain_build.proofs.build_passed.Statement.{statement}
 use Rattle.chain_build.proofs.build_passed.Tie as tie

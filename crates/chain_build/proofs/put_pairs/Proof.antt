@@ -10,7 +10,7 @@ use Rattle.motion_chain.specs.Chain.{firstNumber, stage}
 use Rattle.motion_chain.specs.Built.{Each}
 use Rattle.chain_poses.specs.Poses.{Poses·ofLists, Poses·pairAt}
 use Rattle.chain_poses.proofs.Loops.{poses-length, pairsFrom, pairs-next, pairs-end, pairs-count}
-use Rattle.chain_build.specs.Pairs.{Pair·refusal, Pair·Built}
+use Rattle.chain_build.specs.means.Pairs.{Pair·refusal, Pair·Built}
 use Rattle.chain_build.proofs.Put.{put, put-front, put-next}
 use Rattle.chain_build.proofs.put_pairs.Statement.{statement}
 use Rattle.chain_build.proofs.put_pairs.Tie as tie

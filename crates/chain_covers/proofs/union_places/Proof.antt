@@ -4,7 +4,7 @@ use mathlib.Core.Path.{_≡_, sym, _∙_}
 use native.Mathlib.Omega.{arith}
 use borrow.Author.Needs.{needs}
 use lib.ListN.{take, drop}
-use Rattle.chain_covers.specs.Union.{unionBoxes, unionPlaces}
+use Rattle.chain_covers.specs.means.Union.{unionBoxes, unionPlaces}
 use Rattle.chain_covers.proofs.Union.{union-next, union-end}
 use Rattle.chain_covers.proofs.union_places.Statement.{statement}
 use Rattle.chain_covers.proofs.union_places.Tie as tie

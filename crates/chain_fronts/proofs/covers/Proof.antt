@@ -6,8 +6,8 @@ use native.Mathlib.Omega.{arith}
 use borrow.Author.Needs.{needs}
 use lib.ListN.{length}
 use Rattle.motion_cover.specs.Cover.{AnimatedTransform·cover}
-use Rattle.box_front.specs.Front.{placeCount}
-use Rattle.motion_fronts.specs.Worked.{FrontOf}
+use Rattle.box_front.specs.means.Front.{placeCount}
+use Rattle.motion_fronts.specs.means.Worked.{FrontOf}
 use Rattle.motion_fronts.proofs.Front.{worked-same, worked-trans}
 use Rattle.chain_fronts.proofs.Moves.{coverAt, Reached, reached-first, reached-next, reached-last}
 use Rattle.chain_fronts.proofs.covers.Statement.{statement}

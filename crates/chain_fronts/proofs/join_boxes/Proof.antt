@@ -4,8 +4,8 @@ use mathlib.Core.Path.{_≡_, ap, subst}
 use native.Mathlib.Omega.{arith}
 use borrow.Author.Needs.{needs}
 use lib.ListN.{length, set}
-use Rattle.box_front.specs.Front.{placeCount}
-use Rattle.chain_fronts.specs.Joined.{Joined}
+use Rattle.box_front.specs.means.Front.{placeCount}
+use Rattle.chain_fronts.specs.means.Joined.{Joined}
 use Rattle.chain_fronts.proofs.Joined.{joined-first, joined-next}
 use Rattle.chain_fronts.proofs.join_boxes.Statement.{statement}
 use Rattle.chain_fronts.proofs.join_boxes.Tie as tie

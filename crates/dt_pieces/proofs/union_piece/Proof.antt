@@ -1,6 +1,6 @@
 -- `union_piece` meets its contract: the poses with their pad, their box, and the union.
 use borrow.Author.Needs.{needs}
-use Rattle.dt_pieces.specs.Pieces.{pieceBox}
+use Rattle.dt_pieces.specs.means.Pieces.{pieceBox}
 use Rattle.dt_pieces.proofs.union_piece.Statement.{statement}
 use Rattle.dt_pieces.proofs.union_piece.Tie as tie
 

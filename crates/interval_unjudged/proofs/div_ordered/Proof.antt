@@ -1,5 +1,5 @@
 -- `div_ordered` meets its contract: the four values are the definition's.
-use Rattle.interval_unjudged.specs.Ordered.{Interval·divOrdered}
+use Rattle.interval_unjudged.specs.means.Ordered.{Interval·divOrdered}
 use Rattle.interval_unjudged.proofs.div_ordered.Statement.{statement}
 use Rattle.interval_unjudged.proofs.div_ordered.Tie as tie
 

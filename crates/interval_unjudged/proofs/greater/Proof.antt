@@ -1,7 +1,7 @@
 -- `greater` meets its contract: each return is the case that the comparison chose.
 use mathlib.Core.Path.{sym, ap}
 use mathlib.Core.Bool.{Bool, cond}
-use Rattle.interval_unjudged.specs.Ordered.{greater}
+use Rattle.interval_unjudged.specs.means.Ordered.{greater}
 use Rattle.interval_unjudged.proofs.greater.Statement.{statement}
 use Rattle.interval_unjudged.proofs.greater.Tie as tie
 

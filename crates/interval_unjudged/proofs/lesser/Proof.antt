@@ -1,7 +1,7 @@
 -- `lesser` meets its contract: each return is the case that the comparison chose.
 use mathlib.Core.Path.{sym, ap}
 use mathlib.Core.Bool.{Bool, cond}
-use Rattle.interval_unjudged.specs.Ordered.{lesser}
+use Rattle.interval_unjudged.specs.means.Ordered.{lesser}
 use Rattle.interval_unjudged.proofs.lesser.Statement.{statement}
 use Rattle.interval_unjudged.proofs.lesser.Tie as tie
 

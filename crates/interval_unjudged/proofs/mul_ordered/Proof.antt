@@ -1,5 +1,5 @@
 -- `mul_ordered` meets its contract: the four values are the definition's.
-use Rattle.interval_unjudged.specs.Ordered.{Interval·mulOrdered}
+use Rattle.interval_unjudged.specs.means.Ordered.{Interval·mulOrdered}
 use Rattle.interval_unjudged.proofs.mul_ordered.Statement.{statement}
 use Rattle.interval_unjudged.proofs.mul_ordered.Tie as tie
 

@@ -1,5 +1,5 @@
 -- `of_four_ordered` meets its contract: least and greatest, pair by pair.
-use Rattle.interval_unjudged.specs.Ordered.{Interval·ofFourOrdered}
+use Rattle.interval_unjudged.specs.means.Ordered.{Interval·ofFourOrdered}
 use Rattle.interval_unjudged.proofs.of_four_ordered.Statement.{statement}
 use Rattle.interval_unjudged.proofs.of_four_ordered.Tie as tie
 

@@ -1,5 +1,5 @@
 -- `union_corner` meets its contract: each arm is its case of the union of two answers, and that is the next corner's (`next-corner`).
-use Rattle.motion_bounds.specs.Steps.{MotionBoundsAnswer·unionBounds}
+use Rattle.motion_bounds.specs.means.Steps.{MotionBoundsAnswer·unionBounds}
 use Rattle.motion_bounds.proofs.Counts.{counted-few, next-corner}
 use Rattle.motion_bounds.proofs.Searched.{few-below, point-examined, corners-examined}
 use Prim.Native.Nat.{_*_, _≤_}

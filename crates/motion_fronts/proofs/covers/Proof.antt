@@ -2,7 +2,7 @@
 use mathlib.Core.Path.{ap, _∙_}
 use native.Mathlib.Omega.{arith}
 use borrow.Author.Tests.{not-true, not-false}
-use Rattle.motion_piece.specs.Piece.{PaddedPose·stored}
+use Rattle.motion_piece.specs.means.Piece.{PaddedPose·stored}
 use Rattle.motion_fronts.proofs.Front.{worked-same, worked-trans}
 use Rattle.motion_fronts.proofs.Moved.{judged-depth, none-passed, moved-stored, moved-slices, start-worked, end-worked}
 use borrow.Author.Needs.{needs}

@@ -5,7 +5,7 @@ use native.Mathlib.Omega.{arith}
 use lib.Pow.{pow-lt}
 use borrow.Author.Needs.{needs}
 use Rattle.bounds_query.specs.Query.{maxDepth}
-use Rattle.motion_piece.specs.Piece.{PaddedPose·over}
+use Rattle.motion_piece.specs.means.Piece.{PaddedPose·over}
 use Rattle.motion_cover.proofs.Slices.{slice-count}
 use Rattle.motion_fronts.proofs.Sliced.{Sliced, sliced-first, sliced-next, sliced-last}
 use Rattle.motion_fronts.proofs.take_slices.Statement.{statement}

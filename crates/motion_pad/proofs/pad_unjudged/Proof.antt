@@ -5,7 +5,7 @@ use Rattle.interval.specs.declared.Interval.{Interval}
 use Rattle.formula.specs.Enclose.{enclosure}
 use Rattle.interval_unjudged.proofs.Trace.{traced-unjudged}
 use Rattle.motion_pad.specs.Pad.{padStage, Pad·inputs, Judged·of}
-use Rattle.motion_pad.specs.Unjudged.{Pad·unjudged}
+use Rattle.motion_pad.specs.means.Unjudged.{Pad·unjudged}
 use Rattle.motion_pad.proofs.pad_unjudged.Statement.{statement}
 use Rattle.motion_pad.proofs.pad_unjudged.Tie as tie
 

@@ -1,5 +1,5 @@
 -- `box_enclosure` meets its contract: a chain of calls.
-use Rattle.motion_piece.specs.Piece.{PaddedPose·encloseBounds}
+use Rattle.motion_piece.specs.means.Piece.{PaddedPose·encloseBounds}
 use Rattle.motion_piece.proofs.box_enclosure.Statement.{statement}
 use Rattle.motion_piece.proofs.box_enclosure.Tie as tie
 

@@ -1,5 +1,5 @@
 -- `quaternion_ends_sum` meets its contract: its calls in turn, from the last to the first.
-use Rattle.pose_ends.specs.Ends.{IntervalQuaternion·endsSum}
+use Rattle.pose_ends.specs.means.Ends.{IntervalQuaternion·endsSum}
 use Rattle.pose_ends.proofs.quaternion_ends_sum.Statement.{statement}
 use Rattle.pose_ends.proofs.quaternion_ends_sum.Tie as tie
 

@@ -7,7 +7,7 @@ use Rattle.interval_unjudged.proofs.Trace.{traced-unjudged}
 use Rattle.pose_steps.specs.declared.IntervalRow.{IntervalRow}
 use Rattle.pose_steps.specs.Stages.{scaleRowStage}
 use Rattle.pose_steps.specs.Enclose.{IntervalRow·three, JudgedRow·of}
-use Rattle.pose_parts.specs.Unjudged.{Pose·unjudgedScaleRow}
+use Rattle.pose_parts.specs.means.Unjudged.{Pose·unjudgedScaleRow}
 use Rattle.pose_parts.proofs.scale_row_unjudged.Statement.{statement}
 use Rattle.pose_parts.proofs.scale_row_unjudged.Tie as tie
 

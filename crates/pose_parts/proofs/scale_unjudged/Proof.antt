@@ -1,5 +1,5 @@
 -- `scale_unjudged` meets its contract, row by row, the last call first.
-use Rattle.pose_parts.specs.Unjudged.{Pose·unjudgedScale}
+use Rattle.pose_parts.specs.means.Unjudged.{Pose·unjudgedScale}
 use Rattle.pose_parts.proofs.scale_unjudged.Statement.{statement}
 use Rattle.pose_parts.proofs.scale_unjudged.Tie as tie
 

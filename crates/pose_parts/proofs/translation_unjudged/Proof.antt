@@ -7,7 +7,7 @@ use Rattle.interval_unjudged.proofs.Trace.{traced-unjudged}
 use Rattle.pose_steps.specs.declared.IntervalVector.{IntervalVector}
 use Rattle.pose_steps.specs.Stages.{translationStage}
 use Rattle.pose_steps.specs.Enclose.{IntervalVector·list, JudgedVector·of}
-use Rattle.pose_parts.specs.Unjudged.{Pose·unjudgedTranslation}
+use Rattle.pose_parts.specs.means.Unjudged.{Pose·unjudgedTranslation}
 use Rattle.pose_parts.proofs.translation_unjudged.Statement.{statement}
 use Rattle.pose_parts.proofs.translation_unjudged.Tie as tie
 

@@ -6,7 +6,7 @@ use Rattle.formula.specs.Enclose.{enclosure}
 use Rattle.interval_unjudged.proofs.Trace.{traced-unjudged}
 use Rattle.pose_steps.specs.Stages.{transformPointStage}
 use Rattle.pose_steps.specs.Enclose.{IntervalVector·list, IntervalMatrix·list, JudgedVector·of}
-use Rattle.pose_point.specs.Unjudged.{Pose·unjudgedTransformPoint}
+use Rattle.pose_point.specs.means.Unjudged.{Pose·unjudgedTransformPoint}
 use Rattle.pose_point.proofs.transform_point_unjudged.Statement.{statement}
 use Rattle.pose_point.proofs.transform_point_unjudged.Tie as tie
 

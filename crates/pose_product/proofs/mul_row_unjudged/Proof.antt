@@ -6,7 +6,7 @@ use Rattle.formula.specs.Enclose.{enclosure}
 use Rattle.interval_unjudged.proofs.Trace.{traced-unjudged}
 use Rattle.pose_steps.specs.Stages.{mulRowStage}
 use Rattle.pose_steps.specs.Enclose.{IntervalMatrix·list, IntervalRow·list, JudgedRow·of}
-use Rattle.pose_product.specs.Unjudged.{Pose·unjudgedMulRow}
+use Rattle.pose_product.specs.means.Unjudged.{Pose·unjudgedMulRow}
 use Rattle.pose_product.proofs.mul_row_unjudged.Statement.{statement}
 use Rattle.pose_product.proofs.mul_row_unjudged.Tie as tie
 

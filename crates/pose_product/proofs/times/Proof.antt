@@ -1,5 +1,5 @@
 -- `times` meets its contract: its calls, the last first.
-use Rattle.pose_product.specs.Unjudged.{IntervalVector·times}
+use Rattle.pose_product.specs.means.Unjudged.{IntervalVector·times}
 use Rattle.pose_product.proofs.times.Statement.{statement}
 use Rattle.pose_product.proofs.times.Tie as tie
 

@@ -1,5 +1,5 @@
 -- `translated_column` meets its contract: its calls are the operations, the last call first.
-use Rattle.pose_product.specs.Unjudged.{Pose·translatedColumn}
+use Rattle.pose_product.specs.means.Unjudged.{Pose·translatedColumn}
 use Rattle.pose_product.proofs.translated_column.Statement.{statement}
 use Rattle.pose_product.proofs.translated_column.Tie as tie
 

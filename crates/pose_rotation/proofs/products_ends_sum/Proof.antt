@@ -1,5 +1,5 @@
 -- `products_ends_sum` meets its contract: its calls in turn, from the last to the first.
-use Rattle.pose_rotation.specs.Unjudged.{Products·endsSum}
+use Rattle.pose_rotation.specs.means.Unjudged.{Products·endsSum}
 use Rattle.pose_rotation.proofs.products_ends_sum.Statement.{statement}
 use Rattle.pose_rotation.proofs.products_ends_sum.Tie as tie
 

@@ -1,5 +1,5 @@
 -- `products_unjudged` meets its contract: its calls in turn, from the last to the first.
-use Rattle.pose_rotation.specs.Unjudged.{Products·of}
+use Rattle.pose_rotation.specs.means.Unjudged.{Products·of}
 use Rattle.pose_rotation.proofs.products_unjudged.Statement.{statement}
 use Rattle.pose_rotation.proofs.products_unjudged.Tie as tie
 

@@ -3,11 +3,11 @@ use mathlib.Core.Path.{ap}
 use mathlib.Core.List.{List, _∷_}
 use Rattle.interval.specs.declared.Interval.{Interval}
 use Rattle.formula.specs.Enclose.{unbound, enclosure}
-use Rattle.interval_unjudged.specs.After.{Program·after}
+use Rattle.interval_unjudged.specs.means.After.{Program·after}
 use Rattle.interval_unjudged.proofs.Trace.{traced-unjudged}
 use Rattle.pose_steps.specs.Stages.{rotationStage}
 use Rattle.pose_steps.specs.Enclose.{JudgedMatrix·of}
-use Rattle.pose_rotation.specs.Unjudged.{Products·list, Pose·unjudgedRotation}
+use Rattle.pose_rotation.specs.means.Unjudged.{Products·list, Pose·unjudgedRotation}
 use Rattle.pose_rotation.proofs.rotation_unjudged.Statement.{statement}
 use Rattle.pose_rotation.proofs.rotation_unjudged.Tie as tie
 

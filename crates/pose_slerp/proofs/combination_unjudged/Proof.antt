@@ -1,5 +1,5 @@
 -- `combination_unjudged` meets its contract: its calls in turn, from the last to the first.
-use Rattle.pose_slerp.specs.Unjudged.{IntervalQuaternion·combination}
+use Rattle.pose_slerp.specs.means.Unjudged.{IntervalQuaternion·combination}
 use Rattle.pose_slerp.proofs.combination_unjudged.Statement.{statement}
 use Rattle.pose_slerp.proofs.combination_unjudged.Tie as tie
 

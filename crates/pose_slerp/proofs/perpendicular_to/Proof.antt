@@ -1,5 +1,5 @@
 -- `perpendicular_to` meets its contract: its calls in turn, from the last to the first.
-use Rattle.pose_slerp.specs.Unjudged.{Perpendicular·of}
+use Rattle.pose_slerp.specs.means.Unjudged.{Perpendicular·of}
 use Rattle.pose_slerp.proofs.perpendicular_to.Statement.{statement}
 use Rattle.pose_slerp.proofs.perpendicular_to.Tie as tie
 

@@ -1,5 +1,5 @@
 -- `quotient_unjudged` meets its contract: its calls in turn, from the last to the first.
-use Rattle.pose_slerp.specs.Unjudged.{IntervalQuaternion·quotient}
+use Rattle.pose_slerp.specs.means.Unjudged.{IntervalQuaternion·quotient}
 use Rattle.pose_slerp.proofs.quotient_unjudged.Statement.{statement}
 use Rattle.pose_slerp.proofs.quotient_unjudged.Tie as tie
 

@@ -1,5 +1,5 @@
 -- `squared_unjudged` meets its contract: its calls in turn, from the last to the first.
-use Rattle.pose_slerp.specs.Unjudged.{IntervalQuaternion·squared}
+use Rattle.pose_slerp.specs.means.Unjudged.{IntervalQuaternion·squared}
 use Rattle.pose_slerp.proofs.squared_unjudged.Statement.{statement}
 use Rattle.pose_slerp.proofs.squared_unjudged.Tie as tie
 

@@ -1,7 +1,7 @@
 -- `end_taken` meets its contract: each return is a case of the definition.
 use native.Mathlib.Omega.{arith}
 use borrow.Author.Tests.{eq-eqb, ne-eqb}
-use Rattle.run_starts.specs.Ends.{endTaken}
+use Rattle.run_starts.specs.means.Ends.{endTaken}
 use borrow.Author.Needs.{needs}
 use Rattle.run_starts.proofs.end_taken.Statement.{statement}
 use Rattle.run_starts.proofs.end_taken.Tie as tie

@@ -2,7 +2,7 @@
 use Prim.Native.Nat.{_-_}
 use mathlib.Core.Path.{sym, _∙_}
 use native.Mathlib.Omega.{arith}
-use Rattle.run_starts.specs.Ends.{lastTick}
+use Rattle.run_starts.specs.means.Ends.{lastTick}
 use Rattle.run_starts.proofs.Stops.{Stop, all-few, stop-first, stop-next, stop-last}
 use borrow.Author.Needs.{needs}
 use Rattle.run_starts.proofs.ends.Statement.{statement}

@@ -5,7 +5,7 @@ use mathlib.Core.Bool.{false}
 use native.Mathlib.Omega.{arith}
 use Rattle.run_schedule.specs.Day.{someBelow}
 use Rattle.run_schedule.proofs.Places.{some-here}
-use Rattle.run_starts.specs.Ends.{runsAndMeets}
+use Rattle.run_starts.specs.means.Ends.{runsAndMeets}
 use Rattle.run_starts.proofs.Loops.{some-next, some-all}
 use borrow.Author.Needs.{needs}
 use Rattle.run_starts.proofs.meets_running.Statement.{statement}

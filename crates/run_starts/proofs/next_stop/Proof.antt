@@ -2,7 +2,7 @@
 use Prim.Native.Nat.{ℕ, _+_, _-_, _≤_}
 use mathlib.Core.Path.{_≡_, sym, subst}
 use native.Mathlib.Omega.{arith}
-use Rattle.run_starts.specs.Ends.{NextStop}
+use Rattle.run_starts.specs.means.Ends.{NextStop}
 use Rattle.run_starts.proofs.Loops.{stop-none, stop-step}
 use borrow.Author.Needs.{needs}
 use Rattle.run_starts.proofs.next_stop.Statement.{statement}

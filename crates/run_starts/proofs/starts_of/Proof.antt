@@ -2,7 +2,7 @@
 use Prim.Native.Nat.{_-_, _≤_}
 use mathlib.Core.Path.{_≡_, subst}
 use native.Mathlib.Omega.{arith}
-use Rattle.run_starts.specs.Ends.{StartsOf}
+use Rattle.run_starts.specs.means.Ends.{StartsOf}
 use Rattle.run_starts.proofs.Loops.{starts-none, starts-step}
 use borrow.Author.Needs.{needs}
 use Rattle.run_starts.proofs.starts_of.Statement.{statement}

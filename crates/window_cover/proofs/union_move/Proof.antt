@@ -2,7 +2,7 @@
 use borrow.Author.Needs.{needs}
 use borrow.Author.Tests.{eq-eqb, ne-eqb}
 use Rattle.chain_window.specs.Cover.{endPoseBoxes, equalPoseBoxes}
-use Rattle.window_cover.specs.Stage.{stageBoxes}
+use Rattle.window_cover.specs.means.Stage.{stageBoxes}
 use Rattle.window_cover.proofs.union_move.Statement.{statement}
 use Rattle.window_cover.proofs.union_move.Tie as tie
 

@@ -4,7 +4,7 @@ use mathlib.Core.Path.{_≡_, refl, sym, _∙_}
 use native.Mathlib.Omega.{arith}
 use borrow.Author.Needs.{needs}
 use lib.ListN.{length}
-use Rattle.window_cover.specs.Stage.{stageBoxes}
+use Rattle.window_cover.specs.means.Stage.{stageBoxes}
 use Rattle.window_cover.proofs.Union.{passFrom, pass-next, pass-end}
 use Rattle.window_cover.proofs.union_moves.Statement.{statement}
 use Rattle.window_cover.proofs.union_moves.Tie as tie

@@ -1,7 +1,7 @@
 -- `add` meets its contract: what was found, or one place more.
 use borrow.Author.Needs.{needs}
 use borrow.Author.Tests.{not-true, not-false}
-use Rattle.window_pairs.specs.Found.{Found·add}
+use Rattle.window_pairs.specs.means.Found.{Found·add}
 use Rattle.window_pairs.proofs.add.Statement.{statement}
 use Rattle.window_pairs.proofs.add.Tie as tie
 

@@ -1,5 +1,5 @@
 -- `EndAngle::cos_range` meets its contract: its calls in turn, from the last to the first.
-use Rattle.interval.specs.EndAngle.{EndAngle·cosRange}
+use Rattle.interval.specs.means.EndAngle.{EndAngle·cosRange}
 use Rattle.interval.proofs.EndAngle.cos_range.Statement.{statement}
 use Rattle.interval.proofs.EndAngle.cos_range.Tie as tie
 

@@ -1,5 +1,5 @@
 -- `EndAngle::sin_range` meets its contract: its calls in turn, from the last to the first.
-use Rattle.interval.specs.EndAngle.{EndAngle·sinRange}
+use Rattle.interval.specs.means.EndAngle.{EndAngle·sinRange}
 use Rattle.interval.proofs.EndAngle.sin_range.Statement.{statement}
 use Rattle.interval.proofs.EndAngle.sin_range.Tie as tie
 

@@ -1,0 +1,4 @@
+-- Means of proof: what only says what code does, or what a proof unfolds. No promise reaches it, and nothing of it has to be believed.
+pub mod Unjudged
+pub mod Ordered
+pub mod After
