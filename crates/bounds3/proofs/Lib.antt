@@ -1,5 +1,4 @@
 -- Laws and cases of points and boxes.
 pub mod Finite
 pub mod Union
-pub mod Corner
 pub mod Cases

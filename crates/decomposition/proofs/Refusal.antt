@@ -1,6 +1,6 @@
--- What a decomposition can be: its refusal is 0, 4 or 5 (`decompose-refusal`), after one every number is +0 (`decompose-refused`), and without one the quaternion and all of the
+-- What a decomposition can be: its refusal is 0, 4 or 5 (`decompose-refusal`), and without one the quaternion and all of the
 -- scale are finite, and the translation is the matrix's (`Accepted`, `decompose-accepted`). Rests on `inverse-refusal`: a round hands on no number but the inverse's and 5.
-use mathlib.Core.Path.{_≡_, refl, sym, ap, _∙_}
+use mathlib.Core.Path.{_≡_, refl, ap}
 use mathlib.Core.Bool.{Bool, true, false, _&&_, cond}
 use mathlib.Core.Logic.{_⊎_, inl, inr}
 use Prim.Native.Nat.{ℕ}
@@ -117,13 +117,6 @@ decompose-refusal rigid m = go (Matrix4x4·decompose rigid m) (decompose-answere
     go d (parted e a) = inl e
     go d (none _ zeroPivot e) = inr (inl (ap (λ (x : Decomposition). x .refusal) e))
     go d (none _ notFinite e) = inr (inr (ap (λ (x : Decomposition). x .refusal) e))
-
-pub decompose-refused : (rigid : Bool) (m : Rows) → (Matrix4x4·decompose rigid m .refusal ≡ 0 → ⊥) → Matrix4x4·decompose rigid m ≡ Decomposition·refused (Matrix4x4·decompose rigid m .refusal)
-decompose-refused rigid m z = go (Matrix4x4·decompose rigid m) z (decompose-answered rigid m)
-  where
-    go : (d : Decomposition) → (d .refusal ≡ 0 → ⊥) → Answered m d → d ≡ Decomposition·refused (d .refusal)
-    go d z (parted e a) = absurd (z e)
-    go d z (none n h e) = e ∙ ap Decomposition·refused (sym (ap (λ (x : Decomposition). x .refusal) e))
 
 pub decompose-accepted : (rigid : Bool) (m : Rows) → Matrix4x4·decompose rigid m .refusal ≡ 0 → Accepted m (Matrix4x4·decompose rigid m)
 decompose-accepted rigid m h = go (Matrix4x4·decompose rigid m) h (decompose-answered rigid m)

@@ -1,10 +1,10 @@
--- The least of two floats is below both and the greatest above both (`min-left`, `min-right`, `max-left`, `max-right`); each is one of the two (`min-picks`, `max-picks`),
--- and each keeps the order (`min-mono`, `max-mono`). Rests on the order of `rounding`; `Number` is asked of what the result is compared with.
+-- The least of two floats is below both and the greatest above both (`min-left`, `min-right`, `max-left`, `max-right`); each is one of the two (`min-picks`, `max-picks`).
+-- Rests on the order of `rounding`; `Number` is asked of what the result is compared with.
 use mathlib.Core.Bool.{Bool, true, false, not, cond}
 use lib.Dec.{T}
 use lib.Ieee.{Float, isNan, lt}
 use Rattle.rounding.specs.Order.{_≼_, Number}
-use Rattle.rounding.proofs.Order.{≼-refl, ≼-trans, number-left, number-right, lt-≼, not-lt-≼}
+use Rattle.rounding.proofs.Order.{≼-refl, lt-≼, not-lt-≼}
 use Rattle.float32.specs.MinMax.{minNum, maxNum}
 
 pub min-left : (x y : Float) → Number x → minNum x y ≼ x
@@ -56,12 +56,3 @@ min-picks P x y p q = cond-picks P x y p q (isNan x) (lt y x)
 pub max-picks : (P : Float → Type 0) (x y : Float) → P x → P y → P (maxNum x y)
 unfolding maxNum
 max-picks P x y p q = cond-picks P x y p q (isNan x) (lt x y)
-
--- ---- each keeps the order
-pub min-mono : {x x' y y' : Float} → x ≼ x' → y ≼ y' → minNum x y ≼ minNum x' y'
-min-mono {x} {x'} {y} {y'} h k =
-    min-picks (λ (z : Float). minNum x y ≼ z) x' y' (≼-trans (min-left x y (number-left h)) h) (≼-trans (min-right x y (number-left k)) k)
-
-pub max-mono : {x x' y y' : Float} → x ≼ x' → y ≼ y' → maxNum x y ≼ maxNum x' y'
-max-mono {x} {x'} {y} {y'} h k =
-    max-picks (λ (z : Float). z ≼ maxNum x' y') x y (≼-trans h (max-left x' y' (number-right h))) (≼-trans k (max-right x' y' (number-right k)))

@@ -1,5 +1,5 @@
 -- What finite intervals contain and what lies in them is finite (`contains-finite`, `subset-finite`); `Subset` is transitive along `Contains` (`contains-subset`) and of
--- itself (`subset-trans`); the hull of two intervals contains what either does (`hull-left`, `hull-right`) and narrows with them (`hull-isotone`).
+-- itself (`subset-trans`); the hull of two intervals contains what either does (`hull-left`, `hull-right`) and nothing beyond what holds both (`hull-subset`).
 -- Rests on the order of `rounding` and on least and greatest of `float32`.
 use lib.Dec.{T}
 use lib.Ieee.{Float}
@@ -93,9 +93,3 @@ hull-subset {X} {Y} {Z} s t =
       proper = ≼-trans (min-left (X .low) (Y .low) (number-left (s .proper))) (≼-trans (s .proper) (max-left (X .high) (Y .high) (number-right (s .proper))));
       high = max-picks (λ (v : Float). v ≼ Z .high) (X .high) (Y .high) (s .high) (t .high);
     }
-
-pub hull-isotone : {X X' Y Y' : Interval} → Subset X X' → Subset Y Y' → Subset (Interval·hull X Y) (Interval·hull X' Y')
-hull-isotone {X} {X'} {Y} {Y'} s t =
-    hull-subset
-    (record { low = hull-left Y' (subset-low s) .low; proper = s .proper; high = hull-left Y' (subset-high s) .high })
-    (record { low = hull-right X' (subset-low t) .low; proper = t .proper; high = hull-right X' (subset-high t) .high })

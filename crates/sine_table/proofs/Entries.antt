@@ -1,17 +1,17 @@
 -- One test of a whole list, `tableTest`: its size, its ends, its strict rise and the Taylor rule at every entry. A list that passes is T, `tested-entries`, and
 -- is what document 01 says of it, `tested-right`. The code's table is tested so (proofs/table), and T itself, `sineTable-right`.
--- From it that `sineEntry` rises; it is the whole number nearest to 2 ^ 30 times the Taylor sum, `entry-near`.
+-- From it that `sineEntry` rises.
 use mathlib.Core.Path.{_≡_, refl, sym, ap, subst, subst₂, _∙_}
 use mathlib.Core.Bool.{Bool, true, _&&_}
 use mathlib.Core.List.{List, [], _∷_}
-use Prim.Native.Nat.{ℕ, zero, suc, _+_, _*_, _/_, _^_, _≤_, _<_}
-use native.Mathlib.Nat.{add-zero, zero-add, le-of-suc-le-suc, not-suc-le-zero, le-refl, mul-div-le, lt-div-mul-add}
+use Prim.Native.Nat.{ℕ, zero, suc, _+_, _^_, _≤_, _<_}
+use native.Mathlib.Nat.{add-zero, zero-add, le-of-suc-le-suc, not-suc-le-zero, le-refl}
 use native.Mathlib.Decide.{le-ind}
 use native.Mathlib.Omega.{arith}
-use lib.Dec.{T, eqb, ltb, eqb→eq, ltb→lt, lit<}
+use lib.Dec.{T, eqb, ltb, eqb→eq, ltb→lt}
 use lib.ListN.{length, getD}
 use lib.Ieee.Fits.{and-l, and-r}
-use Rattle.sine_table.specs.Table.{taylorDenominator, taylorSum, sineEntry, entries, sineTable, SineTable}
+use Rattle.sine_table.specs.Table.{taylorSum, sineEntry, entries, sineTable, SineTable}
 
 -- ---- the test
 
@@ -95,12 +95,3 @@ pub entry-mono : (i j : ℕ) → i ≤ j → j ≤ 2048 → sineEntry i ≤ sine
 entry-mono i j h k =
     le-ind (λ (n : ℕ). n ≤ 2048 → sineEntry i ≤ sineEntry n) (λ l. le-refl (sineEntry i))
     (λ n g r l. let a : sineEntry i ≤ sineEntry n = r (omega arith) in let b = entry-rises n l in omega (arith, a, b)) j h k
-
--- T[i] is within a half of 2 ^ 30 times the Taylor sum: both sides times twice the denominator.
-pub entry-near : (i : ℕ) → (2 * taylorDenominator * sineEntry i ≤ 2 ^ 31 * taylorSum i + taylorDenominator)
-    × (2 ^ 31 * taylorSum i < 2 * taylorDenominator * sineEntry i + taylorDenominator)
-unfolding sineEntry
-entry-near i = near (taylorDenominator) (2 ^ 31 * taylorSum i) (lit< tt)
-  where
-    near : (d s : ℕ) → 0 < d → (2 * d * ((s + d) / (2 * d)) ≤ s + d) × (s < 2 * d * ((s + d) / (2 * d)) + d)
-    near d s h = let l = lt-div-mul-add {a = s + d} {b = 2 * d} (omega arith) in (mul-div-le (s + d) (2 * d), omega (arith, l))

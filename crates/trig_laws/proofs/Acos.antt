@@ -1,5 +1,5 @@
--- The arc cosine of a c in -1 to 1 lies from 0 to a half turn (`acos-range`), and of a c of at least 0 it is at most a quarter turn (`acos-quarter`); so it is an angle
--- of the ranges' domain (`acos-angle`). Its value is shown by one angle and the one before it (`acos-unique`): the search is never run.
+-- The arc cosine of a c in -1 to 1 lies from 0 to a half turn (`acos-range`), and of a c of at least 0 it is at most a quarter turn (`acos-quarter`).
+-- Its value is shown by one angle and the one before it (`acos-unique`): the search is never run.
 use mathlib.Core.Path.{_≡_, refl, sym, ap, subst, _∙_}
 use mathlib.Core.Bool.{Bool, true, false, cond}
 use Prim.Native.Nat.{ℕ, suc, _*_, _/_, _^_, _≤_, _<_}
@@ -9,9 +9,8 @@ use lib.IntN.{pos, negℤ}
 use lib.Dec.{lit≤}
 use lib.Pow.{pow-pos}
 use lib.Signed.{leZ, shrZ}
-use lib.Ieee.{Float, nan, inf, fin, binary32, up, down, minus, round, le, ofBits}
+use lib.Ieee.{Float, nan, inf, fin, binary32, up, down, minus, round, ofBits}
 use Rattle.rounding.specs.Order.{_≼_}
-use Rattle.rounding.proofs.Order.{≼-trans}
 use Rattle.rounding.proofs.Monotone.{round-mono}
 use Rattle.rounding.proofs.Corners.{Bounds}
 use Rattle.rounding.proofs.Rational.{numNeg}
@@ -22,7 +21,7 @@ use Rattle.trig.specs.Biased.{biased}
 use Rattle.trig.specs.Computing.{computing}
 use Rattle.arc_cosine.proofs.Floor.{unit-finite}
 use Rattle.arc_cosine.proofs.Least.{leastAngle-unique, leastAngle-le, leastAngle-below}
-use Rattle.trig_laws.specs.Range.{Angle, quarterTurnFloat, halfTurnFloat, fullTurnFloat}
+use Rattle.trig_laws.specs.Range.{quarterTurnFloat, halfTurnFloat}
 use Rattle.trig_laws.proofs.Monotone.{numNeg-none}
 
 acos-in : (c : Float) → inDomain c ≡ true → acos c ≡ round binary32 false (leastAngle (floorUnits c)) (2 ^ 28)
@@ -50,9 +49,6 @@ half-is : round binary32 false (2 * quarterTurn) (2 ^ 28) ≡ halfTurnFloat
 unfolding round ofBits
 half-is = refl
 
-half-full : halfTurnFloat ≼ fullTurnFloat
-half-full = record { holds = unfold le ofBits in tt }
-
 pub acos-range : (c : Float) → inDomain c ≡ true → Bounds (ofBits binary32 0) halfTurnFloat (acos c)
 acos-range c h =
     let u = leastAngle (floorUnits c) in
@@ -61,9 +57,6 @@ acos-range c h =
       below = subst (λ (x : Float). x ≼ round binary32 false u (2 ^ 28)) zero-is (angle-mono 0 u (omega arith));
       above = subst (λ (x : Float). round binary32 false u (2 ^ 28) ≼ x) half-is (angle-mono u (2 * quarterTurn) (leastAngle-le (floorUnits c)));
     })
-
-pub acos-angle : (c : Float) → inDomain c ≡ true → Angle (acos c)
-acos-angle c h = let r = acos-range c h in record { from-zero = r .below; to-full-turn = ≼-trans (r .above) half-full }
 
 -- A c of at least 0 is rounded down to at least 0, which is the cosine of a quarter turn.
 floor-nonnegative : (c : Float) → numNeg c ≡ 0 → leZ (pos 0) (floorUnits c) ≡ true

@@ -1,13 +1,13 @@
--- A float from 0 on times one from 0 to 1 is no greater (`mul-unit`), so that an angle times any part of the unit interval is an interval of angles
--- (`scaled-angles`): what a formula with a sine or a cosine is asked for. A value of the format is its own rounding (`own-rounding`).
+-- A float from 0 on times one from 0 to 1 is no greater (`mul-unit`), as an angle times dt.
+-- A value of the format is its own rounding (`own-rounding`).
 use mathlib.Core.Path.{_≡_, refl, sym, subst}
 use mathlib.Core.Bool.{true, false}
 use Prim.Native.Nat.{ℕ, _+_, _*_, _^_, _≤_, _<_}
 use native.Mathlib.Nat.{le-refl, mul-pos, mul-le-mul-right, zero-lt-suc}
 use native.Mathlib.Omega.{arith}
 use lib.Dec.{T}
-use lib.Ieee.{Float, nan, inf, fin, binary32, up, down, round, le, ofBits, fits}
-use lib.Ieee.Fits.{down-pos, and-i}
+use lib.Ieee.{Float, nan, inf, fin, binary32, up, down, round, ofBits, fits}
+use lib.Ieee.Fits.{down-pos}
 use lib.Ieee.Exact.{HasValue, round-exact}
 use lib.Ieee.Order.{le-of-values}
 use lib.Ieee.Scale.{finite}
@@ -20,15 +20,8 @@ use Rattle.rounding.proofs.Arithmetic.{mul-rounds}
 use Rattle.float32.specs.Operators.{_⊗_, one}
 use Rattle.float_bits.specs.Decode.{integerDecode}
 use Rattle.float_bits.proofs.Decode.{magnitude-lt, decode-exact, decode-value, significand-lt}
-use Rattle.trig_laws.specs.Range.{Angle, fullTurnFloat}
-use Rattle.trig_laws.proofs.Monotone.{numNeg-none, angle-finite}
-use Rattle.interval.specs.declared.Interval.{Interval}
-use Rattle.interval.specs.Contains.{Contains, Subset}
-use Rattle.interval.specs.Interval.{Interval·point}
-use Rattle.interval.specs.Enclosure.{Interval·mulEnclosure}
-use Rattle.interval.specs.Extension.{Angles}
-use Rattle.interval.proofs.Contains.{subset-low, subset-high}
-use Rattle.interval.proofs.Isotone.{of-four-subset}
+use Rattle.trig_laws.proofs.Monotone.{numNeg-none}
+use Rattle.interval.specs.Contains.{Contains}
 use Rattle.unit_interval.specs.Unit.{unitInterval}
 use Rattle.unit_interval.proofs.DtUnit.{+0, zero-finite, zero-rounds}
 
@@ -79,15 +72,3 @@ module _ (x t : Float) (f : T (finite x)) (h : T (fits binary32 x)) (z : +0 ≼ 
 
       below : (p n d q m e : ℕ) → n ≡ 0 → m ≡ 0 → q ≤ e → FractionLe (p * q + n * m) (p * m + n * q) (d * e) p 0 d
       below p n d q m e a b h = rw (a, b) (omega (arith, mul-le-mul-right (p * d) h))
-
--- An angle times a part of the unit interval.
-pub scaled-angles : (θ : Float) (X : Interval) → T (fits binary32 θ) → Angle θ → Subset X unitInterval → Angles (Interval·mulEnclosure (Interval·point θ) X)
-unfolding Interval·mulEnclosure
-scaled-angles θ X h a s =
-    let f = angle-finite a in
-    let z = a .from-zero in
-    let l = mul-unit θ (X .low) f h z (subset-low s) in
-    let r = mul-unit θ (X .high) f h z (subset-high s) in
-    let p = Interval·mulEnclosure (Interval·point θ) X in
-    let c = of-four-subset l l r r in
-    and-i (le (ofBits binary32 0) (p .low)) (le (p .high) fullTurnFloat) (c .low .holds) (≼-trans (c .high) (a .to-full-turn) .holds)

@@ -1,23 +1,22 @@
 -- The slices of the unit interval. They rise (`sliceEnd-mono`), from 0 (`sliceEnd-first`) to 1 (`sliceEnd-last`), each within the unit interval (`slice-unit`); one that
--- is cut finer lies in the one it was cut from (`slice-finer`), two and two (`slice-half`); every float from 0 to 1 lies in one (`slice-covers`). Ends are
--- exact (`sliceEnd-exact`), so that the next one is a sum (`sliceEnd-next`). All rests on monotone rounding.
+-- is cut finer lies in the one it was cut from (`slice-finer`); every float from 0 to 1 lies in one (`slice-covers`). Ends are
+-- exact (`sliceEnd-exact`). All rests on monotone rounding.
 use mathlib.Core.Path.{_≡_, refl, sym, ap, _∙_, subst}
 use mathlib.Core.Logic.{inl, inr}
-use mathlib.Core.Bool.{true, false, true≢false}
+use mathlib.Core.Bool.{false}
 use Prim.Native.Nat.{ℕ, zero, suc, _+_, _-_, _*_, _/_, _^_, _≤_, _<_}
-use native.Mathlib.Nat.{le-refl, le-step, le-of-eq, lt-irrefl, le-trans, le-of-lt, lt-of-le-of-lt, mul-pos, mul-assoc, mul-le-mul-left, mul-le-mul-right, div-mul-le-self, lt-div-mul-add, div-lt-iff-lt-mul, zero-lt-suc}
+use native.Mathlib.Nat.{le-refl, le-step, le-of-eq, lt-irrefl, le-trans, lt-of-le-of-lt, mul-assoc, mul-le-mul-left, mul-le-mul-right, div-mul-le-self, lt-div-mul-add, div-lt-iff-lt-mul, zero-lt-suc}
 use native.Mathlib.Numerals.{add-one}
 use native.Mathlib.Omega.{arith}
 use lib.Dec.{lit<}
 use lib.Pow.{pow-pos, pow-add, pow-mono}
-use lib.Ieee.{Float, nan, inf, fin, binary32, up, down, round, ofBits, sum, add}
-use lib.Ieee.Fits.{down-pos}
+use lib.Ieee.{Float, binary32, round, ofBits}
 use lib.Ieee.Exact.{HasValue, round-exact}
 use lib.Ieee.Scale.{round-same}
 use Rattle.rounding.specs.Order.{_≼_}
 use Rattle.rounding.proofs.Order.{≼-total, number-left}
 use Rattle.rounding.proofs.Monotone.{round-mono}
-use Rattle.float32.specs.Operators.{_⊕_, one}
+use Rattle.float32.specs.Operators.{one}
 use Rattle.interval.specs.Contains.{Contains, Subset}
 use Rattle.unit_interval.specs.Unit.{unitInterval, sliceEnd, slice}
 
@@ -76,10 +75,6 @@ slice-finer d n k =
 pub finer-lt : (d n k : ℕ) → k < 2 ^ (d + n) → k / 2 ^ n < 2 ^ d
 finer-lt d n k h = div-lt-iff-lt-mul (pow-pos n) .1 (subst (λ (m : ℕ). k < m) (pow-add 2 d n) h)
 
--- The two slices that one is cut into.
-pub slice-half : (d k : ℕ) → Subset (slice (d + 1) k) (slice d (k / 2))
-slice-half d k = slice-finer d 1 k
-
 -- ---- every float from 0 to 1 lies in a slice
 pub record InSlice (d : ℕ) (x : Float) : Type 0 where
   pub index : ℕ
@@ -104,22 +99,3 @@ slice-covers d {x} i = go (2 ^ d) refl
     go (suc n) e =
         among d n (le-of-eq (sym e)) (subst (λ (z : Float). z ≼ x) (sym (sliceEnd-first d)) (i .low))
         (subst (λ (z : Float). x ≼ z) (sym (sliceEnd-last d) ∙ ap (sliceEnd d) e) (i .high))
-
--- ---- the next end is a sum
-add-at : (x y : Float) (a b c : ℕ) → 0 < c → HasValue x false a c → HasValue y false b c → x ⊕ y ≡ round binary32 false (a + b) c
-unfolding add sum
-add-at nan y a b c C p q = absurd p
-add-at (inf s) y a b c C p q = absurd p
-add-at (fin s m e) nan a b c C p q = absurd q
-add-at (fin s m e) (inf t) a b c C p q = absurd q
-add-at (fin true m e) (fin t n d) a b c C p q = absurd (true≢false (p .0))
-add-at (fin false m e) (fin true n d) a b c C p q = absurd (true≢false (q .0))
-add-at (fin false m e) (fin false n d) a b c C p q =
-    round-same binary32 false (m * up e * down d + n * up d * down e) (down e * down d) (a + b) c (mul-pos (down-pos e) (down-pos d)) C
-    (shared (m * up e) (down e) (n * up d) (down d) a b c (p .1) (q .1))
-  where
-    shared : (x d y e a b c : ℕ) → x * c ≡ a * d → y * c ≡ b * e → (x * e + y * d) * c ≡ (a + b) * (d * e)
-    shared x d y e a b c p q = let p' = ap (λ (z : ℕ). z * e) p in let q' = ap (λ (z : ℕ). z * d) q in omega arith
-
-pub sliceEnd-next : (d k : ℕ) → d ≤ 12 → k < 2 ^ d → sliceEnd d k ⊕ sliceEnd d 1 ≡ sliceEnd d (k + 1)
-sliceEnd-next d k h l = add-at (sliceEnd d k) (sliceEnd d 1) k 1 (2 ^ d) (pow-pos d) (sliceEnd-exact d k h (le-of-lt l)) (sliceEnd-exact d 1 h (pow-pos d)) ∙ unfold sliceEnd in refl
