@@ -9,6 +9,8 @@ use lib.Dec.{T, eqb}
 use lib.Ieee.{Float, nan, inf, fin, binary32, fits, ofBits, neg, lt}
 use lib.Ieee.Fits.{and-l, and-r}
 use lib.Ieee.Scale.{finite}
+use Rattle.refusal.proofs.First.{first-zero}
+use Rattle.refusal.specs.First.{firstRefusal}
 use Rattle.float32.specs.Operators.{_⊖_}
 use Rattle.vector3.specs.declared.Vector3f.{Vector3f}
 use Rattle.matrix4x4.specs.declared.Matrix4x4.{Matrix4x4}
@@ -38,18 +40,11 @@ use Rattle.rotation_arc.specs.declared.CoefficientsAnswer.{CoefficientsAnswer}
 use Rattle.pose_pair.specs.Pose.{Pose·isFinite, Pose·isBinary32, Pose·isAffine, Pose·isPadded, timesRefusal, posesRefusal, Pose·kindNumber}
 use Rattle.rotation_arc.specs.ShorterArc.{flip, dotsRefusal}
 use Rattle.rotation_arc.specs.ArcCoefficients.{CoefficientsAnswer·judged, rotationCoefficients, pairCoefficients}
-use Rattle.animated_transform.specs.New.{AnimatedTransformAnswer·refused, firstRefusal, assembled, between, work, buildRefusal, AnimatedTransform·new}
+use Rattle.animated_transform.specs.New.{AnimatedTransformAnswer·refused, AnimatedTransform·ofFields, AnimatedTransform·fromParts, AnimatedTransform·fromPoses, buildRefusal, AnimatedTransform·new}
 use Rattle.animated_transform.specs.Built.{Built, StoredPose, Pad·Judged, AnimatedTransform·Judged}
 use Rattle.rotation_arc.proofs.DotProduct.{dot-after-flip}
 
 -- ---- a number that was not met
-first-none : (m n : ℕ) → firstRefusal m n ≡ 0 → (m ≡ 0) × (n ≡ 0)
-first-none m n = go (eqb m 0) refl
-  where
-    go : (b : Bool) → eqb m 0 ≡ b → cond b n m ≡ 0 → (m ≡ 0) × (n ≡ 0)
-    go true e h = (eqb-true m 0 e, h)
-    go false e h = absurd (eqb-false m 0 e h)
-
 not-refused : (n : ℕ) (a : AnimatedTransformAnswer) (m : AnimatedTransform)
     → cond (eqb n 0) a (AnimatedTransformAnswer·refused n) ≡ record { value = m; refusal = 0 } → (n ≡ 0) × (a ≡ record { value = m; refusal = 0 })
 not-refused n a m = go (eqb n 0) refl
@@ -183,17 +178,18 @@ coefficients-passed false t0 t1 r0 r1 s0 s1 c h = tt
 -- ---- the move
 module _ (rigid : Bool) (start end : Pose) (poses : PosesPassed start end) (a b : Transform) (sa : Stored start a) (sb : Stored end b)
     (p q : Decomposition) (dp : Accepted (Matrix4x4·toRows (start .m)) p) (dq : Accepted (Matrix4x4·toRows (end .m)) q) where
-  between-judged : (m : AnimatedTransform) → between rigid start end a b p q ≡ record { value = m; refusal = 0 } → AnimatedTransform·Judged m
-  unfolding between
-  between-judged m h =
+  from-parts-judged : (m : AnimatedTransform)
+      → AnimatedTransform·fromParts rigid start end a b p q ≡ record { value = m; refusal = 0 } → AnimatedTransform·Judged m
+  unfolding AnimatedTransform·fromParts
+  from-parts-judged m h =
       let r1 = flip (p .r) (q .r) in
       let cosθ = Quaternion·dot (p .r) r1 in
       let hasRotation = lt cosθ slerpThreshold in
       let c = pairCoefficients hasRotation (p .t) (q .t) (p .r) r1 (p .s) (q .s) cosθ in
       let d = dotsRefusal (Quaternion·dot (p .r) (q .r)) cosθ in
-      let answer : AnimatedTransformAnswer = record { value = assembled rigid start end a b p q r1 (c .value); refusal = 0 } in
+      let answer : AnimatedTransformAnswer = record { value = AnimatedTransform·ofFields rigid start end a b p q r1 (c .value); refusal = 0 } in
       let g = not-refused (firstRefusal d (c .refusal)) answer m h in
-      let n = first-none d (c .refusal) (g .0) in
+      let n = first-zero d (c .refusal) (g .0) in
       let dots = dots-passed (Quaternion·dot (p .r) (q .r)) cosθ (n .0) in
       subst (λ (x : AnimatedTransformAnswer). AnimatedTransform·Judged (x .value)) (g .1)
       (record {
@@ -220,9 +216,9 @@ module _ (rigid : Bool) (start end : Pose) (poses : PosesPassed start end) (a b 
         pad1 = poses .end-pose .pad;
       })
 
-work-judged : (rigid : Bool) (start end : Pose) → PosesPassed start end → (m : AnimatedTransform) → work rigid start end ≡ record { value = m; refusal = 0 } → AnimatedTransform·Judged m
-unfolding work
-work-judged rigid start end poses m h =
+from-poses-judged : (rigid : Bool) (start end : Pose) → PosesPassed start end → (m : AnimatedTransform) → AnimatedTransform·fromPoses rigid start end ≡ record { value = m; refusal = 0 } → AnimatedTransform·Judged m
+unfolding AnimatedTransform·fromPoses
+from-poses-judged rigid start end poses m h =
     let m0 = Matrix4x4·toRows (start .m) in
     let m1 = Matrix4x4·toRows (end .m) in
     let a = Transform·fromMatrix m0 in
@@ -231,20 +227,20 @@ work-judged rigid start end poses m h =
     let q = Matrix4x4·decompose rigid m1 in
     let inverses = firstRefusal (a .refusal) (b .refusal) in
     let parts = firstRefusal (p .refusal) (q .refusal) in
-    let g = not-refused (firstRefusal inverses parts) (between rigid start end (a .transform) (b .transform) p q) m h in
-    let n = first-none inverses parts (g .0) in
-    let i = first-none (a .refusal) (b .refusal) (n .0) in
-    let d = first-none (p .refusal) (q .refusal) (n .1) in
-    between-judged rigid start end poses (a .transform) (b .transform) (stored start (poses .start-pose) (i .0)) (stored end (poses .end-pose) (i .1))
+    let g = not-refused (firstRefusal inverses parts) (AnimatedTransform·fromParts rigid start end (a .transform) (b .transform) p q) m h in
+    let n = first-zero inverses parts (g .0) in
+    let i = first-zero (a .refusal) (b .refusal) (n .0) in
+    let d = first-zero (p .refusal) (q .refusal) (n .1) in
+    from-parts-judged rigid start end poses (a .transform) (b .transform) (stored start (poses .start-pose) (i .0)) (stored end (poses .end-pose) (i .1))
     p q (decompose-accepted rigid m0 (d .0)) (decompose-accepted rigid m1 (d .1)) m (g .1)
 
 pub built-judged : {m : AnimatedTransform} → Built m → AnimatedTransform·Judged m
 unfolding AnimatedTransform·new
 built-judged {m} b =
     let k = firstRefusal (Pose·kindNumber (b .rigid) (b .start)) (Pose·kindNumber (b .rigid) (b .end)) in
-    let g = not-refused (buildRefusal (b .rigid) (b .start) (b .end)) (work (b .rigid) (b .start) (b .end)) m (b .accepted) in
-    let n = first-none (posesRefusal (b .start) (b .end)) k (g .0) in
-    work-judged (b .rigid) (b .start) (b .end) (poses-passed (b .start) (b .end) (b .start-binary32) (b .end-binary32) (n .0)) m (g .1)
+    let g = not-refused (buildRefusal (b .rigid) (b .start) (b .end)) (AnimatedTransform·fromPoses (b .rigid) (b .start) (b .end)) m (b .accepted) in
+    let n = first-zero (posesRefusal (b .start) (b .end)) k (g .0) in
+    from-poses-judged (b .rigid) (b .start) (b .end) (poses-passed (b .start) (b .end) (b .start-binary32) (b .end-binary32) (n .0)) m (g .1)
 
 -- Both clauses of building's contract, from the first: what isn't refused is a built move, since f32 times and pads are binary32.
 pub new-clauses : {r : AnimatedTransformAnswer} (rigid : Bool) (start end : Pose)

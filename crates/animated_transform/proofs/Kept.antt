@@ -5,6 +5,7 @@ use mathlib.Core.Bool.{Bool, true, false, cond}
 use borrow.Author.Tests.{eqb-false}
 use lib.Dec.{eqb}
 use lib.Ieee.{lt}
+use Rattle.refusal.specs.First.{firstRefusal}
 use Rattle.matrix4x4.specs.Rows.{Matrix4x4·toRows}
 use Rattle.transform.specs.declared.Transform.{Transform}
 use Rattle.transform.specs.Transform.{Transform·fromMatrix}
@@ -17,7 +18,7 @@ use Rattle.rotation_arc.specs.ArcCoefficients.{pairCoefficients}
 use Rattle.pose_pair.specs.declared.Pose.{Pose}
 use Rattle.animated_transform.specs.declared.AnimatedTransform.{AnimatedTransform}
 use Rattle.animated_transform.specs.declared.AnimatedTransformAnswer.{AnimatedTransformAnswer}
-use Rattle.animated_transform.specs.New.{firstRefusal, AnimatedTransformAnswer·refused, assembled, between, work, buildRefusal, AnimatedTransform·new}
+use Rattle.animated_transform.specs.New.{AnimatedTransformAnswer·refused, AnimatedTransform·ofFields, AnimatedTransform·fromParts, AnimatedTransform·fromPoses, buildRefusal, AnimatedTransform·new}
 use Rattle.animated_transform.specs.Built.{Built}
 
 pub record Kept (rigid : Bool) (start end : Pose) (m : AnimatedTransform) : Type 0 where
@@ -38,29 +39,32 @@ tested-kept rigid start end n a h = go (eqb n 0) (eqb-false n 0)
     go true f e = h e
     go false f e = absurd (f refl e)
 
-between-kept : (rigid : Bool) (start end : Pose) (a b : Transform) (p q : Decomposition) → AnswerKept rigid start end (between rigid start end a b p q)
-unfolding between
-between-kept rigid start end a b p q =
+from-parts-kept : (rigid : Bool) (start end : Pose) (a b : Transform) (p q : Decomposition)
+    → AnswerKept rigid start end (AnimatedTransform·fromParts rigid start end a b p q)
+unfolding AnimatedTransform·fromParts
+from-parts-kept rigid start end a b p q =
     let r1 = flip (p .r) (q .r) in
     let cosθ = Quaternion·dot (p .r) r1 in
     let c = pairCoefficients (lt cosθ slerpThreshold) (p .t) (q .t) (p .r) r1 (p .s) (q .s) cosθ in
     let n = firstRefusal (dotsRefusal (Quaternion·dot (p .r) (q .r)) cosθ) (c .refusal) in
-    tested-kept rigid start end n (record { value = assembled rigid start end a b p q r1 (c .value); refusal = 0 })
+    tested-kept rigid start end n (record { value = AnimatedTransform·ofFields rigid start end a b p q r1 (c .value); refusal = 0 })
     (λ _. record { start-time = refl; end-time = refl; start-pad = refl; end-pad = refl; kind = refl })
 
-work-kept : (rigid : Bool) (start end : Pose) → AnswerKept rigid start end (work rigid start end)
-unfolding work
-work-kept rigid start end =
+from-poses-kept : (rigid : Bool) (start end : Pose) → AnswerKept rigid start end (AnimatedTransform·fromPoses rigid start end)
+unfolding AnimatedTransform·fromPoses
+from-poses-kept rigid start end =
     let a = Transform·fromMatrix (Matrix4x4·toRows (start .m)) in
     let b = Transform·fromMatrix (Matrix4x4·toRows (end .m)) in
     let p = Matrix4x4·decompose rigid (Matrix4x4·toRows (start .m)) in
     let q = Matrix4x4·decompose rigid (Matrix4x4·toRows (end .m)) in
     let n = firstRefusal (firstRefusal (a .refusal) (b .refusal)) (firstRefusal (p .refusal) (q .refusal)) in
-    tested-kept rigid start end n (between rigid start end (a .transform) (b .transform) p q) (between-kept rigid start end (a .transform) (b .transform) p q)
+    tested-kept rigid start end n (AnimatedTransform·fromParts rigid start end (a .transform) (b .transform) p q)
+    (from-parts-kept rigid start end (a .transform) (b .transform) p q)
 
 pub new-kept : (rigid : Bool) (start end : Pose) → AnimatedTransform·new rigid start end .refusal ≡ 0 → Kept rigid start end (AnimatedTransform·new rigid start end .value)
 unfolding AnimatedTransform·new
-new-kept rigid start end = tested-kept rigid start end (buildRefusal rigid start end) (work rigid start end) (work-kept rigid start end)
+new-kept rigid start end =
+    tested-kept rigid start end (buildRefusal rigid start end) (AnimatedTransform·fromPoses rigid start end) (from-poses-kept rigid start end)
 
 pub built-kept : {m : AnimatedTransform} (b : Built m) → Kept (b .rigid) (b .start) (b .end) m
 built-kept b = subst (AnswerKept (b .rigid) (b .start) (b .end)) (b .accepted) (new-kept (b .rigid) (b .start) (b .end)) refl

@@ -9,6 +9,8 @@ use native.Mathlib.Omega.{arith}
 use lib.Dec.{T, eqb}
 use lib.Ieee.{Float, lt}
 use lib.Ieee.Scale.{finite}
+use Rattle.refusal.proofs.First.{first-keeps}
+use Rattle.refusal.specs.First.{firstRefusal}
 use Rattle.float32.specs.Operators.{_⊖_}
 use Rattle.vector3.specs.declared.Vector3f.{Vector3f}
 use Rattle.quaternion.specs.declared.Quaternion.{Quaternion}
@@ -34,7 +36,7 @@ use Rattle.rotation_arc.specs.declared.CoefficientsAnswer.{CoefficientsAnswer}
 use Rattle.pose_pair.specs.Pose.{Pose·isFinite, Pose·isAffine, Pose·isPadded, timesRefusal, posesRefusal, Pose·kindNumber}
 use Rattle.rotation_arc.specs.ShorterArc.{flip, dotsRefusal}
 use Rattle.rotation_arc.specs.ArcCoefficients.{CoefficientsAnswer·judged, rotationCoefficients, pairCoefficients}
-use Rattle.animated_transform.specs.New.{AnimatedTransformAnswer·refused, firstRefusal, assembled, between, work, buildRefusal, AnimatedTransform·new}
+use Rattle.animated_transform.specs.New.{AnimatedTransformAnswer·refused, AnimatedTransform·ofFields, AnimatedTransform·fromParts, AnimatedTransform·fromPoses, buildRefusal, AnimatedTransform·new}
 use Rattle.animated_transform.specs.Numbers.{buildNumbers}
 
 -- ---- the numbers
@@ -117,7 +119,7 @@ coefficients-number true t0 t1 r0 r1 s0 s1 c = judged-number _ _
 coefficients-number false t0 t1 r0 r1 s0 s1 c = inl refl
 
 first-number : (m n : ℕ) → Worked m → Worked n → Worked (firstRefusal m n)
-first-number m n p q = chosen Worked (eqb m 0) n m q p
+first-number m n p q = first-keeps Worked m n p q
 
 -- ---- the answers
 -- An answer has a number of P's, and is the refused answer with that number unless it is 0.
@@ -133,21 +135,22 @@ after P n a h k = go (eqb n 0)
     go true = k
     go false = record { number = h; zero = λ _. refl }
 
-between-answered : (rigid : Bool) (start end : Pose) (a b : Transform) (p q : Decomposition) → Answered Worked (between rigid start end a b p q)
-unfolding between
-between-answered rigid start end a b p q =
+from-parts-answered : (rigid : Bool) (start end : Pose) (a b : Transform) (p q : Decomposition)
+    → Answered Worked (AnimatedTransform·fromParts rigid start end a b p q)
+unfolding AnimatedTransform·fromParts
+from-parts-answered rigid start end a b p q =
     let r1 = flip (p .r) (q .r) in
     let cosθ = Quaternion·dot (p .r) r1 in
     let hasRotation = lt cosθ slerpThreshold in
     let c = pairCoefficients hasRotation (p .t) (q .t) (p .r) r1 (p .s) (q .s) cosθ in
     let d = dotsRefusal (Quaternion·dot (p .r) (q .r)) cosθ in
-    after Worked (firstRefusal d (c .refusal)) (record { value = assembled rigid start end a b p q r1 (c .value); refusal = 0 })
+    after Worked (firstRefusal d (c .refusal)) (record { value = AnimatedTransform·ofFields rigid start end a b p q r1 (c .value); refusal = 0 })
     (first-number d (c .refusal) (dots-number (Quaternion·dot (p .r) (q .r)) cosθ) (coefficients-number hasRotation (p .t) (q .t) (p .r) r1 (p .s) (q .s) cosθ))
     (record { number = inl refl; zero = λ z. absurd (z refl) })
 
-work-answered : (rigid : Bool) (start end : Pose) → Answered Worked (work rigid start end)
-unfolding work
-work-answered rigid start end =
+from-poses-answered : (rigid : Bool) (start end : Pose) → Answered Worked (AnimatedTransform·fromPoses rigid start end)
+unfolding AnimatedTransform·fromPoses
+from-poses-answered rigid start end =
     let m0 = Matrix4x4·toRows (start .m) in
     let m1 = Matrix4x4·toRows (end .m) in
     let a = Transform·fromMatrix m0 in
@@ -156,18 +159,19 @@ work-answered rigid start end =
     let q = Matrix4x4·decompose rigid m1 in
     let inverses = firstRefusal (a .refusal) (b .refusal) in
     let parts = firstRefusal (p .refusal) (q .refusal) in
-    after Worked (firstRefusal inverses parts) (between rigid start end (a .transform) (b .transform) p q)
+    after Worked (firstRefusal inverses parts) (AnimatedTransform·fromParts rigid start end (a .transform) (b .transform) p q)
     (first-number inverses parts
     (first-number (a .refusal) (b .refusal) (from-matrix-numbers m0) (from-matrix-numbers m1))
     (first-number (p .refusal) (q .refusal) (decompose-refusal rigid m0) (decompose-refusal rigid m1)))
-    (between-answered rigid start end (a .transform) (b .transform) p q)
+    (from-parts-answered rigid start end (a .transform) (b .transform) p q)
 
 new-answered : (P : ℕ → Type 0) (rigid : Bool) (start end : Pose) → P (buildRefusal rigid start end) → ((n : ℕ) → Worked n → P n)
     → Answered P (AnimatedTransform·new rigid start end)
 unfolding AnimatedTransform·new
 new-answered P rigid start end h k =
-    let w = work-answered rigid start end in
-    after P (buildRefusal rigid start end) (work rigid start end) h (record { number = k (work rigid start end .refusal) (w .number); zero = w .zero })
+    let w = from-poses-answered rigid start end in
+    after P (buildRefusal rigid start end) (AnimatedTransform·fromPoses rigid start end) h
+    (record { number = k (AnimatedTransform·fromPoses rigid start end .refusal) (w .number); zero = w .zero })
 
 new-numbered : (rigid : Bool) (start end : Pose) → Answered (Numbered rigid) (AnimatedTransform·new rigid start end)
 new-numbered rigid start end =

@@ -4,12 +4,13 @@ use Prim.Native.Nat.{ℕ}
 use mathlib.Core.Bool.{Bool, true, false, not, cond}
 use lib.Dec.{eqb}
 use lib.Ieee.{lt}
+use Rattle.refusal.specs.First.{firstRefusal}
 use Rattle.vector3.specs.declared.Vector3f.{Vector3f}
 use Rattle.quaternion.specs.declared.Quaternion.{Quaternion}
 use Rattle.quaternion.specs.Quaternion.{Quaternion·dot}
 use Rattle.quaternion.specs.Slerp.{slerpThreshold}
 use Rattle.matrix4x4.specs.declared.Matrix4x4.{Matrix4x4}
-use Rattle.matrix4x4.specs.Rows.{tabulate, positiveZero, Matrix4x4·toRows, Matrix4x4·fromRows}
+use Rattle.matrix4x4.specs.Rows.{positiveZero, Matrix4x4·toRows, Matrix4x4·zero}
 use Rattle.transform.specs.declared.Transform.{Transform}
 use Rattle.transform.specs.Transform.{Transform·fromMatrix, Transform·eq}
 use Rattle.decomposition.specs.declared.Decomposition.{Decomposition}
@@ -27,7 +28,7 @@ abbrev pub AnimatedTransform·zero : AnimatedTransform
 AnimatedTransform·zero =
     let t : Vector3f = record { x = positiveZero; y = positiveZero; z = positiveZero } in
     let r : Quaternion = record { v = t; w = positiveZero } in
-    let m : Matrix4x4 = Matrix4x4·fromRows (tabulate (λ i. tabulate (λ j. positiveZero))) in
+    let m : Matrix4x4 = Matrix4x4·zero in
     let transform : Transform = record { m = m; «m_inv» = m } in
     record {
       «start_transform» = transform;
@@ -51,13 +52,10 @@ AnimatedTransform·zero =
 abbrev pub AnimatedTransformAnswer·refused : ℕ → AnimatedTransformAnswer
 AnimatedTransformAnswer·refused n = record { value = AnimatedTransform·zero; refusal = n }
 
--- The first of two refusals, 0 being none.
-abbrev pub firstRefusal : ℕ → ℕ → ℕ
-firstRefusal a b = cond (eqb a 0) b a
-
--- A move from transforms a and b, parts p and q, the end's quaternion after the flip, and coefficients; its pads are the poses' own.
-abbrev pub assembled : Bool → Pose → Pose → Transform → Transform → Decomposition → Decomposition → Quaternion → Coefficients → AnimatedTransform
-assembled rigid start end a b p q r1 c =
+-- The fields of a move: transforms a and b, parts p and q, the end's quaternion after the flip, and coefficients; its pads are the poses' own.
+abbrev pub AnimatedTransform·ofFields : Bool → Pose → Pose → Transform → Transform → Decomposition → Decomposition → Quaternion → Coefficients
+    → AnimatedTransform
+AnimatedTransform·ofFields rigid start end a b p q r1 c =
     record {
       «start_transform» = a;
       «end_transform» = b;
@@ -77,24 +75,24 @@ assembled rigid start end a b p q r1 c =
       rigid = rigid;
     }
 
--- work per pair
-unfoldable pub between : Bool → Pose → Pose → Transform → Transform → Decomposition → Decomposition → AnimatedTransformAnswer
-between rigid start end a b p q =
+-- what is computed per pair: the dot products, then the coefficients
+unfoldable pub AnimatedTransform·fromParts : Bool → Pose → Pose → Transform → Transform → Decomposition → Decomposition → AnimatedTransformAnswer
+AnimatedTransform·fromParts rigid start end a b p q =
     let r1 = flip (p .r) (q .r) in
     let cosθ = Quaternion·dot (p .r) r1 in
     let c = pairCoefficients (lt cosθ slerpThreshold) (p .t) (q .t) (p .r) r1 (p .s) (q .s) cosθ in
     let n = firstRefusal (dotsRefusal (Quaternion·dot (p .r) (q .r)) cosθ) (c .refusal) in
-    cond (eqb n 0) (record { value = assembled rigid start end a b p q r1 (c .value); refusal = 0 }) (AnimatedTransformAnswer·refused n)
+    cond (eqb n 0) (record { value = AnimatedTransform·ofFields rigid start end a b p q r1 (c .value); refusal = 0 }) (AnimatedTransformAnswer·refused n)
 
--- work per pose: "Building works: both inverses, start parts, end parts, coefficients" (document 01, Refusals)
-unfoldable pub work : Bool → Pose → Pose → AnimatedTransformAnswer
-work rigid start end =
+-- what is computed per pose: "Building works: both inverses, start parts, end parts, coefficients" (document 01, Refusals)
+unfoldable pub AnimatedTransform·fromPoses : Bool → Pose → Pose → AnimatedTransformAnswer
+AnimatedTransform·fromPoses rigid start end =
     let a = Transform·fromMatrix (Matrix4x4·toRows (start .m)) in
     let b = Transform·fromMatrix (Matrix4x4·toRows (end .m)) in
     let p = Matrix4x4·decompose rigid (Matrix4x4·toRows (start .m)) in
     let q = Matrix4x4·decompose rigid (Matrix4x4·toRows (end .m)) in
     let n = firstRefusal (firstRefusal (a .refusal) (b .refusal)) (firstRefusal (p .refusal) (q .refusal)) in
-    cond (eqb n 0) (between rigid start end (a .transform) (b .transform) p q) (AnimatedTransformAnswer·refused n)
+    cond (eqb n 0) (AnimatedTransform·fromParts rigid start end (a .transform) (b .transform) p q) (AnimatedTransformAnswer·refused n)
 
 -- document 02, "Rigid booms": 17 and 18 are "both judged pose by pose after 3"
 abbrev pub buildRefusal : Bool → Pose → Pose → ℕ
@@ -104,4 +102,4 @@ buildRefusal rigid start end = firstRefusal (posesRefusal start end) (firstRefus
 unfoldable pub AnimatedTransform·new : Bool → Pose → Pose → AnimatedTransformAnswer
 AnimatedTransform·new rigid start end =
     let n = buildRefusal rigid start end in
-    cond (eqb n 0) (work rigid start end) (AnimatedTransformAnswer·refused n)
+    cond (eqb n 0) (AnimatedTransform·fromPoses rigid start end) (AnimatedTransformAnswer·refused n)

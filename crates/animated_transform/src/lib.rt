@@ -4,11 +4,13 @@ use decomposition::Decomposition;
 use matrix4x4::Matrix4x4;
 use pose_pair::Pose;
 use quaternion::Quaternion;
+use quaternion::SLERP_THRESHOLD;
+use refusal::first_refusal;
 use transform::Transform;
 use vector3::Vector3f;
 ghost use mathlib.Core.Path.{_≡_};
 ghost use Rattle.animated_transform.specs.Built.{Built};
-ghost use Rattle.animated_transform.specs.New.{firstRefusal, AnimatedTransformAnswer·refused, between, work, AnimatedTransform·new};
+ghost use Rattle.animated_transform.specs.New.{AnimatedTransformAnswer·refused, AnimatedTransform·fromParts, AnimatedTransform·fromPoses, AnimatedTransform·new};
 
 // 0 stands for the start and 1 for the end, so that pbrt's t[0] is t0; the coefficients are pbrt's c1 to c5. The pads are the poses' own, and a rigid
 // move neither stretches nor shears: pbrt knows neither.
@@ -75,15 +77,8 @@ fn refused(refusal: u8) -> AnimatedTransformAnswer
     AnimatedTransformAnswer { value, refusal }
 }
 
-// The first of two refusals: 0 is none.
-fn first_refusal(a: u8, b: u8) -> u8
-    ensures value { λ r. ⌜ r ≡ firstRefusal a b ⌝ }
-{
-    if a == 0 { b } else { a }
-}
-
 // The move between two poses, from their transforms a and b and their parts p and q.
-fn between(
+fn from_parts(
     rigid: bool,
     start: Pose,
     end: Pose,
@@ -92,7 +87,7 @@ fn between(
     p: Decomposition,
     q: Decomposition,
 ) -> AnimatedTransformAnswer
-    ensures value { λ r. ⌜ r ≡ between rigid start end a b p q ⌝ }
+    ensures value { λ r. ⌜ r ≡ AnimatedTransform·fromParts rigid start end a b p q ⌝ }
 {
     let t0 = p.t;
     let t1 = q.t;
@@ -102,7 +97,7 @@ fn between(
     let s1 = q.s;
     let cos_theta = r0.dot(r1);
     // slerp is linear above 0.9995 and has_rotation asks for less: at 0.9995 itself neither holds.
-    let has_rotation = cos_theta < 0.9995;
+    let has_rotation = cos_theta < SLERP_THRESHOLD;
     let c = rotation_arc::pair_coefficients(has_rotation, t0, t1, r0, r1, s0, s1, cos_theta);
     let dots = rotation_arc::dots_refusal(r0.dot(q.r), cos_theta);
     let n = first_refusal(dots, c.refusal);
@@ -132,8 +127,8 @@ fn between(
 }
 
 // The move of two poses that are finite, affine and in order: both inverses are met before the parts.
-fn work(rigid: bool, start: Pose, end: Pose) -> AnimatedTransformAnswer
-    ensures value { λ r. ⌜ r ≡ work rigid start end ⌝ }
+fn from_poses(rigid: bool, start: Pose, end: Pose) -> AnimatedTransformAnswer
+    ensures value { λ r. ⌜ r ≡ AnimatedTransform·fromPoses rigid start end ⌝ }
 {
     let m0 = start.m.to_rows();
     let m1 = end.m.to_rows();
@@ -147,7 +142,7 @@ fn work(rigid: bool, start: Pose, end: Pose) -> AnimatedTransformAnswer
     if n != 0 {
         return refused(n);
     }
-    between(rigid, start, end, a.transform, b.transform, p, q)
+    from_parts(rigid, start, end, a.transform, b.transform, p, q)
 }
 
 impl AnimatedTransform {
@@ -164,6 +159,6 @@ impl AnimatedTransform {
         if n != 0 {
             return refused(n);
         }
-        work(rigid, start, end)
+        from_poses(rigid, start, end)
     }
 }

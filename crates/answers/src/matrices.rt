@@ -6,6 +6,7 @@ use quaternion::Quaternion;
 use transform::Transform;
 use vector3::Vector3f;
 
+// The answer to a question about matrices, quaternions, points and boxes, by its kind.
 pub fn answer(kind: usize, x: &[f32; 34], rows: &mut [[f32; 4]; 9]) -> u8 {
     match kind {
         11 => {
@@ -67,6 +68,7 @@ fn put_zeros(z: [f32; 8], rows: &mut [[f32; 4]; 9]) {
     rows[1] = [z[4], z[5], z[6], z[7]];
 }
 
+// Puts a box into the first two rows.
 pub fn put_bounds(b: [f32; 6], rows: &mut [[f32; 4]; 9]) {
     rows[0] = [b[0], b[1], b[2], b[3]];
     rows[1] = [b[4], b[5], 0.0, 0.0];
@@ -90,6 +92,7 @@ fn put_matrix(m: [[f32; 4]; 4], i: usize, rows: &mut [[f32; 4]; 9]) -> u8 {
     0
 }
 
+// The four floats from place i on.
 pub fn row_at(x: &[f32; 34], i: usize) -> [f32; 4] {
     if i < 31 {
         return [x[i], x[i + 1], x[i + 2], x[i + 3]];
@@ -97,6 +100,7 @@ pub fn row_at(x: &[f32; 34], i: usize) -> [f32; 4] {
     [0.0; 4]
 }
 
+// The sixteen floats from place i on, row by row.
 pub fn matrix_at(x: &[f32; 34], i: usize) -> [[f32; 4]; 4] {
     if i < 19 {
         return [
@@ -109,6 +113,7 @@ pub fn matrix_at(x: &[f32; 34], i: usize) -> [[f32; 4]; 4] {
     [[0.0; 4]; 4]
 }
 
+// The quaternion in the four floats from place i on.
 pub fn quaternion_at(x: &[f32; 34], i: usize) -> Quaternion {
     let r = row_at(x, i);
     let v = Vector3f {
@@ -119,11 +124,13 @@ pub fn quaternion_at(x: &[f32; 34], i: usize) -> Quaternion {
     Quaternion { v, w: r[3] }
 }
 
+// The point in the three floats from place i on.
 pub fn point_at(x: &[f32; 34], i: usize) -> [f32; 3] {
     let r = row_at(x, i);
     [r[0], r[1], r[2]]
 }
 
+// The box in the six floats from place i on.
 pub fn bounds_at(x: &[f32; 34], i: usize) -> [f32; 6] {
     if i < 29 {
         return [x[i], x[i + 1], x[i + 2], x[i + 3], x[i + 4], x[i + 5]];

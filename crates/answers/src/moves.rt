@@ -65,6 +65,7 @@ pub fn put_parts(motion: &[[f32; 4]; 45], out: &mut [u8; 16384], at: usize) -> u
     put_text(b"\n", out, end)
 }
 
+// The answer to a question about the kept move, by its kind; 255 where none is kept.
 pub fn answer(
     kind: usize,
     n: u64,

@@ -53,6 +53,7 @@ fn kind_of(name: &[u8]) -> usize {
     if of_move < 7 { 20 + of_move } else { 27 }
 }
 
+// The question of a line, its floats put into x.
 pub fn parse(line: &[u8], x: &mut [f32; 34]) -> Question {
     if line.len() > 1200 {
         return malformed();

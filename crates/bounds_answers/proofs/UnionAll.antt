@@ -1,8 +1,8 @@
 -- What holds of every answer holds of their union: `union-all-keeps`, and so `union-all-proper`, `union-all-nonzero`, `union-all-numbered` and `union-all-within`. Every answer of an
--- accepted union lies in it: `union-all-parts`. A refusal stands whatever follows: `union-all-refused`.
+-- accepted union lies in it: `union-all-parts`. A refusal stands whatever follows: `union-all-refused`. Two lists in a row: `union-append`.
 use Prim.Native.Nat.{ℕ}
 use mathlib.Core.Path.{_≡_, refl}
-use mathlib.Core.List.{List, [], _∷_, map}
+use mathlib.Core.List.{List, [], _∷_, _++_, map}
 use Rattle.bounds3.specs.declared.Bounds3f.{Bounds3f}
 use Rattle.transform.specs.declared.BoundsAnswer.{BoundsAnswer}
 use Rattle.transform.specs.declared.BoundsAnswer.the-variants.{Bounds, Refused}
@@ -70,3 +70,8 @@ pub union-all-refused : (n : ℕ) (answers : List BoundsAnswer) → BoundsAnswer
 unfolding BoundsAnswer·unionBounds
 union-all-refused n [] = refl
 union-all-refused n (s ∷ answers) = union-all-refused n answers
+
+-- Over two lists, one behind the other, it is that over the first and then the second.
+pub union-append : (r : BoundsAnswer) (xs ys : List BoundsAnswer) → BoundsAnswer·unionAll r (xs ++ ys) ≡ BoundsAnswer·unionAll (BoundsAnswer·unionAll r xs) ys
+union-append r [] ys = refl
+union-append r (x ∷ xs) ys = union-append (BoundsAnswer·unionBounds r x) xs ys

@@ -6,6 +6,8 @@ use mathlib.Core.List.{List, [], _∷_, map}
 use borrow.Author.Tests.{eqb-true, eqb-false}
 use lib.Dec.{eqb}
 use lib.Ieee.{lt}
+use Rattle.refusal.proofs.First.{first-zero}
+use Rattle.refusal.specs.First.{firstRefusal}
 use Rattle.matrix4x4.specs.declared.Matrix4x4.{Matrix4x4}
 use Rattle.matrix4x4.specs.Rows.{Matrix4x4·toRows}
 use Rattle.transform.specs.declared.Transform.{Transform}
@@ -21,7 +23,7 @@ use Rattle.rotation_arc.specs.ArcCoefficients.{pairCoefficients}
 use Rattle.pose_pair.specs.declared.Pose.{Pose}
 use Rattle.animated_transform.specs.declared.AnimatedTransform.{AnimatedTransform}
 use Rattle.animated_transform.specs.declared.AnimatedTransformAnswer.{AnimatedTransformAnswer}
-use Rattle.animated_transform.specs.New.{firstRefusal, AnimatedTransformAnswer·refused, assembled, between, work, buildRefusal, AnimatedTransform·new}
+use Rattle.animated_transform.specs.New.{AnimatedTransformAnswer·refused, AnimatedTransform·ofFields, AnimatedTransform·fromParts, AnimatedTransform·fromPoses, buildRefusal, AnimatedTransform·new}
 use Rattle.animated_transform.proofs.Kept.{new-kept}
 use Rattle.motion_chain.specs.Chain.{neighbours, firstNumber, Chain, Chain·moves, ChainAnswer, built, refused, ChainAnswer·fromMoves, Chain·new}
 use Rattle.motion_chain.proofs.Built.{first-none, new-built}
@@ -41,48 +43,41 @@ tested-poses {p} {q} n a h = go (eqb n 0) (eqb-true n 0) (eqb-false n 0)
     go true t f = h (t refl)
     go false t f = record { start-pose = λ e. absurd (f refl e); end-pose = λ e. absurd (f refl e) }
 
--- the first of two numbers is 0 where both are
-both-none : (m n : ℕ) → firstRefusal m n ≡ 0 → (m ≡ 0) × (n ≡ 0)
-both-none m n = go (eqb m 0) (eqb-true m 0) (eqb-false m 0)
-  where
-    go : (b : Bool) → (b ≡ true → m ≡ 0) → (b ≡ false → m ≡ 0 → ⊥) → cond b n m ≡ 0 → (m ≡ 0) × (n ≡ 0)
-    go true t f e = (t refl, e)
-    go false t f e = absurd (f refl e)
-
 -- a transform that isn't refused has the matrix that it was made from
 matrix-kept : (m : Matrix4x4) → Transform·fromMatrix (Matrix4x4·toRows m) .refusal ≡ 0 → Transform·fromMatrix (Matrix4x4·toRows m) .transform .m ≡ m
 matrix-kept m e = ap (λ (a : TransformAnswer). a .transform .m) (from-matrix-accepted (Matrix4x4·toRows m) (sym (from-matrix-refusal (Matrix4x4·toRows m)) ∙ e))
 
-between-poses : (rigid : Bool) (p q : Pose) (a b : Transform) (d e : Decomposition) → a .m ≡ p .m → b .m ≡ q .m → NewPoses p q (between rigid p q a b d e)
-unfolding between
-between-poses rigid p q a b d e ea eb =
+from-parts-poses : (rigid : Bool) (p q : Pose) (a b : Transform) (d e : Decomposition) → a .m ≡ p .m → b .m ≡ q .m
+    → NewPoses p q (AnimatedTransform·fromParts rigid p q a b d e)
+unfolding AnimatedTransform·fromParts
+from-parts-poses rigid p q a b d e ea eb =
     let r1 = flip (d .r) (e .r) in
     let cosθ = Quaternion·dot (d .r) r1 in
     let c = pairCoefficients (lt cosθ slerpThreshold) (d .t) (e .t) (d .r) r1 (d .s) (e .s) cosθ in
     tested-poses (firstRefusal (dotsRefusal (Quaternion·dot (d .r) (e .r)) cosθ) (c .refusal))
-    (record { value = assembled rigid p q a b d e r1 (c .value); refusal = 0 })
+    (record { value = AnimatedTransform·ofFields rigid p q a b d e r1 (c .value); refusal = 0 })
     (λ _. record {
       start-pose = λ _. ap (λ (m : Matrix4x4). record { time = p .time; m = m; pad = p .pad }) ea;
       end-pose = λ _. ap (λ (m : Matrix4x4). record { time = q .time; m = m; pad = q .pad }) eb;
     })
 
-work-poses : (rigid : Bool) (p q : Pose) → NewPoses p q (work rigid p q)
-unfolding work
-work-poses rigid p q =
+from-poses-poses : (rigid : Bool) (p q : Pose) → NewPoses p q (AnimatedTransform·fromPoses rigid p q)
+unfolding AnimatedTransform·fromPoses
+from-poses-poses rigid p q =
     let a = Transform·fromMatrix (Matrix4x4·toRows (p .m)) in
     let b = Transform·fromMatrix (Matrix4x4·toRows (q .m)) in
     let d = Matrix4x4·decompose rigid (Matrix4x4·toRows (p .m)) in
     let e = Matrix4x4·decompose rigid (Matrix4x4·toRows (q .m)) in
     let inverses = firstRefusal (a .refusal) (b .refusal) in
     let parts = firstRefusal (d .refusal) (e .refusal) in
-    tested-poses (firstRefusal inverses parts) (between rigid p q (a .transform) (b .transform) d e)
+    tested-poses (firstRefusal inverses parts) (AnimatedTransform·fromParts rigid p q (a .transform) (b .transform) d e)
     (λ n.
-    let (za, zb) = both-none (a .refusal) (b .refusal) (both-none inverses parts n .0) in
-    between-poses rigid p q (a .transform) (b .transform) d e (matrix-kept (p .m) za) (matrix-kept (q .m) zb))
+    let (za, zb) = first-zero (a .refusal) (b .refusal) (first-zero inverses parts n .0) in
+    from-parts-poses rigid p q (a .transform) (b .transform) d e (matrix-kept (p .m) za) (matrix-kept (q .m) zb))
 
 pub new-poses : (rigid : Bool) (p q : Pose) → NewPoses p q (AnimatedTransform·new rigid p q)
 unfolding AnimatedTransform·new
-new-poses rigid p q = tested-poses (buildRefusal rigid p q) (work rigid p q) (λ _. work-poses rigid p q)
+new-poses rigid p q = tested-poses (buildRefusal rigid p q) (AnimatedTransform·fromPoses rigid p q) (λ _. from-poses-poses rigid p q)
 
 -- ---- the pairs, from a pose on
 abbrev answers : Bool → List Pose → List AnimatedTransformAnswer

@@ -102,6 +102,7 @@ fn put_asked_move(
     }
 }
 
+// Puts the answer to a line that is no question.
 pub fn put_error(out: &mut [u8; 32768], at: usize) -> usize {
     put_text(b"error\n", out, at)
 }

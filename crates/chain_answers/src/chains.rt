@@ -155,6 +155,7 @@ fn first_moves(moves: &[[[f32; 4]; 45]], n: usize) -> &[[[f32; 4]; 45]] {
     &moves[0..n]
 }
 
+// A point at a time of a kept chain.
 pub fn point(moves: &[[[f32; 4]; 45]], x: &[f32; 900], out: &mut [u8; 32768], at: usize) -> usize {
     let p = [x[1], x[2], x[3]];
     let mut moved = [0.0f32; 3];
@@ -162,6 +163,7 @@ pub fn point(moves: &[[[f32; 4]; 45]], x: &[f32; 900], out: &mut [u8; 32768], at
     put_point(refusal, &moved, out, at)
 }
 
+// The pad of a kept chain at a time.
 pub fn pad(moves: &[[[f32; 4]; 45]], x: &[f32; 900], out: &mut [u8; 32768], at: usize) -> usize {
     let mut pad = [0.0f32; 1];
     let refusal = api::jellyplain_moves_pad(moves, x[0], &mut pad);
@@ -210,6 +212,7 @@ fn times_of(x: &[f32], floats: usize) -> &[f32] {
     &x[3..floats]
 }
 
+// The cover of a kept chain.
 pub fn cover(
     moves: &[[[f32; 4]; 45]],
     depth: u64,
@@ -303,12 +306,14 @@ pub fn interpolate(
     put_values(refusal, &values, 32, out, at)
 }
 
+// The parts of a kept move.
 pub fn parts(motion: &[[f32; 4]; 45], out: &mut [u8; 32768], at: usize) -> usize {
     let ok = put_text(b"ok", out, at);
     let end = motion_parts::put_parts(motion, out, ok);
     put_text(b"\n", out, end)
 }
 
+// The motion box of a kept move, with its counts.
 pub fn motion_bounds(
     motion: &[[f32; 4]; 45],
     x: &[f32; 900],
@@ -322,6 +327,7 @@ pub fn motion_bounds(
     put_counted(refusal, &b, examined, out, at)
 }
 
+// The motion box of one point of a kept move, with its counts.
 pub fn bound_point_motion(
     motion: &[[f32; 4]; 45],
     x: &[f32; 900],

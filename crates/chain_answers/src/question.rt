@@ -34,6 +34,7 @@ const SHAPES: [[usize; 5]; 18] = [
     [2, 2, 0, 8, 0], // wcover S D BOX T0 T1
 ];
 
+// The question of a line, its whole numbers and floats put into `wholes` and x.
 pub fn parse(line: &[u8], wholes: &mut [u64; 4], x: &mut [f32; 900]) -> Question {
     if line.len() > 8000 {
         return malformed();

@@ -9,6 +9,7 @@ use lib.Dec.{T}
 use lib.ListN.{length, take, drop, length-map}
 use lib.Seq.{take-append-seam}
 use lib.Ieee.Fits.{and-i}
+use Rattle.chain_number.specs.Number.{Move·number}
 use Rattle.matrix4x4.specs.Rows.{Rows}
 use Rattle.pose_pair.specs.declared.Pose.{Pose}
 use Rattle.pose_pair.specs.Pose.{Pose·isBinary32}
@@ -24,14 +25,14 @@ use Rattle.motion_chain.proofs.Built.{first-none, checks-passed}
 use Rattle.chain_rows.specs.Kept.{Chain·toRows}
 use Rattle.chain_rows.specs.Theorem.{Moves·Holds}
 use Rattle.chain_poses.proofs.Loops.{pairs-count}
-use Rattle.chain_build.specs.Build.{front, ChainAnswer·left}
-use Rattle.chain_build.specs.means.Pairs.{Pair·refusal, Pair·rows, Pair·Built}
+use Rattle.chain_build.specs.Build.{blocksLeft, ChainAnswer·left}
+use Rattle.chain_build.specs.means.Pairs.{Pair·rows, Pair·Built}
 
 -- ---- one pair
 pub pair-clauses : (rigid : Bool) (p q : Pose) (a : AnimatedTransformAnswer) (old : Rows) {r : ℕ} {rows : Rows}
     → a ≡ AnimatedTransform·new rigid p q → (a .refusal ≡ 0 → Built (a .value))
     → r ≡ a .refusal → rows ≡ AnimatedTransformAnswer·left a old
-    → (r ≡ Pair·refusal rigid (p, q)) × ((r ≡ 0 → rows ≡ Pair·rows rigid (p, q)) × (r ≡ 0 → Pair·Built rigid (p, q)))
+    → (r ≡ Move·number rigid (p, q)) × ((r ≡ 0 → rows ≡ Pair·rows rigid (p, q)) × (r ≡ 0 → Pair·Built rigid (p, q)))
 unfolding AnimatedTransformAnswer·left
 pair-clauses rigid p q a old same move number left = (
   number ∙ ap (λ (x : AnimatedTransformAnswer). x .refusal) same,
@@ -42,9 +43,9 @@ pair-clauses rigid p q a old same move number left = (
 abbrev answers : Bool → List (Pose × Pose) → List AnimatedTransformAnswer
 answers rigid = map (λ (p, q). AnimatedTransform·new rigid p q)
 
-numbers-same : (rigid : Bool) (pairs : List (Pose × Pose)) → map (λ x. x .refusal) (answers rigid pairs) ≡ map (Pair·refusal rigid) pairs
+numbers-same : (rigid : Bool) (pairs : List (Pose × Pose)) → map (λ x. x .refusal) (answers rigid pairs) ≡ map (Move·number rigid) pairs
 numbers-same rigid [] = refl
-numbers-same rigid (pair ∷ pairs) = ap (λ (l : List ℕ). Pair·refusal rigid pair ∷ l) (numbers-same rigid pairs)
+numbers-same rigid (pair ∷ pairs) = ap (λ (l : List ℕ). Move·number rigid pair ∷ l) (numbers-same rigid pairs)
 
 rows-same : (rigid : Bool) (pairs : List (Pose × Pose)) → map AnimatedTransform·toRows (map (λ x. x .value) (answers rigid pairs)) ≡ map (Pair·rows rigid) pairs
 rows-same rigid [] = refl
@@ -58,7 +59,7 @@ module _ (rigid : Bool) (p q : Pose) (poses : List Pose) (passed : chainRefusal 
   pairs = neighbours (q ∷ poses)
 
   abbrev number : ℕ
-  number = stage (Pair·refusal rigid) ((p, q) ∷ pairs)
+  number = stage (Move·number rigid) ((p, q) ∷ pairs)
 
   new-refused : (number ≡ 0 → ⊥) → Chain·new rigid (p ∷ q ∷ poses) ≡ refused number
   unfolding Chain·new ChainAnswer·fromMoves neighbours
@@ -72,7 +73,7 @@ module _ (rigid : Bool) (p q : Pose) (poses : List Pose) (passed : chainRefusal 
 same-binary32 : (p p' : Pose) → p .time ≡ p' .time → p .pad ≡ p' .pad → T (Pose·isBinary32 p) → T (Pose·isBinary32 p')
 same-binary32 p p' t u b = rw (← t, ← u) b
 
-pair-fits : (rigid : Bool) (p q : Pose) → Pair·Built rigid (p, q) → Pair·refusal rigid (p, q) ≡ 0 → T (Pose·isBinary32 p) × T (Pose·isBinary32 q)
+pair-fits : (rigid : Bool) (p q : Pose) → Pair·Built rigid (p, q) → Move·number rigid (p, q) ≡ 0 → T (Pose·isBinary32 p) × T (Pose·isBinary32 q)
 pair-fits rigid p q b z =
     let own = built-kept b in
     let kept = new-kept rigid p q z in (
@@ -80,15 +81,15 @@ pair-fits rigid p q b z =
       same-binary32 (b .end) q (sym (own .end-time) ∙ kept .end-time) (sym (own .end-pad) ∙ kept .end-pad) (b .end-binary32),
     )
 
-poses-fit : (rigid : Bool) (p q : Pose) (poses : List Pose) → Each (Pair·Built rigid) (neighbours (p ∷ q ∷ poses)) → stage (Pair·refusal rigid) (neighbours (p ∷ q ∷ poses)) ≡ 0
+poses-fit : (rigid : Bool) (p q : Pose) (poses : List Pose) → Each (Pair·Built rigid) (neighbours (p ∷ q ∷ poses)) → stage (Move·number rigid) (neighbours (p ∷ q ∷ poses)) ≡ 0
     → T (every Pose·isBinary32 (p ∷ q ∷ poses))
 unfolding neighbours every
 poses-fit rigid p q [] (b, bs) z =
-    let (n, _) = first-none (Pair·refusal rigid (p, q)) [] z in
+    let (n, _) = first-none (Move·number rigid (p, q)) [] z in
     let (start, end) = pair-fits rigid p q b n in
     and-i (Pose·isBinary32 p) (every Pose·isBinary32 (q ∷ [])) start (and-i (Pose·isBinary32 q) true end tt)
 poses-fit rigid p q (r ∷ poses) (b, bs) z =
-    let (n, ns) = first-none (Pair·refusal rigid (p, q)) (map (Pair·refusal rigid) (neighbours (q ∷ r ∷ poses))) z in
+    let (n, ns) = first-none (Move·number rigid (p, q)) (map (Move·number rigid) (neighbours (q ∷ r ∷ poses))) z in
     and-i (Pose·isBinary32 p) (every Pose·isBinary32 (q ∷ r ∷ poses)) (pair-fits rigid p q b n .0) (poses-fit rigid q r poses bs ns)
 
 -- ---- the clauses
@@ -109,7 +110,7 @@ pub checks-refused : (rigid : Bool) (poses : List Pose) (n : ℕ) (old : List Ro
 unfolding Chain·new
 checks-refused rigid poses n old {r} e f = refused-clauses rigid poses n old (rw (← e, ne-eqb r 0 f)) f
 
-pub pair-refused : (rigid : Bool) (poses : List Pose) (n : ℕ) (old : List Rows) {r : ℕ} → chainRefusal rigid poses ≡ 0 → r ≡ stage (Pair·refusal rigid) (neighbours poses) → (r ≡ 0 → ⊥)
+pub pair-refused : (rigid : Bool) (poses : List Pose) (n : ℕ) (old : List Rows) {r : ℕ} → chainRefusal rigid poses ≡ 0 → r ≡ stage (Move·number rigid) (neighbours poses) → (r ≡ 0 → ⊥)
     → Clauses rigid poses n old r old
 unfolding neighbours
 pair-refused rigid [] n old z e f = let h = checks-passed rigid [] z .least in absurd (omega (arith, h))
@@ -122,8 +123,8 @@ rows-of (built c) = Chain·toRows c
 rows-of (refused n) = []
 
 pub all-built : (rigid : Bool) (poses : List Pose) (n : ℕ) (old : List Rows) {blocks : List Rows} → n ≡ length poses
-    → chainRefusal rigid poses ≡ 0 → 0 ≡ stage (Pair·refusal rigid) (neighbours poses)
-    → blocks ≡ front (map (Pair·rows rigid) (neighbours poses)) old → Each (Pair·Built rigid) (neighbours poses) → Clauses rigid poses n old 0 blocks
+    → chainRefusal rigid poses ≡ 0 → 0 ≡ stage (Move·number rigid) (neighbours poses)
+    → blocks ≡ blocksLeft (map (Pair·rows rigid) (neighbours poses)) old → Each (Pair·Built rigid) (neighbours poses) → Clauses rigid poses n old 0 blocks
 unfolding neighbours rows-of
 all-built rigid [] n old l z e w b = let h = checks-passed rigid [] z .least in absurd (omega (arith, h))
 all-built rigid (p ∷ []) n old l z e w b = let h = checks-passed rigid (p ∷ []) z .least in absurd (omega (arith, h))
@@ -136,5 +137,7 @@ all-built rigid (p ∷ q ∷ poses) n old {blocks} l z e w b =
     let holds : (c : Chain) → Chain·new rigid (p ∷ q ∷ poses) ≡ built c → Moves·Holds (take (n - 1) blocks) c = λ c a. record {
       built = record { rigid = rigid; poses = p ∷ q ∷ poses; poses-binary32 = poses-fit rigid p q poses b (sym e); accepted = a };
       same = rw (w, count) (take-append-seam rows (drop (length rows) old) ∙ (same ∙ ap rows-of (sym new ∙ a)));
-    } in
-    (sym (ap ChainAnswer·refusal new), (w ∙ (ap (λ (l : List Rows). front l old) same ∙ sym (ap (λ (a : ChainAnswer). ChainAnswer·left a old) new)), holds))
+    } in (
+      sym (ap ChainAnswer·refusal new),
+      (w ∙ (ap (λ (l : List Rows). blocksLeft l old) same ∙ sym (ap (λ (a : ChainAnswer). ChainAnswer·left a old) new)), holds),
+    )

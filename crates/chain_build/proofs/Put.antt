@@ -7,7 +7,7 @@ use native.Mathlib.Omega.{arith}
 use lib.ListN.{length, set, drop, length-map}
 use Rattle.matrix4x4.specs.Rows.{Rows}
 use Rattle.pose_pair.specs.declared.Pose.{Pose}
-use Rattle.chain_build.specs.Build.{front}
+use Rattle.chain_build.specs.Build.{blocksLeft}
 use Rattle.chain_build.specs.means.Pairs.{Pair·rows}
 
 -- The rows of each pair's move, from place i on.
@@ -33,7 +33,7 @@ put-behind rigid (pair ∷ pairs) done (y ∷ rest) h =
     let all = map (Pair·rows rigid) pairs ++ drop (length pairs) rest in
     rw (set-behind done y x rest, ← length-behind done x) (put-behind rigid pairs (done ++ x ∷ []) rest (omega (arith, h)) ∙ append-assoc done (x ∷ []) all)
 
-pub put-front : (rigid : Bool) (pairs : List (Pose × Pose)) (old : List Rows) → length pairs ≤ length old → put rigid old 0 pairs ≡ front (map (Pair·rows rigid) pairs) old
+pub put-front : (rigid : Bool) (pairs : List (Pose × Pose)) (old : List Rows) → length pairs ≤ length old → put rigid old 0 pairs ≡ blocksLeft (map (Pair·rows rigid) pairs) old
 put-front rigid pairs old h = rw (length-map pairs (Pair·rows rigid)) (put-behind rigid pairs [] old h)
 
 -- The loop's i is the place of the pair's second pose.

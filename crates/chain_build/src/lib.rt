@@ -5,18 +5,19 @@ ghost use Prim.Native.Nat.{_+_, _-_, _<_, _≤_};
 ghost use mathlib.Core.Path.{_≡_};
 ghost use mathlib.Core.List.{map};
 ghost use lib.ListN.{length, set, take};
+ghost use Rattle.chain_number.specs.Number.{Move·number};
 ghost use Rattle.motion_chain.specs.Chain.{neighbours, stage, chainRefusal, Chain, built, ChainAnswer·refusal, Chain·new};
 ghost use Rattle.motion_chain.specs.Built.{Each};
 ghost use Rattle.chain_rows.specs.Theorem.{Moves·Holds};
 ghost use Rattle.chain_poses.specs.Poses.{Poses·ofLists, Poses·pairAt};
-ghost use Rattle.chain_build.specs.Build.{front, ChainAnswer·left};
-ghost use Rattle.chain_build.specs.means.Pairs.{Pair·refusal, Pair·rows, Pair·Built};
+ghost use Rattle.chain_build.specs.Build.{blocksLeft, ChainAnswer·left};
+ghost use Rattle.chain_build.specs.means.Pairs.{Pair·rows, Pair·Built};
 
 // The move of the pair at a place, built and put into its block.
 fn put_pair(rigid: bool, poses: &[[f32; 18]], i: usize, moves: &mut [[[f32; 4]; 45]; 31]) -> u8
     requires { ⌜ i + 1 < length (now poses) ⌝ }
     requires { ⌜ i < 31 ⌝ }
-    ensures refusal { λ r. ⌜ r ≡ Pair·refusal rigid (Poses·pairAt (now (poses .entry)) i) ⌝ }
+    ensures refusal { λ r. ⌜ r ≡ Move·number rigid (Poses·pairAt (now (poses .entry)) i) ⌝ }
     ensures left { λ r. ⌜ (r ≡ 0 → now (moves .exit) ≡ set (now (moves .entry)) i (Pair·rows rigid (Poses·pairAt (now (poses .entry)) i))) ⌝ }
     ensures built { λ r. ⌜ (r ≡ 0 → Pair·Built rigid (Poses·pairAt (now (poses .entry)) i)) ⌝ }
 {
@@ -29,8 +30,9 @@ fn put_pair(rigid: bool, poses: &[[f32; 18]], i: usize, moves: &mut [[[f32; 4]; 
 fn put_pairs(rigid: bool, poses: &[[f32; 18]], moves: &mut [[[f32; 4]; 45]; 31]) -> u8
     requires { ⌜ length (now poses) ≤ 32 ⌝ }
     requires { ⌜ length (now moves) ≡ 31 ⌝ }
-    ensures refusal { λ r. ⌜ r ≡ stage (Pair·refusal rigid) (neighbours (Poses·ofLists (now (poses .entry)))) ⌝ }
-    ensures left { λ r. ⌜ (r ≡ 0 → now (moves .exit) ≡ front (map (Pair·rows rigid) (neighbours (Poses·ofLists (now (poses .entry))))) (now (moves .entry))) ⌝ }
+    ensures refusal { λ r. ⌜ r ≡ stage (Move·number rigid) (neighbours (Poses·ofLists (now (poses .entry)))) ⌝ }
+    ensures left { λ r. ⌜ (r ≡ 0
+        → now (moves .exit) ≡ blocksLeft (map (Pair·rows rigid) (neighbours (Poses·ofLists (now (poses .entry))))) (now (moves .entry))) ⌝ }
     ensures built { λ r. ⌜ (r ≡ 0 → Each (Pair·Built rigid) (neighbours (Poses·ofLists (now (poses .entry))))) ⌝ }
 {
     let n = poses.len();

@@ -7,7 +7,7 @@ use mathlib.Core.List.{List, [], _∷_, _++_, append-assoc}
 use lib.ListN.{length, take, drop, set, getD, length-append}
 use lib.Seq.{paste, paste-suc, length-paste, take-length, take-append-seam, drop-append-seam, drop-drop}
 use Rattle.matrix4x4.specs.Rows.{Rows}
-use Rattle.chain_build.specs.Build.{front}
+use Rattle.chain_build.specs.Build.{blocksLeft}
 
 pub put-block : (old : List Rows) (at : ℕ) (others : List Rows) (i : ℕ) (filled : List Rows) → at + i < length old → i < length others
     → filled ≡ paste old at others i → set filled (at + i) (getD others i []) ≡ paste old at others (i + 1)
@@ -21,7 +21,7 @@ put-length old at others i h k e = ap length e ∙ length-paste old at others i 
 
 pub two-fronts : (first second old : List Rows) {filled left : List Rows} → length first + length second ≤ length old
     → filled ≡ paste old 0 first (length first) → left ≡ paste filled (length first) second (length second)
-    → left ≡ front (first ++ second) old
+    → left ≡ blocksLeft (first ++ second) old
 two-fronts first second old {filled} h e f =
     let n = length first in
     let m = length second in

@@ -5,17 +5,18 @@ use mathlib.Core.Path.{_≡_, refl, sym, ap, subst, _∙_}
 use mathlib.Core.Bool.{Bool, true, false, not, _||_, cond, false≢true}
 use mathlib.Core.List.{List, [], _∷_, _++_, map}
 use native.Mathlib.Omega.{arith}
-use borrow.Author.Tests.{ne-eqb, eqb-true, eqb-false, ltb-false}
+use borrow.Author.Tests.{ne-eqb, eqb-false, ltb-false}
 use lib.Dec.{T, eqb, ltb}
 use lib.ListN.{length, take, drop, length-append, length-map}
 use lib.Seq.{take-append-seam}
 use lib.Ieee.{Float, le}
+use Rattle.refusal.proofs.First.{first-zero}
+use Rattle.refusal.specs.First.{firstRefusal}
 use Rattle.matrix4x4.specs.Rows.{Rows}
 use Rattle.bounds3.specs.declared.Point3f.{Point3f}
 use Rattle.transform.specs.declared.PointAnswer.{PointAnswer}
 use Rattle.pose_pair.specs.declared.Pose.{Pose}
 use Rattle.animated_transform.specs.declared.AnimatedTransform.{AnimatedTransform}
-use Rattle.animated_transform.specs.New.{firstRefusal}
 use Rattle.motion_rows.specs.Rows.{AnimatedTransform·toRows}
 use Rattle.pad_query.specs.PadQuery.{AnimatedTransform·pad}
 use Rattle.motion_chain.specs.Chain.{maxPoses, Chain, Chain·moves, ChainAnswer, built, refused, ChainAnswer·refusal, Chain·transformPoint}
@@ -26,7 +27,7 @@ use Rattle.built_poses.specs.Poses.{AnimatedTransform·endPose, Chain·poses}
 use Rattle.chain_rows.specs.Kept.{Chain·toRows, Moves·chain, Moves·transformPoint, Moves·transformPoints, Chain·pad}
 use Rattle.chain_rows.specs.Theorem.{Moves·Holds}
 use Rattle.chain_rows.proofs.Kept.{kept-chain, kept-point, kept-points, kept-pad, kept-cover}
-use Rattle.chain_build.specs.Build.{front, ChainAnswer·left}
+use Rattle.chain_build.specs.Build.{blocksLeft, ChainAnswer·left}
 use Rattle.joined_chains.specs.Join.{Chain·lastPose, Chain·firstPose, Chain·joinedPoses, mismatchRefusal, countRefusal, Chain·joinRefusal, Chain·join}
 use Rattle.joined_chains.specs.Theorem.{Chain·append, AnswersAs, sharedTime}
 use Rattle.joined_chains.proofs.Built.{map-append, joins}
@@ -165,29 +166,22 @@ module _ (first second old : List Rows) (some : (eqb (length first) 0 || eqb (le
   pub not-joined : (r ≡ 0 → ⊥) → Clauses first second old old r
   not-joined g = refused-clauses first second old (n ∙ refusal-of first second some e f) g
 
-  none-met : (a b : ℕ) → firstRefusal a b ≡ 0 → (a ≡ 0) × (b ≡ 0)
-  none-met a b = go (eqb a 0) (eqb-true a 0) (eqb-false a 0)
-    where
-      go : (x : Bool) → (x ≡ true → a ≡ 0) → (x ≡ false → a ≡ 0 → ⊥) → cond x b a ≡ 0 → (a ≡ 0) × (b ≡ 0)
-      go true t u z = (t refl, z)
-      go false t u z = absurd (u refl z)
-
   pub has-room : r ≡ 0 → length first + length second ≤ 31
-  has-room z = go (ltb maxPoses (length first + length second + 1)) (ltb-false maxPoses (length first + length second + 1)) (sym f ∙ none-met mismatch count (sym n ∙ z) .1)
+  has-room z = go (ltb maxPoses (length first + length second + 1)) (ltb-false maxPoses (length first + length second + 1)) (sym f ∙ first-zero mismatch count (sym n ∙ z) .1)
     where
       go : (b : Bool) → (b ≡ false → length first + length second + 1 ≤ maxPoses) → _≡_ {A = ℕ} (cond b 12 0) 0 → length first + length second ≤ 31
       go true t x = absurd (omega (arith, x))
       go false t x = let y = t refl in omega (arith, y)
 
   pub all-joined : (mismatch ≡ 0 → Chain·lastPose (Moves·chain first) ≡ Chain·firstPose (Moves·chain second))
-      → r ≡ 0 → {new : List Rows} → new ≡ front (first ++ second) old → Clauses first second old new 0
+      → r ≡ 0 → {new : List Rows} → new ≡ blocksLeft (first ++ second) old → Clauses first second old new 0
   unfolding Moves·joinLeft
   all-joined same z {new} w =
       let number : 0 ≡ Moves·joinRefusal first second = sym z ∙ (n ∙ refusal-of first second some e f) in
-      let poses = same (none-met mismatch count (sym n ∙ z) .0) in
+      let poses = same (first-zero mismatch count (sym n ∙ z) .0) in
       (number, (rw (← number) w, λ c d h k. joined number poses w c d h k))
     where
-      joined : 0 ≡ Moves·joinRefusal first second → Chain·lastPose (Moves·chain first) ≡ Chain·firstPose (Moves·chain second) → {new : List Rows} → new ≡ front (first ++ second) old
+      joined : 0 ≡ Moves·joinRefusal first second → Chain·lastPose (Moves·chain first) ≡ Chain·firstPose (Moves·chain second) → {new : List Rows} → new ≡ blocksLeft (first ++ second) old
           → (c d : Chain) → Moves·Holds first c → Moves·Holds second d → Joined first second old new 0 c d
       joined number poses {new} w c d h k =
           let shared : Chain·lastPose c ≡ Chain·firstPose d = rw (← kept-chain first c (h .same), ← kept-chain second d (k .same)) poses in
@@ -197,7 +191,7 @@ module _ (first second old : List Rows) (some : (eqb (length first) 0 || eqb (le
           let front-rows : take (length first + length second) new ≡ first ++ second = rw (w, size) (take-append-seam (first ++ second) (drop (length (first ++ second)) old)) in
           record {
             refusal = sym (ap ChainAnswer·refusal made);
-            left = w ∙ ap (λ (l : List Rows). front l old) rows ∙ sym (ap (λ (a : ChainAnswer). ChainAnswer·left a old) made);
+            left = w ∙ ap (λ (l : List Rows). blocksLeft l old) rows ∙ sym (ap (λ (a : ChainAnswer). ChainAnswer·left a old) made);
             holds = λ x b. subst (λ (y : Chain). Moves·Holds (take (length first + length second) new) y) (built-same (sym made ∙ b)) (record { built = chain; same = front-rows ∙ rows });
             answers = λ _. kept-join first second c d h k (take (length first + length second) new) front-rows;
           }

@@ -6,9 +6,9 @@ use mathlib.Core.Logic.{_⊎_, inl, inr}
 use mathlib.Core.List.{List, [], _∷_}
 use lib.Dec.{eqb, ltb}
 use lib.ListN.{length}
+use Rattle.refusal.specs.First.{firstRefusal}
 use Rattle.matrix4x4.specs.Rows.{Rows}
 use Rattle.transform.specs.Answer.{OneOf}
-use Rattle.animated_transform.specs.New.{firstRefusal}
 use Rattle.motion_chain.specs.Chain.{maxPoses}
 use Rattle.built_poses.specs.Poses.{Chain·isRigid}
 use Rattle.chain_rows.specs.Kept.{Moves·chain}

@@ -6,7 +6,7 @@ use lib.Dec.{eqb}
 use lib.ListN.{length}
 use Rattle.matrix4x4.specs.Rows.{Rows}
 use Rattle.chain_rows.specs.Kept.{Moves·chain}
-use Rattle.chain_build.specs.Build.{front}
+use Rattle.chain_build.specs.Build.{blocksLeft}
 use Rattle.joined_chains.specs.Join.{Chain·joinRefusal}
 
 -- No moves are no chain: 12. Then that of the chains in the rows.
@@ -16,4 +16,4 @@ Moves·joinRefusal first second =
 
 -- The blocks of the first and then those of the second at the front places; after a refusal all that stood there.
 unfoldable pub Moves·joinLeft : List Rows → List Rows → List Rows → List Rows
-Moves·joinLeft first second old = cond (eqb (Moves·joinRefusal first second) 0) (front (first ++ second) old) old
+Moves·joinLeft first second old = cond (eqb (Moves·joinRefusal first second) 0) (blocksLeft (first ++ second) old) old

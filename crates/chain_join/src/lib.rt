@@ -1,11 +1,11 @@
 // Document 02's "Two chains made one": the rows of two kept chains, the first's and then the second's, in the first of 31 lent blocks, and behind them what stood there.
 // After a refusal all blocks are as they were.
+use refusal::first_refusal;
 ghost use Prim.Native.Nat.{_+_, _<_, _≤_};
 ghost use mathlib.Core.Path.{_≡_};
 ghost use mathlib.Core.Bool.{true, Bool·beq};
 ghost use lib.ListN.{length};
 ghost use lib.Seq.{paste};
-ghost use Rattle.animated_transform.specs.New.{firstRefusal};
 ghost use Rattle.motion_rows.specs.Rows.{matrixAt, AnimatedTransform·fromRows};
 ghost use Rattle.built_poses.specs.Poses.{AnimatedTransform·startPose, AnimatedTransform·endPose};
 ghost use Rattle.motion_chain.specs.Chain.{Chain};
@@ -79,12 +79,6 @@ fn count_refusal(poses: usize) -> u8
     ensures value { λ r. ⌜ r ≡ countRefusal poses ⌝ }
 {
     if 32 < poses { 12 } else { 0 }
-}
-
-fn first_refusal(a: u8, b: u8) -> u8
-    ensures value { λ r. ⌜ r ≡ firstRefusal a b ⌝ }
-{
-    if a == 0 { b } else { a }
 }
 
 // The blocks with others put over them from `at` on.

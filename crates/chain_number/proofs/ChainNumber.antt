@@ -8,9 +8,10 @@ use borrow.Author.Tests.{eqb-true}
 use lib.Dec.{eqb}
 use lib.ListN.{length, getD}
 use lib.Ieee.{Float}
+use Rattle.refusal.specs.First.{firstRefusal}
 use Rattle.pose_pair.specs.declared.Pose.{Pose}
 use Rattle.animated_transform.specs.declared.AnimatedTransformAnswer.{AnimatedTransformAnswer}
-use Rattle.animated_transform.specs.New.{firstRefusal, AnimatedTransform·new}
+use Rattle.animated_transform.specs.New.{AnimatedTransform·new}
 use Rattle.lent_arrays.specs.Arrays.{Pose·ofList}
 use Rattle.motion_chain.specs.Chain.{neighbours, firstNumber, stage, chainRefusal, built, refused, ChainAnswer·refusal, ChainAnswer·fromMoves, Chain·new}
 use Rattle.motion_chain.proofs.Built.{checks-passed}

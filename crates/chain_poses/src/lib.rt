@@ -2,13 +2,13 @@
 // pose, or of every neighbouring pair, before the next stage: 1, 2 and 16 of every pose, 12 of the count and of every pair, 3 of every pair,
 // and of every pose of a rigid chain 17 and 18.
 use pose_pair::Pose;
+use refusal::first_refusal;
 ghost use Prim.Native.Nat.{_+_, _<_};
 ghost use mathlib.Core.Path.{_≡_};
 ghost use mathlib.Core.Bool.{_||_, cond};
 ghost use mathlib.Core.List.{[]};
 ghost use lib.Dec.{ltb};
 ghost use lib.ListN.{length, getD};
-ghost use Rattle.animated_transform.specs.New.{firstRefusal};
 ghost use Rattle.lent_arrays.specs.Arrays.{Pose·ofList};
 ghost use Rattle.motion_chain.specs.Chain.{minPoses, maxPoses, neighbours, stage, Pose·number, Pair·number, kindStage, chainRefusal};
 ghost use Rattle.chain_poses.specs.Poses.{Poses·ofLists, Poses·pairAt};
@@ -110,12 +110,6 @@ fn count_number(n: usize) -> u8
     ensures value { λ r. ⌜ r ≡ cond (ltb n minPoses || ltb maxPoses n) 12 0 ⌝ }
 {
     if (n < 2) | (32 < n) { 12 } else { 0 }
-}
-
-fn first_refusal(a: u8, b: u8) -> u8
-    ensures value { λ r. ⌜ r ≡ firstRefusal a b ⌝ }
-{
-    if a == 0 { b } else { a }
 }
 
 // What building a chain asks of its poses before it computes any move: refused with 1, 2, 16, 12 or 3, and a rigid one with 17 or 18,

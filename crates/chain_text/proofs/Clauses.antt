@@ -4,15 +4,16 @@ use native.Mathlib.Omega.{arith}
 use mathlib.Core.Path.{_≡_, refl, sym, _∙_}
 use mathlib.Core.List.{List}
 use mathlib.Core.Bool.{Bool, true, false, cond}
-use borrow.Author.Tests.{eq-eqb, ne-eqb, eqb-true, eqb-false, le-leb, leb-true}
-use lib.Dec.{eqb, leb}
+use borrow.Author.Tests.{eq-eqb, ne-eqb, le-leb, leb-true}
+use lib.Dec.{leb}
 use lib.ListN.{length, take, drop}
 use lib.Seq.{take-append-seam}
+use Rattle.refusal.proofs.First.{first-zero}
+use Rattle.refusal.specs.First.{firstRefusal}
 use Rattle.matrix4x4.specs.Rows.{Rows}
 use Rattle.bounds3.specs.declared.Bounds3f.{Bounds3f}
 use Rattle.bounds_query.specs.Query.{Bounds3f·refusal}
-use Rattle.animated_transform.specs.New.{firstRefusal}
-use Rattle.motion_text.specs.Answer.{front}
+use Rattle.motion_text.specs.Answer.{textLeft}
 use Rattle.chain_text.specs.Write.{written, refused, TextAnswer·refusal, TextAnswer·length, TextAnswer·left, roomRefusal, Moves·text, Moves·writeRefusal, Moves·write}
 use Rattle.chain_text.specs.Theorem.{WrittenBack}
 use Rattle.chain_text.proofs.Pieces.{text-length}
@@ -26,19 +27,12 @@ Clauses rows b number size old after =
     × ((after ≡ TextAnswer·left (Moves·write rows b (length old)) old)
     × (number ≡ 0 → WrittenBack rows b (take size after))))
 
-front-taken : (text old : List ℕ) → length text ≤ length old → take (length text) (front text old) ≡ text
-unfolding front
+front-taken : (text old : List ℕ) → length text ≤ length old → take (length text) (textLeft text old) ≡ text
+unfolding textLeft
 front-taken text old h = rw (le-leb (length text) (length old) h) (take-append-seam text (drop (length text) old))
 
 -- ---- numbers
 -- nothing is refused only where neither is, and the text has room
-first-none : (n m : ℕ) → firstRefusal n m ≡ 0 → (n ≡ 0) × (m ≡ 0)
-first-none n m = go (eqb n 0) refl
-  where
-    go : (p : Bool) → eqb n 0 ≡ p → cond p m n ≡ 0 → (n ≡ 0) × (m ≡ 0)
-    go true e h = (eqb-true n 0 e, h)
-    go false e h = absurd (eqb-false n 0 e h)
-
 room-none : (room size : ℕ) → roomRefusal room size ≡ 0 → size ≤ room
 room-none room size = go (leb size room) refl
   where
@@ -85,9 +79,9 @@ module _ (rows : List Rows) (b : Bounds3f) (old : List ℕ) where
     all-refused n refusal size e es = refused-clauses refusal size (e ∙ same-number) (λ z. n (sym e ∙ z)) es
 
     pub has-room : number ≡ 0 → 255 + 126 * length rows ≤ length old
-    has-room z = omega (arith, room-none (length old) length₀ (sym er ∙ first-none judged room (sym en ∙ z) .1), el)
+    has-room z = omega (arith, room-none (length old) length₀ (sym er ∙ first-zero judged room (sym en ∙ z) .1), el)
 
-    pub all-written : number ≡ 0 → (after : List ℕ) → after ≡ front (Moves·text rows b) old → Clauses rows b 0 length₀ old after
+    pub all-written : number ≡ 0 → (after : List ℕ) → after ≡ textLeft (Moves·text rows b) old → Clauses rows b 0 length₀ old after
     all-written z after ea =
         let text = Moves·text rows b in
         let fit : length text ≤ length old = omega (arith, has-room z, el, text-size) in

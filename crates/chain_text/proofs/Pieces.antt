@@ -8,7 +8,7 @@ use lib.Seq.{paste, take-append-le, drop-at, drop-drop, length-paste, drop-cons}
 use Rattle.matrix4x4.specs.Rows.{Rows}
 use Rattle.bounds3.specs.declared.Bounds3f.{Bounds3f}
 use Rattle.bounds3.specs.List.{Bounds3f·list}
-use Rattle.motion_text.specs.Answer.{boundsText, front}
+use Rattle.motion_text.specs.Answer.{boundsText, textLeft}
 use Rattle.motion_text.proofs.Pastes.{front-fits, paste-paste}
 use Rattle.motion_text.proofs.Written.{length-values}
 use Rattle.file_text.specs.Text.{valuesText, linesText}
@@ -65,16 +65,16 @@ module _ (rows : List Rows) (b : Bounds3f) (h : 0 < length rows) where
       ∙ drop-at (endsText rows) box (126 * length rows) (ends-length rows)
 
   module _ (d : List ℕ) (room : 255 + 126 * length rows ≤ length d) where
-    put-names : (o : List ℕ) → o ≡ front namesLine d → o ≡ paste d 0 text 57
+    put-names : (o : List ℕ) → o ≡ textLeft namesLine d → o ≡ paste d 0 text 57
     put-names o e =
         let fit : length namesLine ≤ length d = omega (arith, names-length, room) in
         let same : take 57 text ≡ take 57 namesLine =
         ap (take 57) (text-lines rows b h) ∙ take-append-le 57 namesLine (first ++ ends) (omega (arith, names-length)) in
         e ∙ sym (front-fits namesLine d fit) ∙ rw (names-length, same)
 
-    pub put-all : (o₁ o₂ o₃ o₄ : List ℕ) → o₁ ≡ front namesLine d → o₂ ≡ paste o₁ 57 (valuesText (Rows·startValues (getD rows 0 []))) 126
+    pub put-all : (o₁ o₂ o₃ o₄ : List ℕ) → o₁ ≡ textLeft namesLine d → o₂ ≡ paste o₁ 57 (valuesText (Rows·startValues (getD rows 0 []))) 126
         → o₃ ≡ paste o₂ 183 (linesText (map Rows·endValues rows)) (126 * length rows)
-        → o₄ ≡ paste o₃ (183 + 126 * length rows) (boundsText (Bounds3f·list b)) 72 → o₄ ≡ front (Moves·text rows b) d
+        → o₄ ≡ paste o₃ (183 + 126 * length rows) (boundsText (Bounds3f·list b)) 72 → o₄ ≡ textLeft (Moves·text rows b) d
     put-all o₁ o₂ o₃ o₄ e₁ e₂ e₃ e₄ =
         let n₁ : o₁ ≡ paste d 0 text 57 = put-names o₁ e₁ in
         let start : take 126 (drop 57 text) ≡ take 126 first =

@@ -6,16 +6,16 @@ use mathlib.Core.List.{List, [], _∷_, map}
 use lib.Dec.{eqb, leb}
 use lib.ListN.{length}
 use lib.Ieee.{Float}
+use Rattle.refusal.specs.First.{firstRefusal}
 use Rattle.matrix4x4.specs.Rows.{Row, Rows, col}
 use Rattle.bounds3.specs.declared.Bounds3f.{Bounds3f}
 use Rattle.bounds3.specs.List.{Bounds3f·list}
 use Rattle.bounds_query.specs.Query.{Bounds3f·refusal}
-use Rattle.animated_transform.specs.New.{firstRefusal}
 use Rattle.pose_pair.specs.declared.Pose.{Pose}
 use Rattle.built_poses.specs.Poses.{Chain·poses}
 use Rattle.chain_rows.specs.Kept.{Moves·chain}
 use Rattle.motion_file.specs.Layout.{paddedNames}
-use Rattle.motion_text.specs.Answer.{front}
+use Rattle.motion_text.specs.Answer.{textLeft}
 use Rattle.file_text.specs.Text.{fileText}
 
 -- a time, the upper three rows of a matrix, entry by entry, and a pad: a pose's line of values
@@ -63,5 +63,5 @@ TextAnswer·length (refused n) = 0
 
 -- "fills the front of a lent buffer, .. and keeps the bytes behind it"; a refusal leaves it as it came
 abbrev pub TextAnswer·left : TextAnswer → List ℕ → List ℕ
-TextAnswer·left (written text) old = front text old
+TextAnswer·left (written text) old = textLeft text old
 TextAnswer·left (refused n) old = old

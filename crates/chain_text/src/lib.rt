@@ -1,13 +1,13 @@
 // Document 02's "One way to write a move file": a kept chain and a box as the text of a move file, in the front of a lent buffer.
 use bounds3::Bounds3f;
+use refusal::first_refusal;
 ghost use Prim.Native.Nat.{_+_, _*_, _≤_, _<_};
 ghost use mathlib.Core.Path.{_≡_};
 ghost use mathlib.Core.List.{map};
 ghost use lib.ListN.{length, take};
 ghost use lib.Seq.{paste};
 ghost use Rattle.bounds3.specs.List.{Bounds3f·list};
-ghost use Rattle.animated_transform.specs.New.{firstRefusal};
-ghost use Rattle.motion_text.specs.Answer.{boundsText, front};
+ghost use Rattle.motion_text.specs.Answer.{boundsText, textLeft};
 ghost use Rattle.file_text.specs.Text.{valuesText, linesText};
 ghost use Rattle.chain_text.specs.means.Lines.{Rows·startValues, Rows·endValues};
 ghost use Rattle.chain_text.specs.Write.{poseLine, Moves·text, roomRefusal, Moves·write, TextAnswer·refusal, TextAnswer·length, TextAnswer·left};
@@ -105,7 +105,7 @@ fn put_ends(moves: &[[[f32; 4]; 45]], out: &mut [u8])
 fn put(moves: &[[[f32; 4]; 45]], b: Bounds3f, out: &mut [u8])
     requires { ⌜ 0 < length (now moves) ⌝ }
     requires { ⌜ 255 + 126 * length (now moves) ≤ length (now out) ⌝ }
-    ensures { λ _. ⌜ now (out .exit) ≡ front (Moves·text (now (moves .entry)) b) (now (out .entry)) ⌝ }
+    ensures { λ _. ⌜ now (out .exit) ≡ textLeft (Moves·text (now (moves .entry)) b) (now (out .entry)) ⌝ }
 {
     motion_text::write_text(
         b"time m00 m01 m02 m03 m10 m11 m12 m13 m20 m21 m22 m23 pad\n",
@@ -121,13 +121,6 @@ fn room_refusal(length: usize, room: usize) -> u8
     ensures { λ r. ⌜ r ≡ roomRefusal room length ⌝ }
 {
     if length <= room { 0 } else { 15 }
-}
-
-// The first of two numbers that isn't 0, or 0 for none.
-fn first(a: u8, b: u8) -> u8
-    ensures { λ r. ⌜ r ≡ firstRefusal a b ⌝ }
-{
-    if a != 0 { a } else { b }
 }
 
 fn refused(refusal: u8) -> Written
@@ -150,7 +143,7 @@ pub fn write(moves: &[[[f32; 4]; 45]], b: Bounds3f, out: &mut [u8]) -> Written
     let length = NAMES + POSE * (moves.len() + 1) + BOX;
     let judged = bounds_query::refusal(b);
     let room = room_refusal(length, out.len());
-    let number = first(judged, room);
+    let number = first_refusal(judged, room);
     if number != 0 {
         return refused(number);
     }

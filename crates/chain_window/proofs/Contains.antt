@@ -8,7 +8,9 @@ use lib.Dec.{T, eqb}
 use lib.Ieee.{Float, lt, le, isNan}
 use lib.Ieee.Bits.{is-true, is-false}
 use lib.Ieee.Fits.{and-i}
-use borrow.Author.Tests.{eqb-true, eqb-false}
+use borrow.Author.Tests.{eqb-true}
+use Rattle.refusal.proofs.First.{first-zero}
+use Rattle.refusal.specs.First.{firstRefusal}
 use Rattle.rounding.specs.Order.{_≼_, Number}
 use Rattle.rounding.proofs.Order.{≼-trans, number-left, number-right, finite-number, not-lt-≼}
 use Rattle.bounds3.specs.declared.Point3f.{Point3f}
@@ -33,7 +35,6 @@ use Rattle.pose_steps.specs.Enclose.{IntervalVector·list, Bounds3f·intervals}
 use Rattle.pose_steps.proofs.Rows.{enclosed-finite}
 use Rattle.pose_steps.proofs.Box.{inside-encloses}
 use Rattle.animated_transform.specs.declared.AnimatedTransform.{AnimatedTransform}
-use Rattle.animated_transform.specs.New.{firstRefusal}
 use Rattle.animated_transform.specs.Built.{AnimatedTransform·Judged}
 use Rattle.animated_transform.proofs.Built.{built-judged}
 use Rattle.motion_point.specs.TransformPoint.{AnimatedTransform·constants, AnimatedTransform·movedPoint}
@@ -303,13 +304,6 @@ pub record Accepted (c : Chain) (b : Bounds3f) (d : ℕ) (w : Window) (box : Bou
   pub arguments : coverRefusal b d ≡ 0
   pub work : Chain·encloseWindow c b d w ≡ Bounds box
 
-pub both-none : (n k : ℕ) → firstRefusal n k ≡ 0 → (n ≡ 0) × (k ≡ 0)
-both-none n k = go (eqb n 0) (eqb-true n 0) (eqb-false n 0)
-  where
-    go : (t : Bool) → (t ≡ true → n ≡ 0) → (t ≡ false → n ≡ 0 → ⊥) → cond t k n ≡ 0 → (n ≡ 0) × (k ≡ 0)
-    go true f g e = (f refl, e)
-    go false f g e = absurd (g refl e)
-
 pub window-accepted : (c : Chain) (b : Bounds3f) (d : ℕ) (w : Window) (box : Bounds3f) → Chain·windowCover c b d w ≡ Bounds box → Accepted c b d w box
 unfolding Chain·windowCover
 window-accepted c b d w box = go (eqb n 0) (eqb-true n 0)
@@ -318,7 +312,7 @@ window-accepted c b d w box = go (eqb n 0) (eqb-true n 0)
     n = firstRefusal (Window·refusal w) (coverRefusal b d)
 
     go : (t : Bool) → (t ≡ true → n ≡ 0) → cond t (Chain·encloseWindow c b d w) (Refused n) ≡ Bounds box → Accepted c b d w box
-    go true f e = let (k, a) = both-none (Window·refusal w) (coverRefusal b d) (f refl) in record { window = k; arguments = a; work = e }
+    go true f e = let (k, a) = first-zero (Window·refusal w) (coverRefusal b d) (f refl) in record { window = k; arguments = a; work = e }
     go false f e = absurd (refused-bounds n box e)
 
 point-finite : (q : Point3f) → AllFinite (Point3f·list q) → Finite q

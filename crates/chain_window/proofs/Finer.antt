@@ -6,7 +6,7 @@ use mathlib.Core.Bool.{Bool, true, false, cond}
 use mathlib.Core.List.{_++_, map, List·Memᴰ, List·Memᴰ·append-cases, Memᴰ·of-map, Memᴰ·map}
 use lib.Dec.{T}
 use lib.Ieee.{lt}
-use borrow.Author.Tests.{eqb-false, le-ltb}
+use borrow.Author.Tests.{eqb-false}
 use Rattle.rounding.specs.Order.{_≼_}
 use Rattle.rounding.proofs.Order.{lt-≼}
 use Rattle.bounds3.specs.declared.Bounds3f.{Bounds3f}
@@ -14,14 +14,14 @@ use Rattle.bounds3.specs.Bounds3f.{Bounds3f·default}
 use Rattle.transform.specs.declared.BoundsAnswer.{BoundsAnswer}
 use Rattle.transform.specs.declared.BoundsAnswer.the-variants.{Bounds}
 use Rattle.transform.specs.Answer.{BoundsAnswer·bounds}
-use Rattle.bounds_query.specs.Query.{Bounds3f·refusal, maxDepth, coverRefusal}
+use Rattle.bounds_query.specs.Query.{maxDepth, coverRefusal}
 use Rattle.interval.specs.declared.Interval.{Interval}
 use Rattle.animated_transform.specs.declared.AnimatedTransform.{AnimatedTransform}
 use Rattle.motion_point.specs.TransformPoint.{AnimatedTransform·constants}
 use Rattle.motion_cover.specs.Cover.{AnimatedTransform·encloseBounds}
 use Rattle.motion_cover.proofs.Contains.{cover-box}
 use Rattle.motion_cover.proofs.Proper.{BoxRefines, box-refines}
-use Rattle.cover_depth.proofs.Finer.{BoxWithin, box-within, piece-isotone}
+use Rattle.cover_depth.proofs.Finer.{BoxWithin, box-within, piece-isotone, arguments-finer}
 use Rattle.bounds_answers.proofs.UnionAll.{union-all-within}
 use Rattle.motion_chain.specs.Chain.{Chain, Chain·moves}
 use Rattle.motion_chain.specs.Built.{BuiltChain}
@@ -70,10 +70,6 @@ module _ (b : Bounds3f) (ok : BoxRefines b) (w : Window) (rise : w .earlier ≼ 
         ]
         | inr j ↦ coarse r (in-equals c b d w r j)
       ]
-
-arguments-finer : (b : Bounds3f) (d : ℕ) → Bounds3f·refusal b ≡ 0 → d ≤ maxDepth → coverRefusal b d ≡ 0
-unfolding coverRefusal
-arguments-finer b d e l = rw (e, le-ltb maxDepth d l)
 
 pub window-box-finer : {c : Chain} → BuiltChain c → (b : Bounds3f) (w : Window) (d n : ℕ) (box : Bounds3f) → w .earlier ≼ w .later → d + n ≤ maxDepth
     → Chain·windowCover c b d w ≡ Bounds box → BoxWithin (Chain·windowCover c b (d + n) w) box

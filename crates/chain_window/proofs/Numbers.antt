@@ -7,13 +7,13 @@ use mathlib.Core.List.{List, [], _∷_}
 use borrow.Author.Tests.{eqb-false}
 use lib.Dec.{eqb, ltb}
 use lib.Ieee.{lt}
+use Rattle.refusal.specs.First.{firstRefusal}
 use Rattle.bounds3.specs.declared.Bounds3f.{Bounds3f}
 use Rattle.bounds3.specs.Bounds3f.{Bounds3f·default}
 use Rattle.bounds3.specs.Finite.{Bounds3f·isFinite}
 use Rattle.transform.specs.declared.BoundsAnswer.the-variants.{Bounds, Refused}
 use Rattle.transform.specs.Answer.{OneOf}
 use Rattle.bounds_query.specs.Query.{Bounds3f·isOrdered, Bounds3f·refusal, maxDepth, coverRefusal}
-use Rattle.animated_transform.specs.New.{firstRefusal}
 use Rattle.motion_cover.specs.Answer.{BoundsAnswer·Numbered}
 use Rattle.bounds_answers.proofs.UnionAll.{union-all-numbered}
 use Rattle.motion_chain.specs.Chain.{Chain}

@@ -4,6 +4,7 @@ use Prim.Native.Nat.{ℕ}
 use mathlib.Core.Bool.{Bool, true, false, not, _&&_, cond}
 use mathlib.Core.List.{List, [], _∷_, _++_, map}
 use lib.Dec.{eqb}
+use Rattle.refusal.specs.First.{firstRefusal}
 use Rattle.float32.specs.MinMax.{maxNum}
 use Rattle.bounds3.specs.declared.Bounds3f.{Bounds3f}
 use Rattle.bounds3.specs.Bounds3f.{Bounds3f·default}
@@ -12,7 +13,6 @@ use Rattle.transform.specs.declared.BoundsAnswer.the-variants.{Bounds, Refused}
 use Rattle.bounds_query.specs.Query.{coverRefusal}
 use Rattle.bounds_answers.specs.UnionAll.{BoundsAnswer·unionAll}
 use Rattle.animated_transform.specs.declared.AnimatedTransform.{AnimatedTransform}
-use Rattle.animated_transform.specs.New.{firstRefusal}
 use Rattle.motion_point.specs.TransformPoint.{AnimatedTransform·constants}
 use Rattle.motion_cover.specs.Cover.{Transform·enclosePadded, AnimatedTransform·encloseBounds}
 use Rattle.motion_chain.specs.Chain.{Chain, Chain·moves}

@@ -17,7 +17,7 @@ use Rattle.animated_transform.specs.New.{AnimatedTransform·new}
 use Rattle.motion_chain.specs.Chain.{minPoses, maxPoses, neighbours, every, firstNumber, stage, Pose·number, Pair·number, kindStage, chainStages, chainRefusal}
 use Rattle.motion_chain.specs.Chain.{Chain, Chain·moves, ChainAnswer, built, refused, ChainAnswer·refusal, ChainAnswer·fromMoves, Chain·new}
 use Rattle.motion_chain.specs.Built.{BuiltChain}
-use Rattle.motion_chain.proofs.Built.{first-none, checks-passed, new-built}
+use Rattle.motion_chain.proofs.Built.{first-none, first-each, checks-passed, new-built}
 use Rattle.built_poses.specs.Poses.{AnimatedTransform·startPose, AnimatedTransform·endPose, Chain·poses, Chain·isRigid}
 use Rattle.built_poses.proofs.Built.{new-poses, built-poses, built-kind}
 use Rattle.changed_chain.specs.Trial.{Chain·changed}
@@ -184,14 +184,6 @@ module _ (rigid : Bool) where
         rw e (rw k at (beside-window (b ∷ poses) (suc i) y (omega (arith, h))))
 
   -- ---- the checks
-  abbrev Zeros : List ℕ → Type 0
-  Zeros [] = Unit {0}
-  Zeros (n ∷ ns) = (n ≡ 0) × Zeros ns
-
-  first-each : (ns : List ℕ) → firstNumber ns ≡ 0 → Zeros ns
-  first-each [] e = tt
-  first-each (n ∷ ns) e = let (z, h) = first-none n ns e in (z, first-each ns h)
-
   count-none : (n : ℕ) → minPoses ≤ n → n ≤ maxPoses → _≡_ {A = ℕ} (cond (ltb n minPoses || ltb maxPoses n) 12 0) 0
   count-none n l g = rw (le-ltb n minPoses l, le-ltb maxPoses n g)
 

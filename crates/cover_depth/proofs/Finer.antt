@@ -183,7 +183,7 @@ module _ {m : AnimatedTransform} (built : Built m) (b : Bounds3f) (r : BoxRefine
           subst (λ (x : BoundsAnswer). BoxWithin x c) (sym (motion-slices m b (d + n) f)) (slices-finer d n c ends pieces (2 ^ (d + n)) (omega arith))
 
 -- ---- the query
-arguments-finer : (b : Bounds3f) (d : ℕ) → Bounds3f·refusal b ≡ 0 → d ≤ maxDepth → coverRefusal b d ≡ 0
+pub arguments-finer : (b : Bounds3f) (d : ℕ) → Bounds3f·refusal b ≡ 0 → d ≤ maxDepth → coverRefusal b d ≡ 0
 unfolding coverRefusal
 arguments-finer b d e l = rw (e, le-ltb maxDepth d l)
 

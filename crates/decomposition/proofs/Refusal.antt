@@ -21,8 +21,8 @@ use Rattle.quaternion.specs.IsFinite.{Quaternion·isFinite}
 use Rattle.matrix_quaternion.specs.FromMatrix.{Quaternion·fromMatrix}
 use Rattle.decomposition.specs.declared.Decomposition.{Decomposition}
 use Rattle.polar_round.specs.PolarRound.{linearPart, mean, distance}
-use Rattle.decomposition.specs.Polar.{settledNorm, Polar, refused, unsettled, settled, judgedRound, round, polar}
-use Rattle.decomposition.specs.Decompose.{Decomposition·refused, translationOf, judged, scaleBy, parts, finish, Matrix4x4·decompose}
+use Rattle.decomposition.specs.Polar.{settledNorm, Polar, refused, unsettled, settled, judgedRound, polarRound, polar}
+use Rattle.decomposition.specs.Decompose.{Decomposition·refused, translationOf, Decomposition·judged, scaleBy, parts, finish, Matrix4x4·decompose}
 
 -- The parts of m that were not refused: the translation as it stands in m, a finite quaternion, a finite scale.
 pub record Accepted (m : Rows) (d : Decomposition) : Type 0 where
@@ -55,8 +55,8 @@ judged-numbered r rnext = go (Matrix4x4·isFinite rnext) (le (distance r rnext) 
     go true false = going
     go false b = stopped notFinite
 
-round-numbered : (k : ℕ) (s : Polar) → Numbered s → Numbered (round k s)
-unfolding round
+round-numbered : (k : ℕ) (s : Polar) → Numbered s → Numbered (polarRound k s)
+unfolding polarRound
 round-numbered k (refused n) h = h
 round-numbered k (settled r) h = h
 round-numbered k (unsettled r) h = go (eqb (rit .refusal) 0) refl
@@ -70,14 +70,14 @@ round-numbered k (unsettled r) h = go (eqb (rit .refusal) 0) refl
 
 polar-numbered : (m : Rows) → Numbered (polar m)
 unfolding polar
-polar-numbered m = loop-keeps (λ k s. Numbered s) round 100 (λ k s l h. round-numbered k s h) (unsettled (linearPart m)) going
+polar-numbered m = loop-keeps (λ k s. Numbered s) polarRound 100 (λ k s l h. round-numbered k s h) (unsettled (linearPart m)) going
 
 data Answered (m : Rows) (d : Decomposition) : Type 0 where
   none : (n : ℕ) → Number n → d ≡ Decomposition·refused n → Answered m d
   parted : d .refusal ≡ 0 → Accepted m d → Answered m d
 
-judged-answered : (m : Rows) (q : Quaternion) (s : Rows) → Answered m (judged m q s)
-unfolding judged Matrix4x4·isFinite
+judged-answered : (m : Rows) (q : Quaternion) (s : Rows) → Answered m (Decomposition·judged m q s)
+unfolding Decomposition·judged Matrix4x4·isFinite
 judged-answered m q s = go (Quaternion·isFinite q && Matrix4x4·isFinite s) (λ h. h)
   where
     good : Decomposition
@@ -96,7 +96,7 @@ unfolding parts
 parts-answered rigid m r = go (eqb (Matrix4x4·inverse r .refusal) 0) refl
   where
     go : (b : Bool) → eqb (Matrix4x4·inverse r .refusal) 0 ≡ b
-        → Answered m (cond b (judged m (Quaternion·fromMatrix r) (scaleBy rigid (Matrix4x4·toRows (Matrix4x4·inverse r .m)) m)) (Decomposition·refused (Matrix4x4·inverse r .refusal)))
+        → Answered m (cond b (Decomposition·judged m (Quaternion·fromMatrix r) (scaleBy rigid (Matrix4x4·toRows (Matrix4x4·inverse r .m)) m)) (Decomposition·refused (Matrix4x4·inverse r .refusal)))
     go true e = judged-answered m (Quaternion·fromMatrix r) (scaleBy rigid (Matrix4x4·toRows (Matrix4x4·inverse r .m)) m)
     go false e = none (Matrix4x4·inverse r .refusal) (number (inverse-refusal r) (eqb-false (Matrix4x4·inverse r .refusal) 0 e)) refl
 

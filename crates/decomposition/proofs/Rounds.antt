@@ -17,7 +17,7 @@ use Rattle.control_flow.specs.Loop.{loop}
 use Rattle.matrix_inverse.specs.declared.InverseAnswer.{InverseAnswer}
 use Rattle.matrix_inverse.specs.Inverse.{Matrix4x4·inverse}
 use Rattle.polar_round.specs.PolarRound.{linearPart, mean, distance}
-use Rattle.decomposition.specs.Polar.{settledNorm, Polar, refused, unsettled, settled, judgedRound, round, polar}
+use Rattle.decomposition.specs.Polar.{settledNorm, Polar, refused, unsettled, settled, judgedRound, polarRound, polar}
 use Rattle.decomposition.specs.Decompose.{Decomposition·refused, parts, finish, Matrix4x4·decompose}
 
 loop-fixed : {S : Type 0} (body : ℕ → S → S) (s₀ s : S) → ((k : ℕ) → body k s ≡ s)
@@ -30,38 +30,38 @@ loop-fixed body s₀ s f i (suc n) h e =
 -- After k rounds on the linear part of m, fewer than 100 and none the last, stands r.
 pub record Reached (m : Rows) (k : ℕ) (r : Rows) : Type 0 where
   pub low : k < 100
-  pub state : loop round k (unsettled (linearPart m)) ≡ unsettled r
+  pub state : loop polarRound k (unsettled (linearPart m)) ≡ unsettled r
 
 module _ {m : Rows} {k : ℕ} {r : Rows} (reached : Reached m k r) where
-  one-round : (s : Polar) → round k (unsettled r) ≡ s → loop round (suc k) (unsettled (linearPart m)) ≡ s
+  one-round : (s : Polar) → polarRound k (unsettled r) ≡ s → loop polarRound (suc k) (unsettled (linearPart m)) ≡ s
   unfolding loop
   one-round s e = rw (reached .state) e
 
   -- the round stands at s, which no round changes
-  stays : (rigid : Bool) (s : Polar) → ((n : ℕ) → round n s ≡ s) → round k (unsettled r) ≡ s → Matrix4x4·decompose rigid m ≡ finish rigid m s
+  stays : (rigid : Bool) (s : Polar) → ((n : ℕ) → polarRound n s ≡ s) → polarRound k (unsettled r) ≡ s → Matrix4x4·decompose rigid m ≡ finish rigid m s
   unfolding Matrix4x4·decompose polar
-  stays rigid s f e = rw (loop-fixed round (unsettled (linearPart m)) s f (suc k) 100 (reached .low) (one-round s e))
+  stays rigid s f e = rw (loop-fixed polarRound (unsettled (linearPart m)) s f (suc k) 100 (reached .low) (one-round s e))
 
   module _ (rit : InverseAnswer) (inverted : rit ≡ Matrix4x4·inverse (Matrix4x4·transpose r)) where
     pub inverse-refuses : (rigid : Bool) → (rit .refusal ≡ 0 → ⊥) → Matrix4x4·decompose rigid m ≡ Decomposition·refused (rit .refusal)
-    unfolding round finish
+    unfolding polarRound finish
     inverse-refuses rigid n = stays rigid (refused (rit .refusal)) (λ _. refl) (rw (← inverted, ne-eqb (rit .refusal) 0 n))
 
     module _ (ok : rit .refusal ≡ 0) (rnext : Rows) (averaged : rnext ≡ mean r (Matrix4x4·toRows (rit .m))) where
-      rounded : round k (unsettled r) ≡ judgedRound r rnext
-      unfolding round
+      rounded : polarRound k (unsettled r) ≡ judgedRound r rnext
+      unfolding polarRound
       rounded = rw (← inverted, eq-eqb (rit .refusal) 0 ok, averaged)
 
       pub matrix-refuses : (rigid : Bool) → Matrix4x4·isFinite rnext ≡ false → Matrix4x4·decompose rigid m ≡ Decomposition·refused 5
-      unfolding round finish judgedRound
+      unfolding polarRound finish judgedRound
       matrix-refuses rigid f = stays rigid (refused 5) (λ _. refl) (rounded ∙ rw f)
 
       module _ (finite : Matrix4x4·isFinite rnext ≡ true) where
         near : (rigid : Bool) → le (distance r rnext) settledNorm ≡ true → Matrix4x4·decompose rigid m ≡ parts rigid m rnext
-        unfolding round finish judgedRound
+        unfolding polarRound finish judgedRound
         near rigid n = stays rigid (settled rnext) (λ _. refl) (rounded ∙ rw (finite, n))
 
-        far : le (distance r rnext) settledNorm ≡ false → loop round (suc k) (unsettled (linearPart m)) ≡ unsettled rnext
+        far : le (distance r rnext) settledNorm ≡ false → loop polarRound (suc k) (unsettled (linearPart m)) ≡ unsettled rnext
         unfolding judgedRound
         far n = one-round (unsettled rnext) (rounded ∙ rw (finite, n))
 

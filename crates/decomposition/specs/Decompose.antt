@@ -5,7 +5,7 @@ use mathlib.Core.Bool.{Bool, true, false, _&&_, cond}
 use lib.Dec.{eqb}
 use Rattle.float32.specs.Operators.{one}
 use Rattle.vector3.specs.declared.Vector3f.{Vector3f}
-use Rattle.matrix4x4.specs.Rows.{Rows, at, tabulate, positiveZero, Matrix4x4·toRows, Matrix4x4·fromRows}
+use Rattle.matrix4x4.specs.Rows.{Rows, at, tabulate, positiveZero, Matrix4x4·toRows, Matrix4x4·fromRows, Matrix4x4·zero}
 use Rattle.matrix4x4.specs.Mul.{Matrix4x4·mul}
 use Rattle.matrix4x4.specs.IsFinite.{Matrix4x4·isFinite}
 use Rattle.matrix_inverse.specs.Inverse.{Matrix4x4·inverse}
@@ -18,15 +18,15 @@ use Rattle.decomposition.specs.Polar.{Polar, refused, unsettled, settled
 abbrev pub Decomposition·refused : ℕ → Decomposition
 Decomposition·refused n =
     let o : Vector3f = record { x = positiveZero; y = positiveZero; z = positiveZero } in
-    record { t = o; r = record { v = o; w = positiveZero }; s = Matrix4x4·fromRows (tabulate (λ i. tabulate (λ j. positiveZero))); refusal = n }
+    record { t = o; r = record { v = o; w = positiveZero }; s = Matrix4x4·zero; refusal = n }
 
 -- `t.x = m.m[0][3]`, and so on
 abbrev pub translationOf : Rows → Vector3f
 translationOf m = record { x = at m 0 3; y = at m 1 3; z = at m 2 3 }
 
 -- document 01, Refusals, 5: a finished "matrix, quaternion .. holds a value that isn't finite"; the scale with all 16 entries
-unfoldable pub judged : Rows → Quaternion → Rows → Decomposition
-judged m r s =
+unfoldable pub Decomposition·judged : Rows → Quaternion → Rows → Decomposition
+Decomposition·judged m r s =
     cond (Quaternion·isFinite r && Matrix4x4·isFinite s)
     (record { t = translationOf m; r = r; s = Matrix4x4·fromRows s; refusal = 0 })
     (Decomposition·refused 5)
@@ -41,7 +41,7 @@ unfoldable pub parts : Bool → Rows → Rows → Decomposition
 parts rigid m r =
     let inverse = Matrix4x4·inverse r in
     cond (eqb (inverse .refusal) 0)
-    (judged m (Quaternion·fromMatrix r) (scaleBy rigid (Matrix4x4·toRows (inverse .m)) m))
+    (Decomposition·judged m (Quaternion·fromMatrix r) (scaleBy rigid (Matrix4x4·toRows (inverse .m)) m))
     (Decomposition·refused (inverse .refusal))
 
 unfoldable pub finish : Bool → Rows → Polar → Decomposition

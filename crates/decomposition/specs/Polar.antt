@@ -26,13 +26,13 @@ unfoldable pub judgedRound : Rows → Rows → Polar
 judgedRound r rnext = cond (Matrix4x4·isFinite rnext) (cond (le (distance r rnext) settledNorm) (settled rnext) (unsettled rnext)) (refused 5)
 
 -- the body of pbrt's loop
-unfoldable pub round : ℕ → Polar → Polar
-round k (refused n) = refused n
-round k (settled r) = settled r
-round k (unsettled r) =
+unfoldable pub polarRound : ℕ → Polar → Polar
+polarRound k (refused n) = refused n
+polarRound k (settled r) = settled r
+polarRound k (unsettled r) =
     let rit = Matrix4x4·inverse (Matrix4x4·transpose r) in
     cond (eqb (rit .refusal) 0) (judgedRound r (mean r (Matrix4x4·toRows (rit .m)))) (refused (rit .refusal))
 
 -- document 01, Move: "The polar rounds stop at 100 rounds or a norm of 0.0001 or less."
 unfoldable pub polar : Rows → Polar
-polar m = loop round 100 (unsettled (linearPart m))
+polar m = loop polarRound 100 (unsettled (linearPart m))

@@ -4,7 +4,7 @@ use matrix4x4::Matrix4x4;
 use quaternion::Quaternion;
 use vector3::Vector3f;
 ghost use mathlib.Core.Path.{_≡_};
-ghost use Rattle.decomposition.specs.Decompose.{Decomposition·refused, judged, scaleBy, parts, Matrix4x4·decompose};
+ghost use Rattle.decomposition.specs.Decompose.{Decomposition·refused, Decomposition·judged, scaleBy, parts, Matrix4x4·decompose};
 
 // Translation, rotation and scale beside a refusal (error code, 0 for none), after which every number is +0.
 pub struct Decomposition {
@@ -33,7 +33,7 @@ fn refused(refusal: u8) -> Decomposition
 }
 
 fn judged(m: [[f32; 4]; 4], r: Quaternion, s: [[f32; 4]; 4]) -> Decomposition
-    ensures value { λ d. ⌜ d ≡ judged m r s ⌝ }
+    ensures value { λ d. ⌜ d ≡ Decomposition·judged m r s ⌝ }
 {
     if r.is_finite() & matrix4x4::is_finite(s) {
         let a = m[0];

@@ -1,19 +1,15 @@
--- The union over pieces as the code takes it: `pieces-whole`, an interval that is not cut, and `pieces-halves`, the pieces of the lower half and then those of the upper. A union over two
--- lists in a row is that over the first and then the second, `union-append`.
+-- The union over pieces as the code takes it: `pieces-whole`, an interval that is not cut, and `pieces-halves`,
+-- the pieces of the lower half and then those of the upper. Rests on `union-append`.
 use Prim.Native.Nat.{ℕ, zero, suc, _-_}
 use mathlib.Core.Path.{_≡_, refl}
 use mathlib.Core.List.{List, [], _∷_, _++_, map}
 use native.Mathlib.Omega.{arith}
+use Rattle.bounds_answers.proofs.UnionAll.{union-append}
 use Rattle.transform.specs.declared.BoundsAnswer.{BoundsAnswer}
 use Rattle.bounds_query.specs.Query.{BoundsAnswer·unionBounds}
 use Rattle.interval.specs.declared.Interval.{Interval}
 use Rattle.dt_share.specs.Share.{lowerHalf, upperHalf, pieces}
-use Rattle.bounds_answers.specs.UnionAll.{BoundsAnswer·unionAll}
 use Rattle.dt_pieces.specs.means.Pieces.{unionPieces}
-
-pub union-append : (r : BoundsAnswer) (xs ys : List BoundsAnswer) → BoundsAnswer·unionAll r (xs ++ ys) ≡ BoundsAnswer·unionAll (BoundsAnswer·unionAll r xs) ys
-union-append r [] ys = refl
-union-append r (x ∷ xs) ys = union-append (BoundsAnswer·unionBounds r x) xs ys
 
 map-append : {A B : Type 0} (f : A → B) (xs ys : List A) → map f (xs ++ ys) ≡ map f xs ++ map f ys
 map-append f [] ys = refl

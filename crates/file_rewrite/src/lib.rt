@@ -6,7 +6,7 @@ ghost use mathlib.Core.Bool.{false};
 ghost use lib.ListN.{length, take};
 ghost use Rattle.motion_chain.specs.Chain.{Chain·new};
 ghost use Rattle.chain_poses.specs.Poses.{Poses·ofLists};
-ghost use Rattle.motion_text.specs.Answer.{front, lengthIn};
+ghost use Rattle.motion_text.specs.Answer.{textLeft, lengthIn};
 ghost use Rattle.chain_text.specs.Write.{Moves·text};
 ghost use Rattle.file_rewrite.specs.Rewrite.{boxedText, ChainAnswer·text, rewrittenText};
 
@@ -14,7 +14,7 @@ ghost use Rattle.file_rewrite.specs.Rewrite.{boxedText, ChainAnswer·tex
 fn write_moves(moves: &[[[f32; 4]; 45]], b: Bounds3f, out: &mut [u8]) -> usize
     requires { ⌜ 0 < length (now moves) ⌝ }
     ensures value { λ r. ⌜ r ≡ lengthIn (boxedText b (Moves·text (now (moves .entry)) b)) (now (out .entry)) ⌝ }
-    ensures text { λ _. ⌜ now (out .exit) ≡ front (boxedText b (Moves·text (now (moves .entry)) b)) (now (out .entry)) ⌝ }
+    ensures text { λ _. ⌜ now (out .exit) ≡ textLeft (boxedText b (Moves·text (now (moves .entry)) b)) (now (out .entry)) ⌝ }
     ensures counts { λ r. ⌜ (r ≤ length (now (out .exit))) × (r ≡ length (take r (now (out .exit)))) ⌝ }
 {
     let refusal = bounds_query::refusal(b);
@@ -29,7 +29,7 @@ fn write_moves(moves: &[[[f32; 4]; 45]], b: Bounds3f, out: &mut [u8]) -> usize
 // Writes the poses and the box as a file, or the refusal of their chain or of the box.
 fn write_poses(poses: &[[f32; 18]], b: Bounds3f, out: &mut [u8]) -> usize
     ensures value { λ r. ⌜ r ≡ lengthIn (ChainAnswer·text (Chain·new false (Poses·ofLists (now (poses .entry)))) b) (now (out .entry)) ⌝ }
-    ensures text { λ _. ⌜ now (out .exit) ≡ front (ChainAnswer·text (Chain·new false (Poses·ofLists (now (poses .entry)))) b) (now (out .entry)) ⌝ }
+    ensures text { λ _. ⌜ now (out .exit) ≡ textLeft (ChainAnswer·text (Chain·new false (Poses·ofLists (now (poses .entry)))) b) (now (out .entry)) ⌝ }
     ensures counts { λ r. ⌜ (r ≤ length (now (out .exit))) × (r ≡ length (take r (now (out .exit)))) ⌝ }
 {
     let mut moves = [[[0.0f32; 4]; 45]; 31];
@@ -46,7 +46,7 @@ fn write_poses(poses: &[[f32; 18]], b: Bounds3f, out: &mut [u8]) -> usize
 // most 4,161; where it doesn't fit, `out` is kept as it is and the answer is 0. Accuracy: exact.
 pub fn rewrite(bytes: &[u8], out: &mut [u8]) -> usize
     ensures value { λ r. ⌜ r ≡ lengthIn (rewrittenText (now (bytes .entry))) (now (out .entry)) ⌝ }
-    ensures text { λ _. ⌜ now (out .exit) ≡ front (rewrittenText (now (bytes .entry))) (now (out .entry)) ⌝ }
+    ensures text { λ _. ⌜ now (out .exit) ≡ textLeft (rewrittenText (now (bytes .entry))) (now (out .entry)) ⌝ }
     ensures counts { λ r. ⌜ (r ≤ length (now (out .exit))) × (r ≡ length (take r (now (out .exit)))) ⌝ }
 {
     let mut poses = [[0.0f32; 18]; 559];

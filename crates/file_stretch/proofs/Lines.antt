@@ -6,7 +6,7 @@ use mathlib.Core.Path.{_≡_, refl, sym, ap, _∙_}
 use mathlib.Core.List.{List, [], _∷_, _++_, append-assoc}
 use lib.ListN.{length, take, drop, length-append}
 use Rattle.motion_file.specs.Text.{ascii, lineFeed}
-use Rattle.motion_text.specs.Answer.{threeDigits, zerosInFront, front}
+use Rattle.motion_text.specs.Answer.{threeDigits, zerosInFront, textLeft}
 use Rattle.motion_text.proofs.Written.{number-line, length-number}
 use Rattle.file_stretch.specs.Stretch.{linesText}
 use Rattle.file_stretch.proofs.Pieces.{both-written}
@@ -53,11 +53,11 @@ module _ (first last a b : ℕ) (ea : a ≡ zerosInFront first) (eb : b ≡ zero
   lines-text = rw (← ea, ← eb) (ap (λ (t : List ℕ). ascii "lines " ++ t) (sym (append-assoc (drop a (threeDigits first)) to (drop b (threeDigits last) ++ (lineFeed ∷ [])))))
 
   pub lines-written : (buffer half after start end : List ℕ) → start ≡ threeDigits first ++ to → end ≡ threeDigits last ++ (lineFeed ∷ []) → 17 ≤ length buffer
-      → half ≡ front (ascii "lines ") buffer
+      → half ≡ textLeft (ascii "lines ") buffer
       → after
       ≡ take 6 half
-      ++ (front (take (7 - a) (drop a start) ++ take (4 - b) (drop b end)) (take (length half - 6) (drop 6 half)) ++ drop (length half - 6) (drop 6 half))
-      → (17 - a - b ≡ length (linesText first last)) × ((after ≡ front (linesText first last) buffer) × (17 - a - b ≤ 17))
+      ++ (textLeft (take (7 - a) (drop a start) ++ take (4 - b) (drop b end)) (take (length half - 6) (drop 6 half)) ++ drop (length half - 6) (drop 6 half))
+      → (17 - a - b ≡ length (linesText first last)) × ((after ≡ textLeft (linesText first last) buffer) × (17 - a - b ≤ 17))
   lines-written buffer half after start end es ee room written e =
       let cut : take (7 - a) (drop a start) ++ take (4 - b) (drop b end) ≡ numbers = rw (es, ee, first-cut a first ha, number-line b last hb) in
       let size = numbers-length in

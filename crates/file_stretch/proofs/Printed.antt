@@ -20,7 +20,7 @@ use Rattle.motion_file.specs.Text.{ascii}
 use Rattle.motion_file.specs.Layout.{MoveFile·read, MoveFile·poses}
 use Rattle.motion_file.specs.Front as lent
 use Rattle.motion_file.proofs.Files.{poses-length}
-use Rattle.motion_text.specs.Answer.{zerosInFront, refusalText, front, lengthIn}
+use Rattle.motion_text.specs.Answer.{zerosInFront, refusalText, textLeft, lengthIn}
 use Rattle.motion_text.proofs.Pastes.{lengthIn-fits}
 use Rattle.motion_text.proofs.Written.{length-refusal}
 use Rattle.file_stretch.specs.Stretch.{linesText, runText, posesText, stretchText}
@@ -29,7 +29,7 @@ use Rattle.file_stretch.proofs.Pieces.{front-size, both-written}
 -- ---- a text with room
 -- what a function that puts a text into the front of a buffer with room gives
 abbrev pub Put : List ℕ → List ℕ → List ℕ → ℕ → Type 0
-Put text buffer after r = (r ≡ length text) × ((after ≡ front text buffer) × (r ≤ 32))
+Put text buffer after r = (r ≡ length text) × ((after ≡ textLeft text buffer) × (r ≤ 32))
 
 zeros-bound : (n : ℕ) → zerosInFront n ≤ 2
 zeros-bound n = go (ltb n 10) (ltb n 100)
@@ -42,7 +42,7 @@ zeros-bound n = go (ltb n 10) (ltb n 100)
 pub refusal-bound : (n : ℕ) → length (refusalText n) ≤ 12
 refusal-bound n = omega (arith, length-refusal n (zerosInFront n) refl (zeros-bound n))
 
-pub refusal-put : (n : ℕ) (buffer after : List ℕ) (r : ℕ) → 32 ≤ length buffer → r ≡ lengthIn (refusalText n) buffer → after ≡ front (refusalText n) buffer
+pub refusal-put : (n : ℕ) (buffer after : List ℕ) (r : ℕ) → 32 ≤ length buffer → r ≡ lengthIn (refusalText n) buffer → after ≡ textLeft (refusalText n) buffer
     → Put (refusalText n) buffer after r
 refusal-put n buffer after r room er ea =
     let bound = refusal-bound n in
@@ -50,7 +50,7 @@ refusal-put n buffer after r room er ea =
     (e, (ea, omega (arith, e, bound)))
 
 -- what is left of the buffer behind the first bytes
-pub part-room : (text buffer half : List ℕ) (n : ℕ) → n ≤ 12 → 32 ≤ length buffer → half ≡ front text buffer → 17 ≤ length (take (length half - n) (drop n half))
+pub part-room : (text buffer half : List ℕ) (n : ℕ) → n ≤ 12 → 32 ≤ length buffer → half ≡ textLeft text buffer → 17 ≤ length (take (length half - n) (drop n half))
 part-room text buffer half n h room e =
     let size : length half ≡ length buffer = ap length e ∙ front-size text buffer in
     let left : length (drop n half) ≡ length half - n = length-drop n half in
@@ -63,7 +63,7 @@ module _ (number : ℕ) (run : Run) where
   run-refused h = rw (ne-eqb (run .refusal) 0 h)
 
   pub run-accepted : (buffer after : List ℕ) (r : ℕ) → run .refusal ≡ 0 → run .length ≡ 0 → 32 ≤ length buffer → r ≡ lengthIn (ascii "accepted\n") buffer
-      → after ≡ front (ascii "accepted\n") buffer → Put (runText number run) buffer after r
+      → after ≡ textLeft (ascii "accepted\n") buffer → Put (runText number run) buffer after r
   unfolding runText
   run-accepted buffer after r z l room er ea =
       let nine : length (ascii "accepted\n") ≡ 9 = unfold ascii in refl in
@@ -71,10 +71,10 @@ module _ (number : ℕ) (run : Run) where
       rw (eq-eqb (run .refusal) 0 z, eq-eqb (run .length) 0 l) (e, (ea, omega (arith, e, nine)))
 
   pub run-lines : (buffer half after : List ℕ) (n m : ℕ) → run .refusal ≡ 0 → (run .length ≡ 0 → ⊥) → 32 ≤ length buffer
-      → n ≡ lengthIn (refusalText number) buffer → half ≡ front (refusalText number) buffer → m ≡ length (linesText (run .place + 2) (run .place + run .length + 1)) → m ≤ 17
+      → n ≡ lengthIn (refusalText number) buffer → half ≡ textLeft (refusalText number) buffer → m ≡ length (linesText (run .place + 2) (run .place + run .length + 1)) → m ≤ 17
       → after
       ≡ take n half
-      ++ (front (linesText (run .place + 2) (run .place + run .length + 1)) (take (length half - n) (drop n half)) ++ drop (length half - n) (drop n half))
+      ++ (textLeft (linesText (run .place + 2) (run .place + run .length + 1)) (take (length half - n) (drop n half)) ++ drop (length half - n) (drop n half))
       → Put (runText number run) buffer after (n + m)
   unfolding runText
   run-lines buffer half after n m z l room en written em bound e =

@@ -5,7 +5,7 @@ ghost use mathlib.Core.Path.{_≡_};
 ghost use mathlib.Core.List.{_++_};
 ghost use lib.ListN.{length, take};
 ghost use Rattle.chain_poses.specs.Poses.{Poses·ofLists};
-ghost use Rattle.motion_text.specs.Answer.{zerosInFront, front, lengthIn};
+ghost use Rattle.motion_text.specs.Answer.{zerosInFront, textLeft, lengthIn};
 ghost use Rattle.file_stretch.specs.Stretch.{linesText, runText, posesText, stretchText};
 
 // The last decimal digit of a number.
@@ -33,7 +33,7 @@ fn zeros_in_front(n: usize) -> usize
 // Puts two texts, one behind the other, into the front of `out`.
 fn put_two(first: &[u8], second: &[u8], out: &mut [u8])
     requires { ⌜ length (now first) + length (now second) ≤ length (now out) ⌝ }
-    ensures { λ _. ⌜ now (out .exit) ≡ front (now (first .entry) ++ now (second .entry)) (now (out .entry)) ⌝ }
+    ensures { λ _. ⌜ now (out .exit) ≡ textLeft (now (first .entry) ++ now (second .entry)) (now (out .entry)) ⌝ }
 {
     motion_text::write_text(first, out);
     let n = first.len();
@@ -46,7 +46,7 @@ fn put_lines(first: usize, last: usize, out: &mut [u8]) -> usize
     requires { ⌜ last < 1000 ⌝ }
     requires { ⌜ 17 ≤ length (now out) ⌝ }
     ensures value { λ r. ⌜ r ≡ length (linesText first last) ⌝ }
-    ensures text { λ _. ⌜ now (out .exit) ≡ front (linesText first last) (now (out .entry)) ⌝ }
+    ensures text { λ _. ⌜ now (out .exit) ≡ textLeft (linesText first last) (now (out .entry)) ⌝ }
     ensures bound { λ r. ⌜ r ≤ 17 ⌝ }
 {
     let start = [
@@ -71,7 +71,7 @@ fn put_run(number: u8, run: Run, out: &mut [u8]) -> usize
     requires { ⌜ run .place + run .length ≤ 559 ⌝ }
     requires { ⌜ 32 ≤ length (now out) ⌝ }
     ensures value { λ r. ⌜ r ≡ length (runText number run) ⌝ }
-    ensures text { λ _. ⌜ now (out .exit) ≡ front (runText number run) (now (out .entry)) ⌝ }
+    ensures text { λ _. ⌜ now (out .exit) ≡ textLeft (runText number run) (now (out .entry)) ⌝ }
     ensures bound { λ r. ⌜ r ≤ 32 ⌝ }
 {
     if run.refusal != 0 {
@@ -93,7 +93,7 @@ fn put_poses(poses: &[[f32; 18]], out: &mut [u8]) -> usize
     requires { ⌜ length (now poses) ≤ 559 ⌝ }
     requires { ⌜ 32 ≤ length (now out) ⌝ }
     ensures value { λ r. ⌜ r ≡ length (posesText (Poses·ofLists (now (poses .entry)))) ⌝ }
-    ensures text { λ _. ⌜ now (out .exit) ≡ front (posesText (Poses·ofLists (now (poses .entry)))) (now (out .entry)) ⌝ }
+    ensures text { λ _. ⌜ now (out .exit) ≡ textLeft (posesText (Poses·ofLists (now (poses .entry)))) (now (out .entry)) ⌝ }
     ensures bound { λ r. ⌜ r ≤ 32 ⌝ }
 {
     let number = chain_number::number(false, poses);
@@ -105,7 +105,7 @@ fn put_poses(poses: &[[f32; 18]], out: &mut [u8]) -> usize
 fn put_file(bytes: &[u8], out: &mut [u8]) -> usize
     requires { ⌜ 32 ≤ length (now out) ⌝ }
     ensures value { λ r. ⌜ r ≡ length (stretchText (now (bytes .entry))) ⌝ }
-    ensures text { λ _. ⌜ now (out .exit) ≡ front (stretchText (now (bytes .entry))) (now (out .entry)) ⌝ }
+    ensures text { λ _. ⌜ now (out .exit) ≡ textLeft (stretchText (now (bytes .entry))) (now (out .entry)) ⌝ }
     ensures bound { λ r. ⌜ r ≤ 32 ⌝ }
 {
     let mut poses = [[0.0f32; 18]; 559];
@@ -121,7 +121,7 @@ fn put_file(bytes: &[u8], out: &mut [u8]) -> usize
 // 32; where it doesn't fit, `out` is kept as it is and the answer is 0. Accuracy: exact.
 pub fn stretch(bytes: &[u8], out: &mut [u8]) -> usize
     ensures value { λ r. ⌜ r ≡ lengthIn (stretchText (now (bytes .entry))) (now (out .entry)) ⌝ }
-    ensures text { λ _. ⌜ now (out .exit) ≡ front (stretchText (now (bytes .entry))) (now (out .entry)) ⌝ }
+    ensures text { λ _. ⌜ now (out .exit) ≡ textLeft (stretchText (now (bytes .entry))) (now (out .entry)) ⌝ }
     ensures counts { λ r. ⌜ (r ≤ length (now (out .exit))) × (r ≡ length (take r (now (out .exit)))) ⌝ }
 {
     let mut text = [0u8; 32];

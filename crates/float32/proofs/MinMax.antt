@@ -1,5 +1,5 @@
--- The least of two floats is below both and the greatest above both (`min-left`, `min-right`, `max-left`, `max-right`); each is one of the two (`min-picks`, `max-picks`).
--- Rests on the order of `rounding`; `Number` is asked of what the result is compared with.
+-- The least of two floats is below both and the greatest above both (`min-left`, `min-right`, `max-left`, `max-right`); each is one
+-- of the two (`min-picks`, `max-picks`). Rests on the order of `rounding`; `Number` is asked of what the result is compared with.
 use mathlib.Core.Bool.{Bool, true, false, not, cond}
 use lib.Dec.{T}
 use lib.Ieee.{Float, isNan, lt}

@@ -1,11 +1,19 @@
 // Numbers that 32-bit floats have no operator for: absolute value, least and greatest of two, linear interpolation, clamp,
-// and whether a float is finite. Each is stated for all arguments, NaN and infinities included.
+// one of two by a test, and whether a float is finite. Each is stated for all arguments, NaN and infinities included.
 ghost use mathlib.Core.Path.{_≡_};
+ghost use mathlib.Core.Bool.{cond};
 ghost use lib.Ieee.Scale.{finite};
 ghost use Rattle.float32.specs.Abs.{abs};
 ghost use Rattle.float32.specs.MinMax.{minNum, maxNum};
 ghost use Rattle.float32.specs.Lerp.{lerp};
 ghost use Rattle.float32.specs.Clamp.{clamp};
+
+// x where the test holds, and y otherwise. Accuracy: exact.
+pub fn select(test: bool, x: f32, y: f32) -> f32
+    ensures value { λ r. ⌜ r ≡ cond test x y ⌝ }
+{
+    if test { x } else { y }
+}
 
 // The absolute value. Accuracy: exact.
 pub fn abs(x: f32) -> f32

@@ -4,12 +4,13 @@ use mathlib.Core.Path.{_≡_, sym, ap, _∙_}
 use Prim.Native.Nat.{ℕ}
 use mathlib.Core.List.{List, [], _∷_, _++_}
 use lib.ListN.{length, getD}
+use Rattle.refusal.specs.First.{firstRefusal}
+use Rattle.refusal.proofs.First.{first-zero, first-stands, first-right, first-assoc}
 use Rattle.interval.specs.declared.Interval.{Interval}
 use Rattle.interval.specs.declared.Judged.{Judged}
 use Rattle.interval.specs.Interval.{Interval·point}
-use Rattle.interval.specs.Enclosure.{first}
 use Rattle.interval.specs.Extension.{carry, Carries₁, Carries₂}
-use Rattle.interval.proofs.Refusal.{first-zero, first-stands, first-right, first-assoc, add-carries, sub-carries, mul-carries, div-carries, sqrt-carries, sin-carries, cos-carries}
+use Rattle.interval.proofs.Refusal.{add-carries, sub-carries, mul-carries, div-carries, sqrt-carries, sin-carries, cos-carries}
 use Rattle.formula.specs.Program.{Binary, sum, difference, product, quotient, Unary, root, sine, cosine, Expr, var, con, binary, unary, Program, _>>=_, give}
 use Rattle.formula.specs.Enclose.{Binary·enclose, Unary·enclose, Expr·enclose, Enclosure, enclosure, Expr·encloseAll, extend, Program·enclose, unbound}
 
@@ -26,16 +27,16 @@ unary-carries sine = sin-carries
 unary-carries cosine = cos-carries
 
 -- What a carried number says: 0 at the end is 0 before, and one that is not 0 is the number at the end.
-carried-zero : (m n : ℕ) {r : ℕ} → r ≡ first m n → r ≡ 0 → m ≡ 0
+carried-zero : (m n : ℕ) {r : ℕ} → r ≡ firstRefusal m n → r ≡ 0 → m ≡ 0
 carried-zero m n e h = first-zero m n (sym e ∙ h) .0
 
-carried-stands : (m n : ℕ) {r : ℕ} → r ≡ first m n → (m ≡ 0 → ⊥) → r ≡ m
+carried-stands : (m n : ℕ) {r : ℕ} → r ≡ firstRefusal m n → (m ≡ 0 → ⊥) → r ≡ m
 carried-stands m n e h = e ∙ sym (first-stands m n h)
 
 carry-none : (m : ℕ) (X : Interval) → _≡_ {A = Judged} (record { interval = X; refusal = m }) (carry m (record { interval = X; refusal = 0 }))
 carry-none m X = ap (λ (n : ℕ). record { interval = X; refusal = n }) (first-right m)
 
-carry-twice : (m n : ℕ) (j : Judged) → carry (first m n) j ≡ carry m (carry n j)
+carry-twice : (m n : ℕ) (j : Judged) → carry (firstRefusal m n) j ≡ carry m (carry n j)
 carry-twice m n j = rw (first-assoc m n (j .refusal))
 
 -- An operation after operands that were met with m, and the same after operands that were met with none.
@@ -43,7 +44,7 @@ unary-after : (o : Unary) (m : ℕ) (p p₀ : Judged) → p ≡ carry m p₀
     → Unary·enclose o (p .refusal) (p .interval) ≡ carry m (Unary·enclose o (p₀ .refusal) (p₀ .interval))
 unary-after o m p p₀ e =
     rw e
-    (unary-carries o .carries (first m (p₀ .refusal)) (p₀ .interval)
+    (unary-carries o .carries (firstRefusal m (p₀ .refusal)) (p₀ .interval)
     ∙ carry-twice m (p₀ .refusal) (Unary·enclose o 0 (p₀ .interval))
     ∙ ap (carry m) (sym (unary-carries o .carries (p₀ .refusal) (p₀ .interval))))
 
@@ -51,7 +52,7 @@ binary-after : (o : Binary) (m : ℕ) (p p₀ q q₀ : Judged) → p ≡ carry m
     → Binary·enclose o (q .refusal) (p .interval) (q .interval) ≡ carry m (Binary·enclose o (q₀ .refusal) (p₀ .interval) (q₀ .interval))
 binary-after o m p p₀ q q₀ e h =
     rw (e, h)
-    (binary-carries o .carries (first m (q₀ .refusal)) (p₀ .interval) (q₀ .interval)
+    (binary-carries o .carries (firstRefusal m (q₀ .refusal)) (p₀ .interval) (q₀ .interval)
     ∙ carry-twice m (q₀ .refusal) (Binary·enclose o 0 (p₀ .interval) (q₀ .interval))
     ∙ ap (carry m) (sym (binary-carries o .carries (q₀ .refusal) (p₀ .interval) (q₀ .interval))))
 
@@ -74,7 +75,7 @@ expr-carries m σ (unary o a) = unary-after o m (Expr·enclose m σ a) (Expr·en
 
 -- ---- programs
 abbrev pub carryAll : ℕ → Enclosure → Enclosure
-carryAll m c = enclosure (first m (c .refusal)) (c .intervals)
+carryAll m c = enclosure (firstRefusal m (c .refusal)) (c .intervals)
 
 all-carries : (m : ℕ) (σ : List Interval) (es : List Expr) → Expr·encloseAll m σ es ≡ carryAll m (Expr·encloseAll 0 σ es)
 unfolding Expr·encloseAll
@@ -84,7 +85,7 @@ all-carries m σ (e ∷ es) = go (Expr·enclose m σ e) (expr-carries m σ e) (�
     go : (p : Judged) → p ≡ carry m (Expr·enclose 0 σ e) → ((n : ℕ) → Expr·encloseAll n σ es ≡ carryAll n (Expr·encloseAll 0 σ es))
         → enclosure (Expr·encloseAll (p .refusal) σ es .refusal) (p .interval ∷ Expr·encloseAll (p .refusal) σ es .intervals)
         ≡ carryAll m (enclosure (Expr·encloseAll (Expr·enclose 0 σ e .refusal) σ es .refusal) (Expr·enclose 0 σ e .interval ∷ Expr·encloseAll (Expr·enclose 0 σ e .refusal) σ es .intervals))
-    go p h k = let r = Expr·enclose 0 σ e .refusal in rw (h, k (first m r), k r, first-assoc m r (Expr·encloseAll 0 σ es .refusal))
+    go p h k = let r = Expr·enclose 0 σ e .refusal in rw (h, k (firstRefusal m r), k r, first-assoc m r (Expr·encloseAll 0 σ es .refusal))
 
 pub program-carries : (m : ℕ) (σ : List Interval) (p : Program) → Program·enclose (enclosure m σ) p ≡ carryAll m (Program·enclose (enclosure 0 σ) p)
 unfolding Program·enclose
@@ -97,7 +98,7 @@ program-carries m σ (e >>= k) = go (Expr·enclose m σ e) (expr-carries m σ e)
     go p h g =
         let r = Expr·enclose 0 σ e .refusal in
         let τ = σ ++ Expr·enclose 0 σ e .interval ∷ [] in
-        rw (h, g (first m r) τ, g r τ, first-assoc m r (Program·enclose (enclosure 0 τ) (k (var (length σ))) .refusal))
+        rw (h, g (firstRefusal m r) τ, g r τ, first-assoc m r (Program·enclose (enclosure 0 τ) (k (var (length σ))) .refusal))
 
 -- ---- what follows of the number
 number : {j k : Judged} → j ≡ k → j .refusal ≡ k .refusal

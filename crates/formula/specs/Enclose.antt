@@ -14,29 +14,29 @@ use Rattle.interval.specs.Enclosure.{areAngles, Judged·addEnclosure, Judged·s
 use Rattle.formula.specs.Program.{Binary, sum, difference, product, quotient, Unary, root, sine, cosine, Expr, var, con, binary, unary, Program, _>>=_, give}
 
 abbrev pub Binary·enclose : Binary → ℕ → Interval → Interval → Judged
-Binary·enclose sum m X Y = Judged·addEnclosure m X Y
-Binary·enclose difference m X Y = Judged·subEnclosure m X Y
-Binary·enclose product m X Y = Judged·mulEnclosure m X Y
-Binary·enclose quotient m X Y = Judged·divEnclosure m X Y
+Binary·enclose sum met X Y = Judged·addEnclosure met X Y
+Binary·enclose difference met X Y = Judged·subEnclosure met X Y
+Binary·enclose product met X Y = Judged·mulEnclosure met X Y
+Binary·enclose quotient met X Y = Judged·divEnclosure met X Y
 
 abbrev pub Unary·enclose : Unary → ℕ → Interval → Judged
-Unary·enclose root m X = Judged·sqrtEnclosure m X
-Unary·enclose sine m X = Judged·sinEnclosure m X
-Unary·enclose cosine m X = Judged·cosEnclosure m X
+Unary·enclose root met X = Judged·sqrtEnclosure met X
+Unary·enclose sine met X = Judged·sinEnclosure met X
+Unary·enclose cosine met X = Judged·cosEnclosure met X
 
 abbrev pub unbound : Interval
 unbound = Interval·point nan
 
--- m is the number met before, σ the intervals of the variables.
+-- `met` is the number met before, σ the intervals of the variables.
 unfoldable pub Expr·enclose : ℕ → List Interval → Expr → Judged
-Expr·enclose m σ (var i) = record { interval = getD σ i unbound; refusal = m }
-Expr·enclose m σ (con x) = record { interval = Interval·point x; refusal = m }
-Expr·enclose m σ (binary o a b) =
-    let p = Expr·enclose m σ a in
+Expr·enclose met σ (var i) = record { interval = getD σ i unbound; refusal = met }
+Expr·enclose met σ (con x) = record { interval = Interval·point x; refusal = met }
+Expr·enclose met σ (binary o a b) =
+    let p = Expr·enclose met σ a in
     let q = Expr·enclose (p .refusal) σ b in
     Binary·enclose o (q .refusal) (p .interval) (q .interval)
-Expr·enclose m σ (unary o a) =
-    let p = Expr·enclose m σ a in
+Expr·enclose met σ (unary o a) =
+    let p = Expr·enclose met σ a in
     Unary·enclose o (p .refusal) (p .interval)
 
 -- Intervals with the number met on the way, 0 for none.
@@ -45,12 +45,12 @@ pub record Enclosure : Type 0 where
   pub refusal : ℕ
 
 abbrev pub enclosure : ℕ → List Interval → Enclosure
-enclosure m σ = record { intervals = σ; refusal = m }
+enclosure met σ = record { intervals = σ; refusal = met }
 
 unfoldable pub Expr·encloseAll : ℕ → List Interval → List Expr → Enclosure
-Expr·encloseAll m σ [] = enclosure m []
-Expr·encloseAll m σ (e ∷ es) =
-    let p = Expr·enclose m σ e in
+Expr·encloseAll met σ [] = enclosure met []
+Expr·encloseAll met σ (e ∷ es) =
+    let p = Expr·enclose met σ e in
     let q = Expr·encloseAll (p .refusal) σ es in
     enclosure (q .refusal) (p .interval ∷ q .intervals)
 
@@ -71,14 +71,14 @@ Unary·valid sine X = areAngles X
 Unary·valid cosine X = areAngles X
 
 abbrev pub Expr·valid : ℕ → List Interval → Expr → Bool
-Expr·valid m σ (var i) = ltb i (length σ)
-Expr·valid m σ (con x) = finite x
-Expr·valid m σ (binary o a b) = Expr·valid m σ a && Expr·valid (Expr·enclose m σ a .refusal) σ b
-Expr·valid m σ (unary o a) = Expr·valid m σ a && Unary·valid o (Expr·enclose m σ a .interval)
+Expr·valid met σ (var i) = ltb i (length σ)
+Expr·valid met σ (con x) = finite x
+Expr·valid met σ (binary o a b) = Expr·valid met σ a && Expr·valid (Expr·enclose met σ a .refusal) σ b
+Expr·valid met σ (unary o a) = Expr·valid met σ a && Unary·valid o (Expr·enclose met σ a .interval)
 
 abbrev pub Expr·validAll : ℕ → List Interval → List Expr → Bool
-Expr·validAll m σ [] = true
-Expr·validAll m σ (e ∷ es) = Expr·valid m σ e && Expr·validAll (Expr·enclose m σ e .refusal) σ es
+Expr·validAll met σ [] = true
+Expr·validAll met σ (e ∷ es) = Expr·valid met σ e && Expr·validAll (Expr·enclose met σ e .refusal) σ es
 
 -- It computes to true by itself where the program has no sine and no cosine.
 abbrev pub Program·valid : Enclosure → Program → Bool

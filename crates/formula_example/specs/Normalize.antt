@@ -38,7 +38,7 @@ abbrev pub Vector2·normalize : Vector2 → Vector2
 Vector2·normalize v = Vector2·of (Program·eval (Vector2·list v) (normalize (var 0) (var 1)))
 
 abbrev pub Vector2·normalizeEnclosure : ℕ → IntervalVector2 → JudgedVector2
-Vector2·normalizeEnclosure m v = JudgedVector2·of (Program·enclose (enclosure m (IntervalVector2·list v)) (normalize (var 0) (var 1)))
+Vector2·normalizeEnclosure met v = JudgedVector2·of (Program·enclose (enclosure met (IntervalVector2·list v)) (normalize (var 0) (var 1)))
 
 -- Where r is not refused, it encloses the normalized form of every vector that v encloses.
 abbrev pub EnclosesNormalized : IntervalVector2 → JudgedVector2 → Type 0

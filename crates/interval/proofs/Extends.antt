@@ -8,6 +8,7 @@ use lib.Dec.{T}
 use lib.Ieee.{Float, binary32}
 use lib.Ieee.Scale.{finite}
 use lib.Ieee.Positive.{positive}
+use Rattle.refusal.specs.First.{firstRefusal}
 use Rattle.rounding.specs.Order.{_≼_, Number}
 use Rattle.rounding.proofs.Order.{≼-refl, ≼-trans, finite-number, number-left, above-positive}
 use Rattle.rounding.proofs.Arithmetic.{add-mono, sub-mono, mul-between-left, div-mono}
@@ -18,7 +19,7 @@ use Rattle.float32.specs.Operators.{_⊕_, _⊖_, _⊗_, _⊘_}
 use Rattle.interval.specs.declared.Interval.{Interval}
 use Rattle.interval.specs.Contains.{Contains, Finite, Encloses}
 use Rattle.interval.specs.Interval.{Interval·new, Interval·ofFour}
-use Rattle.interval.specs.Enclosure.{Interval·addEnclosure, Interval·subEnclosure, Interval·mulEnclosure, Interval·divEnclosure, Interval·sqrtEnclosure, first, Judged·judge, Judged·addEnclosure, Judged·subEnclosure, Judged·mulEnclosure, Judged·divEnclosure, Judged·sqrtEnclosure}
+use Rattle.interval.specs.Enclosure.{Interval·addEnclosure, Interval·subEnclosure, Interval·mulEnclosure, Interval·divEnclosure, Interval·sqrtEnclosure, Judged·judge, Judged·addEnclosure, Judged·subEnclosure, Judged·mulEnclosure, Judged·divEnclosure, Judged·sqrtEnclosure}
 use Rattle.interval.specs.Extension.{Extends₁, Extends₂, Everywhere}
 use Rattle.interval.proofs.Contains.{contains-finite, new-left, new-right, hull-left, hull-right}
 use Rattle.interval.proofs.Refusal.{judge-encloses, judged-positive}
@@ -125,12 +126,12 @@ unfolding Judged·divEnclosure Judged·judge
 div-extends = record {
   extends = λ m i j h.
       let P = judged-positive m _ (j .finite) h in
-      judge-encloses (first m _) (div-contains (i .finite) (j .finite) (i .contains) (j .contains) P) h;
+      judge-encloses (firstRefusal m _) (div-contains (i .finite) (j .finite) (i .contains) (j .contains) P) h;
 }
 
 pub sqrt-extends : Extends₁ Everywhere (sqrt binary32) Judged·sqrtEnclosure
 unfolding Judged·sqrtEnclosure Judged·judge
-sqrt-extends = record { extends = λ m d i h. judge-encloses (first m _) (sqrt-contains (judged-positive m _ (i .finite) h) (i .contains)) h }
+sqrt-extends = record { extends = λ m d i h. judge-encloses (firstRefusal m _) (sqrt-contains (judged-positive m _ (i .finite) h) (i .contains)) h }
 
 -- ---- what is rooted, and what is divided by, was positive
 pub divisor-positive : (m : ℕ) {X Y : Interval} {x y : Float} → Encloses X x → Encloses Y y → Judged·divEnclosure m X Y .refusal ≡ 0 → T (positive y)

@@ -4,14 +4,16 @@ use lib.Dec.{T}
 use lib.Ieee.{Float}
 use lib.Ieee.Scale.{finite}
 use lib.Ieee.Positive.{positive}
+use Rattle.refusal.specs.First.{firstRefusal}
+use Rattle.refusal.proofs.First.{zero-first}
 use Rattle.rounding.proofs.Order.{≼-trans, above-positive}
 use Rattle.interval.specs.declared.Interval.{Interval}
 use Rattle.interval.specs.Contains.{Contains, Subset, Finite, Refines}
 use Rattle.interval.specs.Interval.{Interval·ofFour}
-use Rattle.interval.specs.Enclosure.{Interval·addEnclosure, Interval·subEnclosure, Interval·mulEnclosure, Interval·divEnclosure, Interval·sqrtEnclosure, first, Judged·addEnclosure, Judged·subEnclosure, Judged·mulEnclosure, Judged·divEnclosure, Judged·sqrtEnclosure}
+use Rattle.interval.specs.Enclosure.{Interval·addEnclosure, Interval·subEnclosure, Interval·mulEnclosure, Interval·divEnclosure, Interval·sqrtEnclosure, Judged·addEnclosure, Judged·subEnclosure, Judged·mulEnclosure, Judged·divEnclosure, Judged·sqrtEnclosure}
 use Rattle.interval.specs.Extension.{Isotone₁, Isotone₂, Everywhere}
 use Rattle.interval.proofs.Contains.{subset-low, subset-high, subset-finite, own-low, new-subset, hull-subset}
-use Rattle.interval.proofs.Refusal.{zero-first, positive-accepted, judge-narrower, judged-positive}
+use Rattle.interval.proofs.Refusal.{positive-accepted, judge-narrower, judged-positive}
 use Rattle.interval.proofs.Extends.{add-contains, sub-contains, mul-contains, div-contains, sqrt-contains}
 
 pub of-four-subset : {Z : Interval} {a b c d : Float} → Contains Z a → Contains Z b → Contains Z c → Contains Z d → Subset (Interval·ofFour a b c d) Z
@@ -79,7 +81,7 @@ unfolding Judged·divEnclosure
 div-isotone = record {
   isotone = λ m m' r q z h.
       let P = judged-positive m' _ (q .finite) h in
-      judge-narrower (first m _) (first m' _) (div-subset (r .finite) (q .finite) (r .subset) (q .subset) P) (zero-first m _ z (positive-accepted _ (positive-subset q P))) h;
+      judge-narrower (firstRefusal m _) (firstRefusal m' _) (div-subset (r .finite) (q .finite) (r .subset) (q .subset) P) (zero-first m _ z (positive-accepted _ (positive-subset q P))) h;
 }
 
 pub sqrt-isotone : Isotone₁ Everywhere Judged·sqrtEnclosure
@@ -88,5 +90,5 @@ sqrt-isotone = record {
   isotone = λ m m' d r z h.
       let P' = judged-positive m' _ (r .finite) h in
       let P = positive-subset r P' in
-      judge-narrower (first m _) (first m' _) (sqrt-subset P P' (r .subset)) (zero-first m _ z (positive-accepted _ P)) h;
+      judge-narrower (firstRefusal m _) (firstRefusal m' _) (sqrt-subset P P' (r .subset)) (zero-first m _ z (positive-accepted _ P)) h;
 }

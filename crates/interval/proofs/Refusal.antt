@@ -14,41 +14,14 @@ use lib.Ieee.Fits.{and-l, and-r, and-i}
 use lib.Ieee.Bits.{is-true}
 use lib.Ieee.Scale.{finite}
 use lib.Ieee.Positive.{positive}
+use Rattle.refusal.specs.First.{firstRefusal}
+use Rattle.refusal.proofs.First.{first-zero, zero-first, first-assoc}
 use Rattle.rounding.proofs.Order.{of-fraction, zeros-equal, above-positive}
 use Rattle.interval.specs.declared.Interval.{Interval}
 use Rattle.interval.specs.Contains.{Contains, Subset, Finite, Encloses}
-use Rattle.interval.specs.Enclosure.{Interval·divEnclosure, Interval·sqrtEnclosure, first, notFinite, notPositive, Judged·judge, Judged·addEnclosure, Judged·subEnclosure, Judged·mulEnclosure, Judged·divEnclosure, Judged·sqrtEnclosure, Judged·sinEnclosure, Judged·cosEnclosure}
+use Rattle.interval.specs.Enclosure.{Interval·divEnclosure, Interval·sqrtEnclosure, notFinite, notPositive, Judged·judge, Judged·addEnclosure, Judged·subEnclosure, Judged·mulEnclosure, Judged·divEnclosure, Judged·sqrtEnclosure, Judged·sinEnclosure, Judged·cosEnclosure}
 use Rattle.interval.specs.Extension.{Narrower, carry, Carries₁, Carries₂}
 use Rattle.interval.proofs.Contains.{subset-finite}
-
--- ---- the first number met
-pub first-zero : (m n : ℕ) → first m n ≡ 0 → (m ≡ 0) × (n ≡ 0)
-unfolding first
-first-zero zero n h = (refl, h)
-first-zero (suc m) n h = absurd (omega arith)
-
-pub zero-first : (m n : ℕ) → m ≡ 0 → n ≡ 0 → first m n ≡ 0
-unfolding first
-zero-first m n z k = rw (z, k)
-
-pub first-none : (m n : ℕ) → m ≡ 0 → n ≡ first m n
-unfolding first
-first-none m n z = rw z
-
-pub first-stands : (m n : ℕ) → (m ≡ 0 → ⊥) → m ≡ first m n
-unfolding first
-first-stands zero n h = absurd (h refl)
-first-stands (suc m) n h = refl
-
-pub first-right : (m : ℕ) → m ≡ first m 0
-unfolding first
-first-right zero = refl
-first-right (suc m) = refl
-
-pub first-assoc : (m n k : ℕ) → first (first m n) k ≡ first m (first n k)
-unfolding first
-first-assoc zero n k = refl
-first-assoc (suc m) n k = refl
 
 -- ---- 5
 pub accepted-finite : (X : Interval) → notFinite X ≡ 0 → Finite X
@@ -120,38 +93,38 @@ unfolding Judged·judge
 judge-zero m X h = first-zero m (notFinite X) h .0
 
 -- judged with the number of a test for a positive low end
-pub judged-positive : (m : ℕ) {Y : Interval} (Z : Interval) → Finite Y → Judged·judge (first m (notPositive Y)) Z .refusal ≡ 0 → T (positive (Y .low))
-judged-positive m {Y} Z f h = accepted-positive Y (f .low) (first-zero m (notPositive Y) (judge-zero (first m (notPositive Y)) Z h) .1)
+pub judged-positive : (m : ℕ) {Y : Interval} (Z : Interval) → Finite Y → Judged·judge (firstRefusal m (notPositive Y)) Z .refusal ≡ 0 → T (positive (Y .low))
+judged-positive m {Y} Z f h = accepted-positive Y (f .low) (first-zero m (notPositive Y) (judge-zero (firstRefusal m (notPositive Y)) Z h) .1)
 
 -- ---- the number is carried along
-judge-carries : (m n : ℕ) (X : Interval) → Judged·judge (first m n) X ≡ carry m (Judged·judge n X)
+judge-carries : (m n : ℕ) (X : Interval) → Judged·judge (firstRefusal m n) X ≡ carry m (Judged·judge n X)
 unfolding Judged·judge
 judge-carries m n X = rw (first-assoc m n (notFinite X))
 
 pub add-carries : Carries₂ Judged·addEnclosure
-unfolding Judged·addEnclosure Judged·judge first
+unfolding Judged·addEnclosure Judged·judge
 add-carries = record { carries = λ m X Y. refl }
 
 pub sub-carries : Carries₂ Judged·subEnclosure
-unfolding Judged·subEnclosure Judged·judge first
+unfolding Judged·subEnclosure Judged·judge
 sub-carries = record { carries = λ m X Y. refl }
 
 pub mul-carries : Carries₂ Judged·mulEnclosure
-unfolding Judged·mulEnclosure Judged·judge first
+unfolding Judged·mulEnclosure Judged·judge
 mul-carries = record { carries = λ m X Y. refl }
 
 pub div-carries : Carries₂ Judged·divEnclosure
-unfolding Judged·divEnclosure first
+unfolding Judged·divEnclosure
 div-carries = record { carries = λ m X Y. judge-carries m (notPositive Y) (Interval·divEnclosure X Y) }
 
 pub sqrt-carries : Carries₁ Judged·sqrtEnclosure
-unfolding Judged·sqrtEnclosure first
+unfolding Judged·sqrtEnclosure
 sqrt-carries = record { carries = λ m X. judge-carries m (notPositive X) (Interval·sqrtEnclosure X) }
 
 pub sin-carries : Carries₁ Judged·sinEnclosure
-unfolding Judged·sinEnclosure Judged·judge first
+unfolding Judged·sinEnclosure Judged·judge
 sin-carries = record { carries = λ m X. refl }
 
 pub cos-carries : Carries₁ Judged·cosEnclosure
-unfolding Judged·cosEnclosure Judged·judge first
+unfolding Judged·cosEnclosure Judged·judge
 cos-carries = record { carries = λ m X. refl }

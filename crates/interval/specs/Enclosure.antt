@@ -5,6 +5,7 @@ use Prim.Native.Nat.{ℕ, zero, suc}
 use mathlib.Core.Bool.{Bool, cond, _&&_}
 use lib.Ieee.{binary32, ofBits, le}
 use lib.Ieee.Scale.{finite}
+use Rattle.refusal.specs.First.{firstRefusal}
 use Rattle.square_root.specs.SquareRoot.{sqrt}
 use Rattle.trig_laws.specs.Range.{sinLow, sinHigh, cosLow, cosHigh, fullTurnFloat}
 use Rattle.float32.specs.Operators.{_⊕_, _⊖_, _⊗_, _⊘_}
@@ -46,11 +47,6 @@ abbrev pub areAngles : Interval → Bool
 areAngles X = le (ofBits binary32 0) (X .low) && le (X .high) fullTurnFloat
 
 -- ---- refusal numbers, 0 for none
--- "whichever is met first in working order": m, unless it is 0.
-unfoldable pub first : ℕ → ℕ → ℕ
-first zero n = n
-first (suc m) n = suc m
-
 -- 5: an interval end is not finite.
 unfoldable pub notFinite : Interval → ℕ
 notFinite X = cond (finite (X .low) && finite (X .high)) 0 5
@@ -61,27 +57,27 @@ notPositive X = cond (le (X .low) (ofBits binary32 0)) 10 0
 
 -- ---- each operation with the number met so far: an interval is judged as it is formed
 unfoldable pub Judged·judge : ℕ → Interval → Judged
-Judged·judge m X = record { interval = X; refusal = first m (notFinite X) }
+Judged·judge met X = record { interval = X; refusal = firstRefusal met (notFinite X) }
 
 unfoldable pub Judged·addEnclosure : ℕ → Interval → Interval → Judged
-Judged·addEnclosure m X Y = Judged·judge m (Interval·addEnclosure X Y)
+Judged·addEnclosure met X Y = Judged·judge met (Interval·addEnclosure X Y)
 
 unfoldable pub Judged·subEnclosure : ℕ → Interval → Interval → Judged
-Judged·subEnclosure m X Y = Judged·judge m (Interval·subEnclosure X Y)
+Judged·subEnclosure met X Y = Judged·judge met (Interval·subEnclosure X Y)
 
 unfoldable pub Judged·mulEnclosure : ℕ → Interval → Interval → Judged
-Judged·mulEnclosure m X Y = Judged·judge m (Interval·mulEnclosure X Y)
+Judged·mulEnclosure met X Y = Judged·judge met (Interval·mulEnclosure X Y)
 
 -- 10 is judged of the interval that is rooted, which was judged for 5 as it was formed, and 5 then of the root.
 unfoldable pub Judged·sqrtEnclosure : ℕ → Interval → Judged
-Judged·sqrtEnclosure m X = Judged·judge (first m (notPositive X)) (Interval·sqrtEnclosure X)
+Judged·sqrtEnclosure met X = Judged·judge (firstRefusal met (notPositive X)) (Interval·sqrtEnclosure X)
 
 -- A divisor has to be positive. In a formula it is a root of what was not refused, so that this 10 is never the first number met (`div-after-sqrt`).
 unfoldable pub Judged·divEnclosure : ℕ → Interval → Interval → Judged
-Judged·divEnclosure m X Y = Judged·judge (first m (notPositive Y)) (Interval·divEnclosure X Y)
+Judged·divEnclosure met X Y = Judged·judge (firstRefusal met (notPositive Y)) (Interval·divEnclosure X Y)
 
 unfoldable pub Judged·sinEnclosure : ℕ → Interval → Judged
-Judged·sinEnclosure m X = Judged·judge m (Interval·sinEnclosure X)
+Judged·sinEnclosure met X = Judged·judge met (Interval·sinEnclosure X)
 
 unfoldable pub Judged·cosEnclosure : ℕ → Interval → Judged
-Judged·cosEnclosure m X = Judged·judge m (Interval·cosEnclosure X)
+Judged·cosEnclosure met X = Judged·judge met (Interval·cosEnclosure X)

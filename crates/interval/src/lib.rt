@@ -1,12 +1,13 @@
 // Closed intervals of 32-bit floats. `Interval` has pbrt's own operations, with which the zero search bounds a function's range. `Judged` has those of document
 // 01's cover: an interval is judged as it is formed, and each operation takes the refusal number met before it, m, and hands the first number on.
+use float32::select;
+use refusal::first_refusal;
 use trig::SinCos;
 ghost use mathlib.Core.Path.{_≡_};
-ghost use mathlib.Core.Bool.{cond};
 ghost use Rattle.trig.specs.SinCos.{sin, cos};
 ghost use Rattle.trig_laws.specs.Range.{lies};
 ghost use Rattle.interval.specs.Interval.{Interval·new, Interval·point, Interval·hull, Interval·ofFour, Interval·add, Interval·sub, Interval·mul, Interval·straddles, Interval·sinBetween, Interval·sin, Interval·cosBetween, Interval·cos};
-ghost use Rattle.interval.specs.Enclosure.{first, notFinite, notPositive, Judged·judge, Judged·addEnclosure, Judged·subEnclosure, Judged·mulEnclosure, Judged·divEnclosure, Judged·sqrtEnclosure, Judged·sinEnclosure, Judged·cosEnclosure};
+ghost use Rattle.interval.specs.Enclosure.{notFinite, notPositive, Judged·judge, Judged·addEnclosure, Judged·subEnclosure, Judged·mulEnclosure, Judged·divEnclosure, Judged·sqrtEnclosure, Judged·sinEnclosure, Judged·cosEnclosure};
 ghost use Rattle.interval.specs.means.EndAngle.{EndAngle·fromSinCos, EndAngle·new, EndAngle·sinRange, EndAngle·cosRange};
 
 // pbrt's std::f32::consts::PI.
@@ -186,13 +187,6 @@ impl Interval {
     }
 }
 
-// x where the test holds, and y otherwise.
-fn select(test: bool, x: f32, y: f32) -> f32
-    ensures value { λ r. ⌜ r ≡ cond test x y ⌝ }
-{
-    if test { x } else { y }
-}
-
 // Whether the place w lies from u to v.
 fn lies(w: u64, u: u64, v: u64) -> bool
     ensures value { λ r. ⌜ r ≡ lies w u v ⌝ }
@@ -257,13 +251,6 @@ impl EndAngle {
     }
 }
 
-// The first of two numbers met.
-fn first(m: u8, n: u8) -> u8
-    ensures value { λ r. ⌜ r ≡ first m n ⌝ }
-{
-    if m == 0 { n } else { m }
-}
-
 impl Judged {
     // An interval as it is formed: 5 where an end is not finite, unless a number was met before. Accuracy: exact.
     pub fn judge(m: u8, x: Interval) -> Self
@@ -271,7 +258,7 @@ impl Judged {
     {
         Self {
             interval: x,
-            refusal: first(m, x.not_finite()),
+            refusal: first_refusal(m, x.not_finite()),
         }
     }
 
@@ -326,7 +313,7 @@ impl Judged {
             x.low / y.high,
             x.high / y.high,
         );
-        Judged::judge(first(m, y.not_positive()), four)
+        Judged::judge(first_refusal(m, y.not_positive()), four)
     }
 
     // The square root; 10 where the low end of x is zero or below. Accuracy: encloses.
@@ -337,7 +324,7 @@ impl Judged {
             low: square_root::sqrt(x.low),
             high: square_root::sqrt(x.high),
         };
-        Judged::judge(first(m, x.not_positive()), roots)
+        Judged::judge(first_refusal(m, x.not_positive()), roots)
     }
 
     // The cosine, then the sine with the number that the cosine hands on. Accuracy: encloses, for angles from 0 to a full turn.

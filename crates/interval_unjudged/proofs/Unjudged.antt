@@ -8,11 +8,12 @@ use lib.ListN.{length, getD}
 use lib.Dec.{T, ltb→lt}
 use lib.Ieee.Fits.{and-l, and-r}
 use lib.Ieee.Scale.{finite}
+use Rattle.refusal.proofs.First.{first-right}
 use Rattle.interval.specs.declared.Interval.{Interval}
 use Rattle.interval.specs.declared.Judged.{Judged}
 use Rattle.interval.specs.Contains.{Finite}
-use Rattle.interval.specs.Enclosure.{first, notFinite, Judged·judge, Judged·addEnclosure, Judged·subEnclosure, Judged·mulEnclosure, Judged·divEnclosure, Judged·sqrtEnclosure, Judged·sinEnclosure, Judged·cosEnclosure}
-use Rattle.interval.proofs.Refusal.{first-right, finite-accepted, positive-accepted}
+use Rattle.interval.specs.Enclosure.{notFinite, Judged·judge, Judged·addEnclosure, Judged·subEnclosure, Judged·mulEnclosure, Judged·divEnclosure, Judged·sqrtEnclosure, Judged·sinEnclosure, Judged·cosEnclosure}
+use Rattle.interval.proofs.Refusal.{finite-accepted, positive-accepted}
 use Rattle.formula.specs.Program.{Binary, sum, difference, product, quotient, Unary, root, sine, cosine, Expr, var, con, binary, unary, Program, _>>=_, give}
 use Rattle.formula.specs.Enclose.{Binary·enclose, Unary·enclose, unbound, Expr·enclose, Enclosure, enclosure, Expr·encloseAll, extend, Program·enclose}
 use Rattle.interval_unjudged.specs.means.Unjudged.{Binary·unjudged, Unary·unjudged, Expr·unjudged, Expr·unjudgedAll, Program·unjudged, Expr·closed, Expr·closedAll, Program·closed, Expr·result, Binary·operands, Expr·tested, Expr·testedAll, Program·tested, Binary·divisor, Unary·rooted, Expr·divisors, Expr·divisorsAll, Program·divisors, All, Positive}

@@ -5,20 +5,21 @@ use mathlib.Core.Path.{_≡_, refl, sym, ap, subst, _∙_}
 use mathlib.Core.Bool.{Bool, true, false, Bool·beq, _&&_, _||_, cond}
 use mathlib.Core.List.{List, [], _∷_, _++_, map}
 use native.Mathlib.Omega.{arith}
-use borrow.Author.Tests.{eqb-true, eqb-false, eq-eqb, le-ltb, ltb-false}
+use borrow.Author.Tests.{eqb-true, eq-eqb, le-ltb, ltb-false}
 use lib.Dec.{T, eqb, ltb}
 use lib.ListN.{length, drop}
 use lib.Ieee.Fits.{and-l, and-r, and-i}
+use Rattle.refusal.proofs.First.{first-zero}
 use Rattle.pose_pair.specs.declared.Pose.{Pose}
 use Rattle.pose_pair.specs.Pose.{Pose·isBinary32}
 use Rattle.animated_transform.specs.declared.AnimatedTransform.{AnimatedTransform}
 use Rattle.animated_transform.specs.declared.AnimatedTransformAnswer.{AnimatedTransformAnswer}
-use Rattle.animated_transform.specs.New.{firstRefusal, AnimatedTransform·new}
+use Rattle.animated_transform.specs.New.{AnimatedTransform·new}
 use Rattle.motion_chain.specs.Chain.{minPoses, maxPoses, neighbours, every, firstNumber, stage, Pose·number, Pair·number, kindStage, chainStages, chainRefusal}
 use Rattle.motion_chain.specs.Chain.{Chain, Chain·moves, ChainAnswer, built, refused, ChainAnswer·fromMoves, Chain·new}
 use Rattle.motion_chain.specs.Built.{BuiltChain, Each}
 use Rattle.motion_chain.specs.MoveAt.{lastFrom}
-use Rattle.motion_chain.proofs.Built.{first-none, checks-passed, new-built}
+use Rattle.motion_chain.proofs.Built.{first-none, first-each, checks-passed, new-built}
 use Rattle.built_poses.specs.Poses.{AnimatedTransform·startPose, AnimatedTransform·endPose, Chain·poses, Chain·isRigid}
 use Rattle.built_poses.proofs.Built.{built-poses, built-kind}
 use Rattle.joined_chains.specs.Join.{Pose·sameBits, Chain·lastPose, Chain·firstPose, Chain·joinedPoses, mismatchRefusal, countRefusal, Chain·joinRefusal, Chain·join}
@@ -52,10 +53,6 @@ last-pose p m [] = refl
 last-pose p m (next ∷ moves) = last-pose (AnimatedTransform·endPose m) next moves
 
 -- ---- the checks
-first-each : (ns : List ℕ) → firstNumber ns ≡ 0 → Each (λ n. n ≡ 0) ns
-first-each [] e = tt
-first-each (n ∷ ns) e = let (z, h) = first-none n ns e in (z, first-each ns h)
-
 each-first : (ns : List ℕ) → Each (λ n. n ≡ 0) ns → firstNumber ns ≡ 0
 unfolding firstNumber
 each-first [] h = refl
@@ -209,13 +206,6 @@ same-kind c d = go (Pose·sameBits (Chain·lastPose c) (Chain·firstPose d)) (Ch
     go true false true e = absurd (omega (arith, e))
     go false x y e = absurd (omega (arith, e))
 
-none-met : (m n : ℕ) → firstRefusal m n ≡ 0 → (m ≡ 0) × (n ≡ 0)
-none-met m n = go (eqb m 0) (eqb-true m 0) (eqb-false m 0)
-  where
-    go : (b : Bool) → (b ≡ true → m ≡ 0) → (b ≡ false → m ≡ 0 → ⊥) → cond b n m ≡ 0 → (m ≡ 0) × (n ≡ 0)
-    go true f g e = (f refl, e)
-    go false f g e = absurd (g refl e)
-
 count-passed : (n : ℕ) → countRefusal n ≡ 0 → n ≤ maxPoses
 count-passed n = go (ltb maxPoses n) (ltb-false maxPoses n)
   where
@@ -227,7 +217,7 @@ pub joins : (c d : Chain) → Joins c d
 unfolding Chain·joinedPoses Chain·joinRefusal Chain·join Chain·poses every
 joins c d bc bd same none =
     let own = own-poses bc in
-    let met = none-met (mismatchRefusal c d) (countRefusal (length (Chain·joinedPoses c d))) none in
+    let met = first-zero (mismatchRefusal c d) (countRefusal (length (Chain·joinedPoses c d))) none in
     let other = subst (λ (kind : Bool). OwnPoses kind d) (same-kind c d (met .0)) (own-poses bd) in
     let rigid = Chain·isRigid c in
     let p = Chain·firstPose c in

@@ -9,6 +9,7 @@ use borrow.Author.Tests.{le-ltb}
 use lib.Dec.{T, eqb, ltb, ltb→lt, eqb→eq}
 use lib.Ieee.{Float, nan, inf, fin, up, down, below, level, lt, le, isNan}
 use lib.Ieee.Fits.{and-l, and-r}
+use Rattle.bounds_answers.proofs.UnionAll.{union-append}
 use Rattle.rounding.specs.Order.{_≼_, Number}
 use Rattle.rounding.proofs.Order.{≼-trans, lt-≼, not-lt-≼}
 use Rattle.float32.specs.MinMax.{minNum, maxNum}
@@ -180,5 +181,4 @@ union-all-from r s (t ∷ answers) =
 
 pub union-all-append : (r s : BoundsAnswer) (answers others : List BoundsAnswer)
     → BoundsAnswer·unionAll r (answers ++ s ∷ others) ≡ BoundsAnswer·unionBounds (BoundsAnswer·unionAll r answers) (BoundsAnswer·unionAll s others)
-union-all-append r s [] others = union-all-from r s others
-union-all-append r s (t ∷ answers) others = union-all-append (BoundsAnswer·unionBounds r t) s answers others
+union-all-append r s answers others = union-append r answers (s ∷ others) ∙ union-all-from (BoundsAnswer·unionAll r answers) s others

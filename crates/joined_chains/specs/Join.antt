@@ -6,10 +6,10 @@ use mathlib.Core.List.{List, _++_}
 use lib.Dec.{eqb, ltb}
 use lib.ListN.{length, drop}
 use lib.Ieee.{Float, binary32, toBits}
+use Rattle.refusal.specs.First.{firstRefusal}
 use Rattle.matrix4x4.specs.declared.Matrix4x4.{Matrix4x4}
 use Rattle.matrix4x4.specs.Rows.{Row, col}
 use Rattle.pose_pair.specs.declared.Pose.{Pose}
-use Rattle.animated_transform.specs.New.{firstRefusal}
 use Rattle.motion_chain.specs.Chain.{maxPoses, Chain, ChainAnswer, refused, Chain·new}
 use Rattle.motion_chain.specs.MoveAt.{Chain·last}
 use Rattle.built_poses.specs.Poses.{AnimatedTransform·startPose, AnimatedTransform·endPose, Chain·poses, Chain·isRigid}

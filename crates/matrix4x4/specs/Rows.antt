@@ -40,3 +40,7 @@ Matrix4x4·toRows m = m .r0 ∷ m .r1 ∷ m .r2 ∷ m .r3 ∷ []
 
 abbrev pub Matrix4x4·fromRows : Rows → Matrix4x4
 Matrix4x4·fromRows m = record { r0 = row m 0; r1 = row m 1; r2 = row m 2; r3 = row m 3 }
+
+-- every entry +0: what a refusal has in a matrix's place
+abbrev pub Matrix4x4·zero : Matrix4x4
+Matrix4x4·zero = Matrix4x4·fromRows (tabulate (λ i. tabulate (λ j. positiveZero)))

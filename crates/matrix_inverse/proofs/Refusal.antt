@@ -9,7 +9,7 @@ use Rattle.matrix4x4.specs.IsFinite.{Matrix4x4·isFinite}
 use Rattle.matrix_inverse.specs.declared.InverseAnswer.{InverseAnswer}
 use Rattle.control_flow.specs.Loop.{loop}
 use Rattle.matrix_inverse.specs.RestoreColumns.{restoreColumns}
-use Rattle.matrix_inverse.specs.Inverse.{Elimination, zeroPivot, running, zeros, round, refused, judged, finish, Matrix4x4·inverse}
+use Rattle.matrix_inverse.specs.Inverse.{Elimination, zeroPivot, running, zeros, eliminationRound, refused, InverseAnswer·judged, finish, Matrix4x4·inverse}
 
 -- refused with one of the numbers, or finite
 data Answered (r : InverseAnswer) : Type 0 where
@@ -17,8 +17,8 @@ data Answered (r : InverseAnswer) : Type 0 where
   overflowed : r .refusal ≡ 5 → Answered r
   accepted : r .refusal ≡ 0 → T (Matrix4x4·isFinite (Matrix4x4·toRows (r .m))) → Answered r
 
-judged-answered : (m : Rows) → Answered (judged m)
-unfolding judged Matrix4x4·isFinite
+judged-answered : (m : Rows) → Answered (InverseAnswer·judged m)
+unfolding InverseAnswer·judged Matrix4x4·isFinite
 judged-answered m = go (Matrix4x4·isFinite m) (λ h. h)
   where
     go : (b : Bool) → (T b → T (Matrix4x4·isFinite m)) → Answered (cond b (record { m = Matrix4x4·fromRows m; refusal = 0 }) (refused 5))
@@ -32,7 +32,7 @@ finish-answered (running m ipiv indxr indxc) = judged-answered (restoreColumns m
 
 inverse-answered : (m : Rows) → Answered (Matrix4x4·inverse m)
 unfolding Matrix4x4·inverse
-inverse-answered m = finish-answered (loop round 4 (running m zeros zeros zeros))
+inverse-answered m = finish-answered (loop eliminationRound 4 (running m zeros zeros zeros))
 
 pub inverse-refusal : (m : Rows) → (Matrix4x4·inverse m .refusal ≡ 0) ⊎ ((Matrix4x4·inverse m .refusal ≡ 4) ⊎ (Matrix4x4·inverse m .refusal ≡ 5))
 inverse-refusal m = go (Matrix4x4·inverse m) (inverse-answered m)

@@ -6,7 +6,7 @@ use mathlib.Core.Bool.{cond}
 use mathlib.Core.List.{List}
 use lib.ListN.{getD, set}
 use lib.Ieee.{eq}
-use Rattle.matrix4x4.specs.Rows.{Rows, at, tabulate, positiveZero, Matrix4x4·fromRows}
+use Rattle.matrix4x4.specs.Rows.{Rows, at, tabulate, positiveZero, Matrix4x4·fromRows, Matrix4x4·zero}
 use Rattle.matrix4x4.specs.IsFinite.{Matrix4x4·isFinite}
 use Rattle.matrix_inverse.specs.declared.InverseAnswer.{InverseAnswer}
 use Rattle.control_flow.specs.Loop.{loop}
@@ -20,24 +20,24 @@ pub data Elimination : Type 0 where
   running : Rows → List ℕ → List ℕ → List ℕ → Elimination
 
 -- the body of pbrt's loop over i
-unfoldable pub round : ℕ → Elimination → Elimination
-round i zeroPivot = zeroPivot
-round i (running minv ipiv indxr indxc) =
+unfoldable pub eliminationRound : ℕ → Elimination → Elimination
+eliminationRound i zeroPivot = zeroPivot
+eliminationRound i (running minv ipiv indxr indxc) =
     let p = Pivot·search minv ipiv in
     let s = swapRows minv (p .irow) (p .icol) in
     cond (eq (at s (p .icol) (p .icol)) positiveZero) zeroPivot
     (running (eliminate s (p .icol)) (set ipiv (p .icol) (getD ipiv (p .icol) 0 + 1)) (set indxr i (p .irow)) (set indxc i (p .icol)))
 
 abbrev pub refused : ℕ → InverseAnswer
-refused n = record { m = Matrix4x4·fromRows (tabulate (λ i. tabulate (λ j. positiveZero))); refusal = n }
+refused n = record { m = Matrix4x4·zero; refusal = n }
 
 -- document 01, Refusals: "Each inverse, product and polar round's matrix is judged as its last entry is written."
-unfoldable pub judged : Rows → InverseAnswer
-judged m = cond (Matrix4x4·isFinite m) (record { m = Matrix4x4·fromRows m; refusal = 0 }) (refused 5)
+unfoldable pub InverseAnswer·judged : Rows → InverseAnswer
+InverseAnswer·judged m = cond (Matrix4x4·isFinite m) (record { m = Matrix4x4·fromRows m; refusal = 0 }) (refused 5)
 
 unfoldable pub finish : Elimination → InverseAnswer
 finish zeroPivot = refused 4
-finish (running minv ipiv indxr indxc) = judged (restoreColumns minv indxr indxc)
+finish (running minv ipiv indxr indxc) = InverseAnswer·judged (restoreColumns minv indxr indxc)
 
 -- `vec![0; 4]`
 abbrev pub zeros : List ℕ
@@ -45,7 +45,7 @@ zeros = tabulate (λ k. 0)
 
 -- pbrt's `Matrix4x4::inverse`
 unfoldable pub Matrix4x4·inverse : Rows → InverseAnswer
-Matrix4x4·inverse m = finish (loop round 4 (running m zeros zeros zeros))
+Matrix4x4·inverse m = finish (loop eliminationRound 4 (running m zeros zeros zeros))
 
 -- Every number of a list is below n.
 abbrev pub AllBelow : ℕ → List ℕ → Type 0

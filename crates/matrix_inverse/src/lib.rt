@@ -1,12 +1,12 @@
 // The inverse of a 4x4 matrix: pbrt's Gauss-Jordan elimination with full pivoting, in its order of operations.
+use float32::select;
 use matrix4x4::Matrix4x4;
 ghost use mathlib.Core.Path.{_≡_};
-ghost use mathlib.Core.Bool.{cond};
 ghost use Prim.Native.Nat.{_<_};
 ghost use Rattle.matrix_inverse.specs.Pivot.{consider, searchRow, Pivot·search};
 ghost use Rattle.matrix_inverse.specs.Eliminate.{swapRows, replace, scaleRow, clearRow, clearAt, eliminate};
 ghost use Rattle.matrix_inverse.specs.RestoreColumns.{swapEntries, swapColumns, restoreAt, restoreColumns};
-ghost use Rattle.matrix_inverse.specs.Inverse.{refused, judged, Matrix4x4·inverse, AllBelow};
+ghost use Rattle.matrix_inverse.specs.Inverse.{refused, InverseAnswer·judged, Matrix4x4·inverse, AllBelow};
 
 // The best candidate for a pivot so far: its absolute value, row and column.
 pub struct Pivot {
@@ -80,12 +80,6 @@ fn swap_rows(m: [[f32; 4]; 4], i: usize, k: usize) -> [[f32; 4]; 4]
         r[k] = m[i];
     }
     r
-}
-
-fn select(b: bool, x: f32, y: f32) -> f32
-    ensures value { λ r. ⌜ r ≡ cond b x y ⌝ }
-{
-    if b { x } else { y }
 }
 
 // Selected entry by entry: after a store to one entry, a load of the whole row would have to wait for it.
@@ -202,7 +196,7 @@ fn refused(refusal: u8) -> InverseAnswer
 }
 
 fn judged(m: [[f32; 4]; 4]) -> InverseAnswer
-    ensures value { λ r. ⌜ r ≡ judged m ⌝ }
+    ensures value { λ r. ⌜ r ≡ InverseAnswer·judged m ⌝ }
 {
     if matrix4x4::is_finite(m) {
         let rows = Matrix4x4::from_rows(m);

@@ -20,7 +20,7 @@ use Rattle.motion_chain.specs.Built.{BuiltChain}
 use Rattle.motion_chain.proofs.Cover.{chain-cover-answered, chain-contains}
 use Rattle.chain_poses.specs.Poses.{Poses·ofLists}
 use Rattle.motion_file.specs.Layout.{MoveFile·read, MoveFile·poses}
-use Rattle.motion_text.specs.Answer.{front, lengthIn}
+use Rattle.motion_text.specs.Answer.{textLeft, lengthIn}
 use Rattle.motion_text.proofs.Pastes.{Wrote}
 use Rattle.motion_answer.specs.Answer.{coverDepth, ChainAnswer·cover, MoveFile·chain, MoveFile·box, MoveFile·cover, BoundsAnswer·text, answerText}
 use Rattle.motion_answer.specs.Theorem.{FileContainsMotion, AnswerContainsMotion, longestText}
@@ -105,8 +105,8 @@ text-contains bytes = go (eqb (BoundsAnswer·refusal r) 0) (eqb-true (BoundsAnsw
     go false f g = inl (record { refused = g refl; printed = ap BoundsAnswer·text (number-refused r (g refl)) })
 
 -- A text that fits stands whole in the front of the buffer.
-front-text : (text buffer after : List ℕ) (r : ℕ) → length text ≤ length buffer → r ≡ lengthIn text buffer → after ≡ front text buffer → take r after ≡ text
-unfolding front lengthIn
+front-text : (text buffer after : List ℕ) (r : ℕ) → length text ≤ length buffer → r ≡ lengthIn text buffer → after ≡ textLeft text buffer → take r after ≡ text
+unfolding textLeft lengthIn
 front-text text buffer after r fits e f = rw (e, f, le-leb (length text) (length buffer) fits) (take-append-seam text (drop (length text) buffer))
 
 same-text : (bytes : List ℕ) (cover : BoundsAnswer) → cover ≡ MoveFile·cover bytes → BoundsAnswer·text cover ≡ answerText bytes
@@ -116,7 +116,7 @@ same-text bytes cover e = ap BoundsAnswer·text e
 -- The four clauses of `answer`, from what its two calls give.
 pub answer-clauses : (bytes buffer after : List ℕ) (r : ℕ) (cover : BoundsAnswer)
     → cover ≡ MoveFile·cover bytes → Wrote (BoundsAnswer·text cover) buffer after r
-    → (r ≡ lengthIn (answerText bytes) buffer) × ((after ≡ front (answerText bytes) buffer) × (((r ≤ length after) × (r ≡ length (take r after)))
+    → (r ≡ lengthIn (answerText bytes) buffer) × ((after ≡ textLeft (answerText bytes) buffer) × (((r ≤ length after) × (r ≡ length (take r after)))
     × (longestText ≤ length buffer → AnswerContainsMotion bytes (take r after))))
 answer-clauses bytes buffer after r cover e w =
     let text = same-text bytes cover e in

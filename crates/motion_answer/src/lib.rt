@@ -7,7 +7,7 @@ ghost use mathlib.Core.Bool.{false};
 ghost use lib.ListN.{length, take};
 ghost use Rattle.motion_chain.specs.Chain.{Chain·new};
 ghost use Rattle.chain_poses.specs.Poses.{Poses·ofLists};
-ghost use Rattle.motion_text.specs.Answer.{front, lengthIn};
+ghost use Rattle.motion_text.specs.Answer.{textLeft, lengthIn};
 ghost use Rattle.motion_answer.specs.Theorem.{AnswerContainsMotion, longestText};
 ghost use Rattle.motion_answer.specs.Answer.{ChainAnswer·cover, MoveFile·cover, BoundsAnswer·text, answerText};
 
@@ -44,7 +44,7 @@ fn file_cover(bytes: &[u8]) -> BoundsAnswer
 // Writes a box or a refusal into the front of `out`.
 fn write(cover: BoundsAnswer, out: &mut [u8]) -> usize
     ensures value { λ r. ⌜ r ≡ lengthIn (BoundsAnswer·text cover) (now (out .entry)) ⌝ }
-    ensures text { λ _. ⌜ now (out .exit) ≡ front (BoundsAnswer·text cover) (now (out .entry)) ⌝ }
+    ensures text { λ _. ⌜ now (out .exit) ≡ textLeft (BoundsAnswer·text cover) (now (out .entry)) ⌝ }
     ensures counts { λ r. ⌜ (r ≤ length (now (out .exit))) × (r ≡ length (take r (now (out .exit)))) ⌝ }
 {
     match cover {
@@ -58,7 +58,7 @@ fn write(cover: BoundsAnswer, out: &mut [u8]) -> usize
 // it is a box.
 pub fn answer(bytes: &[u8], out: &mut [u8]) -> usize
     ensures value { λ r. ⌜ r ≡ lengthIn (answerText (now (bytes .entry))) (now (out .entry)) ⌝ }
-    ensures text { λ _. ⌜ now (out .exit) ≡ front (answerText (now (bytes .entry))) (now (out .entry)) ⌝ }
+    ensures text { λ _. ⌜ now (out .exit) ≡ textLeft (answerText (now (bytes .entry))) (now (out .entry)) ⌝ }
     ensures counts { λ r. ⌜ (r ≤ length (now (out .exit))) × (r ≡ length (take r (now (out .exit)))) ⌝ }
     ensures contains_motion { λ r. ⌜ (longestText ≤ length (now (out .entry)) → AnswerContainsMotion (now (bytes .entry)) (take r (now (out .exit)))) ⌝ }
 {

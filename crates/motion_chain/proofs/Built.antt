@@ -5,17 +5,19 @@ use mathlib.Core.Path.{_≡_, refl, sym, ap, subst}
 use mathlib.Core.Bool.{Bool, true, false, not, _||_, cond}
 use mathlib.Core.List.{List, [], _∷_, map}
 use native.Mathlib.Omega.{arith}
-use borrow.Author.Tests.{eqb-true, eqb-false}
+use borrow.Author.Tests.{eqb-true}
 use lib.Dec.{T, eqb, ltb, nltb→le}
 use lib.ListN.{length}
 use lib.Ieee.{Float, lt}
 use lib.Ieee.Bits.{is-true}
 use lib.Ieee.Fits.{and-l, and-r}
+use Rattle.refusal.proofs.First.{first-zero, first-right}
+use Rattle.refusal.specs.First.{firstRefusal}
 use Rattle.pose_pair.specs.declared.Pose.{Pose}
 use Rattle.pose_pair.specs.Pose.{Pose·isFinite, Pose·isBinary32, Pose·isAffine, Pose·isPadded, timesRefusal, posesRefusal, Pose·kindNumber}
 use Rattle.animated_transform.specs.declared.AnimatedTransform.{AnimatedTransform}
 use Rattle.animated_transform.specs.declared.AnimatedTransformAnswer.{AnimatedTransformAnswer}
-use Rattle.animated_transform.specs.New.{firstRefusal, work, AnimatedTransform·new}
+use Rattle.animated_transform.specs.New.{AnimatedTransform·fromPoses, AnimatedTransform·new}
 use Rattle.animated_transform.specs.Built.{Built}
 use Rattle.animated_transform.proofs.Kept.{new-kept}
 use Rattle.bounds_answers.proofs.UnionAll.{each-of}
@@ -26,24 +28,16 @@ use Rattle.motion_chain.specs.Built.{BuiltChain, Each, Contiguous, Built
 -- ---- numbers that were not met
 pub first-none : (n : ℕ) (ns : List ℕ) → firstNumber (n ∷ ns) ≡ 0 → (n ≡ 0) × (firstNumber ns ≡ 0)
 unfolding firstNumber
-first-none n ns = go (eqb n 0) (eqb-true n 0) (eqb-false n 0)
-  where
-    go : (b : Bool) → (b ≡ true → n ≡ 0) → (b ≡ false → n ≡ 0 → ⊥) → cond b (firstNumber ns) n ≡ 0 → (n ≡ 0) × (firstNumber ns ≡ 0)
-    go true f g e = (f refl, e)
-    go false f g e = absurd (g refl e)
+first-none n ns = first-zero n (firstNumber ns)
 
 pub first-only : (n : ℕ) → firstRefusal n 0 ≡ n
-first-only n = go (eqb n 0) (eqb-true n 0)
-  where
-    go : (b : Bool) → (b ≡ true → n ≡ 0) → cond b 0 n ≡ n
-    go true f = sym (f refl)
-    go false f = refl
+first-only n = sym (first-right n)
 
-first-each : (ns : List ℕ) → firstNumber ns ≡ 0 → Each (λ n. n ≡ 0) ns
+pub first-each : (ns : List ℕ) → firstNumber ns ≡ 0 → Each (λ n. n ≡ 0) ns
 first-each [] e = tt
 first-each (n ∷ ns) e = let (z, h) = first-none n ns e in (z, first-each ns h)
 
-stage-each : {A : Type 0} (number : A → ℕ) (xs : List A) → stage number xs ≡ 0 → Each (λ x. number x ≡ 0) xs
+pub stage-each : {A : Type 0} (number : A → ℕ) (xs : List A) → stage number xs ≡ 0 → Each (λ x. number x ≡ 0) xs
 stage-each number [] e = tt
 stage-each number (x ∷ xs) e = let (z, h) = first-none (number x) (map number xs) e in (z, stage-each number xs h)
 
@@ -120,7 +114,7 @@ pub record PosePassed (rigid : Bool) (p : Pose) : Type 0 where
   pub kind : Pose·kindNumber rigid p ≡ 0
 
 pub pair-worked : (rigid : Bool) (p q : Pose) → PosePassed rigid p → PosePassed rigid q → timesRefusal (p .time) (q .time) ≡ 0
-    → AnimatedTransform·new rigid p q ≡ work rigid p q
+    → AnimatedTransform·new rigid p q ≡ AnimatedTransform·fromPoses rigid p q
 unfolding AnimatedTransform·new posesRefusal
 pair-worked rigid p q h k e =
     rw (
@@ -147,7 +141,7 @@ pairs-worked rigid poses e =
     each (x ∷ xs) (f, fs) (b, bs) (p, ps) (k, ks) = (record { finite = f; affine = b; padded = p; kind = k }, each xs fs bs ps ks)
 
     go : (xs : List Pose) → Each (PosePassed rigid) xs
-        → Each (λ (p, q). timesRefusal (p .time) (q .time) ≡ 0) (neighbours xs) → Each (λ (p, q). AnimatedTransform·new rigid p q ≡ work rigid p q) (neighbours xs)
+        → Each (λ (p, q). timesRefusal (p .time) (q .time) ≡ 0) (neighbours xs) → Each (λ (p, q). AnimatedTransform·new rigid p q ≡ AnimatedTransform·fromPoses rigid p q) (neighbours xs)
     go [] hs ts = tt
     go (p ∷ []) hs ts = tt
     go (p ∷ q ∷ xs) (h, (k, hs)) (t, ts) = (pair-worked rigid p q h k t, go (q ∷ xs) (k, hs) ts)

@@ -12,6 +12,7 @@ use lib.Ieee.Bits.{is-true, is-false}
 use lib.Ieee.Fits.{and-l, and-r}
 use lib.Ieee.Scale.{finite}
 use lib.Ieee.Positive.{den, den-pos}
+use Rattle.refusal.specs.First.{firstRefusal}
 use Rattle.rounding.proofs.Rational.{numPos, numNeg, FractionLe}
 use Rattle.rounding.proofs.Order.{≼-refl, finite-number, between-finite}
 use Rattle.rounding.proofs.Monotone.{rounds-mono}
@@ -24,7 +25,7 @@ use Rattle.pose_pair.specs.declared.Pose.{Pose}
 use Rattle.pose_pair.specs.Pose.{Pose·isFinite, Pose·isAffine, Pose·isPadded, timesRefusal, posesRefusal, Pose·kindNumber}
 use Rattle.animated_transform.specs.declared.AnimatedTransform.{AnimatedTransform}
 use Rattle.animated_transform.specs.declared.AnimatedTransformAnswer.{AnimatedTransformAnswer}
-use Rattle.animated_transform.specs.New.{AnimatedTransformAnswer·refused, firstRefusal, work, buildRefusal, AnimatedTransform·new}
+use Rattle.animated_transform.specs.New.{AnimatedTransformAnswer·refused, AnimatedTransform·fromPoses, buildRefusal, AnimatedTransform·new}
 use Rattle.motion_chain.specs.Chain.{neighbours, every, firstNumber, Pose·number, Pair·number, kindStage, chainRefusal, built, refused, ChainAnswer·fromMoves, Chain·new}
 use Rattle.motion_chain.specs.Chain.{moveFrom, Chain·moveAt, Chain·transformPoint, unionCovers, Chain·cover}
 use Rattle.motion_chain.specs.TwoPoses.{Chain·single, Checked, TwoPoses, SingleMove}
@@ -84,8 +85,8 @@ unfolding Chain·new AnimatedTransform·new neighbours
 rising-same rigid p q l = rw (checks-same rigid p q l) (go (eqb (buildRefusal rigid p q) 0) (eqb-false (buildRefusal rigid p q) 0))
   where
     go : (b : Bool) → (b ≡ false → buildRefusal rigid p q ≡ 0 → ⊥)
-        → cond b (ChainAnswer·fromMoves (cond b (work rigid p q) (AnimatedTransformAnswer·refused (buildRefusal rigid p q)) ∷ [])) (refused (buildRefusal rigid p q))
-        ≡ ChainAnswer·fromMoves (cond b (work rigid p q) (AnimatedTransformAnswer·refused (buildRefusal rigid p q)) ∷ [])
+        → cond b (ChainAnswer·fromMoves (cond b (AnimatedTransform·fromPoses rigid p q) (AnimatedTransformAnswer·refused (buildRefusal rigid p q)) ∷ [])) (refused (buildRefusal rigid p q))
+        ≡ ChainAnswer·fromMoves (cond b (AnimatedTransform·fromPoses rigid p q) (AnimatedTransformAnswer·refused (buildRefusal rigid p q)) ∷ [])
     go true f = refl
     go false f = sym (from-move-refused (AnimatedTransformAnswer·refused (buildRefusal rigid p q)) (f refl))
 
@@ -144,7 +145,7 @@ time-finite p f =
     and-l (finite (p .time)) matrix (and-l (finite (p .time) && matrix) (finite (p .pad)) f)
 
 equal-times-worked : (rigid : Bool) (p q : Pose) → Checked p q → Pose·kindNumber rigid p ≡ 0 → Pose·kindNumber rigid q ≡ 0 → p .time ≡ q .time
-    → AnimatedTransform·new rigid p q ≡ work rigid p q
+    → AnimatedTransform·new rigid p q ≡ AnimatedTransform·fromPoses rigid p q
 equal-times-worked rigid p q checked i j e =
     let (h, k) = passed rigid p q checked i j in
     pair-worked rigid p q h k (rw (← e) (times-passed (p .time) (time-finite p (h .finite))))

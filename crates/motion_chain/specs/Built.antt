@@ -11,7 +11,7 @@ pub use Rattle.bounds_answers.specs.UnionAll.{Each}
 use Rattle.pose_pair.specs.declared.Pose.{Pose}
 use Rattle.pose_pair.specs.Pose.{Pose·isBinary32}
 use Rattle.animated_transform.specs.declared.AnimatedTransform.{AnimatedTransform}
-use Rattle.animated_transform.specs.New.{work, AnimatedTransform·new}
+use Rattle.animated_transform.specs.New.{AnimatedTransform·fromPoses, AnimatedTransform·new}
 use Rattle.animated_transform.specs.Built.{Built}
 use Rattle.motion_chain.specs.Chain.{maxPoses, neighbours, every, chainRefusal, Chain, Chain·moves, built, Chain·new}
 
@@ -35,4 +35,5 @@ pub record BuiltMoves (c : Chain) : Type 0 where
 
 -- "worked in rising order once the whole chain's checks are over": no pair of a chain that has passed them is refused before it is worked
 abbrev pub PairsWorked : Bool → List Pose → Type 0
-PairsWorked rigid poses = chainRefusal rigid poses ≡ 0 → Each (λ (p, q). AnimatedTransform·new rigid p q ≡ work rigid p q) (neighbours poses)
+PairsWorked rigid poses =
+    chainRefusal rigid poses ≡ 0 → Each (λ (p, q). AnimatedTransform·new rigid p q ≡ AnimatedTransform·fromPoses rigid p q) (neighbours poses)

@@ -6,6 +6,7 @@ use mathlib.Core.List.{List, [], _∷_, map}
 use lib.Dec.{eqb, ltb}
 use lib.ListN.{length}
 use lib.Ieee.{Float, lt, le}
+use Rattle.refusal.specs.First.{firstRefusal}
 use Rattle.bounds3.specs.declared.Point3f.{Point3f}
 use Rattle.bounds3.specs.declared.Bounds3f.{Bounds3f}
 use Rattle.transform.specs.declared.PointAnswer.{PointAnswer}
@@ -15,7 +16,7 @@ use Rattle.pose_pair.specs.declared.Pose.{Pose}
 use Rattle.pose_pair.specs.Pose.{Pose·isFinite, Pose·isAffine, Pose·isPadded, timesRefusal, Pose·kindNumber}
 use Rattle.animated_transform.specs.declared.AnimatedTransform.{AnimatedTransform}
 use Rattle.animated_transform.specs.declared.AnimatedTransformAnswer.{AnimatedTransformAnswer}
-use Rattle.animated_transform.specs.New.{firstRefusal, AnimatedTransform·new}
+use Rattle.animated_transform.specs.New.{AnimatedTransform·new}
 use Rattle.motion_point.specs.TransformPoint.{AnimatedTransform·transformPoint}
 use Rattle.motion_point.specs.PadAt.{AnimatedTransform·padAt}
 use Rattle.motion_cover.specs.Cover.{AnimatedTransform·cover}

@@ -10,7 +10,7 @@ use Rattle.bounds3.specs.declared.Bounds3f.{Bounds3f}
 use Rattle.pose_pair.specs.declared.Pose.{Pose}
 use Rattle.pose_pair.specs.Pose.{Pose·isFinite, Pose·isAffine, Pose·isPadded, Pose·kindNumber}
 use Rattle.animated_transform.specs.declared.AnimatedTransform.{AnimatedTransform}
-use Rattle.animated_transform.specs.New.{work, AnimatedTransform·new}
+use Rattle.animated_transform.specs.New.{AnimatedTransform·fromPoses, AnimatedTransform·new}
 use Rattle.motion_point.specs.TransformPoint.{AnimatedTransform·transformPoint}
 use Rattle.motion_cover.specs.Cover.{AnimatedTransform·cover}
 use Rattle.motion_chain.specs.Chain.{every, Chain, built, refused, Chain·new, Chain·transformPoint, Chain·cover}
@@ -35,7 +35,7 @@ pub record TwoPoses (rigid : Bool) (p q : Pose) : Type 0 where
   -- "times that don't rise strictly are 12, judged after 2", where document 01 has 3 for falling times
   pub not-rising : Checked p q → T (not (lt (p .time) (q .time))) → Chain·new rigid (p ∷ q ∷ []) ≡ refused 12
   -- "a move built by itself keeps document 01's rule for its times": between equal times it is worked
-  pub equal-times : Checked p q → Pose·kindNumber rigid p ≡ 0 → Pose·kindNumber rigid q ≡ 0 → p .time ≡ q .time → AnimatedTransform·new rigid p q ≡ work rigid p q
+  pub equal-times : Checked p q → Pose·kindNumber rigid p ≡ 0 → Pose·kindNumber rigid q ≡ 0 → p .time ≡ q .time → AnimatedTransform·new rigid p q ≡ AnimatedTransform·fromPoses rigid p q
 
 -- The queries of a chain of one move are the move's own.
 pub record SingleMove (m : AnimatedTransform) : Type 0 where

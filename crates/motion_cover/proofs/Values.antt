@@ -14,7 +14,7 @@ use Rattle.bounds3.specs.Finite.{Point3f·isFinite}
 use Rattle.transform.specs.declared.Transform.{Transform}
 use Rattle.transform.specs.declared.PointAnswer.the-variants.{Moved, Refused}
 use Rattle.transform.specs.Answer.{PointAnswer·refusal, PointAnswer·point}
-use Rattle.transform.specs.TransformPoint.{mulPoint, movedPoint, judged, Transform·transformPoint}
+use Rattle.transform.specs.TransformPoint.{mulPoint, movedPoint, PointAnswer·judged, Transform·transformPoint}
 use Rattle.pose_steps.specs.declared.PoseConstants.{PoseConstants}
 use Rattle.pose_steps.specs.Pose.{Pose·matrix, Pose·transformPoint, Pose·movedPoint}
 use Rattle.motion_pad.proofs.Box.{Binary32}
@@ -47,5 +47,5 @@ moved-values m p = go (eq wp one)
     go false = record { x = div-fits binary32 _ _; y = div-fits binary32 _ _; z = div-fits binary32 _ _ }
 
 pub stored-values : (t : Transform) (p q : Point3f) → Transform·transformPoint t p ≡ Moved q → Binary32 q
-unfolding Transform·transformPoint judged
+unfolding Transform·transformPoint PointAnswer·judged
 stored-values t p q e = tested-values (Point3f·isFinite (movedPoint (Matrix4x4·toRows (t .m)) p)) (movedPoint (Matrix4x4·toRows (t .m)) p) q (moved-values (Matrix4x4·toRows (t .m)) p) e

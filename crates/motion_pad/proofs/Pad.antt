@@ -4,13 +4,15 @@ use mathlib.Core.Path.{_≡_, refl}
 use mathlib.Core.Logic.{_⊎_, inl, inr}
 use mathlib.Core.Bool.{Bool, true, false, _&&_, cond}
 use mathlib.Core.List.{[], _∷_}
-use Prim.Native.Nat.{ℕ, zero, suc, _*_, _+_}
+use Prim.Native.Nat.{ℕ, _*_, _+_}
 use native.Mathlib.Nat.{mul-pos, zero-lt-suc}
 use native.Mathlib.Omega.{arith}
 use lib.Dec.{T}
 use lib.Ieee.{Float, nan, inf, fin, binary32, ofBits, round, add, sub, le}
 use lib.Ieee.Scale.{finite}
 use lib.Ieee.Positive.{den, den-pos}
+use Rattle.refusal.proofs.First.{first-keeps}
+use Rattle.refusal.specs.First.{firstRefusal}
 use Rattle.rounding.specs.Order.{_≼_}
 use Rattle.rounding.proofs.Rational.{numPos, numNeg, FractionLe}
 use Rattle.rounding.proofs.Order.{≼-refl, ≼-trans, finite-number, between-finite}
@@ -22,7 +24,7 @@ use Rattle.own_rounding.proofs.OwnRounding.{zero-finite, no-negative}
 use Rattle.interval.specs.declared.Interval.{Interval}
 use Rattle.interval.specs.Interval.{Interval·point}
 use Rattle.interval.specs.Contains.{Contains, Subset, Finite, Encloses, Refines}
-use Rattle.interval.specs.Enclosure.{first, notFinite, Judged·judge, Judged·addEnclosure, Judged·subEnclosure, Judged·mulEnclosure}
+use Rattle.interval.specs.Enclosure.{notFinite, Judged·judge, Judged·addEnclosure, Judged·subEnclosure, Judged·mulEnclosure}
 use Rattle.interval.proofs.Contains.{point-encloses, point-refines, subset-finite, subset-trans, contains-subset, own-low}
 use Rattle.formula.specs.Enclose.{enclosure, Expr·enclose, Expr·encloseAll, Program·enclose}
 use Rattle.formula.proofs.Stage.{stage-extends, stage-isotone}
@@ -121,10 +123,9 @@ pad-high-within pad0 pad1 f g h k s u e =
 abbrev pub PadNumber : ℕ → Type 0
 PadNumber n = (n ≡ 0) ⊎ (n ≡ 5)
 
-judge-number : (m : ℕ) (X : Interval) → PadNumber m → PadNumber (first m (notFinite X))
-unfolding first notFinite
-judge-number (suc m) X i = i
-judge-number zero X i = go (finite (X .low) && finite (X .high))
+judge-number : (m : ℕ) (X : Interval) → PadNumber m → PadNumber (firstRefusal m (notFinite X))
+unfolding notFinite
+judge-number m X i = first-keeps PadNumber m (notFinite X) i (go (finite (X .low) && finite (X .high)))
   where
     go : (b : Bool) → PadNumber (cond b 0 5)
     go true = inl refl

@@ -7,6 +7,7 @@ use matrix4x4::Matrix4x4;
 use pose_steps::JudgedMatrix;
 use pose_steps::JudgedQuaternion;
 use pose_steps::PoseConstants;
+use quaternion::SLERP_THRESHOLD;
 use transform::BoundsAnswer;
 use transform::Transform;
 ghost use mathlib.Core.Path.{_≡_};
@@ -24,7 +25,7 @@ pub struct PaddedPose {
 pub fn slerp_enclosure(m: u8, a: PoseConstants, dt: Interval) -> JudgedQuaternion
     ensures value { λ r. ⌜ r ≡ Pose·encloseSlerp m a dt ⌝ }
 {
-    if a.cos_theta > 0.9995 {
+    if a.cos_theta > SLERP_THRESHOLD {
         pose_slerp::slerp_near_enclosure(m, a.r0, a.r1, dt)
     } else {
         pose_slerp::slerp_far_enclosure(m, a, dt)

@@ -15,7 +15,7 @@ use Rattle.bounds3.specs.Finite.{Point3f·isFinite}
 use Rattle.transform.specs.declared.Transform.{Transform}
 use Rattle.transform.specs.declared.PointAnswer.{PointAnswer}
 use Rattle.transform.specs.declared.PointAnswer.the-variants.{Moved, Refused}
-use Rattle.transform.specs.TransformPoint.{movedPoint, judged, Transform·transformPoint}
+use Rattle.transform.specs.TransformPoint.{movedPoint, PointAnswer·judged, Transform·transformPoint}
 use Rattle.transform.specs.Answer.{OneOf, PointAnswer·refusal}
 use Rattle.unit_interval.specs.Unit.{dt}
 use Rattle.pose_steps.specs.declared.PoseConstants.{PoseConstants}
@@ -42,7 +42,7 @@ pub six-nonzero : PointAnswer·NonZero (Refused 6)
 six-nonzero e = absurd (omega (arith, e))
 
 pub transform-point-nonzero : (t : Transform) (p : Point3f) → PointAnswer·NonZero (Transform·transformPoint t p)
-unfolding Transform·transformPoint judged
+unfolding Transform·transformPoint PointAnswer·judged
 transform-point-nonzero t p =
     let q = movedPoint (Matrix4x4·toRows (t .m)) p in
     cond-keeps PointAnswer·NonZero (Point3f·isFinite q) (Moved q) (Refused 5) tt five

@@ -1,6 +1,6 @@
--- The text that answers a move file: `boundsText`, `refusalText`, and `front`, a lent buffer with a text in its front. Document 01, "File and program": a box is
--- printed under its names, a refusal as the line `refused` and a line with the number. Digits are in lower case, a zero keeps its sign, and a NaN is written as
--- 7fc00000. Rests on the texts of `motion_file` and the digits of `hexadecimal`.
+-- The text that answers a move file: `boundsText`, `refusalText`, and `textLeft`, a lent buffer with a text in its front. Document 01, "File and program":
+-- a box is printed under its names, a refusal as the line `refused` and a line with the number. Digits are in lower case, a zero keeps its sign,
+-- and a NaN is written as 7fc00000. Rests on the texts of `motion_file` and the digits of `hexadecimal`.
 use Prim.Native.Nat.{ℕ, _+_, _/_, _%_}
 use mathlib.Core.Bool.{cond}
 use mathlib.Core.List.{List, [], _∷_, _++_, map}
@@ -45,8 +45,8 @@ unfoldable pub refusalText : ℕ → List ℕ
 refusalText number = ascii "refused\n" ++ (decimal number ++ (lineFeed ∷ []))
 
 -- a buffer with a text in its front, the bytes behind it kept; the buffer as it came where the text doesn't fit
-unfoldable pub front : List ℕ → List ℕ → List ℕ
-front text buffer = cond (leb (length text) (length buffer)) (text ++ drop (length text) buffer) buffer
+unfoldable pub textLeft : List ℕ → List ℕ → List ℕ
+textLeft text buffer = cond (leb (length text) (length buffer)) (text ++ drop (length text) buffer) buffer
 
 -- the length of a text that fits, and 0
 unfoldable pub lengthIn : List ℕ → List ℕ → ℕ

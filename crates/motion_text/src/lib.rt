@@ -6,13 +6,13 @@ ghost use Prim.Native.Nat.{_+_, _*_, _≤_};
 ghost use lib.ListN.{length, take};
 ghost use lib.Seq.{paste};
 ghost use Rattle.motion_file.specs.Text.{lineFeed, space};
-ghost use Rattle.motion_text.specs.Answer.{line, wordOf, zerosInFront, boundsText, refusalText, front, lengthIn};
+ghost use Rattle.motion_text.specs.Answer.{line, wordOf, zerosInFront, boundsText, refusalText, textLeft, lengthIn};
 
 // Writes a box, its least corner and its greatest, as a line of names and a line of values into the front of `out`, and gives the length of the text; where
 // that doesn't fit, `out` is kept as it is and the answer is 0. Accuracy: exact; a NaN is written as 7fc00000.
 pub fn write_bounds(bounds: [f32; 6], out: &mut [u8]) -> usize
     ensures value { λ r. ⌜ r ≡ lengthIn (boundsText bounds) (now (out .entry)) ⌝ }
-    ensures text { λ _. ⌜ now (out .exit) ≡ front (boundsText bounds) (now (out .entry)) ⌝ }
+    ensures text { λ _. ⌜ now (out .exit) ≡ textLeft (boundsText bounds) (now (out .entry)) ⌝ }
     ensures counts { λ r. ⌜ (r ≤ length (now (out .exit))) × (r ≡ length (take r (now (out .exit)))) ⌝ }
 {
     if out.len() < 72 {
@@ -26,7 +26,7 @@ pub fn write_bounds(bounds: [f32; 6], out: &mut [u8]) -> usize
 // Writes a text into the front of `out`, and gives its length; where it doesn't fit, `out` is kept as it is and the answer is 0. Accuracy: exact.
 pub fn write_text(text: &[u8], out: &mut [u8]) -> usize
     ensures value { λ r. ⌜ r ≡ lengthIn (now (text .entry)) (now (out .entry)) ⌝ }
-    ensures text { λ _. ⌜ now (out .exit) ≡ front (now (text .entry)) (now (out .entry)) ⌝ }
+    ensures text { λ _. ⌜ now (out .exit) ≡ textLeft (now (text .entry)) (now (out .entry)) ⌝ }
 {
     if out.len() < text.len() {
         return 0;
@@ -39,7 +39,7 @@ pub fn write_text(text: &[u8], out: &mut [u8]) -> usize
 // Accuracy: exact; a NaN is written as 7fc00000.
 pub fn write_values(values: &[f32], out: &mut [u8]) -> usize
     ensures value { λ r. ⌜ r ≡ lengthIn (line (map wordOf (now (values .entry)))) (now (out .entry)) ⌝ }
-    ensures text { λ _. ⌜ now (out .exit) ≡ front (line (map wordOf (now (values .entry)))) (now (out .entry)) ⌝ }
+    ensures text { λ _. ⌜ now (out .exit) ≡ textLeft (line (map wordOf (now (values .entry)))) (now (out .entry)) ⌝ }
 {
     if out.len() / 9 < values.len() {
         return 0;
@@ -52,7 +52,7 @@ pub fn write_values(values: &[f32], out: &mut [u8]) -> usize
 // kept as it is and the answer is 0. Accuracy: exact.
 pub fn write_refusal(number: u8, out: &mut [u8]) -> usize
     ensures value { λ r. ⌜ r ≡ lengthIn (refusalText number) (now (out .entry)) ⌝ }
-    ensures text { λ _. ⌜ now (out .exit) ≡ front (refusalText number) (now (out .entry)) ⌝ }
+    ensures text { λ _. ⌜ now (out .exit) ≡ textLeft (refusalText number) (now (out .entry)) ⌝ }
     ensures counts { λ r. ⌜ (r ≤ length (now (out .exit))) × (r ≡ length (take r (now (out .exit)))) ⌝ }
 {
     let line = [

@@ -13,6 +13,7 @@ use pose_steps::IntervalQuaternion;
 use pose_steps::JudgedQuaternion;
 use pose_steps::PoseConstants;
 use quaternion::Quaternion;
+use quaternion::SLERP_THRESHOLD;
 use vector3::Vector3f;
 
 // The unit quaternion that `slerp` turns the first one to, and the length that it was divided by.
@@ -91,7 +92,7 @@ pub fn slerp_far(q1: Quaternion, q2: Quaternion, cos_theta: f32, theta: f32, t: 
 pub fn slerp(a: PoseConstants, t: f32) -> Quaternion
     ensures value { λ r. ⌜ r ≡ Pose·slerp a t ⌝ }
 {
-    if a.cos_theta > 0.9995 {
+    if a.cos_theta > SLERP_THRESHOLD {
         slerp_near(a.r0, a.r1, t)
     } else {
         slerp_far(a.r0, a.r1, a.cos_theta, a.theta, t)

@@ -25,7 +25,7 @@ use Rattle.unit_interval.specs.Unit.{unitInterval}
 use Rattle.interval.specs.declared.Judged.{Judged}
 use Rattle.interval.specs.Interval.{Interval·point, Interval·new, Interval·hull, Interval·ofFour}
 use Rattle.interval.specs.Contains.{Subset, Finite}
-use Rattle.interval.specs.Enclosure.{areAngles, first, notFinite, Judged·judge, Interval·mulEnclosure, Judged·mulEnclosure}
+use Rattle.interval.specs.Enclosure.{areAngles, notFinite, Judged·judge, Interval·mulEnclosure, Judged·mulEnclosure}
 use Rattle.interval.proofs.Isotone.{mul-isotone}
 use Rattle.pose_steps.specs.Pose.{Vector3f·list, Quaternion·list, PoseConstants·new}
 use Rattle.pose_steps.specs.Promise.{AllFinite, PoseConstants·Valid, quarterInterval}
@@ -38,7 +38,7 @@ unit-finite = record { low = unfold ofBits in tt; high = unfold ofBits in tt }
 
 -- From 0 to a quarter turn, times from 0 to 1, is from 0 to a quarter turn.
 products : Judged·mulEnclosure 0 quarterInterval unitInterval ≡ record { interval = quarterInterval; refusal = 0 }
-unfolding Judged·mulEnclosure Judged·judge Interval·mulEnclosure Interval·ofFour Interval·hull Interval·new minNum maxNum isNan mul round lt ofBits first notFinite
+unfolding Judged·mulEnclosure Judged·judge Interval·mulEnclosure Interval·ofFour Interval·hull Interval·new minNum maxNum isNan mul round lt ofBits notFinite
 products = refl
 
 quarter-full : quarterTurnFloat ≼ fullTurnFloat

@@ -29,7 +29,7 @@ use Rattle.bounds3.specs.declared.Point3f.{Point3f}
 use Rattle.bounds3.specs.Finite.{Finite}
 use Rattle.transform.specs.declared.Transform.{Transform}
 use Rattle.transform.specs.Transform.{translation, Transform·mul}
-use Rattle.transform.specs.TransformPoint.{judged, Transform·transformPoint}
+use Rattle.transform.specs.TransformPoint.{PointAnswer·judged, Transform·transformPoint}
 use Rattle.transform.proofs.Wp.{moved-affine}
 use Rattle.rotation.specs.FromQuaternion.{inverseRotation, Transform·fromQuaternion}
 use Rattle.pose_steps.specs.declared.PoseConstants.{PoseConstants}
@@ -166,9 +166,9 @@ unfolding Matrix4x4·isAffine eq ofBits
 affine-bottom m h = rw h tt
 
 -- A transform with such a bottom row moves a finite point as the stage does: wp is 1.
-pub point-affine : (t : Transform) (p : Point3f) → T (Matrix4x4·isAffine (Matrix4x4·toRows (t .m))) → Finite p → Transform·transformPoint t p ≡ judged (Pose·transformPoint (t .m) p)
+pub point-affine : (t : Transform) (p : Point3f) → T (Matrix4x4·isAffine (Matrix4x4·toRows (t .m))) → Finite p → Transform·transformPoint t p ≡ PointAnswer·judged (Pose·transformPoint (t .m) p)
 unfolding Transform·transformPoint Pose·transformPoint
-point-affine t p a f = ap judged (moved-affine (Matrix4x4·toRows (t .m)) p a f)
+point-affine t p a f = ap PointAnswer·judged (moved-affine (Matrix4x4·toRows (t .m)) p a f)
 
 accepted-bottom : (a : PoseConstants) (s0 s1 : Matrix4x4) (dt : Float) → Pose·matrix a s0 s1 dt .refusal ≡ 0 → Pose·matrix a s0 s1 dt .m .r3 ≡ bottomRow
 unfolding Pose·matrix
@@ -192,9 +192,9 @@ module _ (k : Bool) (t0 t1 : Vector3f) (r0 r1 : Quaternion) (s0 s1 : Matrix4x4) 
       let h : composition t0 t1 r0 r1 S dt .m ≡ M = matrix-composition k t0 t1 r0 r1 s0 s1 S dt e z in
       let i = affine-bottom M (accepted-bottom a s0 s1 dt z) in
       point-affine (composition t0 t1 r0 r1 S dt) p (rw h i) f
-      ∙ ap (λ (m : Matrix4x4). judged (Pose·transformPoint m p)) h
+      ∙ ap (λ (m : Matrix4x4). PointAnswer·judged (Pose·transformPoint m p)) h
       ∙ answered a s0 s1 dt p z
     where
       answered : (a : PoseConstants) (s0 s1 : Matrix4x4) (dt : Float) (p : Point3f) → Pose·matrix a s0 s1 dt .refusal ≡ 0
-          → judged (Pose·transformPoint (Pose·matrix a s0 s1 dt .m) p) ≡ Pose·movedPoint a s0 s1 dt p
-      answered a s0 s1 dt p z = unfold Pose·movedPoint judged in rw z
+          → PointAnswer·judged (Pose·transformPoint (Pose·matrix a s0 s1 dt .m) p) ≡ Pose·movedPoint a s0 s1 dt p
+      answered a s0 s1 dt p z = unfold Pose·movedPoint PointAnswer·judged in rw z

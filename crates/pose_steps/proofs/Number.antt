@@ -2,7 +2,7 @@
 -- A point query between the poses gives 5 alone (`movedPoint-judged`).
 use mathlib.Core.Path.{refl}
 use mathlib.Core.Logic.{inl, inr}
-use Prim.Native.Nat.{ℕ, zero, suc}
+use Prim.Native.Nat.{ℕ}
 use mathlib.Core.Bool.{Bool, true, false, _&&_, cond}
 use mathlib.Core.List.{List, [], _∷_, _++_}
 use lib.ListN.{length}
@@ -10,6 +10,8 @@ use lib.Dec.{T, eqb}
 use lib.Ieee.{Float, binary32, ofBits, le}
 use lib.Ieee.Fits.{and-r}
 use lib.Ieee.Scale.{finite}
+use Rattle.refusal.proofs.First.{first-keeps}
+use Rattle.refusal.specs.First.{firstRefusal}
 use Rattle.matrix4x4.specs.declared.Matrix4x4.{Matrix4x4}
 use Rattle.bounds3.specs.declared.Point3f.{Point3f}
 use Rattle.bounds3.specs.Finite.{Point3f·isFinite}
@@ -18,7 +20,7 @@ use Rattle.transform.specs.Answer.{PointAnswer·Judged}
 use Rattle.transform.proofs.Judged.{origin-finite}
 use Rattle.interval.specs.declared.Interval.{Interval}
 use Rattle.interval.specs.Interval.{Interval·point}
-use Rattle.interval.specs.Enclosure.{first, notFinite, notPositive, Judged·judge, Interval·divEnclosure, Interval·sqrtEnclosure, Judged·addEnclosure, Judged·subEnclosure, Judged·mulEnclosure, Judged·divEnclosure, Judged·sqrtEnclosure, Judged·sinEnclosure, Judged·cosEnclosure, Interval·addEnclosure, Interval·subEnclosure, Interval·mulEnclosure, Interval·sinEnclosure, Interval·cosEnclosure}
+use Rattle.interval.specs.Enclosure.{notFinite, notPositive, Judged·judge, Interval·divEnclosure, Interval·sqrtEnclosure, Judged·addEnclosure, Judged·subEnclosure, Judged·mulEnclosure, Judged·divEnclosure, Judged·sqrtEnclosure, Judged·sinEnclosure, Judged·cosEnclosure, Interval·addEnclosure, Interval·subEnclosure, Interval·mulEnclosure, Interval·sinEnclosure, Interval·cosEnclosure}
 use Rattle.formula.specs.Program.{Binary, sum, difference, product, quotient, Unary, root, sine, cosine, Expr, var, con, binary, unary, Program, _>>=_, give}
 use Rattle.formula.specs.Enclose.{Binary·enclose, Unary·enclose, Expr·enclose, Enclosure, enclosure, Expr·encloseAll, extend, Program·enclose}
 use Rattle.pose_steps.specs.declared.PoseConstants.{PoseConstants}
@@ -31,10 +33,8 @@ use Rattle.pose_steps.specs.Enclose.{IntervalVector·list, IntervalVecto
 use Rattle.pose_steps.specs.Promise.{SliceNumber}
 
 -- ---- one operation
-first-number : (m n : ℕ) → SliceNumber m → SliceNumber n → SliceNumber (first m n)
-unfolding first
-first-number zero n i j = j
-first-number (suc m) n i j = i
+first-number : (m n : ℕ) → SliceNumber m → SliceNumber n → SliceNumber (firstRefusal m n)
+first-number m n i j = first-keeps SliceNumber m n i j
 
 finite-number : (X : Interval) → SliceNumber (notFinite X)
 unfolding notFinite
@@ -56,8 +56,8 @@ judge-number : (m : ℕ) (X : Interval) → SliceNumber m → SliceNumber (Judge
 unfolding Judged·judge
 judge-number m X i = first-number m (notFinite X) i (finite-number X)
 
-positive-judged : (m : ℕ) (Y X : Interval) → SliceNumber m → SliceNumber (Judged·judge (first m (notPositive Y)) X .refusal)
-positive-judged m Y X i = judge-number (first m (notPositive Y)) X (first-number m (notPositive Y) i (positive-number Y))
+positive-judged : (m : ℕ) (Y X : Interval) → SliceNumber m → SliceNumber (Judged·judge (firstRefusal m (notPositive Y)) X .refusal)
+positive-judged m Y X i = judge-number (firstRefusal m (notPositive Y)) X (first-number m (notPositive Y) i (positive-number Y))
 
 binary-number : (o : Binary) (m : ℕ) (X Y : Interval) → SliceNumber m → SliceNumber (Binary·enclose o m X Y .refusal)
 unfolding Judged·addEnclosure Judged·subEnclosure Judged·mulEnclosure Judged·divEnclosure

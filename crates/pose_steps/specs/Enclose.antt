@@ -80,59 +80,60 @@ IntervalRow·point r = record { c0 = Interval·point (col r 0); c1 = Interval·p
 abbrev pub IntervalMatrix·point : Matrix4x4 → IntervalMatrix
 IntervalMatrix·point m = record { r0 = IntervalRow·point (m .r0); r1 = IntervalRow·point (m .r1); r2 = IntervalRow·point (m .r2) }
 
--- ---- the stages, with the names of `Pose·translation` and its like; m is the number met before
+-- ---- the stages, with the names of `Pose·translation` and its like; `met` is the number met before
 unfoldable pub Pose·encloseTranslation : ℕ → IntervalVector → IntervalVector → Interval → JudgedVector
-Pose·encloseTranslation m t0 t1 dt = JudgedVector·of (Program·enclose (enclosure m (IntervalVector·list t0 ++ IntervalVector·list t1 ++ dt ∷ [])) translationStage)
+Pose·encloseTranslation met t0 t1 dt = JudgedVector·of (Program·enclose (enclosure met (IntervalVector·list t0 ++ IntervalVector·list t1 ++ dt ∷ [])) translationStage)
 
 unfoldable pub Pose·encloseSlerpNear : ℕ → IntervalQuaternion → IntervalQuaternion → Interval → JudgedQuaternion
-Pose·encloseSlerpNear m q1 q2 t = JudgedQuaternion·of (Program·enclose (enclosure m (IntervalQuaternion·list q1 ++ IntervalQuaternion·list q2 ++ t ∷ [])) slerpNearStage)
+Pose·encloseSlerpNear met q1 q2 t = JudgedQuaternion·of (Program·enclose (enclosure met (IntervalQuaternion·list q1 ++ IntervalQuaternion·list q2 ++ t ∷ [])) slerpNearStage)
 
 unfoldable pub Pose·encloseSlerpFar : ℕ → IntervalQuaternion → IntervalQuaternion → Interval → Interval → Interval → JudgedQuaternion
-Pose·encloseSlerpFar m q1 q2 cosθ θ t =
-    JudgedQuaternion·of (Program·enclose (enclosure m (IntervalQuaternion·list q1 ++ IntervalQuaternion·list q2 ++ cosθ ∷ θ ∷ t ∷ [])) slerpFarStage)
+Pose·encloseSlerpFar met q1 q2 cosθ θ t =
+    JudgedQuaternion·of (Program·enclose (enclosure met (IntervalQuaternion·list q1 ++ IntervalQuaternion·list q2 ++ cosθ ∷ θ ∷ t ∷ [])) slerpFarStage)
 
 unfoldable pub encloseSlerpBy : Bool → ℕ → PoseConstants → Interval → JudgedQuaternion
-encloseSlerpBy true m a t = Pose·encloseSlerpNear m (IntervalQuaternion·point (a .r0)) (IntervalQuaternion·point (a .r1)) t
-encloseSlerpBy false m a t =
-    Pose·encloseSlerpFar m (IntervalQuaternion·point (a .r0)) (IntervalQuaternion·point (a .r1)) (Interval·point (a .«cos_theta»)) (Interval·point (a .theta)) t
+encloseSlerpBy true met a t = Pose·encloseSlerpNear met (IntervalQuaternion·point (a .r0)) (IntervalQuaternion·point (a .r1)) t
+encloseSlerpBy false met a t =
+    Pose·encloseSlerpFar met (IntervalQuaternion·point (a .r0)) (IntervalQuaternion·point (a .r1)) (Interval·point (a .«cos_theta»))
+    (Interval·point (a .theta)) t
 
 unfoldable pub Pose·encloseSlerp : ℕ → PoseConstants → Interval → JudgedQuaternion
-Pose·encloseSlerp m a t = encloseSlerpBy (isNear a) m a t
+Pose·encloseSlerp met a t = encloseSlerpBy (isNear a) met a t
 
 unfoldable pub Pose·encloseScaleRow : ℕ → IntervalRow → IntervalRow → Interval → JudgedRow
-Pose·encloseScaleRow m s0 s1 dt = JudgedRow·of (Program·enclose (enclosure m (IntervalRow·three s0 ++ IntervalRow·three s1 ++ dt ∷ [])) scaleRowStage)
+Pose·encloseScaleRow met s0 s1 dt = JudgedRow·of (Program·enclose (enclosure met (IntervalRow·three s0 ++ IntervalRow·three s1 ++ dt ∷ [])) scaleRowStage)
 
 -- Three rows in turn, the number handed from row to row.
 abbrev pub JudgedMatrix·rows : JudgedRow → JudgedRow → JudgedRow → JudgedMatrix
 JudgedMatrix·rows p q r = record { matrix = record { r0 = p .row; r1 = q .row; r2 = r .row }; refusal = r .refusal }
 
 unfoldable pub Pose·encloseScale : ℕ → IntervalMatrix → IntervalMatrix → Interval → JudgedMatrix
-Pose·encloseScale m s0 s1 dt =
-    let p = Pose·encloseScaleRow m (s0 .r0) (s1 .r0) dt in
+Pose·encloseScale met s0 s1 dt =
+    let p = Pose·encloseScaleRow met (s0 .r0) (s1 .r0) dt in
     let q = Pose·encloseScaleRow (p .refusal) (s0 .r1) (s1 .r1) dt in
     let r = Pose·encloseScaleRow (q .refusal) (s0 .r2) (s1 .r2) dt in
     JudgedMatrix·rows p q r
 
 -- document 02, Rigid booms: the identity in place of S "with equal ends in a cover"; nothing is judged of it
 unfoldable pub encloseScaleBy : Bool → ℕ → Matrix4x4 → Matrix4x4 → Interval → JudgedMatrix
-encloseScaleBy true m s0 s1 dt = record { matrix = IntervalMatrix·point Matrix4x4·identity; refusal = m }
-encloseScaleBy false m s0 s1 dt = Pose·encloseScale m (IntervalMatrix·point s0) (IntervalMatrix·point s1) dt
+encloseScaleBy true met s0 s1 dt = record { matrix = IntervalMatrix·point Matrix4x4·identity; refusal = met }
+encloseScaleBy false met s0 s1 dt = Pose·encloseScale met (IntervalMatrix·point s0) (IntervalMatrix·point s1) dt
 
 unfoldable pub Pose·encloseRotation : ℕ → IntervalQuaternion → JudgedMatrix
-Pose·encloseRotation m q = JudgedMatrix·of (Program·enclose (enclosure m (IntervalQuaternion·list q)) rotationStage)
+Pose·encloseRotation met q = JudgedMatrix·of (Program·enclose (enclosure met (IntervalQuaternion·list q)) rotationStage)
 
 unfoldable pub Pose·encloseMulRow : ℕ → IntervalRow → IntervalMatrix → JudgedRow
-Pose·encloseMulRow m a b = JudgedRow·of (Program·enclose (enclosure m (IntervalRow·list a ++ IntervalMatrix·list b)) mulRowStage)
+Pose·encloseMulRow met a b = JudgedRow·of (Program·enclose (enclosure met (IntervalRow·list a ++ IntervalMatrix·list b)) mulRowStage)
 
 unfoldable pub Pose·encloseMul : ℕ → IntervalMatrix → IntervalMatrix → JudgedMatrix
-Pose·encloseMul m a b =
-    let p = Pose·encloseMulRow m (a .r0) b in
+Pose·encloseMul met a b =
+    let p = Pose·encloseMulRow met (a .r0) b in
     let q = Pose·encloseMulRow (p .refusal) (a .r1) b in
     let r = Pose·encloseMulRow (q .refusal) (a .r2) b in
     JudgedMatrix·rows p q r
 
 unfoldable pub Pose·encloseTransformPoint : ℕ → IntervalMatrix → IntervalVector → JudgedVector
-Pose·encloseTransformPoint m a p = JudgedVector·of (Program·enclose (enclosure m (IntervalMatrix·list a ++ IntervalVector·list p)) transformPointStage)
+Pose·encloseTransformPoint met a p = JudgedVector·of (Program·enclose (enclosure met (IntervalMatrix·list a ++ IntervalVector·list p)) transformPointStage)
 
 -- ---- in sequence
 -- The matrix that adds an interval vector to a point.

@@ -14,7 +14,7 @@ use Rattle.quaternion.specs.Quaternion.{Quaternion·dot}
 use Rattle.quaternion.specs.Slerp.{slerpThreshold}
 use Rattle.quaternion.specs.IsFinite.{Quaternion·isFinite}
 use Rattle.matrix4x4.specs.declared.Matrix4x4.{Matrix4x4}
-use Rattle.matrix4x4.specs.Rows.{Row, col, tabulate, Matrix4x4·toRows, Matrix4x4·fromRows, positiveZero}
+use Rattle.matrix4x4.specs.Rows.{Row, col, tabulate, Matrix4x4·toRows, positiveZero, Matrix4x4·zero}
 use Rattle.matrix4x4.specs.IsFinite.{Matrix4x4·isFinite}
 use Rattle.matrix4x4.specs.IsAffine.{bottomRow}
 use Rattle.bounds3.specs.declared.Point3f.{Point3f}
@@ -128,7 +128,7 @@ allFinite m = Matrix4x4·isFinite (Matrix4x4·toRows m)
 -- The number beside the matrix, which is +0 throughout where it is refused.
 unfoldable pub PoseAnswer·judged : Bool → Matrix4x4 → PoseAnswer
 PoseAnswer·judged true m = record { m = m; refusal = 0 }
-PoseAnswer·judged false m = record { m = Matrix4x4·fromRows (tabulate (λ i. tabulate (λ j. positiveZero))); refusal = 5 }
+PoseAnswer·judged false m = record { m = Matrix4x4·zero; refusal = 5 }
 
 -- `interpolate`, matrix half: Transform::translate(&trans) * rotate.into() * Transform::from_matrix(&scale)
 unfoldable pub Pose·matrix : PoseConstants → Matrix4x4 → Matrix4x4 → Float → PoseAnswer

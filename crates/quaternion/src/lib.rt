@@ -6,6 +6,9 @@ ghost use Rattle.quaternion.specs.IsFinite.{Quaternion·isFinite};
 ghost use Rattle.quaternion.specs.Slerp.{slerpNear, slerpFar, Quaternion·slerp};
 use vector3::Vector3f;
 
+// slerp is linear where the dot product is above it, and a move has rotation where it is below: at 0.9995 itself neither holds.
+pub const SLERP_THRESHOLD: f32 = 0.9995;
+
 pub struct Quaternion {
     pub v: Vector3f,
     pub w: f32,
@@ -106,7 +109,7 @@ pub fn slerp(q1: Quaternion, q2: Quaternion, t: f32) -> Quaternion
     ensures value { λ r. ⌜ r ≡ Quaternion·slerp q1 q2 t ⌝ }
 {
     let cos_theta = q1.dot(q2);
-    if cos_theta > 0.9995 {
+    if cos_theta > SLERP_THRESHOLD {
         slerp_near(q1, q2, t)
     } else {
         slerp_far(q1, q2, t, cos_theta)

@@ -10,7 +10,7 @@ use lib.Dec.{ltb}
 use lib.ListN.{length, take, drop, getD, set, length-drop}
 use lib.Seq.{paste, paste-zero, paste-suc, take-nil, drop-paste, getD-drop, take-take, take-all, length-take-le}
 use borrow.Author.Tests.{ltb-true, ltb-false, le-leb, lt-leb}
-use Rattle.motion_text.specs.Answer.{front}
+use Rattle.motion_text.specs.Answer.{textLeft}
 use Rattle.motion_text.proofs.Pastes.{front-fits}
 use Rattle.question_lines.specs.Words.{part}
 
@@ -57,7 +57,7 @@ module _ (d : List ℕ) (from k : ℕ) (h : from + k < length d) where
 
 -- what a function that keeps a part of a buffer gives: how many bytes, and the buffer afterwards
 abbrev pub Keeps : List ℕ → List ℕ → List ℕ → ℕ → Type 0
-Keeps text buffer after r = (r ≡ length text) × (after ≡ front text buffer)
+Keeps text buffer after r = (r ≡ length text) × (after ≡ textLeft text buffer)
 
 pub kept-front : (d o : List ℕ) (from to most size : ℕ) → to ≤ length d → from ≤ to → size ≡ cond (ltb (to - from) most) (to - from) most
     → o ≡ paste d 0 (drop from d) size → Keeps (take most (part d from to)) d o size
@@ -70,7 +70,7 @@ kept-front d o from to most size h g e eo =
     let same : take size (take size (drop from d)) ≡ take size (drop from d) = take-all size (take size (drop from d)) (rw count (omega arith)) in
     rw cut (sym count, eo ∙ rw (count, same) at (front-fits (take size (drop from d)) d (rw count (omega arith))))
 
-nothing : (d : List ℕ) → d ≡ front [] d
+nothing : (d : List ℕ) → d ≡ textLeft [] d
 nothing d = paste-zero d 0 [] ∙ front-fits [] d (omega arith)
 
 pub kept-none : (d : List ℕ) (from to most : ℕ) → length d < to → Keeps (take most (part d from to)) d d 0

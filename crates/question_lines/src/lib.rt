@@ -8,7 +8,7 @@ ghost use lib.Dec.{ltb};
 ghost use lib.ListN.{length, take};
 ghost use lib.Seq.{paste};
 ghost use mathlib.Core.List.{[], _∷_};
-ghost use Rattle.motion_text.specs.Answer.{front};
+ghost use Rattle.motion_text.specs.Answer.{textLeft};
 ghost use Rattle.question_lines.specs.Pieces.{put, behind, putAll, behindAll, wholePieces, refusedPieces, spacedFloats, floatsText};
 ghost use Rattle.question_lines.specs.Words.{part as Words·part, Words·position, Decimal·append, Decimal·read, Float·read, Floats·read, Floats·stored};
 
@@ -202,7 +202,7 @@ pub fn read_more(input: &mut [u8], held: usize) -> usize
 // Accuracy: exact.
 pub fn keep(input: &mut [u8], from: usize, to: usize, most: usize) -> usize
     ensures value { λ r. ⌜ r ≡ length (take most (Words·part (now (input .entry)) from to)) ⌝ }
-    ensures left { λ _. ⌜ now (input .exit) ≡ front (take most (Words·part (now (input .entry)) from to)) (now (input .entry)) ⌝ }
+    ensures left { λ _. ⌜ now (input .exit) ≡ textLeft (take most (Words·part (now (input .entry)) from to)) (now (input .entry)) ⌝ }
 {
     if input.len() < to {
         return 0;

@@ -13,7 +13,6 @@ use Rattle.bounds3.specs.declared.Bounds3f.{Bounds3f}
 use Rattle.bounds3.specs.Finite.{Bounds3f·isFinite}
 use Rattle.transform.specs.Answer.{OneOf}
 use Rattle.bounds_query.specs.Query.{Bounds3f·isOrdered, Bounds3f·refusal}
-use Rattle.animated_transform.specs.New.{firstRefusal}
 use Rattle.motion_chain.specs.Chain.{Chain, ChainAnswer, built, refused, ChainAnswer·refusal, Chain·new}
 use Rattle.chain_poses.specs.Poses.{Poses·ofLists}
 use Rattle.motion_file.specs.declared.MoveFile.{MoveFile}

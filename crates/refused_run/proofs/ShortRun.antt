@@ -3,7 +3,7 @@
 use Prim.Native.Nat.{ℕ, suc, _+_, _≤_, _<_}
 use mathlib.Core.Path.{_≡_, refl, sym, ap, _∙_}
 use mathlib.Core.Bool.{Bool, true, false, not, _&&_, _||_, cond}
-use mathlib.Core.List.{List, [], _∷_, map}
+use mathlib.Core.List.{List, [], _∷_}
 use native.Mathlib.Omega.{arith}
 use borrow.Author.Tests.{eqb-true, ne-eqb}
 use lib.Dec.{T, eqb, ltb}
@@ -11,16 +11,18 @@ use lib.ListN.{length, drop}
 use lib.Ieee.{lt}
 use lib.Ieee.Scale.{finite}
 use lib.Ieee.Fits.{and-l}
+use Rattle.refusal.proofs.First.{first-assoc}
+use Rattle.refusal.specs.First.{firstRefusal}
 use Rattle.matrix4x4.specs.Rows.{Matrix4x4·toRows}
 use Rattle.matrix4x4.specs.IsFinite.{Matrix4x4·isFinite}
 use Rattle.pose_pair.specs.declared.Pose.{Pose}
 use Rattle.pose_pair.specs.Pose.{Pose·isFinite, Pose·isAffine, Pose·isPadded, timesRefusal, posesRefusal, Pose·kindNumber}
 use Rattle.animated_transform.specs.declared.AnimatedTransformAnswer.{AnimatedTransformAnswer}
-use Rattle.animated_transform.specs.New.{AnimatedTransformAnswer·refused, firstRefusal, work, AnimatedTransform·new}
+use Rattle.animated_transform.specs.New.{AnimatedTransformAnswer·refused, AnimatedTransform·fromPoses, AnimatedTransform·new}
 use Rattle.bounds_answers.proofs.UnionAll.{each-of}
 use Rattle.motion_chain.specs.Chain.{minPoses, maxPoses, neighbours, firstNumber, stage, Pose·number, Pair·number, kindStage, chainStages, chainRefusal}
 use Rattle.motion_chain.specs.Built.{Each}
-use Rattle.motion_chain.proofs.Built.{first-none, first-only, checks-passed}
+use Rattle.motion_chain.proofs.Built.{first-none, first-only, stage-each, checks-passed}
 use Rattle.chain_number.specs.Number.{Move·number, Chain·number}
 use Rattle.chain_number.proofs.ChainNumber.{chain-number}
 use Rattle.refused_run.specs.Run.{runAt, runNumber}
@@ -45,10 +47,6 @@ met {A} a b n e = go (eqb a 0) (eqb-true a 0) e
 met-first : {A : Type 0} (a : ℕ) (ns : List ℕ) (n : ℕ) → firstNumber (a ∷ ns) ≡ n → (a ≡ n → A) → (a ≡ 0 → firstNumber ns ≡ n → A) → A
 unfolding firstNumber
 met-first a ns n e = met a (firstNumber ns) n e
-
-stage-each : {A : Type 0} (number : A → ℕ) (xs : List A) → stage number xs ≡ 0 → Each (λ x. number x ≡ 0) xs
-stage-each number [] e = tt
-stage-each number (x ∷ xs) e = let (z, h) = first-none (number x) (map number xs) e in (z, stage-each number xs h)
 
 each : {A : Type 0} {P Q : A → Type 0} → ((x : A) → P x → Q x) → (xs : List A) → Each P xs → Each Q xs
 each f [] hs = tt
@@ -96,7 +94,7 @@ module _ (rigid : Bool) where
     kind = Pose·kindNumber rigid p
 
     abbrev worked : AnimatedTransformAnswer
-    worked = work rigid p p
+    worked = AnimatedTransform·fromPoses rigid p p
 
     kind-twice : firstRefusal kind kind ≡ kind
     kind-twice = go (eqb kind 0)
@@ -167,14 +165,7 @@ module _ (rigid : Bool) where
         first-only (kindStage rigid (p ∷ q ∷ [])),
         first-only (Move·number rigid (p, q)),
       )
-      (first-after (Pair·number 3 (p, q)) (kindStage rigid (p ∷ q ∷ [])) (Move·number rigid (p, q)))
-    where
-      first-after : (a b c : ℕ) → firstRefusal (firstRefusal a b) c ≡ firstRefusal a (firstRefusal b c)
-      first-after a b c = go (eqb a 0) refl
-        where
-          go : (t : Bool) → eqb a 0 ≡ t → cond (eqb (cond t b a) 0) c (cond t b a) ≡ cond t (firstRefusal b c) a
-          go true e = refl
-          go false e = rw e
+      (first-assoc (Pair·number 3 (p, q)) (kindStage rigid (p ∷ q ∷ [])) (Move·number rigid (p, q)))
 
   module _ (number : Pose × Pose → ℕ) (n : ℕ) (refused : n ≡ 0 → ⊥) where
     pair-run : (poses : List Pose) → Each Cleared poses → Each (λ pair. Pair·number 12 pair ≡ 0) (neighbours poses)

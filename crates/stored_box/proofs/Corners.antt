@@ -20,7 +20,7 @@ use Rattle.transform.specs.declared.PointAnswer.{PointAnswer}
 use Rattle.transform.specs.declared.PointAnswer.the-variants as point
 use Rattle.transform.specs.declared.BoundsAnswer.{BoundsAnswer}
 use Rattle.transform.specs.declared.BoundsAnswer.the-variants as bounds
-use Rattle.transform.specs.TransformPoint.{judged, Transform·transformPoint}
+use Rattle.transform.specs.TransformPoint.{PointAnswer·judged, Transform·transformPoint}
 use Rattle.transform.specs.TransformBounds.{BoundsAnswer·fromMoved, BoundsAnswer·unionMoved, unionCorner, Transform·transformBounds}
 use Rattle.pose_steps.specs.Pose.{Pose·transformPoint}
 use Rattle.pose_steps.specs.Enclose.{Bounds3f·intervals}
@@ -56,16 +56,17 @@ union-hull c qs {q} f h =
       least = λ d a. rw (union-point-box c q) (union-least (h .least d (a .1)) (point-subset (a .0)));
     }
 
-first-spans : (q : Point3f) {a : PointAnswer} → a ≡ judged q → Spans (q ∷ []) (BoundsAnswer·fromMoved a)
-unfolding judged BoundsAnswer·fromMoved
+first-spans : (q : Point3f) {a : PointAnswer} → a ≡ PointAnswer·judged q → Spans (q ∷ []) (BoundsAnswer·fromMoved a)
+unfolding PointAnswer·judged BoundsAnswer·fromMoved
 first-spans q e = rw e (go (Point3f·isFinite q) (test-finite q) finite-test)
   where
     go : (b : Bool) → (T b → Finite q) → (Finite q → T b) → Spans (q ∷ []) (BoundsAnswer·fromMoved (cond b (point.Moved q) (point.Refused 5)))
     go true f g = ((f tt, tt), record { inside = (from-point-inside (f tt), tt); least = λ d a. point-subset (a .0) })
     go false f g = (refl, λ a. g (a .0))
 
-union-spans : (q : Point3f) {a : PointAnswer} (qs : List Point3f) (r : BoundsAnswer) → a ≡ judged q → Spans qs r → Spans (q ∷ qs) (BoundsAnswer·unionMoved r a)
-unfolding judged BoundsAnswer·unionMoved
+union-spans : (q : Point3f) {a : PointAnswer} (qs : List Point3f) (r : BoundsAnswer)
+    → a ≡ PointAnswer·judged q → Spans qs r → Spans (q ∷ qs) (BoundsAnswer·unionMoved r a)
+unfolding PointAnswer·judged BoundsAnswer·unionMoved
 union-spans q qs (bounds.Refused n) e s = (s .0, λ a. s .1 (a .1))
 union-spans q qs (bounds.Bounds c) e s = rw e (go (Point3f·isFinite q) (test-finite q) finite-test)
   where
@@ -109,7 +110,7 @@ module _ (t : Transform) (b : Bounds3f) where
         let F : Float → Type 0 = λ v. T (finite v) in
         record { x = end-picks F (B .x) (l .x) (h .x) i; y = end-picks F (B .y) (l .y) (h .y) j; z = end-picks F (B .z) (l .z) (h .z) k }
 
-    corner-moved : (i j k : Bool) → Transform·transformPoint t (corner (Bounds3f·intervals b) i j k) ≡ judged (movedCorner i j k)
+    corner-moved : (i j k : Bool) → Transform·transformPoint t (corner (Bounds3f·intervals b) i j k) ≡ PointAnswer·judged (movedCorner i j k)
     corner-moved i j k = point-affine t (corner (Bounds3f·intervals b) i j k) a (corner-finite i j k)
 
     pub corners-span : Spans movedCorners (Transform·transformBounds t b)

@@ -6,10 +6,11 @@ use mathlib.Core.Path.{_≡_, refl, sym, subst}
 use mathlib.Core.Logic.{inl, inr}
 use mathlib.Core.Bool.{Bool, true, false, cond, _&&_}
 use mathlib.Core.List.{_++_}
-use Prim.Native.Nat.{ℕ, zero, suc}
+use Prim.Native.Nat.{ℕ}
 use lib.Dec.{T}
 use lib.Ieee.{Float}
 use lib.Ieee.Scale.{finite}
+use Rattle.refusal.proofs.First.{zero-first, first-keeps}
 use Rattle.rounding.specs.Order.{_≼_}
 use Rattle.float32.specs.Operators.{_⊕_, _⊗_}
 use Rattle.float32.proofs.MinMax.{min-picks, max-picks}
@@ -24,9 +25,9 @@ use Rattle.interval.specs.declared.Interval.{Interval}
 use Rattle.interval.specs.declared.Judged.{Judged}
 use Rattle.interval.specs.Contains.{Finite}
 use Rattle.interval.specs.Interval.{Interval·point, Interval·new, Interval·hull, Interval·ofFour}
-use Rattle.interval.specs.Enclosure.{first, notFinite, Interval·addEnclosure, Interval·mulEnclosure, Judged·judge, Judged·addEnclosure, Judged·mulEnclosure}
+use Rattle.interval.specs.Enclosure.{notFinite, Interval·addEnclosure, Interval·mulEnclosure, Judged·judge, Judged·addEnclosure, Judged·mulEnclosure}
 use Rattle.interval.proofs.Finite.{add-operands}
-use Rattle.interval.proofs.Refusal.{zero-first, finite-accepted}
+use Rattle.interval.proofs.Refusal.{finite-accepted}
 use Rattle.formula.specs.Enclose.{Expr·enclose, Expr·encloseAll, Program·enclose}
 use Rattle.pose_steps.specs.declared.IntervalVector.{IntervalVector}
 use Rattle.pose_steps.specs.declared.JudgedVector.{JudgedVector}
@@ -94,13 +95,12 @@ unfolding Judged·judge
 judge-accepted n X z f = zero-first n (notFinite X) z (finite-accepted X f)
 
 judge-number : (n : ℕ) (X : Interval) → StoredNumber n → StoredNumber (Judged·judge n X .refusal)
-unfolding Judged·judge first notFinite
-judge-number zero X i = go (finite (X .low) && finite (X .high))
+unfolding Judged·judge notFinite
+judge-number n X i = first-keeps StoredNumber n (notFinite X) i (go (finite (X .low) && finite (X .high)))
   where
     go : (b : Bool) → StoredNumber (cond b 0 5)
     go true = inl refl
     go false = inr refl
-judge-number (suc n) X i = i
 
 module _ (n : ℕ) (r : Row) (B : IntervalVector) where
   row-accepted : n ≡ 0 → Finite (encloseRow n r B .interval) → encloseRow n r B .refusal ≡ 0

@@ -17,7 +17,7 @@ use Rattle.transform.specs.declared.PointAnswer.the-variants as point
 use Rattle.transform.specs.declared.BoundsAnswer.{BoundsAnswer}
 use Rattle.transform.specs.declared.BoundsAnswer.the-variants as bounds
 use Rattle.transform.specs.Answer.{origin, PointAnswer·Judged, BoundsAnswer·Judged}
-use Rattle.transform.specs.TransformPoint.{movedPoint, judged, Transform·transformPoint}
+use Rattle.transform.specs.TransformPoint.{movedPoint, PointAnswer·judged, Transform·transformPoint}
 use Rattle.transform.specs.TransformBounds.{BoundsAnswer·fromMoved, BoundsAnswer·unionMoved, unionCorner, Transform·transformBounds}
 
 pub origin-finite : T (Point3f·isFinite origin)
@@ -27,16 +27,16 @@ origin-finite = tt
 point-box-finite : (p : Point3f) → T (Point3f·isFinite p) → T (Bounds3f·isFinite (Bounds3f·fromPoint p))
 point-box-finite p f = box-finite (Bounds3f·fromPoint p) (test-finite p f) (test-finite p f)
 
-pub judged-moved : (q : Point3f) → T (Point3f·isFinite q) → judged q ≡ point.Moved q
-unfolding judged
+pub judged-moved : (q : Point3f) → T (Point3f·isFinite q) → PointAnswer·judged q ≡ point.Moved q
+unfolding PointAnswer·judged
 judged-moved q f = go (Point3f·isFinite q) f
   where
     go : (b : Bool) → T b → cond b (point.Moved q) (point.Refused 5) ≡ point.Moved q
     go true f = refl
     go false f = absurd f
 
-judged-answer : (q : Point3f) → PointAnswer·Judged (judged q)
-unfolding judged
+judged-answer : (q : Point3f) → PointAnswer·Judged (PointAnswer·judged q)
+unfolding PointAnswer·judged
 judged-answer q = go (Point3f·isFinite q) (λ t. t)
   where
     go : (b : Bool) → (T b → T (Point3f·isFinite q)) → PointAnswer·Judged (cond b (point.Moved q) (point.Refused 5))

@@ -17,7 +17,7 @@ use Rattle.bounds3.specs.declared.Point3f.{Point3f}
 use Rattle.bounds3.specs.Finite.{Point3f·isFinite, Finite}
 use Rattle.transform.specs.declared.Transform.{Transform}
 use Rattle.transform.specs.declared.PointAnswer.the-variants.{Refused}
-use Rattle.transform.specs.TransformPoint.{mulPoint, movedPoint, judged, Transform·transformPoint}
+use Rattle.transform.specs.TransformPoint.{mulPoint, movedPoint, PointAnswer·judged, Transform·transformPoint}
 
 -- ---- wp is 1
 module _ (m : Rows) (p : Point3f) (a : T (Matrix4x4·isAffine m)) (f : Finite p) where
@@ -59,7 +59,7 @@ unfolding eq ofBits
 zero-not-one (signed s e) = rw (ne-eqb (0 * up e * 1) (1 * down e) (λ h. let d = down-pos e in omega arith))
 
 pub wp-zero : (t : Transform) (p : Point3f) → T (eq (mulPoint (row (Matrix4x4·toRows (t .m)) 3) p) positiveZero) → Transform·transformPoint t p ≡ Refused 5
-unfolding Transform·transformPoint judged movedPoint Point3f·isFinite
+unfolding Transform·transformPoint PointAnswer·judged movedPoint Point3f·isFinite
 wp-zero t p h =
     let m = Matrix4x4·toRows (t .m) in
     let z = eq-zero (mulPoint (row m 3) p) h in

@@ -8,7 +8,7 @@ use lib.Ieee.{Float, neg}
 use Rattle.float32.specs.Operators.{one}
 use Rattle.vector3.specs.declared.Vector3f.{Vector3f}
 use Rattle.matrix4x4.specs.declared.Matrix4x4.{Matrix4x4}
-use Rattle.matrix4x4.specs.Rows.{Rows, tabulate, positiveZero, Matrix4x4·toRows, Matrix4x4·fromRows}
+use Rattle.matrix4x4.specs.Rows.{Rows, positiveZero, Matrix4x4·toRows, Matrix4x4·fromRows, Matrix4x4·zero}
 use Rattle.matrix4x4.specs.Mul.{Matrix4x4·mul}
 use Rattle.matrix4x4.specs.Eq.{Matrix4x4·eq}
 use Rattle.matrix_inverse.specs.Inverse.{Matrix4x4·inverse}
@@ -22,7 +22,7 @@ Transform·fromMatrices m m⁻¹ = record { m = Matrix4x4·fromRows m; «m_inv»
 -- A transform that was refused: document 01's number, and every entry +0.
 abbrev pub TransformAnswer·refused : ℕ → TransformAnswer
 TransformAnswer·refused n =
-    let z : Matrix4x4 = Matrix4x4·fromRows (tabulate (λ i. tabulate (λ j. positiveZero))) in
+    let z : Matrix4x4 = Matrix4x4·zero in
     record { transform = record { m = z; «m_inv» = z }; refusal = n }
 
 -- `Transform::from_matrix`, with the inverse's number handed on

@@ -22,9 +22,9 @@ movedPoint m p =
     cond (eq wp one) q (Point3f·div q wp)
 
 -- document 01, Refusals, 5: an "answer holds a value that isn't finite"
-unfoldable pub judged : Point3f → PointAnswer
-judged q = cond (Point3f·isFinite q) (Moved q) (Refused 5)
+unfoldable pub PointAnswer·judged : Point3f → PointAnswer
+PointAnswer·judged q = cond (Point3f·isFinite q) (Moved q) (Refused 5)
 
 -- `Transform::transform_point`
 unfoldable pub Transform·transformPoint : Transform → Point3f → PointAnswer
-Transform·transformPoint t p = judged (movedPoint (Matrix4x4·toRows (t .m)) p)
+Transform·transformPoint t p = PointAnswer·judged (movedPoint (Matrix4x4·toRows (t .m)) p)

@@ -18,7 +18,7 @@ use Rattle.motion_rows.specs.Rows.{AnimatedTransform·fromRows}
 use Rattle.motion_chain.specs.Chain.{Chain·moves}
 use Rattle.chain_rows.specs.Kept.{Moves·chain}
 use Rattle.window_times.specs.declared.Window.{Window}
-use Rattle.dt_pieces.proofs.Halves.{union-append}
+use Rattle.bounds_answers.proofs.UnionAll.{union-append}
 use Rattle.chain_window.specs.Cover.{sliceBoxes, firstPoseBoxes, endPoseBoxes, equalPoseBoxes, isNil, boxesFrom, windowBoxes, Chain·encloseWindow}
 use Rattle.window_cover.specs.means.Stage.{stageBoxes}
 

@@ -9,13 +9,13 @@ use borrow.Author.Tests.{eqb-true}
 use lib.Dec.{eqb}
 use lib.ListN.{length}
 use lib.Ieee.{Float}
+use Rattle.refusal.proofs.First.{first-zero}
+use Rattle.refusal.specs.First.{firstRefusal}
 use Rattle.transform.specs.declared.BoundsAnswer.{BoundsAnswer}
 use Rattle.transform.specs.Answer.{OneOf, BoundsAnswer·refusal, BoundsAnswer·bounds}
-use Rattle.animated_transform.specs.New.{firstRefusal}
 use Rattle.bounds_overlap.specs.Meets.{Bounds3f·meets}
 use Rattle.bounds_meeting.specs.Meeting.{Meeting·of}
 use Rattle.window_times.specs.declared.Window.{Window}
-use Rattle.chain_window.proofs.Contains.{both-none}
 use Rattle.window_meetings.specs.Windows.{windowsOf, WindowsAnswer, listed, refused, WindowsAnswer·windows, WindowsAnswer·cons, windowsFrom}
 use Rattle.window_meetings.specs.Theorem.{tickWindow}
 
@@ -60,7 +60,7 @@ module _ (cover cover' : Window → BoundsAnswer) where
       go : (t : Bool) → (t ≡ true → n ≡ 0) → (r : WindowsAnswer) → windowsFrom cover cover' (suc k) ws ≡ r → cond t (WindowsAnswer·cons m k r) (refused n) ≡ listed ks
           → Taken cover cover' k w ws ks
       go true f (listed rest) e h =
-          let (a, a') = both-none (BoundsAnswer·refusal (cover w)) (BoundsAnswer·refusal (cover' w)) (f refl) in
+          let (a, a') = first-zero (BoundsAnswer·refusal (cover w)) (BoundsAnswer·refusal (cover' w)) (f refl) in
           record { accepted = a; accepted' = a'; rest = rest; after = e; whole = listed-same (sym h ∙ cons-listed m k rest) }
       go true f (refused x) e h = absurd (refused-listed (sym (cons-refused m k x) ∙ h))
       go false f r e h = absurd (refused-listed h)

@@ -8,11 +8,12 @@ use borrow.Author.Tests.{eqb-false}
 use lib.Dec.{eqb, ltb}
 use lib.ListN.{length}
 use lib.Ieee.{Float}
+use Rattle.refusal.proofs.First.{first-keeps}
+use Rattle.refusal.specs.First.{firstRefusal}
 use Rattle.bounds3.specs.declared.Bounds3f.{Bounds3f}
 use Rattle.bounds3.specs.Finite.{Bounds3f·isFinite}
 use Rattle.transform.specs.declared.BoundsAnswer.{BoundsAnswer}
 use Rattle.transform.specs.Answer.{OneOf, BoundsAnswer·refusal, BoundsAnswer·bounds}
-use Rattle.animated_transform.specs.New.{firstRefusal}
 use Rattle.bounds_query.specs.Query.{Bounds3f·isOrdered, Bounds3f·refusal, maxDepth}
 use Rattle.bounds_overlap.specs.Meets.{Bounds3f·meets}
 use Rattle.bounds_meeting.specs.Meeting.{Meeting·of}
@@ -32,11 +33,7 @@ Number n = OneOf n numbers
 
 -- ---- the arguments
 first-number : (n k : ℕ) → Number n → Number k → Number (firstRefusal n k)
-first-number n k i j = go (eqb n 0)
-  where
-    go : (t : Bool) → Number (cond t k n)
-    go true = j
-    go false = i
+first-number n k i j = first-keeps Number n k i j
 
 ticks-number : (ticks : List Float) → Number (Ticks·refusal ticks)
 unfolding Ticks·refusal

@@ -3,8 +3,8 @@ use Rattle.pose_pair.specs.means.Computing as poses
 use Rattle.transform.specs.means.Computing as transform
 use Rattle.decomposition.specs.means.Computing as decomposition
 use Rattle.rotation_arc.specs.means.Computing as arc
-use Rattle.animated_transform.specs.New.{between, work, AnimatedTransform·new}
+use Rattle.animated_transform.specs.New.{AnimatedTransform·fromParts, AnimatedTransform·fromPoses, AnimatedTransform·new}
 
 unfoldable pub computing : Unit {0}
-unfolding poses.computing transform.computing decomposition.computing arc.computing between work AnimatedTransform·new
+unfolding poses.computing transform.computing decomposition.computing arc.computing AnimatedTransform·fromParts AnimatedTransform·fromPoses AnimatedTransform·new
 computing = tt

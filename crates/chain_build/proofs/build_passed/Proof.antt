@@ -8,7 +8,7 @@ use Rattle.motion_chain.specs.Chain.{neighbours}
 use Rattle.motion_chain.proofs.Built.{checks-passed}
 use Rattle.chain_poses.specs.Poses.{Poses·ofLists}
 use Rattle.chain_poses.proofs.Loops.{poses-length}
-use Rattle.chain_build.specs.Build.{front}
+use Rattle.chain_build.specs.Build.{blocksLeft}
 use Rattle.chain_build.specs.means.Pairs.{Pair·rows}
 use Rattle.chain_build.proofs.Answer.{pair-refused, all-built}
 use Rattle.chain_build.proofs.build_passed.Statement.{statement}
@@ -34,7 +34,7 @@ returns-2 c =
     let poses = Poses·ofLists lists in
     let work = c .before .put-pairs .ensures in
     let none = c .if1 .left in
-    let left = work .1 .0 none ∙ ap (λ (old : List Rows). front (map (Pair·rows (entry .args .rigid)) (neighbours poses)) old) (entry .pre .1) in
+    let left = work .1 .0 none ∙ ap (λ (old : List Rows). blocksLeft (map (Pair·rows (entry .args .rigid)) (neighbours poses)) old) (entry .pre .1) in
     all-built (entry .args .rigid) poses (length lists) (entry .args .moves .now) (sym (poses-length lists)) (entry .pre .0) (sym none ∙ work .0) left (work .1 .1 none)
 
 pub build-passed-spec : {M : Type 1} → statement M

@@ -6,11 +6,12 @@ use native.Mathlib.Omega.{arith}
 use borrow.Author.Needs.{needs}
 use borrow.Author.Tests.{eq-eqb, ne-eqb}
 use lib.ListN.{length}
+use Rattle.chain_number.specs.Number.{Move·number}
 use Rattle.motion_chain.specs.Chain.{firstNumber, stage}
 use Rattle.motion_chain.specs.Built.{Each}
 use Rattle.chain_poses.specs.Poses.{Poses·ofLists, Poses·pairAt}
 use Rattle.chain_poses.proofs.Loops.{poses-length, pairsFrom, pairs-next, pairs-end, pairs-count}
-use Rattle.chain_build.specs.means.Pairs.{Pair·refusal, Pair·Built}
+use Rattle.chain_build.specs.means.Pairs.{Pair·Built}
 use Rattle.chain_build.proofs.Put.{put, put-front, put-next}
 use Rattle.chain_build.proofs.put_pairs.Statement.{statement}
 use Rattle.chain_build.proofs.put_pairs.Tie as tie
@@ -19,7 +20,7 @@ abbrev Inv-loop : tie.InvT-loop
 Inv-loop rigid poses moves₀ n i₀ moves i =
     (n ≡ length poses)
     × ((1 ≤ i)
-    × ((stage (Pair·refusal rigid) (pairsFrom poses i) ≡ stage (Pair·refusal rigid) (pairsFrom poses 1))
+    × ((stage (Move·number rigid) (pairsFrom poses i) ≡ stage (Move·number rigid) (pairsFrom poses 1))
     × ((put rigid moves (i - 1) (pairsFrom poses i) ≡ put rigid moves₀ 0 (pairsFrom poses 1))
     × (Each (Pair·Built rigid) (pairsFrom poses i) → Each (Pair·Built rigid) (pairsFrom poses 1)))))
 

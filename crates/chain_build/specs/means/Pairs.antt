@@ -1,15 +1,10 @@
 -- What comes of a neighbouring pair of poses, as the code that builds one after the other says it. Definitions only.
-use Prim.Native.Nat.{ℕ}
 use mathlib.Core.Bool.{Bool}
 use Rattle.matrix4x4.specs.Rows.{Rows}
 use Rattle.pose_pair.specs.declared.Pose.{Pose}
 use Rattle.animated_transform.specs.New.{AnimatedTransform·new}
 use Rattle.animated_transform.specs.Built.{Built}
 use Rattle.motion_rows.specs.Rows.{AnimatedTransform·toRows}
-
--- the number of its move, 0 for none
-abbrev pub Pair·refusal : Bool → Pose × Pose → ℕ
-Pair·refusal rigid (p, q) = AnimatedTransform·new rigid p q .refusal
 
 -- the rows of its move
 abbrev pub Pair·rows : Bool → Pose × Pose → Rows

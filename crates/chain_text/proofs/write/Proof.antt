@@ -32,8 +32,8 @@ refusal-requires c κs = search needs
 room-refusal-requires : tie.Need-room-refusal-requires
 room-refusal-requires c κs = search needs
 
-first-requires : tie.Need-first-requires
-first-requires c κs = search needs
+first-refusal-requires : tie.Need-first-refusal-requires
+first-refusal-requires c κs = search needs
 
 refused-requires-2 : tie.Need-refused-requires-2
 refused-requires-2 c κs = search needs
@@ -46,7 +46,7 @@ returns-2 c =
     let some = judged .before .if1 .left in
     let a = judged .before .before .before .args in
     let e = c .refused2 .ensures in
-    all-refused (a .moves .now) (a .b) (a .out .now) some _ _ _ _ (omega arith) (judged .refusal .ensures) (room .room-refusal .ensures) (first .first .ensures)
+    all-refused (a .moves .now) (a .b) (a .out .now) some _ _ _ _ (omega arith) (judged .refusal .ensures) (room .room-refusal .ensures) (first .first-refusal .ensures)
     (c .before .if2 .taken) _ _ (e .1) (e .0)
 
 put-requires : tie.Need-put-requires
@@ -57,7 +57,7 @@ put-requires c κs =
     let some = judged .before .if1 .left in
     let a = judged .before .before .before .args in (
       omega (arith, some),
-      has-room (a .moves .now) (a .b) (a .out .now) some _ _ _ _ (omega arith) (judged .refusal .ensures) (room .room-refusal .ensures) (first .first .ensures) (c .before .if2 .left),
+      has-room (a .moves .now) (a .b) (a .out .now) some _ _ _ _ (omega arith) (judged .refusal .ensures) (room .room-refusal .ensures) (first .first-refusal .ensures) (c .before .if2 .left),
     )
 
 same-length : tie.Need-same-length
@@ -71,7 +71,7 @@ returns-3 c =
     let judged = room .before in
     let some = judged .before .if1 .left in
     let a = judged .before .before .before .args in
-    all-written (a .moves .now) (a .b) (a .out .now) some _ _ _ _ (omega arith) (judged .refusal .ensures) (room .room-refusal .ensures) (first .first .ensures)
+    all-written (a .moves .now) (a .b) (a .out .now) some _ _ _ _ (omega arith) (judged .refusal .ensures) (room .room-refusal .ensures) (first .first-refusal .ensures)
     (put .before .before .if2 .left) _ (put .put .ensures)
 
 pub write-spec : {M : Type 1} → statement M
@@ -86,7 +86,7 @@ write-spec =
     add-length-3
     refusal-requires
     room-refusal-requires
-    first-requires
+    first-refusal-requires
     refused-requires-2
     returns-2
     put-requires

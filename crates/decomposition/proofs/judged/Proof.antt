@@ -1,5 +1,5 @@
 -- `judged` meets its contract: its test is the definition's.
-use Rattle.decomposition.specs.Decompose.{judged}
+use Rattle.decomposition.specs.Decompose.{Decomposition·judged}
 use borrow.Author.Needs.{needs}
 use Rattle.decomposition.proofs.judged.Statement.{statement}
 use Rattle.decomposition.proofs.judged.Tie as tie
@@ -35,11 +35,11 @@ refused-requires : tie.Need-refused-requires
 refused-requires c κs = search needs
 
 returns : tie.Need-returns
-unfolding judged
+unfolding Decomposition·judged
 returns c = rw (rw (c .before .before .before .before .before .before .is-finite .ensures, c .before .before .before .before .before .is-finite2 .ensures) at (c .before .before .before .before .if1 .taken), c .from-rows .ensures)
 
 returns-2 : tie.Need-returns-2
-unfolding judged
+unfolding Decomposition·judged
 returns-2 c = rw (rw (c .before .before .before .is-finite .ensures, c .before .before .is-finite2 .ensures) at (c .before .if1 .left)) (c .refused .ensures)
 
 pub judged-spec : {M : Type 1} → statement M

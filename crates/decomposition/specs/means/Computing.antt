@@ -4,9 +4,9 @@ use Rattle.float32.specs.MinMax.{maxNum}
 use Rattle.matrix_inverse.specs.means.Computing as inverse
 use Rattle.matrix_quaternion.specs.means.Computing as quaternion
 use Rattle.polar_round.specs.PolarRound.{linearPart, mean, rowDistance, distance}
-use Rattle.decomposition.specs.Polar.{judgedRound, round, polar}
-use Rattle.decomposition.specs.Decompose.{judged, scaleBy, parts, finish, Matrix4x4·decompose}
+use Rattle.decomposition.specs.Polar.{judgedRound, polarRound, polar}
+use Rattle.decomposition.specs.Decompose.{Decomposition·judged, scaleBy, parts, finish, Matrix4x4·decompose}
 
 unfoldable pub computing : Unit {0}
-unfolding isNan le maxNum inverse.computing quaternion.computing linearPart mean rowDistance distance judgedRound round polar judged scaleBy parts finish Matrix4x4·decompose
+unfolding isNan le maxNum inverse.computing quaternion.computing linearPart mean rowDistance distance judgedRound polarRound polar Decomposition·judged scaleBy parts finish Matrix4x4·decompose
 computing = tt

@@ -1,5 +1,5 @@
 -- `judged` meets its contract: its test is the definition's.
-use Rattle.matrix_inverse.specs.Inverse.{judged}
+use Rattle.matrix_inverse.specs.Inverse.{InverseAnswer·judged}
 use borrow.Author.Needs.{needs}
 use Rattle.matrix_inverse.proofs.judged.Statement.{statement}
 use Rattle.matrix_inverse.proofs.judged.Tie as tie
@@ -14,11 +14,11 @@ refused-requires : tie.Need-refused-requires
 refused-requires c κs = search needs
 
 returns : tie.Need-returns
-unfolding judged
+unfolding InverseAnswer·judged
 returns c = rw (← c .before .before .is-finite .ensures, c .before .if1 .taken, c .from-rows .ensures)
 
 returns-2 : tie.Need-returns-2
-unfolding judged
+unfolding InverseAnswer·judged
 returns-2 c = rw (← c .before .before .is-finite .ensures, c .before .if1 .left) (c .refused .ensures)
 
 pub judged-spec : {M : Type 1} → statement M

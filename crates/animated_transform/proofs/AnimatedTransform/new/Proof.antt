@@ -1,7 +1,7 @@
 -- `new` meets its contract: the number of the poses chooses the case; its second clause follows from the first (`new-clauses`).
 use mathlib.Core.Path.{_≡_}
 use borrow.Author.Tests.{eq-eqb, ne-eqb}
-use Rattle.animated_transform.specs.New.{firstRefusal, AnimatedTransform·new}
+use Rattle.animated_transform.specs.New.{AnimatedTransform·new}
 use Rattle.animated_transform.proofs.Built.{new-clauses}
 use borrow.Author.Needs.{needs}
 use Rattle.animated_transform.proofs.AnimatedTransform.new.Statement.{statement}
@@ -33,7 +33,7 @@ returns-2 c =
     let start = i .good .1 .0 .1 .1 in
     let end = i .good .1 .1 .0 .1 .1 in
     new-clauses (i .args .rigid) (i .args .start) (i .args .end) (start .0 .1) (start .1 .1 .0 .1) (end .0 .1) (end .1 .1 .0 .1)
-    (rw (← p .poses-refusal .ensures, ← s .kind-number .ensures, ← e .kind-number2 .ensures, ← k .first-refusal .ensures, ← n .first-refusal2 .ensures, eq-eqb _ 0 (c .before .if1 .left)) (c .work .ensures))
+    (rw (← p .poses-refusal .ensures, ← s .kind-number .ensures, ← e .kind-number2 .ensures, ← k .first-refusal .ensures, ← n .first-refusal2 .ensures, eq-eqb _ 0 (c .before .if1 .left)) (c .from-poses .ensures))
 
 pub new-spec : {M : Type 1} → statement M
 new-spec =

@@ -5,7 +5,7 @@ use Rattle.interval.proofs.Judged.judge.Tie as tie
 
 returns : tie.Need-returns
 unfolding Judged·judge
-returns c = rw (c .first .ensures, c .before .not-finite .ensures)
+returns c = rw (c .first-refusal .ensures, c .before .not-finite .ensures)
 
 pub judge-spec : {M : Type 1} → statement M
 judge-spec = tie.close (tie.spec (λ c κs. tt) (λ c κs. tt) returns)

@@ -1,6 +1,6 @@
 -- `transform_point` meets its contract: the moved point where it is finite, and the number 5 otherwise.
 use Rattle.transform.proofs.Judged.{point-clauses}
-use Rattle.transform.specs.TransformPoint.{Transform·transformPoint, judged}
+use Rattle.transform.specs.TransformPoint.{Transform·transformPoint, PointAnswer·judged}
 use borrow.Author.Needs.{needs}
 use Rattle.transform.proofs.Transform.transform_point.Statement.{statement}
 use Rattle.transform.proofs.Transform.transform_point.Tie as tie
@@ -12,7 +12,7 @@ is-finite-requires : tie.Need-is-finite-requires
 is-finite-requires c κs = search needs
 
 returns : tie.Need-returns
-unfolding Transform·transformPoint judged
+unfolding Transform·transformPoint PointAnswer·judged
 returns c =
     point-clauses (c .before .before .before .args .self) (c .before .before .before .args .p) (rw (
       rw (
@@ -23,7 +23,7 @@ returns c =
     ))
 
 returns-2 : tie.Need-returns-2
-unfolding Transform·transformPoint judged
+unfolding Transform·transformPoint PointAnswer·judged
 returns-2 c =
     point-clauses (c .before .before .before .args .self) (c .before .before .before .args .p) (rw (rw (
       c .before .is-finite .ensures,

@@ -1,7 +1,7 @@
 -- `first_refusal` meets its contract: one test chooses.
 use borrow.Author.Tests.{eq-eqb, ne-eqb}
-use Rattle.chain_poses.proofs.first_refusal.Statement.{statement}
-use Rattle.chain_poses.proofs.first_refusal.Tie as tie
+use Rattle.refusal.proofs.first_refusal.Statement.{statement}
+use Rattle.refusal.proofs.first_refusal.Tie as tie
 
 returns : tie.Need-returns
 returns c = rw (eq-eqb _ 0 (c .if1 .taken))

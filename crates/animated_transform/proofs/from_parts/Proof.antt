@@ -1,13 +1,14 @@
--- `between` meets its contract: the number that was met chooses the case.
+-- `from_parts` meets its contract: the number that was met chooses the case.
 use mathlib.Core.Path.{_≡_}
 use lib.Ieee.{lt}
+use Rattle.refusal.specs.First.{firstRefusal}
 use Rattle.quaternion.specs.Slerp.{slerpThreshold}
 use Rattle.rotation_arc.specs.ArcCoefficients.{pairCoefficients}
-use Rattle.animated_transform.specs.New.{firstRefusal, between}
+use Rattle.animated_transform.specs.New.{AnimatedTransform·fromParts}
 use borrow.Author.Tests.{eq-eqb, ne-eqb}
 use borrow.Author.Needs.{needs}
-use Rattle.animated_transform.proofs.between.Statement.{statement}
-use Rattle.animated_transform.proofs.between.Tie as tie
+use Rattle.animated_transform.proofs.from_parts.Statement.{statement}
+use Rattle.animated_transform.proofs.from_parts.Tie as tie
 
 flip-requires : tie.Need-flip-requires
 flip-requires c κs = search needs
@@ -31,7 +32,7 @@ refused-requires : tie.Need-refused-requires
 refused-requires c κs = search needs
 
 returns : tie.Need-returns
-unfolding between
+unfolding AnimatedTransform·fromParts
 returns c =
     let dots = c .before .before .before in
     let pair = dots .before .before in
@@ -48,11 +49,11 @@ eq-requires : tie.Need-eq-requires
 eq-requires c κs = search needs
 
 returns-2 : tie.Need-returns-2
-unfolding between
+unfolding AnimatedTransform·fromParts
 returns-2 c = rw (← c .before .before .before .before .before .before .before .before .before .before .flip .ensures, ← c .before .before .before .before .before .before .before .dot .ensures, ← c .before .before .before .before .before .before .pair-coefficients .ensures, ← c .before .before .before .before .before .dot2 .ensures, ← c .before .before .before .before .dots-refusal .ensures, ← c .before .before .before .first-refusal .ensures, eq-eqb _ 0 (c .before .before .if1 .left), ← c .eq .ensures)
 
-pub between-spec : {M : Type 1} → statement M
-between-spec =
+pub from-parts-spec : {M : Type 1} → statement M
+from-parts-spec =
     tie.close
     (tie.spec
     flip-requires

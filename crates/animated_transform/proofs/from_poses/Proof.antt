@@ -1,10 +1,11 @@
--- `work` meets its contract: the first number that was met chooses the case.
+-- `from_poses` meets its contract: the first number that was met chooses the case.
 use mathlib.Core.Path.{_≡_}
-use Rattle.animated_transform.specs.New.{firstRefusal, work}
+use Rattle.refusal.specs.First.{firstRefusal}
+use Rattle.animated_transform.specs.New.{AnimatedTransform·fromPoses}
 use borrow.Author.Tests.{eq-eqb, ne-eqb}
 use borrow.Author.Needs.{needs}
-use Rattle.animated_transform.proofs.work.Statement.{statement}
-use Rattle.animated_transform.proofs.work.Tie as tie
+use Rattle.animated_transform.proofs.from_poses.Statement.{statement}
+use Rattle.animated_transform.proofs.from_poses.Tie as tie
 
 to-rows-requires : tie.Need-to-rows-requires
 to-rows-requires c κs = search needs
@@ -37,20 +38,20 @@ refused-requires : tie.Need-refused-requires
 refused-requires c κs = search needs
 
 returns : tie.Need-returns
-unfolding work
+unfolding AnimatedTransform·fromPoses
 returns c =
     let inverses : c .before .before .before .before .first-refusal .result ≡ firstRefusal (c .before .before .before .before .before .before .before .before .from-matrix .result .refusal) (c .before .before .before .before .before .before .before .from-matrix2 .result .refusal) = c .before .before .before .before .first-refusal .ensures in
     rw (← c .before .before .before .before .before .before .before .before .before .before .to-rows .ensures, ← c .before .before .before .before .before .before .before .before .before .to-rows2 .ensures, ← c .before .before .before .before .before .before .before .before .from-matrix .ensures, ← c .before .before .before .before .before .before .before .from-matrix2 .ensures, ← c .before .before .before .before .before .before .decompose .ensures, ← c .before .before .before .before .before .decompose2 .ensures, ← inverses, ← c .before .before .before .first-refusal2 .ensures, ← c .before .before .first-refusal3 .ensures, ne-eqb _ 0 (c .before .if1 .taken)) (c .refused .ensures)
 
-between-requires : tie.Need-between-requires
-between-requires c κs = search needs
+from-parts-requires : tie.Need-from-parts-requires
+from-parts-requires c κs = search needs
 
 returns-2 : tie.Need-returns-2
-unfolding work
-returns-2 c = rw (← c .before .before .before .before .before .before .before .before .before .before .to-rows .ensures, ← c .before .before .before .before .before .before .before .before .before .to-rows2 .ensures, ← c .before .before .before .before .before .before .before .before .from-matrix .ensures, ← c .before .before .before .before .before .before .before .from-matrix2 .ensures, ← c .before .before .before .before .before .before .decompose .ensures, ← c .before .before .before .before .before .decompose2 .ensures, ← c .before .before .before .before .first-refusal .ensures, ← c .before .before .before .first-refusal2 .ensures, ← c .before .before .first-refusal3 .ensures, eq-eqb _ 0 (c .before .if1 .left)) (c .between .ensures)
+unfolding AnimatedTransform·fromPoses
+returns-2 c = rw (← c .before .before .before .before .before .before .before .before .before .before .to-rows .ensures, ← c .before .before .before .before .before .before .before .before .before .to-rows2 .ensures, ← c .before .before .before .before .before .before .before .before .from-matrix .ensures, ← c .before .before .before .before .before .before .before .from-matrix2 .ensures, ← c .before .before .before .before .before .before .decompose .ensures, ← c .before .before .before .before .before .decompose2 .ensures, ← c .before .before .before .before .first-refusal .ensures, ← c .before .before .before .first-refusal2 .ensures, ← c .before .before .first-refusal3 .ensures, eq-eqb _ 0 (c .before .if1 .left)) (c .from-parts .ensures)
 
-pub work-spec : {M : Type 1} → statement M
-work-spec =
+pub from-poses-spec : {M : Type 1} → statement M
+from-poses-spec =
     tie.close
     (tie.spec
     to-rows-requires
@@ -64,5 +65,5 @@ work-spec =
     first-refusal-requires-3
     refused-requires
     returns
-    between-requires
+    from-parts-requires
     returns-2)
