@@ -12,11 +12,11 @@ use Rattle.sine_table.specs.Table.{quarterTurn}
 use Rattle.trig.specs.Units.{cosUnits}
 use Rattle.arc_cosine.specs.Acos.{floorUnits, acos}
 use Rattle.trig.specs.Biased.{biased}
-use Rattle.trig.specs.Computing as trig
+use Rattle.trig.specs.means.Computing as trig
 use Rattle.trig_laws.proofs.Acos.{acos-unique}
 use Rattle.animated_transform.specs.means.Computing as building
 use Rattle.motion_point.specs.means.Computing as point
-use Rattle.motion_cover.specs.Computing as cover
+use Rattle.motion_cover.specs.means.Computing as cover
 use Rattle.cases.specs.Query.{number}
 use Rattle.cases.specs.Cases.{Row, holds, fraction, zero, one, translation-midpoint, start-at-minus-infinity, end-at-infinity, nan-time-refused, depth-0-zero-quaternion-norm, depth-1-translation-covered, depth-13-refused, end-before-start-refused, equal-times-built, equal-times-start-at-zero, equal-times-end-just-above, equal-times-end-at-one, equal-times-end-at-infinity, zero-linear-part-refused, infinite-entry-before-bottom-row, infinite-duration-refused, equal-poses-keep-box, acos-of-one, acos-of-zero, sin-of-zero, EveryRowHolds}
 

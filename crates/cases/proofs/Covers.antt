@@ -12,7 +12,7 @@ use Rattle.animated_transform.specs.declared.AnimatedTransform.{AnimatedTransfo
 use Rattle.animated_transform.specs.New.{AnimatedTransform·new}
 use Rattle.animated_transform.specs.means.Computing as building
 use Rattle.motion_cover.specs.Cover.{AnimatedTransform·cover}
-use Rattle.motion_cover.specs.Computing.{computing}
+use Rattle.motion_cover.specs.means.Computing.{computing}
 
 -- -1.5 and 1.5
 abbrev low : Float

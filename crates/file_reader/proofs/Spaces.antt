@@ -10,7 +10,7 @@ use lib.ListN.{length, drop, getD, drop-of-length-le}
 use lib.Seq.{drop-cons}
 use borrow.Author.Tests.{eqb-true, ne-eqb}
 use Rattle.motion_file.specs.Text.{space, startsWith, singleSpaced}
-use Rattle.motion_file.specs.Place.{NextByte}
+use Rattle.motion_file.specs.means.Place.{NextByte}
 
 pub singleSpaced-other : (b : ℕ) (s : List ℕ) → (b ≡ space → ⊥) → singleSpaced (b ∷ s) ≡ b ∷ singleSpaced s
 unfolding singleSpaced

@@ -18,7 +18,7 @@ use Rattle.hexadecimal.specs.declared.Word.the-variants.{Bits, Malformed}
 use Rattle.hexadecimal.proofs.Digits.{position-bound}
 use Rattle.motion_file.specs.Text.{space, singleSpaced}
 use Rattle.motion_file.specs.Layout.{words, isValue, valueOf, allValues, areValues}
-use Rattle.motion_file.specs.Place.{NextByte}
+use Rattle.motion_file.specs.means.Place.{NextByte}
 use Rattle.motion_file.proofs.Pieces.{position-here, position-next, split-first}
 use Rattle.file_reader.proofs.Spaces.{singleSpaced-first}
 use Rattle.file_reader.proofs.Words.{words-cut, words-whole, words-first, digits-position}

@@ -5,9 +5,9 @@ ghost use mathlib.Core.List.{map};
 ghost use Prim.Native.Nat.{_≤_, _<_};
 ghost use lib.ListN.{length, replicate};
 ghost use Rattle.motion_file.specs.Layout.{names, values, fits, valuesOf, maxBytes, maxPoseLines, hasPads, poseOf, MoveFile·poses, MoveFile·read};
-ghost use Rattle.motion_file.specs.Columns.{MoveFile·readAs, MoveFile·posesAs};
+ghost use Rattle.motion_file.specs.means.Columns.{MoveFile·readAs, MoveFile·posesAs};
 ghost use Rattle.motion_file.specs.Front.{front};
-ghost use Rattle.motion_file.specs.Place.{lineAt, afterLine, through, linesThrough, NextByte};
+ghost use Rattle.motion_file.specs.means.Place.{lineAt, afterLine, through, linesThrough, NextByte};
 use hexadecimal::Word;
 use motion_file::MoveFile;
 

@@ -7,7 +7,7 @@ use Rattle.interval.specs.means.EndAngle.{EndAngle·new}
 use Rattle.pose_steps.specs.declared.PoseConstants.{PoseConstants}
 use Rattle.pose_steps.specs.Pose.{isNear}
 use Rattle.motion_cover.specs.declared.Border.{Border}
-use Rattle.motion_cover.specs.Border.{Border·at}
+use Rattle.motion_cover.specs.means.Border.{Border·at}
 
 pub border-time : (a : PoseConstants) (t : Float) (b : Border) → b ≡ Border·at a t → b .t ≡ t
 unfolding Border·at

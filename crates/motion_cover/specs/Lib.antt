@@ -1,6 +1,5 @@
 pub mod Cover
-pub mod Border
 pub mod Theorem
 pub mod Times
 pub mod Answer
-pub mod Computing
+pub mod means

@@ -18,10 +18,10 @@ use Rattle.motion_file.specs.Text.{lineFeed, split}
 use Rattle.motion_file.specs.Layout.{Line, names, values, poseNames, paddedNames, boundsNames, layout, words, valueOf, allValues, areValues, fits, conforms}
 use Rattle.motion_file.specs.Layout.{maxBytes, maxPoseLines, poseLines, keepsColumns, hasPads, keepsLayout}
 use Rattle.motion_file.specs.Layout.{valuesOf, bottomRow, poseOfValues, poseOf, MoveFile·departs, MoveFile·contents, MoveFile·read, MoveFile·poses}
-use Rattle.motion_file.specs.Columns.{MoveFile·readAs, MoveFile·posesAs}
+use Rattle.motion_file.specs.means.Columns.{MoveFile·readAs, MoveFile·posesAs}
 use Rattle.motion_file.specs.declared.MoveFile.{MoveFile}
 use Rattle.motion_file.specs.Front.{front}
-use Rattle.motion_file.specs.Place.{lineLength, lineAt, pastEnd, afterLine, through, linesThrough}
+use Rattle.motion_file.specs.means.Place.{lineLength, lineAt, pastEnd, afterLine, through, linesThrough}
 use Rattle.motion_file.proofs.Lines.{through-append, lines-append, lines-length, through-conforms, through-begins, pieces-through, linesFrom}
 use Rattle.motion_file.proofs.Lines.{lines-from-next}
 use Rattle.motion_file.proofs.Room.{poses-room}

@@ -16,7 +16,7 @@ use Rattle.hexadecimal.specs.Digit.{position}
 use Rattle.hexadecimal.proofs.Digits.{position-bound}
 use Rattle.motion_file.specs.Text.{lineFeed, split, equal}
 use Rattle.motion_file.specs.Layout.{Line, fits, conforms, maxBytes}
-use Rattle.motion_file.specs.Place.{lineLength, lineAt, pastEnd, afterLine, through, linesThrough}
+use Rattle.motion_file.specs.means.Place.{lineLength, lineAt, pastEnd, afterLine, through, linesThrough}
 use Rattle.motion_file.proofs.Pieces.{position-end, split-cut, split-whole, split-first}
 
 -- the text from a place on: a line and what stands behind its line feed, or one piece

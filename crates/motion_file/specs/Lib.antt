@@ -1,5 +1,4 @@
 pub mod Text
 pub mod Layout
-pub mod Columns
 pub mod Front
-pub mod Place
+pub mod means

@@ -6,7 +6,7 @@ ghost use lib.Dec.{eqb, ltb};
 ghost use lib.ListN.{length};
 ghost use Rattle.motion_file.specs.Text.{lineFeed, split};
 ghost use Rattle.motion_file.specs.Layout.{poseLines, poseOfValues, MoveFile·departs};
-ghost use Rattle.motion_file.specs.Place.{lineLength, pastEnd};
+ghost use Rattle.motion_file.specs.means.Place.{lineLength, pastEnd};
 
 // A place past the end of every file, where no line stands.
 pub const PAST_END: usize = 65537;

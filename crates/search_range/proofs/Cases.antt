@@ -9,9 +9,9 @@ use Rattle.interval.specs.Interval.{Interval·new}
 use Rattle.motion_derivative.specs.declared.MotionDerivative.{MotionDerivative}
 use Rattle.trig.specs.SinCos.{near}
 use Rattle.motion_derivative.specs.Derivative.{MotionDerivative·angles, MotionDerivative·newton}
-use Rattle.zero_search.specs.Search.{unitInterval}
+use Rattle.zero_search.specs.Search.{searchedInterval}
 use Rattle.zero_list.specs.Zeros.{Zeros·empty}
-use Rattle.zero_search.specs.Computing.{computing}
+use Rattle.zero_search.specs.means.Computing.{computing}
 use Rattle.search_range.specs.Examined.{searchIntervals, examinedIntervals}
 use Rattle.search_range.specs.Assertions.{rangeLimit, Interval·asserted}
 use Rattle.search_range.specs.Far.{valueAngle, slopeAngle}
@@ -24,23 +24,23 @@ limit-bits = refl
 abbrev line : Float → Float → Float → MotionDerivative
 line a b theta = record { c1 = a; c2 = positiveZero; c3 = b; c4 = positiveZero; c5 = positiveZero; theta = theta }
 
-halves-examined : searchIntervals 1 false (line (neg half) one positiveZero) unitInterval (Zeros·empty 0) ≡ unitInterval ∷ Interval·new positiveZero half ∷ Interval·new half one ∷ []
+halves-examined : searchIntervals 1 false (line (neg half) one positiveZero) searchedInterval (Zeros·empty 0) ≡ searchedInterval ∷ Interval·new positiveZero half ∷ Interval·new half one ∷ []
 unfolding computing searchIntervals
 halves-examined = refl
 
-constant-examined : examinedIntervals (line one positiveZero positiveZero) ≡ unitInterval ∷ []
+constant-examined : examinedIntervals (line one positiveZero positiveZero) ≡ searchedInterval ∷ []
 unfolding computing searchIntervals examinedIntervals
 constant-examined = refl
 
-angles-hold : Interval·asserted (MotionDerivative·angles (line one positiveZero two) unitInterval) ≡ true
+angles-hold : Interval·asserted (MotionDerivative·angles (line one positiveZero two) searchedInterval) ≡ true
 unfolding computing
 angles-hold = refl
 
-angles-beyond : Interval·asserted (MotionDerivative·angles (line one positiveZero four) unitInterval) ≡ false
+angles-beyond : Interval·asserted (MotionDerivative·angles (line one positiveZero four) searchedInterval) ≡ false
 unfolding computing
 angles-beyond = refl
 
-angles-below : Interval·asserted (MotionDerivative·angles (line one positiveZero (neg one)) unitInterval) ≡ false
+angles-below : Interval·asserted (MotionDerivative·angles (line one positiveZero (neg one)) searchedInterval) ≡ false
 unfolding computing
 angles-below = refl
 

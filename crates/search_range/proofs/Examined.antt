@@ -84,13 +84,13 @@ search-unit (suc d) false f i z s j m =
     ]
 
 -- The whole search begins with 0 to 1 itself.
-pub whole-unit : Subset search.unitInterval unitInterval
+pub whole-unit : Subset search.searchedInterval unitInterval
 unfolding Interval·new minNum maxNum isNan lt le ofBits
 whole-unit = record { low = record { holds = tt }; proper = record { holds = tt }; high = record { holds = tt } }
 
 pub examined-unit : (f : MotionDerivative) (j : Interval) → Examined f j → Subset j unitInterval
 unfolding examinedIntervals
-examined-unit f j m = search-unit searchDepth (MotionDerivative·excludesZero f search.unitInterval) f search.unitInterval (Zeros·empty 0) whole-unit j m
+examined-unit f j m = search-unit searchDepth (MotionDerivative·excludesZero f search.searchedInterval) f search.searchedInterval (Zeros·empty 0) whole-unit j m
 
 -- ---- how many there are
 pub searchIntervals-count : (d : ℕ) (b : Bool) (f : MotionDerivative) (i : Interval) (z : Zeros)
@@ -124,4 +124,4 @@ pub examinedIntervals-count : (c1 c2 c3 c4 c5 theta : Float)
 unfolding examinedIntervals intervalFindZeros
 examinedIntervals-count c1 c2 c3 c4 c5 theta =
     let f : MotionDerivative = record { c1 = c1; c2 = c2; c3 = c3; c4 = c4; c5 = c5; theta = theta } in
-    searchIntervals-count searchDepth (MotionDerivative·excludesZero f search.unitInterval) f search.unitInterval (Zeros·empty 0)
+    searchIntervals-count searchDepth (MotionDerivative·excludesZero f search.searchedInterval) f search.searchedInterval (Zeros·empty 0)

@@ -107,7 +107,7 @@ search-high (suc d) n e false f i z s c j m =
       ]
     ]
 
-whole-high : Contains (highs 0) (search.unitInterval .high)
+whole-high : Contains (highs 0) (search.searchedInterval .high)
 unfolding Interval·new minNum maxNum isNan lt le round ofBits sliceEnd
 whole-high = record { low = record { holds = tt }; high = record { holds = tt } }
 
@@ -115,4 +115,4 @@ pub examined-midpoint : (f : MotionDerivative) (j : Interval) → Examined f j �
 unfolding examinedIntervals
 examined-midpoint f j m =
     midpoint-high 8 (omega arith) (examined-unit f j m)
-    (search-high searchDepth 0 refl (MotionDerivative·excludesZero f search.unitInterval) f search.unitInterval (Zeros·empty 0) whole-unit whole-high j m)
+    (search-high searchDepth 0 refl (MotionDerivative·excludesZero f search.searchedInterval) f search.searchedInterval (Zeros·empty 0) whole-unit whole-high j m)

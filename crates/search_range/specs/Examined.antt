@@ -9,7 +9,7 @@ use Rattle.interval.specs.declared.Interval.{Interval}
 use Rattle.motion_derivative.specs.declared.MotionDerivative.{MotionDerivative}
 use Rattle.motion_derivative.specs.Derivative.{MotionDerivative·excludesZero}
 use Rattle.zero_list.specs.declared.Zeros.{Zeros}
-use Rattle.zero_search.specs.Search.{lowerHalf, upperHalf, findZeros, searchDepth, unitInterval}
+use Rattle.zero_search.specs.Search.{lowerHalf, upperHalf, findZeros, searchDepth, searchedInterval}
 use Rattle.zero_list.specs.Zeros.{Zeros·empty}
 
 -- The search's own interval; then, unless the range test leaves it out or the depth is 0, those of its lower half, and those of its upper half unless 9 was met.
@@ -27,7 +27,7 @@ searchIntervals (suc d) false f i z =
 
 -- Those of intervalFindZeros on the six numbers of f.
 unfoldable pub examinedIntervals : MotionDerivative → List Interval
-examinedIntervals f = searchIntervals searchDepth (MotionDerivative·excludesZero f unitInterval) f unitInterval (Zeros·empty 0)
+examinedIntervals f = searchIntervals searchDepth (MotionDerivative·excludesZero f searchedInterval) f searchedInterval (Zeros·empty 0)
 
 -- j is one of them.
 abbrev pub Examined : MotionDerivative → Interval → Type 0

@@ -17,7 +17,7 @@ use Rattle.sine_table.specs.QuarterSine.{quarterSineOver, quarterSine, entry}
 use Rattle.sine_table.proofs.QuarterSine.{quarterSine-mono, quarterSine-zero, quarterSine-le-one, quarterSineOver-table}
 use Rattle.trig.specs.Units.{sinQuarter, sinUnitsOver, sinUnits, cosUnits}
 use Rattle.trig.specs.Biased.{biased, biasedSin}
-use Rattle.trig.specs.Computing.{computing}
+use Rattle.trig.specs.means.Computing.{computing}
 
 -- ---- the quarters
 

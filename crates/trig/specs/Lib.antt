@@ -1,4 +1,4 @@
 pub mod Units
 pub mod SinCos
 pub mod Biased
-pub mod Computing
+pub mod means

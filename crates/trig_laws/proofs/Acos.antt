@@ -18,7 +18,7 @@ use Rattle.sine_table.specs.Table.{quarterTurn}
 use Rattle.trig.specs.Units.{cosUnits}
 use Rattle.arc_cosine.specs.Acos.{inDomain, leastAngle, floorUnits, acos}
 use Rattle.trig.specs.Biased.{biased}
-use Rattle.trig.specs.Computing.{computing}
+use Rattle.trig.specs.means.Computing.{computing}
 use Rattle.arc_cosine.proofs.Floor.{unit-finite}
 use Rattle.arc_cosine.proofs.Least.{leastAngle-unique, leastAngle-le, leastAngle-below}
 use Rattle.trig_laws.specs.Range.{quarterTurnFloat, halfTurnFloat}

@@ -31,7 +31,7 @@ use Rattle.sine_table.proofs.QuarterSine.{quarterSine-le-one}
 use Rattle.trig.specs.Units.{fixed, angleUnits, sinQuarter, sinUnitsOver, sinUnits, cosUnits, nearestFloat, withSign}
 use Rattle.trig.specs.SinCos.{near, farSin, farCos, sin, cos}
 use Rattle.trig.specs.Biased.{biased, biasedSin}
-use Rattle.trig.specs.Computing.{computing}
+use Rattle.trig.specs.means.Computing.{computing}
 use Rattle.trig.proofs.Units.{biased-negative, unbiased-positive, unbiased-negative, sin-unbiased, cos-unbiased}
 use Rattle.arc_cosine.proofs.Least.{minus-le}
 use Rattle.trig_laws.specs.Range.{Angle, fullTurnFloat}

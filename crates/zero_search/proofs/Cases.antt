@@ -5,7 +5,7 @@ use lib.Ieee.{neg}
 use Rattle.float32.specs.Operators.{positiveZero, one, half}
 use Rattle.zero_search.specs.Search.{intervalFindZeros}
 use Rattle.zero_list.specs.Zeros.{Zeros·empty}
-use Rattle.zero_search.specs.Computing.{computing}
+use Rattle.zero_search.specs.means.Computing.{computing}
 
 constant : intervalFindZeros one positiveZero positiveZero positiveZero positiveZero positiveZero ≡ record { zeros = Zeros·empty 0; examined = 1 }
 unfolding computing

@@ -11,7 +11,7 @@ use Rattle.motion_derivative.specs.declared.MotionDerivative.{MotionDerivative}
 use Rattle.zero_list.specs.declared.Zeros.{Zeros}
 use Rattle.zero_search.specs.declared.Search.{Search}
 use Rattle.motion_derivative.specs.Derivative.{MotionDerivative·excludesZero}
-use Rattle.zero_search.specs.Search.{lowerHalf, upperHalf, search, findZeros, intervalFindZeros, searchDepth, unitInterval}
+use Rattle.zero_search.specs.Search.{lowerHalf, upperHalf, search, findZeros, intervalFindZeros, searchDepth, searchedInterval}
 use Rattle.zero_list.specs.Zeros.{Zeros·empty}
 use Rattle.zero_search.proofs.Clauses.{either-search}
 
@@ -37,4 +37,4 @@ pub examined-below : (c1 c2 c3 c4 c5 theta : Float) → intervalFindZeros c1 c2 
 unfolding intervalFindZeros
 examined-below c1 c2 c3 c4 c5 theta =
     let f : MotionDerivative = record { c1 = c1; c2 = c2; c3 = c3; c4 = c4; c5 = c5; theta = theta } in
-    few-examined searchDepth (omega arith) f unitInterval (Zeros·empty 0)
+    few-examined searchDepth (omega arith) f searchedInterval (Zeros·empty 0)

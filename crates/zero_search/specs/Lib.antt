@@ -1,4 +1,3 @@
 pub mod Search
-pub mod EndAngles
 pub mod Stored
-pub mod Computing
+pub mod means

@@ -50,11 +50,11 @@ findZeros d f i z = search d (MotionDerivative·excludesZero f i) f i z
 abbrev pub searchDepth : ℕ
 searchDepth = 8
 
-abbrev pub unitInterval : Interval
-unitInterval = Interval·new positiveZero one
+abbrev pub searchedInterval : Interval
+searchedInterval = Interval·new positiveZero one
 
 abbrev pub unitSearch : MotionDerivative → Search
-unitSearch f = findZeros searchDepth f unitInterval (Zeros·empty 0)
+unitSearch f = findZeros searchDepth f searchedInterval (Zeros·empty 0)
 
 -- interval_find_zeros from 0 to 1 at depth 8, as bound_point_motion calls it
 unfoldable pub intervalFindZeros : Float → Float → Float → Float → Float → Float → Search

@@ -6,7 +6,7 @@ ghost use Rattle.sine_table.specs.Table.{sineTable};
 ghost use Rattle.interval.specs.Interval.{Interval·new};
 ghost use Rattle.motion_derivative.specs.Derivative.{MotionDerivative·excludesZero, MotionDerivative·newton};
 ghost use Rattle.zero_search.specs.Search.{midpoint, findZeros, unitSearch, intervalFindZeros};
-ghost use Rattle.zero_search.specs.EndAngles.{SinCosOf, AngleAt, AnglesAt};
+ghost use Rattle.zero_search.specs.means.EndAngles.{SinCosOf, AngleAt, AnglesAt};
 use interval::Interval;
 use interval::IntervalSinCos;
 use motion_derivative::MotionDerivative;

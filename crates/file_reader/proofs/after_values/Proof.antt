@@ -6,7 +6,7 @@ use mathlib.Core.Path.{_≡_, refl, sym, ap, _∙_}
 use lib.ListN.{length, replicate}
 use borrow.Author.Needs.{needs}
 use Rattle.motion_file.specs.Layout.{values}
-use Rattle.motion_file.specs.Place.{through}
+use Rattle.motion_file.specs.means.Place.{through}
 use Rattle.motion_file.proofs.Lines.{placeFrom, place-next, place-end}
 use Rattle.file_reader.proofs.after_values.Statement.{statement}
 use Rattle.file_reader.proofs.after_values.Tie as tie

@@ -8,7 +8,7 @@ use lib.Seq.{length-take-le}
 use borrow.Author.Needs.{needs}
 use Rattle.motion_file.specs.Text.{ascii}
 use Rattle.motion_file.specs.Layout.{values as values′, maxBytes}
-use Rattle.motion_file.specs.Place.{through}
+use Rattle.motion_file.specs.means.Place.{through}
 use Rattle.motion_file.proofs.Files.{file-long, file-departs, file-poses, file-room, file-contents}
 use Rattle.file_reader.proofs.read_columns.Statement.{statement}
 use Rattle.file_reader.proofs.read_columns.Tie as tie

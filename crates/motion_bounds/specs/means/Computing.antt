@@ -2,7 +2,7 @@
 use Rattle.float32.specs.Lerp.{lerp}
 use Rattle.control_flow.specs.Loop.{loop}
 use Rattle.bounds_query.specs.means.Computing as query
-use Rattle.zero_search.specs.Computing as zeros
+use Rattle.zero_search.specs.means.Computing as zeros
 use Rattle.motion_point.specs.means.Computing as motion
 use Rattle.motion_bounds.specs.MotionBounds.{DerivativeTerm·eval, BoundsAnswer·fromEnds, axisSearch, pointAt, unionZero, unionZeros, unionAxis, pointBounds, unionCorner, unionCorners, boxBounds, boundPointMotion, motionBounds}
 use Rattle.motion_bounds.specs.Examined.{pointExamined, cornersExamined, boxExamined}

@@ -2,7 +2,7 @@
 use Rattle.float32.specs.Operators.{_⊗_}
 use Rattle.trig.proofs.OverTable.{sin-lent, cos-lent}
 use Rattle.interval.proofs.Places.{from-sin-cos}
-use Rattle.motion_cover.specs.Border.{Border·at}
+use Rattle.motion_cover.specs.means.Border.{Border·at}
 use Rattle.motion_cover.proofs.border_at.Statement.{statement}
 use Rattle.motion_cover.proofs.border_at.Tie as tie
 

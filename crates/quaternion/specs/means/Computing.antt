@@ -2,7 +2,7 @@
 use lib.Ieee.{add, sub, mul, div, neg, lt, round, ofBits}
 use Rattle.float32.specs.Clamp.{clamp}
 use Rattle.square_root.specs.SquareRoot.{isqrtBelow, isqrt, stickySqrt, roundSqrt, sqrt}
-use Rattle.trig.specs.Computing as trig
+use Rattle.trig.specs.means.Computing as trig
 use Rattle.quaternion.specs.Quaternion.{Quaternion·dot, Quaternion·normalize, Quaternion·add, Quaternion·sub, Quaternion·neg, Quaternion·mul, Quaternion·div}
 use Rattle.quaternion.specs.IsFinite.{Quaternion·isFinite}
 use Rattle.quaternion.specs.Slerp.{slerpNear, slerpFar, slerpBy, Quaternion·slerp}

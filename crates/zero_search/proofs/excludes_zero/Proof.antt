@@ -6,7 +6,7 @@ use Rattle.interval.specs.Interval.{Interval·sin, Interval·cos, Interval·sin
 use Rattle.motion_derivative.specs.declared.MotionDerivative.{MotionDerivative}
 use Rattle.motion_derivative.specs.Derivative.{MotionDerivative·angles, MotionDerivative·excludesZeroAt, MotionDerivative·excludesZero}
 use Rattle.interval.proofs.InOrder.{mul-ordered}
-use Rattle.zero_search.specs.EndAngles.{SinCosOf}
+use Rattle.zero_search.specs.means.EndAngles.{SinCosOf}
 use Rattle.zero_search.proofs.excludes_zero.Statement.{statement}
 use Rattle.zero_search.proofs.excludes_zero.Tie as tie
 

@@ -11,7 +11,7 @@ use Rattle.motion_derivative.specs.declared.MotionDerivative.{MotionDerivative}
 use Rattle.motion_derivative.specs.Derivative.{MotionDerivative·valueAt, MotionDerivative·value, MotionDerivative·slopeAt, MotionDerivative·slope}
 use Rattle.motion_derivative.specs.Derivative.{MotionDerivative·newton}
 use Rattle.motion_derivative.proofs.Clauses.{newton-none, newton-stops, newton-steps}
-use Rattle.zero_search.specs.EndAngles.{SinCosOf}
+use Rattle.zero_search.specs.means.EndAngles.{SinCosOf}
 use Rattle.zero_search.proofs.newton.Statement.{statement}
 use Rattle.zero_search.proofs.newton.Tie as tie
 
