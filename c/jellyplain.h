@@ -64,7 +64,7 @@ enum jellyplain_refusal {
     JELLYPLAIN_FILE = 11,           /* a file departs from its layout */
     JELLYPLAIN_CHAIN = 12,          /* a chain has fewer than 2 poses or more than 32, or its times don't rise strictly */
     JELLYPLAIN_TIME_LIST = 13,      /* a list of times falls, or the answers lent for it aren't three places a time */
-    JELLYPLAIN_SET = 14,            /* a set has no box, or more than 16 */
+    JELLYPLAIN_SET = 14,            /* a set has no box or more than 16, or a list of rows none or more than 256 */
     JELLYPLAIN_ROOM = 15,           /* a buffer is too short for the text of a move file */
     JELLYPLAIN_PAD = 16,            /* a pad is below zero */
     JELLYPLAIN_NOT_RIGID = 17,      /* a pose of a rigid move or chain scales or shears */
@@ -202,6 +202,27 @@ jellyplain_written jellyplain_write_file(const jellyplain_move *moves, size_t co
  * even by touching, no running boom's box. No two that run meet, and each starts no later than the sum of the others' run lengths. The places behind them are 0.
  * Numbers 22, then 6 and 7 of the first refused box; `starts` stays after a refusal. */
 uint8_t jellyplain_day(const float boxes[JELLYPLAIN_BOOMS][6], const uint32_t lengths[JELLYPLAIN_BOOMS], size_t count, uint32_t starts[JELLYPLAIN_BOOMS]);
+
+/* ---- the rows that a boom reaches */
+
+/* The most rows. */
+#define JELLYPLAIN_ROWS 256
+
+/* How many rows are named and JELLYPLAIN_NONE, or 0 and a refusal. */
+typedef struct {
+    size_t count;
+    uint8_t refusal;
+} jellyplain_reached;
+
+/* The places, counted from 0, of those of 1 to 256 rows, each a box, that a cover meets, touching included, into the front of `places`, 0 behind them. A row that is not named holds no
+ * point of the boom at any time, less or plus its pad or anything between, where the cover is one that this library gave for the boom's box: jellyplain_cover, jellyplain_moves_cover and the others.
+ * Numbers 14 for no rows or more than 256, then 6 and 7 of the cover, then 6 and 7 of the first refused row; all places stay after a refusal. */
+jellyplain_reached jellyplain_reached_rows(const float cover[6], const float (*rows)[6], size_t rows_count, uint32_t places[JELLYPLAIN_ROWS]);
+
+/* ---- the version */
+
+/* 10000 * major + 100 * minor + patch of the archive: 10000 is 1.0.0. */
+uint32_t jellyplain_version(void);
 
 static inline uint8_t jellyplain_build_chain(bool rigid, const jellyplain_pose *poses, size_t count, jellyplain_chain *chain)
 {

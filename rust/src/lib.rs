@@ -364,3 +364,52 @@ pub fn starting_ticks(booms: &[Boom]) -> Result<Vec<u32>, Refusal> {
     let number = unsafe { library::jellyplain_day(&boxes, &lengths, booms.len(), &mut starts) };
     answered(number, starts.into_iter().take(booms.len()).collect())
 }
+
+/// The rows that a boom reaches, by their places in the list that was asked about.
+#[derive(Clone, Copy, Debug, PartialEq, Eq)]
+pub struct ReachedRows {
+    places: [u32; library::ROWS],
+    count: usize,
+}
+
+impl ReachedRows {
+    /// The places of the named rows, counted from 0 and rising.
+    pub fn places(&self) -> &[u32] {
+        &self.places[..self.count]
+    }
+
+    /// Whether the row at a place is named.
+    pub fn contains(&self, place: usize) -> bool {
+        u32::try_from(place).is_ok_and(|place| self.places().binary_search(&place).is_ok())
+    }
+}
+
+/// Which of 1 to 256 rows a cover meets, touching included. Where the cover is that of a boom's box, as [`Chain::cover`], [`Chain::covers`] or [`Move::cover`] give it, a row that is not named holds no
+/// point of the boom at any time, less or plus its pad or anything between. Refused with [`Refusal::Set`] for no rows or more than 256, then with [`Refusal::Query`] and [`Refusal::Corners`] of
+/// the cover, then of the first row in order that is refused.
+///
+/// ```
+/// use jellyplain::{reached_rows, Bounds, Refusal};
+///
+/// let row = |low: f32| Bounds { p_min: [low, 0.0, 0.0], p_max: [low + 0.5, 30.0, 2.0] };
+/// let cover = Bounds { p_min: [0.75, 0.0, 0.0], p_max: [2.0, 4.0, 1.0] };
+/// let reached = reached_rows(&cover, &[row(0.0), row(1.0), row(2.0), row(3.0)])?;
+/// assert_eq!(reached.places(), [1, 2]); // the third is touched
+/// assert!(!reached.contains(3));
+/// # Ok::<(), Refusal>(())
+/// ```
+pub fn reached_rows(cover: &Bounds, rows: &[Bounds]) -> Result<ReachedRows, Refusal> {
+    library::check_layout();
+    // One row more than are taken tells that there are too many.
+    let mut boxes = [[0.0; 6]; library::ROWS + 1];
+    let count = rows.len().min(boxes.len());
+    boxes.iter_mut().zip(rows).for_each(|(values, row)| *values = row.to_array());
+    let mut places = [0; library::ROWS];
+    let reached = unsafe { library::jellyplain_reached_rows(&cover.to_array(), boxes.as_ptr(), count, &mut places) };
+    answered(reached.refusal, ReachedRows { places, count: reached.count })
+}
+
+/// The version of the archive that was linked: 10000 * major + 100 * minor + patch.
+pub fn version() -> u32 {
+    unsafe { library::jellyplain_version() }
+}

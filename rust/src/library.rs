@@ -56,6 +56,17 @@ pub struct Windows {
 /// The most booms of a day.
 pub const BOOMS: usize = 8;
 
+/// The most rows that are asked about.
+pub const ROWS: usize = 256;
+
+/// How many rows are named, or the number of a refusal.
+#[derive(Debug, PartialEq)]
+#[repr(C)]
+pub struct Reached {
+    pub count: usize,
+    pub refusal: u8,
+}
+
 extern "C" {
     pub fn jellyplain_build(rigid: bool, start: &Pose, end: &Pose, motion: &mut Rows) -> u8;
     pub fn jellyplain_point(motion: &Rows, time: f32, p: &[f32; 3], moved: &mut [f32; 3]) -> u8;
@@ -106,6 +117,8 @@ extern "C" {
     pub fn jellyplain_read_file(bytes: *const u8, size: usize, poses: &mut [Pose; FILE_POSES], bounds: &mut [f32; 6]) -> FileRead;
     pub fn jellyplain_write_file(moves: *const Rows, count: usize, b: &[f32; 6], out: *mut u8, size: usize) -> Written;
     pub fn jellyplain_day(boxes: &[[f32; 6]; BOOMS], lengths: &[u32; BOOMS], count: usize, starts: &mut [u32; BOOMS]) -> u8;
+    pub fn jellyplain_reached_rows(cover: &[f32; 6], rows: *const [f32; 6], rows_count: usize, places: &mut [u32; ROWS]) -> Reached;
+    pub fn jellyplain_version() -> u32;
 }
 
 /// The layout in which poses, moves and chains cross to the archive.
@@ -293,6 +306,43 @@ mod tests {
         assert_eq!(ask(&boxes, &[1; BOOMS], 4), (6, [7; BOOMS]));
         assert_eq!(ask(&boxes, &[1, 2, 3, 0, 5, 6, 7, 8], 4), (22, [7; BOOMS]));
         assert_eq!(ask(&boxes, &[1, 2, 1000, 0, 1001, 6, 7, 8], 3), (0, [0, 1, 3, 0, 0, 0, 0, 0]));
+    }
+
+    #[test]
+    fn reached_rows_in_their_places() {
+        let unit = [0.0f32, 0.0, 0.0, 1.0, 1.0, 1.0];
+        let (far, nan, crossed) = ([2.0f32, 0.0, 0.0, 3.0, 1.0, 1.0], [f32::NAN; 6], [1.0f32, 0.0, 0.0, 0.0, 1.0, 1.0]);
+        let mut places = [7u32; ROWS];
+        let mut ask = |cover: &[f32; 6], rows: &[[f32; 6]]| {
+            let reached = unsafe { jellyplain_reached_rows(cover, rows.as_ptr(), rows.len(), &mut places) };
+            (reached, places)
+        };
+        let refused = |refusal: u8| (Reached { count: 0, refusal }, [7; ROWS]);
+        assert_eq!(ask(&nan, &[]), refused(14));
+        assert_eq!(ask(&nan, &[nan; 257]), refused(14));
+        assert_eq!(ask(&nan, &[crossed; 256]), refused(6));
+        assert_eq!(ask(&crossed, &[nan]), refused(7));
+        assert_eq!(ask(&unit, &[unit, far, crossed, nan]), refused(7));
+        assert_eq!(ask(&unit, &[unit, nan, crossed]), refused(6));
+        let mut last = [unit; 256];
+        last[255] = nan;
+        assert_eq!(ask(&unit, &last), refused(6));
+        // Named in front, 0 behind them.
+        let mut two = [0; ROWS];
+        (two[0], two[1]) = (1, 3);
+        assert_eq!(ask(&unit, &[far, unit, far, [1.0, 1.0, 1.0, 2.0, 2.0, 2.0]]), (Reached { count: 2, refusal: 0 }, two));
+        assert_eq!(ask(&unit, &[far; 256]), (Reached { count: 0, refusal: 0 }, [0; ROWS]));
+        assert_eq!(ask(&unit, &[unit; 256]), (Reached { count: 256, refusal: 0 }, std::array::from_fn(|i| i as u32)));
+        last = [far; 256];
+        last[255] = unit;
+        let mut one = [0; ROWS];
+        one[0] = 255;
+        assert_eq!(ask(&unit, &last), (Reached { count: 1, refusal: 0 }, one));
+    }
+
+    #[test]
+    fn version() {
+        assert_eq!(unsafe { jellyplain_version() }, 10_000);
     }
 
     /// Rows that no building made are answered too: here a move at rest whose matrices are all zeros, so that a point's wp is zero.

@@ -1,5 +1,5 @@
 -- What the library's functions over a kept chain answer, from the arrays that they are lent: the definitions of `chain_rows` and `chain_trial` at the poses, points and boxes that the arrays hold; and the
--- number of the layout in which all of it crosses. Definitions only.
+-- numbers of the layout in which all of it crosses and of the library's version. Definitions only.
 use Prim.Native.Nat.{ℕ}
 use mathlib.Core.List.{List}
 use lib.Ieee.{Float}
@@ -18,6 +18,10 @@ use Rattle.chain_trial.specs.Try.{Moves·try}
 -- A pose of 18 floats, a move of 45 rows with its kind, a chain of up to 31 moves.
 abbrev pub layoutNumber : ℕ
 layoutNumber = 3
+
+-- Version 1.0.0, as 10000 * major + 100 * minor + patch.
+abbrev pub versionNumber : ℕ
+versionNumber = 10000
 
 abbrev pub Moves·point : List Rows → Float → List Float → PointAnswer
 Moves·point rows time p = Moves·transformPoint rows time (Point3f·ofList p)

@@ -5,12 +5,13 @@
 use animated_transform::AnimatedTransform;
 use chain_text::Written;
 use motion_bounds::MotionBoundsAnswer;
+use reached_rows::Reached;
 use refused_run::Run;
 use window_pairs::Windows;
 use window_times::Window;
 ghost use Prim.Native.Nat.{_-_};
 ghost use mathlib.Core.Path.{_≡_};
-ghost use mathlib.Core.List.{[], _∷_};
+ghost use mathlib.Core.List.{[], _∷_, map};
 ghost use lib.ListN.{length, take};
 ghost use Rattle.bounds3.specs.List.{Point3f·ofList, Bounds3f·ofList};
 ghost use Rattle.transform.specs.Answer.{PointAnswer·refusal, BoundsAnswer·refusal};
@@ -32,6 +33,8 @@ ghost use Rattle.chain_trial.specs.Theorem.{TrialContainsMotion};
 ghost use Rattle.chain_build.specs.Build.{ChainAnswer·left};
 ghost use Rattle.chain_join.specs.Rows.{Moves·joinRefusal, Moves·joinLeft};
 ghost use Rattle.chain_join.specs.Theorem.{Joined};
+ghost use Rattle.reached_rows.specs.Rows.{rowsRefusal, reachedRows, rowsLeft};
+ghost use Rattle.reached_rows.specs.Theorem.{RowsApart, KeptRowsApart};
 ghost use Rattle.refused_run.specs.Run.{shortestRun};
 ghost use Rattle.refused_run.specs.Theorem.{ShortestRefused};
 ghost use Rattle.box_set.specs.Set.{SetAnswer·refusal};
@@ -49,7 +52,7 @@ ghost use Rattle.api.specs.Files.{MoveFile·boundsLeft, Moves·written};
 ghost use Rattle.window_meetings.specs.Windows.{WindowsAnswer·refusal, WindowsAnswer·windows, WindowsAnswer·left};
 ghost use Rattle.window_pairs.specs.Kept.{KeptWindowsApart, KeptWindowsFiner};
 ghost use Rattle.window_cover.specs.Kept.{KeptWindowContainsMotion, KeptWindowFiner};
-ghost use Rattle.api.specs.Chains.{layoutNumber, Moves·point, Moves·points, Moves·coverOf, Moves·tryOf, Moves·windowCoverOf, Moves·windowsOf};
+ghost use Rattle.api.specs.Chains.{layoutNumber, versionNumber, Moves·point, Moves·points, Moves·coverOf, Moves·tryOf, Moves·windowCoverOf, Moves·windowsOf};
 ghost use Rattle.api.specs.Answers.{Rows·new, Rows·point, Rows·interpolate, Rows·boundPointMotion, Rows·motionBounds, Rows·cover};
 ghost use Rattle.api.specs.Examined.{MotionBoundsAnswer·left, MotionBoundsAnswer·examinedLeft};
 ghost use Rattle.api.specs.Kept.{KeptCoverContainsMotion, KeptCoverFiner};
@@ -209,6 +212,14 @@ pub extern "C" fn jellyplain_layout() -> u32
     ensures value { λ r. ⌜ r ≡ layoutNumber ⌝ }
 {
     3
+}
+
+// The library's version, 10000 * major + 100 * minor + patch: now 1.0.0. A caller tells by it which functions there are. Accuracy: exact.
+#[no_mangle]
+pub extern "C" fn jellyplain_version() -> u32
+    ensures value { λ r. ⌜ r ≡ versionNumber ⌝ }
+{
+    10000
 }
 
 // Builds a chain from 2 to 32 poses; the rows of its moves, one fewer than poses, then stand in the front blocks; a rigid one's moves are rigid.
@@ -477,4 +488,22 @@ pub extern "C" fn jellyplain_day(
     ensures day { λ r. ⌜ (r ≡ 0 → DayKeeps (Booms·ofLists count (now (boxes .entry)) (now (lengths .entry))) (now (starts .exit))) ⌝ }
 {
     run_starts::start_ticks(boxes, lengths, count, starts)
+}
+
+// Puts the places, counted from 0, of the rows that a cover meets, touching included, into the first places, 0 into the others, and gives how many there are. Each of 1 to 256 rows is a
+// box. A row that is not named holds no padded point of a boom whose cover this is. Refused with 14 for no rows or more than 256, then with 6 or 7 of the cover, then with 6 or 7 of the
+// first refused row in order. Accuracy: exact.
+#[no_mangle]
+pub extern "C" fn jellyplain_reached_rows(
+    cover: &[f32; 6],
+    rows: &[[f32; 6]],
+    places: &mut [u32; 256],
+) -> Reached
+    ensures refusal { λ r. ⌜ r .refusal ≡ rowsRefusal (Bounds3f·ofList (now (cover .entry))) (map Bounds3f·ofList (now (rows .entry))) ⌝ }
+    ensures count { λ r. ⌜ r .count ≡ length (reachedRows (Bounds3f·ofList (now (cover .entry))) (map Bounds3f·ofList (now (rows .entry)))) ⌝ }
+    ensures left { λ _. ⌜ now (places .exit) ≡ rowsLeft (Bounds3f·ofList (now (cover .entry))) (map Bounds3f·ofList (now (rows .entry))) (now (places .entry)) ⌝ }
+    ensures apart { λ r. ⌜ (r .refusal ≡ 0 → RowsApart (Bounds3f·ofList (now (cover .entry))) (map Bounds3f·ofList (now (rows .entry))) (take (r .count) (now (places .exit)))) ⌝ }
+    ensures kept_apart { λ r. ⌜ (r .refusal ≡ 0 → KeptRowsApart (Bounds3f·ofList (now (cover .entry))) (map Bounds3f·ofList (now (rows .entry))) (take (r .count) (now (places .exit)))) ⌝ }
+{
+    reached_rows::list_rows(lent_arrays::bounds(cover), rows, places)
 }

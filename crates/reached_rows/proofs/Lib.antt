@@ -1,0 +1,4 @@
+-- Laws of rows that are reached.
+pub mod Numbers
+pub mod Loop
+pub mod Apart
