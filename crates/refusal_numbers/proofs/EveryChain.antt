@@ -11,6 +11,7 @@ use Rattle.chain_window.proofs.Numbers.{window-numbered}
 use Rattle.window_cover.proofs.Kept.{kept-window-numbered}
 use Rattle.window_meetings.proofs.Numbers.{windows-numbered}
 use Rattle.window_pairs.proofs.Kept.{kept-windows-numbered}
+use Rattle.reached_rows.proofs.Numbers.{rows-number}
 use Rattle.run_schedule.proofs.Accepted.{day-number}
 use Rattle.refusal_numbers.specs.Chain.{EveryChainAnswer}
 use Rattle.refusal_numbers.proofs.Chain.{building-numbered}
@@ -41,4 +42,5 @@ every-chain-answer = record {
   rows-window-cover = kept-window-numbered;
   rows-windows = kept-windows-numbered;
   day = day-number;
+  reached = rows-number;
 }

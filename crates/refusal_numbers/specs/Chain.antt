@@ -25,6 +25,7 @@ use Rattle.chain_covers.specs.Kept.{Moves·covers}
 use Rattle.changed_chain.specs.Trial.{Chain·try}
 use Rattle.chain_trial.specs.Try.{Moves·try}
 use Rattle.chain_join.specs.Rows.{Moves·joinRefusal}
+use Rattle.reached_rows.specs.Rows.{rowsRefusal}
 use Rattle.refused_run.specs.Run.{shortestRun}
 use Rattle.window_times.specs.declared.Window.{Window}
 use Rattle.chain_window.specs.Cover.{Chain·windowCover}
@@ -48,7 +49,7 @@ buildingNumbers rigid = 0 ∷ 1 ∷ 2 ∷ 3 ∷ 4 ∷ 5 ∷ 12 ∷ 16 ∷ kindNu
 abbrev pub trialNumbers : Bool → List ℕ
 trialNumbers rigid = 0 ∷ 1 ∷ 2 ∷ 3 ∷ 4 ∷ 5 ∷ 6 ∷ 7 ∷ 8 ∷ 10 ∷ 12 ∷ 16 ∷ 19 ∷ kindNumbers rigid
 
--- document 01's numbers, and document 02's: 12 and 16 of building, 17 and 18 of building as rigid, 13 of a list of times, 14 of a set, 19 of a place, 20 of joining, 21 of ticks, 22 of a day
+-- document 01's numbers, and document 02's: 12 and 16 of building, 17 and 18 of building as rigid, 13 of a list of times, 14 of a set and of rows, 19 of a place, 20 of joining, 21 of ticks, 22 of a day
 pub record EveryChainAnswer : Type 0 where
   pub building : (rigid : Bool) (poses : List Pose) → ChainAnswer·Numbered (buildingNumbers rigid) (Chain·new rigid poses)
   pub point : (c : Chain) (time : Float) (p : Point3f) → PointAnswer·Numbered (0 ∷ 5 ∷ 6 ∷ []) (Chain·transformPoint c time p)
@@ -76,3 +77,5 @@ pub record EveryChainAnswer : Type 0 where
       → WindowsAnswer·Numbered (0 ∷ 5 ∷ 6 ∷ 7 ∷ 8 ∷ 10 ∷ 12 ∷ 21 ∷ []) (Moves·windows rows rows' b b' depth ticks)
   -- a day of booms
   pub day : (booms : List Boom) → OneOf (dayRefusal booms) (0 ∷ 6 ∷ 7 ∷ 22 ∷ [])
+  -- the rows that a boom reaches
+  pub reached : (cover : Bounds3f) (rows : List Bounds3f) → OneOf (rowsRefusal cover rows) (0 ∷ 6 ∷ 7 ∷ 14 ∷ [])
