@@ -40,7 +40,8 @@ use Rattle.rotation_arc.specs.declared.CoefficientsAnswer.{CoefficientsAnswer}
 use Rattle.pose_pair.specs.Pose.{Pose·isFinite, Pose·isBinary32, Pose·isAffine, Pose·isPadded, timesRefusal, posesRefusal, Pose·kindNumber}
 use Rattle.rotation_arc.specs.ShorterArc.{flip, dotsRefusal}
 use Rattle.rotation_arc.specs.ArcCoefficients.{CoefficientsAnswer·judged, rotationCoefficients, pairCoefficients}
-use Rattle.animated_transform.specs.New.{AnimatedTransformAnswer·refused, AnimatedTransform·ofFields, AnimatedTransform·fromParts, AnimatedTransform·fromPoses, buildRefusal, AnimatedTransform·new}
+use Rattle.animated_transform.specs.New.{AnimatedTransformAnswer·refused, AnimatedTransform·ofFields, AnimatedTransform·fromParts}
+use Rattle.animated_transform.specs.New.{AnimatedTransform·fromPoses, buildRefusal, AnimatedTransform·new}
 use Rattle.animated_transform.specs.Built.{Built, StoredPose, Pad·Judged, AnimatedTransform·Judged}
 use Rattle.rotation_arc.proofs.DotProduct.{dot-after-flip}
 
@@ -49,7 +50,8 @@ not-refused : (n : ℕ) (a : AnimatedTransformAnswer) (m : AnimatedTransform)
     → cond (eqb n 0) a (AnimatedTransformAnswer·refused n) ≡ record { value = m; refusal = 0 } → (n ≡ 0) × (a ≡ record { value = m; refusal = 0 })
 not-refused n a m = go (eqb n 0) refl
   where
-    go : (b : Bool) → eqb n 0 ≡ b → cond b a (AnimatedTransformAnswer·refused n) ≡ record { value = m; refusal = 0 } → (n ≡ 0) × (a ≡ record { value = m; refusal = 0 })
+    go : (b : Bool) → eqb n 0 ≡ b → cond b a (AnimatedTransformAnswer·refused n) ≡ record { value = m; refusal = 0 }
+        → (n ≡ 0) × (a ≡ record { value = m; refusal = 0 })
     go true e h = (eqb-true n 0 e, h)
     go false e h = absurd (eqb-false n 0 e (ap (λ (x : AnimatedTransformAnswer). x .refusal) h))
 
@@ -120,7 +122,8 @@ record Stored (p : Pose) (t : Transform) : Type 0 where
   same : t .m ≡ p .m
   stored : StoredPose t
 
-stored : (p : Pose) → PosePassed p → Transform·fromMatrix (Matrix4x4·toRows (p .m)) .refusal ≡ 0 → Stored p (Transform·fromMatrix (Matrix4x4·toRows (p .m)) .transform)
+stored : (p : Pose) → PosePassed p → Transform·fromMatrix (Matrix4x4·toRows (p .m)) .refusal ≡ 0
+    → Stored p (Transform·fromMatrix (Matrix4x4·toRows (p .m)) .transform)
 stored p h e =
     let m = Matrix4x4·toRows (p .m) in
     let i : Matrix4x4·inverse m .refusal ≡ 0 = sym (from-matrix-refusal m) ∙ e in
@@ -158,7 +161,8 @@ dots-passed d e = go (finite d) (finite e) (λ h. h) (λ h. h)
     go true false f g h = absurd (omega arith)
     go false b f g h = absurd (omega arith)
 
-judged-passed : (q : Quaternion) (c : Coefficients) → CoefficientsAnswer·judged q c .refusal ≡ 0 → T (Coefficients·isFinite (CoefficientsAnswer·judged q c .value))
+judged-passed : (q : Quaternion) (c : Coefficients) → CoefficientsAnswer·judged q c .refusal ≡ 0
+    → T (Coefficients·isFinite (CoefficientsAnswer·judged q c .value))
 unfolding CoefficientsAnswer·judged
 judged-passed q c = go (Quaternion·isFinite q && Coefficients·isFinite c) (and-r (Quaternion·isFinite q) (Coefficients·isFinite c))
   where
@@ -216,7 +220,8 @@ module _ (rigid : Bool) (start end : Pose) (poses : PosesPassed start end) (a b 
         pad1 = poses .end-pose .pad;
       })
 
-from-poses-judged : (rigid : Bool) (start end : Pose) → PosesPassed start end → (m : AnimatedTransform) → AnimatedTransform·fromPoses rigid start end ≡ record { value = m; refusal = 0 } → AnimatedTransform·Judged m
+from-poses-judged : (rigid : Bool) (start end : Pose) → PosesPassed start end → (m : AnimatedTransform)
+    → AnimatedTransform·fromPoses rigid start end ≡ record { value = m; refusal = 0 } → AnimatedTransform·Judged m
 unfolding AnimatedTransform·fromPoses
 from-poses-judged rigid start end poses m h =
     let m0 = Matrix4x4·toRows (start .m) in

@@ -1,4 +1,5 @@
--- Moves of document 01's "Poses tried", built by computing the definition: a translation from the identity, also between equal times, and refusals 1, 2, 3, 4 and 16.
+-- Moves of document 01's "Poses tried", built by computing the definition: a translation from the identity,
+-- also between equal times, and refusals 1, 2, 3, 4 and 16.
 use mathlib.Core.Path.{_≡_, refl}
 use mathlib.Core.Bool.{true, false}
 use mathlib.Core.List.{[], _∷_}
@@ -74,16 +75,19 @@ end-before-start : moveA minusOne ≡ AnimatedTransformAnswer·refused 3
 unfolding computing
 end-before-start = refl
 
-linear-part-of-zeros : AnimatedTransform·new false (record { time = o; m = identity; pad = o }) (record { time = one; m = matrix o one o; pad = o }) ≡ AnimatedTransformAnswer·refused 4
+linear-part-of-zeros : AnimatedTransform·new false (record { time = o; m = identity; pad = o })
+    (record { time = one; m = matrix o one o; pad = o }) ≡ AnimatedTransformAnswer·refused 4
 unfolding computing
 linear-part-of-zeros = refl
 
 -- a pad below zero is met before times that fall, and after a bottom row; a pad of -0 is accepted
-pad-before-times : AnimatedTransform·new false (record { time = o; m = identity; pad = minusOne }) (record { time = minusOne; m = identity; pad = o }) ≡ AnimatedTransformAnswer·refused 16
+pad-before-times : AnimatedTransform·new false (record { time = o; m = identity; pad = minusOne })
+    (record { time = minusOne; m = identity; pad = o }) ≡ AnimatedTransformAnswer·refused 16
 unfolding computing
 pad-before-times = refl
 
-bottom-row-before-pad : AnimatedTransform·new false (record { time = o; m = identity; pad = minusOne }) (record { time = one; m = matrix one o one; pad = o }) ≡ AnimatedTransformAnswer·refused 2
+bottom-row-before-pad : AnimatedTransform·new false (record { time = o; m = identity; pad = minusOne })
+    (record { time = one; m = matrix one o one; pad = o }) ≡ AnimatedTransformAnswer·refused 2
 unfolding computing
 bottom-row-before-pad = refl
 
@@ -92,10 +96,12 @@ unfolding computing
 pad-of-minus-zero = refl
 
 -- a pad and an entry that aren't finite are met before a bottom row
-infinite-pad-first : AnimatedTransform·new false (record { time = o; m = matrix one o one; pad = infinity }) (record { time = one; m = identity; pad = o }) ≡ AnimatedTransformAnswer·refused 1
+infinite-pad-first : AnimatedTransform·new false (record { time = o; m = matrix one o one; pad = infinity })
+    (record { time = one; m = identity; pad = o }) ≡ AnimatedTransformAnswer·refused 1
 unfolding computing
 infinite-pad-first = refl
 
-infinite-entry-first : AnimatedTransform·new false (record { time = o; m = matrix one infinity one; pad = minusOne }) (record { time = one; m = identity; pad = o }) ≡ AnimatedTransformAnswer·refused 1
+infinite-entry-first : AnimatedTransform·new false (record { time = o; m = matrix one infinity one; pad = minusOne })
+    (record { time = one; m = identity; pad = o }) ≡ AnimatedTransformAnswer·refused 1
 unfolding computing
 infinite-entry-first = refl

@@ -18,7 +18,8 @@ use Rattle.rotation_arc.specs.ArcCoefficients.{pairCoefficients}
 use Rattle.pose_pair.specs.declared.Pose.{Pose}
 use Rattle.animated_transform.specs.declared.AnimatedTransform.{AnimatedTransform}
 use Rattle.animated_transform.specs.declared.AnimatedTransformAnswer.{AnimatedTransformAnswer}
-use Rattle.animated_transform.specs.New.{AnimatedTransformAnswer·refused, AnimatedTransform·ofFields, AnimatedTransform·fromParts, AnimatedTransform·fromPoses, buildRefusal, AnimatedTransform·new}
+use Rattle.animated_transform.specs.New.{AnimatedTransformAnswer·refused, AnimatedTransform·ofFields, AnimatedTransform·fromParts}
+use Rattle.animated_transform.specs.New.{AnimatedTransform·fromPoses, buildRefusal, AnimatedTransform·new}
 use Rattle.animated_transform.specs.Built.{Built}
 
 pub record Kept (rigid : Bool) (start end : Pose) (m : AnimatedTransform) : Type 0 where
@@ -32,7 +33,8 @@ abbrev AnswerKept : Bool → Pose → Pose → AnimatedTransformAnswer → Type 
 AnswerKept rigid start end a = a .refusal ≡ 0 → Kept rigid start end (a .value)
 
 -- behind a number that was tested
-tested-kept : (rigid : Bool) (start end : Pose) (n : ℕ) (a : AnimatedTransformAnswer) → AnswerKept rigid start end a → AnswerKept rigid start end (cond (eqb n 0) a (AnimatedTransformAnswer·refused n))
+tested-kept : (rigid : Bool) (start end : Pose) (n : ℕ) (a : AnimatedTransformAnswer) → AnswerKept rigid start end a
+    → AnswerKept rigid start end (cond (eqb n 0) a (AnimatedTransformAnswer·refused n))
 tested-kept rigid start end n a h = go (eqb n 0) (eqb-false n 0)
   where
     go : (b : Bool) → (b ≡ false → n ≡ 0 → ⊥) → AnswerKept rigid start end (cond b a (AnimatedTransformAnswer·refused n))
@@ -61,7 +63,8 @@ from-poses-kept rigid start end =
     tested-kept rigid start end n (AnimatedTransform·fromParts rigid start end (a .transform) (b .transform) p q)
     (from-parts-kept rigid start end (a .transform) (b .transform) p q)
 
-pub new-kept : (rigid : Bool) (start end : Pose) → AnimatedTransform·new rigid start end .refusal ≡ 0 → Kept rigid start end (AnimatedTransform·new rigid start end .value)
+pub new-kept : (rigid : Bool) (start end : Pose) → AnimatedTransform·new rigid start end .refusal ≡ 0
+    → Kept rigid start end (AnimatedTransform·new rigid start end .value)
 unfolding AnimatedTransform·new
 new-kept rigid start end =
     tested-kept rigid start end (buildRefusal rigid start end) (AnimatedTransform·fromPoses rigid start end) (from-poses-kept rigid start end)

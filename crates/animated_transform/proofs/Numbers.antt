@@ -1,5 +1,5 @@
--- The numbers that building can give are 0 to 5 and 16, of a rigid move also 17 and 18 (`new-refusal`), but not 2 where both bottom rows are right (`new-affine`), and after a refusal every number is
--- +0 and every yes or no is no (`new-refused`). Those of its work are 0, 4 and 5.
+-- The numbers that building can give are 0 to 5 and 16, of a rigid move also 17 and 18 (`new-refusal`), but not 2 where both bottom rows are
+-- right (`new-affine`), and after a refusal every number is +0 and every yes or no is no (`new-refused`). Those of its work are 0, 4 and 5.
 use mathlib.Core.Path.{_≡_, refl}
 use mathlib.Core.Bool.{Bool, true, false, not, _&&_, _||_, cond}
 use mathlib.Core.Logic.{_⊎_, inl, inr}
@@ -36,7 +36,8 @@ use Rattle.rotation_arc.specs.declared.CoefficientsAnswer.{CoefficientsAnswer}
 use Rattle.pose_pair.specs.Pose.{Pose·isFinite, Pose·isAffine, Pose·isPadded, timesRefusal, posesRefusal, Pose·kindNumber}
 use Rattle.rotation_arc.specs.ShorterArc.{flip, dotsRefusal}
 use Rattle.rotation_arc.specs.ArcCoefficients.{CoefficientsAnswer·judged, rotationCoefficients, pairCoefficients}
-use Rattle.animated_transform.specs.New.{AnimatedTransformAnswer·refused, AnimatedTransform·ofFields, AnimatedTransform·fromParts, AnimatedTransform·fromPoses, buildRefusal, AnimatedTransform·new}
+use Rattle.animated_transform.specs.New.{AnimatedTransformAnswer·refused, AnimatedTransform·ofFields, AnimatedTransform·fromParts}
+use Rattle.animated_transform.specs.New.{AnimatedTransform·fromPoses, buildRefusal, AnimatedTransform·new}
 use Rattle.animated_transform.specs.Numbers.{buildNumbers}
 
 -- ---- the numbers
@@ -77,10 +78,12 @@ poses-numbers P start end none one two sixteen three =
 
 poses-number : (rigid : Bool) (start end : Pose) → Numbered rigid (posesRefusal start end)
 poses-number rigid start end =
-    poses-numbers (Numbered rigid) start end (inl refl) (inr (inl refl)) (inr (inr (inl refl))) (inr (inr (inr (inr (inr (inr (inl refl))))))) (inr (inr (inr (inl refl))))
+    poses-numbers (Numbered rigid) start end (inl refl) (inr (inl refl)) (inr (inr (inl refl)))
+    (inr (inr (inr (inr (inr (inr (inl refl))))))) (inr (inr (inr (inl refl))))
 
 -- what is asked before anything is worked
-asked-numbers : (P : ℕ → Type 0) (rigid : Bool) (start end : Pose) → P (posesRefusal start end) → P 0 → (T rigid → P 17) → (T rigid → P 18) → P (buildRefusal rigid start end)
+asked-numbers : (P : ℕ → Type 0) (rigid : Bool) (start end : Pose) → P (posesRefusal start end)
+    → P 0 → (T rigid → P 17) → (T rigid → P 18) → P (buildRefusal rigid start end)
 asked-numbers P rigid start end poses none seventeen eighteen =
     let s = Pose·kindNumber rigid start in
     let e = Pose·kindNumber rigid end in
@@ -188,7 +191,8 @@ new-numbered rigid start end =
 pub new-refusal : (rigid : Bool) (start end : Pose) → OneOf (AnimatedTransform·new rigid start end .refusal) (buildNumbers rigid)
 new-refusal rigid start end = new-numbered rigid start end .number
 
-pub new-affine : (rigid : Bool) (start end : Pose) → Pose·isAffine start ≡ true → Pose·isAffine end ≡ true → AnimatedTransform·new rigid start end .refusal ≡ 2 → ⊥
+pub new-affine : (rigid : Bool) (start end : Pose) → Pose·isAffine start ≡ true
+    → Pose·isAffine end ≡ true → AnimatedTransform·new rigid start end .refusal ≡ 2 → ⊥
 new-affine rigid start end a b =
     new-answered (λ n. n ≡ 2 → ⊥) rigid start end
     (asked-numbers (λ n. n ≡ 2 → ⊥) rigid start end (poses-affine start end a b)

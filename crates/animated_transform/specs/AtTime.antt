@@ -1,5 +1,5 @@
--- When a query takes a stored transform: at and outside the end times, and where the poses are equal, as 000's `interpolate` and `transform_point` test it. Definitions only.
--- A NaN time is neither, unless the poses are equal; the queries refuse it first.
+-- When a query takes a stored transform: at and outside the end times, and where the poses are equal, as 000's `interpolate` and `transform_point` test it.
+-- Definitions only. A NaN time is neither, unless the poses are equal; the queries refuse it first.
 use mathlib.Core.Bool.{Bool, not, _||_}
 use lib.Ieee.{Float, le}
 use Rattle.animated_transform.specs.declared.AnimatedTransform.{AnimatedTransform}

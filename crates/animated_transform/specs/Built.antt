@@ -22,7 +22,8 @@ use Rattle.pose_pair.specs.Pose.{Pose·isBinary32}
 use Rattle.animated_transform.specs.declared.AnimatedTransform.{AnimatedTransform}
 use Rattle.animated_transform.specs.New.{AnimatedTransform·new}
 
--- Of either kind, rigid or not. document 01, Cover: "A move is built .. when the call with its arguments gives no refusal"; "Float is 32-bit IEEE 754 throughout", which of times and pads is needed
+-- Of either kind, rigid or not. document 01, Cover: "A move is built .. when the call with its arguments gives no refusal";
+-- "Float is 32-bit IEEE 754 throughout", which of times and pads is needed
 pub record Built (m : AnimatedTransform) : Type 0 where
   pub rigid : Bool
   pub start : Pose

@@ -1,5 +1,6 @@
--- pbrt's `AnimatedTransform::new`, of a move of either kind, rigid or not, judged: 1, 2, 16 and 3 before anything is worked, of a rigid move also 17 and 18, then 4 or 5, whichever is met first, in this order: both inverses, start parts, end parts,
--- the dot products of the two quaternions, the coefficients. After a refusal every number is +0 and every yes or no is no. Definitions only.
+-- pbrt's `AnimatedTransform::new`, of a move of either kind, rigid or not, judged: 1, 2, 16 and 3 before anything is worked, of a rigid move also 17 and 18,
+-- then 4 or 5, whichever is met first, in this order: both inverses, start parts, end parts, the dot products of the two quaternions, the coefficients.
+-- After a refusal every number is +0 and every yes or no is no. Definitions only.
 use Prim.Native.Nat.{ℕ}
 use mathlib.Core.Bool.{Bool, true, false, not, cond}
 use lib.Dec.{eqb}

@@ -10,7 +10,8 @@ use transform::Transform;
 use vector3::Vector3f;
 ghost use mathlib.Core.Path.{_≡_};
 ghost use Rattle.animated_transform.specs.Built.{Built};
-ghost use Rattle.animated_transform.specs.New.{AnimatedTransformAnswer·refused, AnimatedTransform·fromParts, AnimatedTransform·fromPoses, AnimatedTransform·new};
+ghost use Rattle.animated_transform.specs.New.{AnimatedTransformAnswer·refused, AnimatedTransform·fromParts};
+ghost use Rattle.animated_transform.specs.New.{AnimatedTransform·fromPoses, AnimatedTransform·new};
 
 // 0 stands for the start and 1 for the end, so that pbrt's t[0] is t0; the coefficients are pbrt's c1 to c5. The pads are the poses' own, and a rigid
 // move neither stretches nor shears: pbrt knows neither.

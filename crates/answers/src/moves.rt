@@ -1,7 +1,7 @@
 // Questions about a move: move T0 M0 T1 M1 builds one and keeps it for the questions after it, each of which is an error where none is kept:
-// parts, point T X Y Z, interp T (both halves of the transform), motion BOX, pmotion X Y Z (`bound_point_motion`), each with three counts behind its box, cover D BOX, with a depth D.
-// `parts` asks whether it is animated and whether it rotates, for start and end t, r, S and the inverse, then c1 to c5, each on the axes
-// x y z, each kc kx ky kz.
+// parts, point T X Y Z, interp T (both halves of the transform), motion BOX, pmotion X Y Z (`bound_point_motion`),
+// each with three counts behind its box, cover D BOX, with a depth D. `parts` asks whether it is animated and whether
+// it rotates, for start and end t, r, S and the inverse, then c1 to c5, each on the axes x y z, each kc kx ky kz.
 // A move is kept as the library's callers keep it, in 45 rows (`motion_rows`).
 use crate::matrices::bounds_at;
 use crate::matrices::point_at;

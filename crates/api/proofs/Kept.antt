@@ -1,5 +1,6 @@
--- A kept move is the move that was built: what building leaves holds it (`build-clauses`), the point query of the rows is the move's (`kept-point`), and the cover of the rows
--- holds what the point query of the rows answers, and is no narrower than a finer one (`cover-clauses`); the last also of a kept chain (`moves-cover-clauses`), also in a window of times (`moves-window-clauses`), and what it shows of a pose that is tried (`moves-try-clauses`).
+-- A kept move is the move that was built: what building leaves holds it (`build-clauses`), the point query of the rows is the move's (`kept-point`), and
+-- the cover of the rows holds what the point query of the rows answers, and is no narrower than a finer one (`cover-clauses`); the last also of a kept
+-- chain (`moves-cover-clauses`), also in a window of times (`moves-window-clauses`), and what it shows of a pose that is tried (`moves-try-clauses`).
 use Prim.Native.Nat.{ℕ, _+_, _-_}
 use mathlib.Core.Path.{_≡_, ap, sym, subst, _∙_}
 use mathlib.Core.Bool.{Bool}
@@ -83,7 +84,8 @@ cover-clauses rows b d r bounds old number left = (number, (left, (contains, fin
     finer none m k holds l most =
         let own = BoundsAnswer·bounds (Rows·cover rows b d) in
         let same : d + (k - d) ≡ k = omega (arith, l) in
-        let built : Built (AnimatedTransform·fromRows rows) = subst Built (sym (from-rows-inverse m) ∙ ap AnimatedTransform·fromRows (sym (holds .same))) (holds .built) in
+        let built : Built (AnimatedTransform·fromRows rows) =
+        subst Built (sym (from-rows-inverse m) ∙ ap AnimatedTransform·fromRows (sym (holds .same))) (holds .built) in
         let deeper : Within (Rows·cover rows b (d + (k - d))) own =
         cover-finer (AnimatedTransform·fromRows rows) (Bounds3f·ofList b) d (k - d) built (omega (arith, same, most)) (sym number ∙ none) in
         rw (box-left none) (subst (λ (x : ℕ). Within (Rows·cover rows b x) own) same deeper)
@@ -122,11 +124,14 @@ moves-try-clauses rows place pose b d r bounds old shown value contains number l
     box-left : r ≡ 0 → bounds ≡ Bounds3f·list (BoundsAnswer·bounds shown)
     box-left none =
         let answered = try-answered rows place (Pose·ofList pose) (Bounds3f·ofList b) d (ap BoundsAnswer·refusal (sym value) ∙ (sym number ∙ none)) in
-        left ∙ (ap (λ (a : BoundsAnswer). BoundsAnswer·left a old) (value ∙ answered) ∙ ap (λ (a : BoundsAnswer). Bounds3f·list (BoundsAnswer·bounds a)) (sym value))
+        left ∙ (ap (λ (a : BoundsAnswer). BoundsAnswer·left a old) (value ∙ answered)
+        ∙ ap (λ (a : BoundsAnswer). Bounds3f·list (BoundsAnswer·bounds a)) (sym value))
 
 pub moves-window-clauses : (rows : List Rows) (b : List Float) (d : ℕ) (w : Window) (r : ℕ) (bounds old : List Float)
-    → r ≡ BoundsAnswer·refusal (Moves·windowCover rows (Bounds3f·ofList b) d w) → bounds ≡ BoundsAnswer·left (Moves·windowCover rows (Bounds3f·ofList b) d w) old
-    → (r ≡ BoundsAnswer·refusal (Moves·windowCover rows (Bounds3f·ofList b) d w)) × ((bounds ≡ BoundsAnswer·left (Moves·windowCover rows (Bounds3f·ofList b) d w) old)
+    → r ≡ BoundsAnswer·refusal (Moves·windowCover rows (Bounds3f·ofList b) d w)
+    → bounds ≡ BoundsAnswer·left (Moves·windowCover rows (Bounds3f·ofList b) d w) old
+    → (r ≡ BoundsAnswer·refusal (Moves·windowCover rows (Bounds3f·ofList b) d w))
+    × ((bounds ≡ BoundsAnswer·left (Moves·windowCover rows (Bounds3f·ofList b) d w) old)
     × ((r ≡ 0 → KeptWindowContainsMotion rows (Bounds3f·ofList b) w (Bounds3f·ofList bounds))
     × (r ≡ 0 → KeptWindowFiner rows (Bounds3f·ofList b) d w (Bounds3f·ofList bounds))))
 moves-window-clauses rows b d w r bounds old number left = (number, (left, (contains, finer)))

@@ -1,5 +1,5 @@
--- What each function of the library answers, from the arrays that it is lent: the definitions of building and of the queries at the poses, the move, the points and the boxes
--- that the arrays hold. Definitions only.
+-- What each function of the library answers, from the arrays that it is lent: the definitions of building and of the queries at the poses,
+-- the move, the points and the boxes that the arrays hold. Definitions only.
 -- The rows may be any rows: the move in them is `AnimatedTransform·fromRows`, and what a point query needs of its rotations stands beside it.
 use Prim.Native.Nat.{ℕ}
 use mathlib.Core.Bool.{Bool}

@@ -1,5 +1,5 @@
--- What the library's functions over a kept chain answer, from the arrays that they are lent: the definitions of `chain_rows` and `chain_trial` at the poses, points and boxes that the arrays hold; and the
--- numbers of the layout in which all of it crosses and of the library's version. Definitions only.
+-- What the library's functions over a kept chain answer, from the arrays that they are lent: the definitions of `chain_rows` and `chain_trial` at the poses,
+-- points and boxes that the arrays hold; and the numbers of the layout in which all of it crosses and of the library's version. Definitions only.
 use Prim.Native.Nat.{ℕ}
 use mathlib.Core.List.{List}
 use lib.Ieee.{Float}

@@ -1,4 +1,5 @@
--- What an answer about a motion box leaves in the two arrays that are lent for it, the box and its counts, of which `old` is what stood there. Definitions only.
+-- What an answer about a motion box leaves in the two arrays that are lent for it, the box and its counts, of which `old` is what stood there.
+-- Definitions only.
 use Prim.Native.Nat.{ℕ}
 use mathlib.Core.List.{List, [], _∷_}
 use lib.Ieee.{Float}

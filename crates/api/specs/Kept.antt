@@ -1,4 +1,5 @@
--- The guarantee of a kept move's cover in what crosses the boundary, `KeptCoverContainsMotion`, and that a finer cover is never a wider one, `KeptCoverFiner`. Definitions only.
+-- The guarantee of a kept move's cover in what crosses the boundary, `KeptCoverContainsMotion`, and that a finer cover is never a wider one, `KeptCoverFiner`.
+-- Definitions only.
 use Prim.Native.Nat.{ℕ, _≤_}
 use mathlib.Core.Bool.{not}
 use mathlib.Core.List.{List}
@@ -25,7 +26,8 @@ KeptCoverContainsMotion rows b cover =
     → Rows·Holds rows m → T (not (isNan time)) → Inside (Bounds3f·ofList b) p
     → MovedInside (Bounds3f·ofList cover) (AnimatedTransform·padAt m time) (Rows·transformPoint rows time p)
 
--- Where the rows hold a built move: the same query at each greater depth up to 12 is accepted, and its box lies in the box `cover`, which was answered at the depth.
+-- Where the rows hold a built move: the same query at each greater depth up to 12 is accepted,
+-- and its box lies in the box `cover`, which was answered at the depth.
 abbrev pub KeptCoverFiner : Rows → List Float → ℕ → List Float → Type 0
 KeptCoverFiner rows b depth cover =
     (m : AnimatedTransform) (finer : ℕ)

@@ -1,7 +1,7 @@
 // The library that Rust and C link: a move is built once, kept by its caller as 45 rows of four floats, and asked many times; a chain is kept as the rows of
 // its moves, one block for each. Each function returns the number of a refusal, 0 for none, those over move files beside a length or a count. Where nothing is
-// refused it writes what it is lent for its answer; after a refusal that is as it was. Any floats may be handed in, and any rows may be asked, but the guarantee
-// is for rows that building has written.
+// refused it writes what it is lent for its answer; after a refusal that is as it was. Any floats may be handed in,
+// and any rows may be asked, but the guarantee is for rows that building has written.
 use animated_transform::AnimatedTransform;
 use chain_text::Written;
 use motion_bounds::MotionBoundsAnswer;
@@ -52,7 +52,8 @@ ghost use Rattle.api.specs.Files.{MoveFile·boundsLeft, Moves·written};
 ghost use Rattle.window_meetings.specs.Windows.{WindowsAnswer·refusal, WindowsAnswer·windows, WindowsAnswer·left};
 ghost use Rattle.window_pairs.specs.Kept.{KeptWindowsApart, KeptWindowsFiner};
 ghost use Rattle.window_cover.specs.Kept.{KeptWindowContainsMotion, KeptWindowFiner};
-ghost use Rattle.api.specs.Chains.{layoutNumber, versionNumber, Moves·point, Moves·points, Moves·coverOf, Moves·tryOf, Moves·windowCoverOf, Moves·windowsOf};
+ghost use Rattle.api.specs.Chains.{layoutNumber, versionNumber, Moves·point, Moves·points};
+ghost use Rattle.api.specs.Chains.{Moves·coverOf, Moves·tryOf, Moves·windowCoverOf, Moves·windowsOf};
 ghost use Rattle.api.specs.Answers.{Rows·new, Rows·point, Rows·interpolate, Rows·boundPointMotion, Rows·motionBounds, Rows·cover};
 ghost use Rattle.api.specs.Examined.{MotionBoundsAnswer·left, MotionBoundsAnswer·examinedLeft};
 ghost use Rattle.api.specs.Kept.{KeptCoverContainsMotion, KeptCoverFiner};
@@ -107,7 +108,8 @@ pub extern "C" fn jellyplain_point(
 ) -> u8
     ensures refusal { λ r. ⌜ r ≡ PointAnswer·refusal (Rows·point (now (motion .entry)) time (now (p .entry))) ⌝ }
     ensures left { λ _. ⌜ now (moved .exit) ≡ PointAnswer·left (Rows·point (now (motion .entry)) time (now (p .entry))) (now (moved .entry)) ⌝ }
-    ensures built { λ _. ⌜ ((m : AnimatedTransform) → now (motion .entry) ≡ AnimatedTransform·toRows m → Rows·point (now (motion .entry)) time (now (p .entry)) ≡ AnimatedTransform·transformPoint m time (Point3f·ofList (now (p .entry)))) ⌝ }
+    ensures built { λ _. ⌜ ((m : AnimatedTransform) → now (motion .entry) ≡ AnimatedTransform·toRows m
+        → Rows·point (now (motion .entry)) time (now (p .entry)) ≡ AnimatedTransform·transformPoint m time (Point3f·ofList (now (p .entry)))) ⌝ }
 {
     lent_arrays::put_point(
         motion_rows::transform_point(motion, time, lent_arrays::point(p)),
@@ -121,7 +123,8 @@ pub extern "C" fn jellyplain_point(
 pub extern "C" fn jellyplain_pad(motion: &[[f32; 4]; 45], time: f32, pad: &mut [f32; 1]) -> u8
     ensures refusal { λ r. ⌜ r ≡ PadAnswer·refusal (Rows·pad (now (motion .entry)) time) ⌝ }
     ensures left { λ _. ⌜ now (pad .exit) ≡ PadAnswer·left (Rows·pad (now (motion .entry)) time) (now (pad .entry)) ⌝ }
-    ensures built { λ _. ⌜ ((m : AnimatedTransform) → now (motion .entry) ≡ AnimatedTransform·toRows m → Rows·pad (now (motion .entry)) time ≡ AnimatedTransform·pad m time) ⌝ }
+    ensures built { λ _. ⌜ ((m : AnimatedTransform) → now (motion .entry) ≡ AnimatedTransform·toRows m
+        → Rows·pad (now (motion .entry)) time ≡ AnimatedTransform·pad m time) ⌝ }
 {
     pad_query::put_pad(pad_query::pad(motion, time), pad)
 }
@@ -153,7 +156,8 @@ pub extern "C" fn jellyplain_bound_point_motion(
 ) -> u8
     ensures refusal { λ r. ⌜ r ≡ MotionBoundsAnswer·refusal (Rows·boundPointMotion (now (motion .entry)) (now (p .entry))) ⌝ }
     ensures left { λ _. ⌜ now (bounds .exit) ≡ MotionBoundsAnswer·left (Rows·boundPointMotion (now (motion .entry)) (now (p .entry))) (now (bounds .entry)) ⌝ }
-    ensures examined { λ _. ⌜ now (examined .exit) ≡ MotionBoundsAnswer·examinedLeft (Rows·boundPointMotion (now (motion .entry)) (now (p .entry))) (now (examined .entry)) ⌝ }
+    ensures examined { λ _. ⌜ now (examined .exit)
+        ≡ MotionBoundsAnswer·examinedLeft (Rows·boundPointMotion (now (motion .entry)) (now (p .entry))) (now (examined .entry)) ⌝ }
 {
     put_motion_bounds(
         motion_bounds::bound_point_motion(motion_rows::from_rows(motion), lent_arrays::point(p)),
@@ -162,7 +166,8 @@ pub extern "C" fn jellyplain_bound_point_motion(
     )
 }
 
-// pbrt's motion box of the box b: no cover; how many intervals were examined on x, y and z, over its eight corners. Refused with 5, 6, 7 or 9. Accuracy: heuristic.
+// pbrt's motion box of the box b: no cover; how many intervals were examined on x, y and z, over its eight corners.
+// Refused with 5, 6, 7 or 9. Accuracy: heuristic.
 #[no_mangle]
 pub extern "C" fn jellyplain_motion_bounds(
     motion: &[[f32; 4]; 45],
@@ -172,7 +177,8 @@ pub extern "C" fn jellyplain_motion_bounds(
 ) -> u8
     ensures refusal { λ r. ⌜ r ≡ MotionBoundsAnswer·refusal (Rows·motionBounds (now (motion .entry)) (now (b .entry))) ⌝ }
     ensures left { λ _. ⌜ now (bounds .exit) ≡ MotionBoundsAnswer·left (Rows·motionBounds (now (motion .entry)) (now (b .entry))) (now (bounds .entry)) ⌝ }
-    ensures examined { λ _. ⌜ now (examined .exit) ≡ MotionBoundsAnswer·examinedLeft (Rows·motionBounds (now (motion .entry)) (now (b .entry))) (now (examined .entry)) ⌝ }
+    ensures examined { λ _. ⌜ now (examined .exit)
+        ≡ MotionBoundsAnswer·examinedLeft (Rows·motionBounds (now (motion .entry)) (now (b .entry))) (now (examined .entry)) ⌝ }
 {
     put_motion_bounds(
         motion_bounds::motion_bounds(motion_rows::from_rows(motion), lent_arrays::bounds(b)),
@@ -205,8 +211,8 @@ pub extern "C" fn jellyplain_cover(
     )
 }
 
-// The number of the layout in which poses, moves and chains cross: 18 floats, 45 rows with the move's kind, up to 31 blocks. It changes where one of them does, so that a caller
-// built against another layout is told. Accuracy: exact.
+// The number of the layout in which poses, moves and chains cross: 18 floats, 45 rows with the move's kind, up to 31 blocks.
+// It changes where one of them does, so that a caller built against another layout is told. Accuracy: exact.
 #[no_mangle]
 pub extern "C" fn jellyplain_layout() -> u32
     ensures value { λ r. ⌜ r ≡ layoutNumber ⌝ }
@@ -233,13 +239,15 @@ pub extern "C" fn jellyplain_build_moves(
 ) -> u8
     ensures refusal { λ r. ⌜ r ≡ ChainAnswer·refusal (Chain·new rigid (Poses·ofLists (now (poses .entry)))) ⌝ }
     ensures left { λ _. ⌜ now (moves .exit) ≡ ChainAnswer·left (Chain·new rigid (Poses·ofLists (now (poses .entry)))) (now (moves .entry)) ⌝ }
-    ensures holds { λ _. ⌜ ((c : Chain) → Chain·new rigid (Poses·ofLists (now (poses .entry))) ≡ built c → Moves·Holds (take (length (now (poses .entry)) - 1) (now (moves .exit))) c) ⌝ }
+    ensures holds { λ _. ⌜ ((c : Chain) → Chain·new rigid (Poses·ofLists (now (poses .entry))) ≡ built c
+        → Moves·Holds (take (length (now (poses .entry)) - 1) (now (moves .exit))) c) ⌝ }
 {
     chain_build::build(rigid, poses, moves)
 }
 
-// Makes one chain of two, with the pose that they share once; the rows of the first's moves and then of the second's stand in the front blocks. Refused with 12 where either has no
-// moves, then with 20 where the last pose of the first and the first of the second differ in a bit, or the chains in their kind, then with 12 for more than 32 poses. Accuracy: exact.
+// Makes one chain of two, with the pose that they share once; the rows of the first's moves and then of the second's stand in the front blocks.
+// Refused with 12 where either has no moves, then with 20 where the last pose of the first and the first of the second differ in a bit, or the
+// chains in their kind, then with 12 for more than 32 poses. Accuracy: exact.
 #[no_mangle]
 pub extern "C" fn jellyplain_moves_join(
     first: &[[[f32; 4]; 45]],
@@ -248,13 +256,14 @@ pub extern "C" fn jellyplain_moves_join(
 ) -> u8
     ensures refusal { λ r. ⌜ r ≡ Moves·joinRefusal (now (first .entry)) (now (second .entry)) ⌝ }
     ensures left { λ _. ⌜ now (moves .exit) ≡ Moves·joinLeft (now (first .entry)) (now (second .entry)) (now (moves .entry)) ⌝ }
-    ensures kept { λ r. ⌜ ((c d : Chain) → Moves·Holds (now (first .entry)) c → Moves·Holds (now (second .entry)) d → Joined (now (first .entry)) (now (second .entry)) (now (moves .entry)) (now (moves .exit)) r c d) ⌝ }
+    ensures kept { λ r. ⌜ ((c d : Chain) → Moves·Holds (now (first .entry)) c → Moves·Holds (now (second .entry)) d
+        → Joined (now (first .entry)) (now (second .entry)) (now (moves .entry)) (now (moves .exit)) r c d) ⌝ }
 {
     chain_join::join(first, second, moves)
 }
 
-// The shortest run of neighbouring poses that is refused with the number of their chain, the leftmost among equals: its first place, from 0, and its length, 1 or 2; 0 and 0 where the
-// chain is accepted. Refused with 12 where the chain is. Accuracy: exact.
+// The shortest run of neighbouring poses that is refused with the number of their chain, the leftmost among equals: its first place,
+// from 0, and its length, 1 or 2; 0 and 0 where the chain is accepted. Refused with 12 where the chain is. Accuracy: exact.
 #[no_mangle]
 pub extern "C" fn jellyplain_refused_run(rigid: bool, poses: &[[f32; 18]]) -> Run
     ensures value { λ r. ⌜ r ≡ shortestRun rigid (Poses·ofLists (now (poses .entry))) ⌝ }
@@ -274,8 +283,10 @@ pub extern "C" fn jellyplain_moves_point(
 ) -> u8
     ensures refusal { λ r. ⌜ r ≡ PointAnswer·refusal (Moves·point (now (moves .entry)) time (now (p .entry))) ⌝ }
     ensures left { λ _. ⌜ now (moved .exit) ≡ PointAnswer·left (Moves·point (now (moves .entry)) time (now (p .entry))) (now (moved .entry)) ⌝ }
-    ensures kept { λ _. ⌜ ((c : Chain) → now (moves .entry) ≡ Chain·toRows c → Moves·point (now (moves .entry)) time (now (p .entry)) ≡ Chain·transformPoint c time (Point3f·ofList (now (p .entry)))) ⌝ }
-    ensures lone { λ _. ⌜ ((block : Rows) → now (moves .entry) ≡ block ∷ [] → Moves·point (now (moves .entry)) time (now (p .entry)) ≡ Rows·point block time (now (p .entry))) ⌝ }
+    ensures kept { λ _. ⌜ ((c : Chain) → now (moves .entry) ≡ Chain·toRows c
+        → Moves·point (now (moves .entry)) time (now (p .entry)) ≡ Chain·transformPoint c time (Point3f·ofList (now (p .entry)))) ⌝ }
+    ensures lone { λ _. ⌜ ((block : Rows) → now (moves .entry) ≡ block ∷ []
+        → Moves·point (now (moves .entry)) time (now (p .entry)) ≡ Rows·point block time (now (p .entry))) ⌝ }
 {
     lent_arrays::put_point(
         chain_rows::transform_point(moves, time, lent_arrays::point(p)),
@@ -307,9 +318,12 @@ pub extern "C" fn jellyplain_moves_points(
     p: &[f32; 3],
     answers: &mut [f32],
 ) -> u8
-    ensures refusal { λ r. ⌜ r ≡ PointsAnswer·refusal (Moves·points (now (moves .entry)) (now (times .entry)) (now (p .entry)) (length (now (answers .entry)))) ⌝ }
-    ensures left { λ _. ⌜ now (answers .exit) ≡ PointsAnswer·left (Moves·points (now (moves .entry)) (now (times .entry)) (now (p .entry)) (length (now (answers .entry)))) (now (answers .entry)) ⌝ }
-    ensures kept { λ _. ⌜ ((c : Chain) → now (moves .entry) ≡ Chain·toRows c → Moves·points (now (moves .entry)) (now (times .entry)) (now (p .entry)) (length (now (answers .entry))) ≡ Chain·transformPoints c (now (times .entry)) (Point3f·ofList (now (p .entry))) (length (now (answers .entry)))) ⌝ }
+    ensures refusal { λ r. ⌜ r ≡ PointsAnswer·refusal
+        (Moves·points (now (moves .entry)) (now (times .entry)) (now (p .entry)) (length (now (answers .entry)))) ⌝ }
+    ensures left { λ _. ⌜ now (answers .exit)
+        ≡ PointsAnswer·left (Moves·points (now (moves .entry)) (now (times .entry)) (now (p .entry)) (length (now (answers .entry)))) (now (answers .entry)) ⌝ }
+    ensures kept { λ _. ⌜ ((c : Chain) → now (moves .entry) ≡ Chain·toRows c → Moves·points (now (moves .entry)) (now (times .entry)) (now (p .entry))
+        (length (now (answers .entry))) ≡ Chain·transformPoints c (now (times .entry)) (Point3f·ofList (now (p .entry))) (length (now (answers .entry)))) ⌝ }
 {
     chain_times::transform_points(moves, times, lent_arrays::point(p), answers)
 }
@@ -325,7 +339,8 @@ pub extern "C" fn jellyplain_moves_cover(
 ) -> u8
     ensures refusal { λ r. ⌜ r ≡ BoundsAnswer·refusal (Moves·coverOf (now (moves .entry)) (now (b .entry)) depth) ⌝ }
     ensures left { λ _. ⌜ now (bounds .exit) ≡ BoundsAnswer·left (Moves·coverOf (now (moves .entry)) (now (b .entry)) depth) (now (bounds .entry)) ⌝ }
-    ensures contains_motion { λ r. ⌜ (r ≡ 0 → KeptChainContainsMotion (now (moves .entry)) (Bounds3f·ofList (now (b .entry))) (Bounds3f·ofList (now (bounds .exit)))) ⌝ }
+    ensures contains_motion { λ r. ⌜ (r ≡ 0 → KeptChainContainsMotion (now (moves .entry))
+        (Bounds3f·ofList (now (b .entry))) (Bounds3f·ofList (now (bounds .exit)))) ⌝ }
     ensures finer { λ r. ⌜ (r ≡ 0 → KeptChainFiner (now (moves .entry)) (Bounds3f·ofList (now (b .entry))) depth (Bounds3f·ofList (now (bounds .exit)))) ⌝ }
 {
     lent_arrays::put_bounds(
@@ -347,9 +362,12 @@ pub extern "C" fn jellyplain_moves_try(
     bounds: &mut [f32; 6],
 ) -> u8
     ensures refusal { λ r. ⌜ r ≡ BoundsAnswer·refusal (Moves·tryOf (now (moves .entry)) place (now (pose .entry)) (now (b .entry)) depth) ⌝ }
-    ensures left { λ _. ⌜ now (bounds .exit) ≡ BoundsAnswer·left (Moves·tryOf (now (moves .entry)) place (now (pose .entry)) (now (b .entry)) depth) (now (bounds .entry)) ⌝ }
-    ensures kept { λ _. ⌜ ((c : Chain) → Moves·Holds (now (moves .entry)) c → Moves·tryOf (now (moves .entry)) place (now (pose .entry)) (now (b .entry)) depth ≡ Chain·try c place (Pose·ofList (now (pose .entry))) (Bounds3f·ofList (now (b .entry))) depth) ⌝ }
-    ensures contains_motion { λ r. ⌜ (r ≡ 0 → TrialContainsMotion (now (moves .entry)) place (Pose·ofList (now (pose .entry))) (Bounds3f·ofList (now (b .entry))) (Bounds3f·ofList (now (bounds .exit)))) ⌝ }
+    ensures left { λ _. ⌜ now (bounds .exit)
+        ≡ BoundsAnswer·left (Moves·tryOf (now (moves .entry)) place (now (pose .entry)) (now (b .entry)) depth) (now (bounds .entry)) ⌝ }
+    ensures kept { λ _. ⌜ ((c : Chain) → Moves·Holds (now (moves .entry)) c → Moves·tryOf (now (moves .entry)) place (now (pose .entry)) (now (b .entry)) depth
+        ≡ Chain·try c place (Pose·ofList (now (pose .entry))) (Bounds3f·ofList (now (b .entry))) depth) ⌝ }
+    ensures contains_motion { λ r. ⌜ (r ≡ 0 → TrialContainsMotion (now (moves .entry)) place
+        (Pose·ofList (now (pose .entry))) (Bounds3f·ofList (now (b .entry))) (Bounds3f·ofList (now (bounds .exit)))) ⌝ }
 {
     lent_arrays::put_bounds(
         chain_trial::try_pose(moves, place, pose, lent_arrays::bounds(b), depth),
@@ -357,8 +375,8 @@ pub extern "C" fn jellyplain_moves_try(
     )
 }
 
-// Boxes that hold 1 to 16 boxes at every time of a chain, each in a place of its own, and their union; unused places are +0. Refused with 14, then with 5, 6, 7, 8
-// or 10 of the first refused box in order, and with 12 where there are no moves. Accuracy: encloses.
+// Boxes that hold 1 to 16 boxes at every time of a chain, each in a place of its own, and their union; unused places are +0. Refused with 14,
+// then with 5, 6, 7, 8 or 10 of the first refused box in order, and with 12 where there are no moves. Accuracy: encloses.
 #[no_mangle]
 pub extern "C" fn jellyplain_moves_covers(
     moves: &[[[f32; 4]; 45]],
@@ -406,8 +424,8 @@ pub extern "C" fn jellyplain_read_file(
     FileRead { count, refusal }
 }
 
-// The poses of a chain and the box b as a move file, in the front bytes; those behind it stay. Gives the length of the text. Refused with 6 or 7, then with 15 where the
-// bytes are too few, and with 12 where there are no moves; all bytes then stay. Accuracy: exact.
+// The poses of a chain and the box b as a move file, in the front bytes; those behind it stay. Gives the length of the text. Refused with 6 or 7,
+// then with 15 where the bytes are too few, and with 12 where there are no moves; all bytes then stay. Accuracy: exact.
 #[no_mangle]
 pub extern "C" fn jellyplain_write_file(
     moves: &[[[f32; 4]; 45]],
@@ -416,14 +434,16 @@ pub extern "C" fn jellyplain_write_file(
 ) -> Written
     ensures refusal { λ r. ⌜ r .refusal ≡ TextAnswer·refusal (Moves·written (now (moves .entry)) (now (b .entry)) (length (now (out .entry)))) ⌝ }
     ensures length { λ r. ⌜ r .length ≡ TextAnswer·length (Moves·written (now (moves .entry)) (now (b .entry)) (length (now (out .entry)))) ⌝ }
-    ensures left { λ _. ⌜ now (out .exit) ≡ TextAnswer·left (Moves·written (now (moves .entry)) (now (b .entry)) (length (now (out .entry)))) (now (out .entry)) ⌝ }
-    ensures written_back { λ r. ⌜ (r .refusal ≡ 0 → WrittenBack (now (moves .entry)) (Bounds3f·ofList (now (b .entry))) (take (r .length) (now (out .exit)))) ⌝ }
+    ensures left { λ _. ⌜ now (out .exit)
+        ≡ TextAnswer·left (Moves·written (now (moves .entry)) (now (b .entry)) (length (now (out .entry)))) (now (out .entry)) ⌝ }
+    ensures written_back { λ r. ⌜ (r .refusal ≡ 0
+        → WrittenBack (now (moves .entry)) (Bounds3f·ofList (now (b .entry))) (take (r .length) (now (out .exit)))) ⌝ }
 {
     chain_text::write(moves, lent_arrays::bounds(b), out)
 }
 
-// A box that holds the box b at every time of a window of a chain, from one tick to a later one, both included. Refused with 21, then 6, 7 or 8, then 5 or 10, and
-// with 12 where there are no moves. Accuracy: encloses.
+// A box that holds the box b at every time of a window of a chain, from one tick to a later one, both included.
+// Refused with 21, then 6, 7 or 8, then 5 or 10, and with 12 where there are no moves. Accuracy: encloses.
 #[no_mangle]
 pub extern "C" fn jellyplain_moves_window_cover(
     moves: &[[[f32; 4]; 45]],
@@ -434,9 +454,12 @@ pub extern "C" fn jellyplain_moves_window_cover(
     bounds: &mut [f32; 6],
 ) -> u8
     ensures refusal { λ r. ⌜ r ≡ BoundsAnswer·refusal (Moves·windowCoverOf (now (moves .entry)) (now (b .entry)) depth earlier later) ⌝ }
-    ensures left { λ _. ⌜ now (bounds .exit) ≡ BoundsAnswer·left (Moves·windowCoverOf (now (moves .entry)) (now (b .entry)) depth earlier later) (now (bounds .entry)) ⌝ }
-    ensures contains_motion { λ r. ⌜ (r ≡ 0 → KeptWindowContainsMotion (now (moves .entry)) (Bounds3f·ofList (now (b .entry))) (record { earlier = earlier; later = later }) (Bounds3f·ofList (now (bounds .exit)))) ⌝ }
-    ensures finer { λ r. ⌜ (r ≡ 0 → KeptWindowFiner (now (moves .entry)) (Bounds3f·ofList (now (b .entry))) depth (record { earlier = earlier; later = later }) (Bounds3f·ofList (now (bounds .exit)))) ⌝ }
+    ensures left { λ _. ⌜ now (bounds .exit)
+        ≡ BoundsAnswer·left (Moves·windowCoverOf (now (moves .entry)) (now (b .entry)) depth earlier later) (now (bounds .entry)) ⌝ }
+    ensures contains_motion { λ r. ⌜ (r ≡ 0 → KeptWindowContainsMotion (now (moves .entry)) (Bounds3f·ofList (now (b .entry)))
+        (record { earlier = earlier; later = later }) (Bounds3f·ofList (now (bounds .exit)))) ⌝ }
+    ensures finer { λ r. ⌜ (r ≡ 0 → KeptWindowFiner (now (moves .entry)) (Bounds3f·ofList (now (b .entry))) depth
+        (record { earlier = earlier; later = later }) (Bounds3f·ofList (now (bounds .exit)))) ⌝ }
 {
     let w = Window { earlier, later };
     lent_arrays::put_bounds(
@@ -445,8 +468,8 @@ pub extern "C" fn jellyplain_moves_window_cover(
     )
 }
 
-// Puts the windows between neighbouring ticks, counted from 0, in which the covers of two chains meet into the first places, 0 into the others, and gives how many
-// there are. Refused with 21 of the ticks, 6 and 7 of each box, 8, then 5 or 10, and with 12 where a chain has no moves. Accuracy: encloses.
+// Puts the windows between neighbouring ticks, counted from 0, in which the covers of two chains meet into the first places, 0 into the others, and gives
+// how many there are. Refused with 21 of the ticks, 6 and 7 of each box, 8, then 5 or 10, and with 12 where a chain has no moves. Accuracy: encloses.
 #[no_mangle]
 pub extern "C" fn jellyplain_moves_windows(
     moves: &[[[f32; 4]; 45]],
@@ -457,11 +480,16 @@ pub extern "C" fn jellyplain_moves_windows(
     ticks: &[f32],
     places: &mut [u32; 63],
 ) -> Windows
-    ensures refusal { λ r. ⌜ r .refusal ≡ WindowsAnswer·refusal (Moves·windowsOf (now (moves .entry)) (now (others .entry)) (now (b .entry)) (now (other .entry)) depth (now (ticks .entry))) ⌝ }
-    ensures count { λ r. ⌜ r .count ≡ length (WindowsAnswer·windows (Moves·windowsOf (now (moves .entry)) (now (others .entry)) (now (b .entry)) (now (other .entry)) depth (now (ticks .entry)))) ⌝ }
-    ensures left { λ _. ⌜ now (places .exit) ≡ WindowsAnswer·left (Moves·windowsOf (now (moves .entry)) (now (others .entry)) (now (b .entry)) (now (other .entry)) depth (now (ticks .entry))) (now (places .entry)) ⌝ }
-    ensures apart { λ r. ⌜ (r .refusal ≡ 0 → KeptWindowsApart (now (moves .entry)) (now (others .entry)) (Bounds3f·ofList (now (b .entry))) (Bounds3f·ofList (now (other .entry))) (now (ticks .entry)) (take (r .count) (now (places .exit)))) ⌝ }
-    ensures finer { λ r. ⌜ (r .refusal ≡ 0 → KeptWindowsFiner (now (moves .entry)) (now (others .entry)) (Bounds3f·ofList (now (b .entry))) (Bounds3f·ofList (now (other .entry))) depth (now (ticks .entry)) (take (r .count) (now (places .exit)))) ⌝ }
+    ensures refusal { λ r. ⌜ r .refusal ≡ WindowsAnswer·refusal
+        (Moves·windowsOf (now (moves .entry)) (now (others .entry)) (now (b .entry)) (now (other .entry)) depth (now (ticks .entry))) ⌝ }
+    ensures count { λ r. ⌜ r .count ≡ length (WindowsAnswer·windows
+        (Moves·windowsOf (now (moves .entry)) (now (others .entry)) (now (b .entry)) (now (other .entry)) depth (now (ticks .entry)))) ⌝ }
+    ensures left { λ _. ⌜ now (places .exit) ≡ WindowsAnswer·left
+        (Moves·windowsOf (now (moves .entry)) (now (others .entry)) (now (b .entry)) (now (other .entry)) depth (now (ticks .entry))) (now (places .entry)) ⌝ }
+    ensures apart { λ r. ⌜ (r .refusal ≡ 0 → KeptWindowsApart (now (moves .entry)) (now (others .entry)) (Bounds3f·ofList (now (b .entry)))
+        (Bounds3f·ofList (now (other .entry))) (now (ticks .entry)) (take (r .count) (now (places .exit)))) ⌝ }
+    ensures finer { λ r. ⌜ (r .refusal ≡ 0 → KeptWindowsFiner (now (moves .entry)) (now (others .entry)) (Bounds3f·ofList (now (b .entry)))
+        (Bounds3f·ofList (now (other .entry))) depth (now (ticks .entry)) (take (r .count) (now (places .exit)))) ⌝ }
 {
     window_pairs::list_windows(
         moves,
@@ -474,8 +502,9 @@ pub extern "C" fn jellyplain_moves_windows(
     )
 }
 
-// The starting tick of each of 1 to 8 booms in list order, a box and a run length of 1 to 1,000 ticks each; unused places are 0. No two that run have boxes that meet, and each starts
-// no later than the sum of the others' run lengths. Refused with 22, then with 6 or 7 of the first refused box in order. Accuracy: exact.
+// The starting tick of each of 1 to 8 booms in list order, a box and a run length of 1 to 1,000 ticks each;
+// unused places are 0. No two that run have boxes that meet, and each starts no later than the sum of the
+// others' run lengths. Refused with 22, then with 6 or 7 of the first refused box in order. Accuracy: exact.
 #[no_mangle]
 pub extern "C" fn jellyplain_day(
     boxes: &[[f32; 6]; 8],
@@ -490,9 +519,9 @@ pub extern "C" fn jellyplain_day(
     run_starts::start_ticks(boxes, lengths, count, starts)
 }
 
-// Puts the places, counted from 0, of the rows that a cover meets, touching included, into the first places, 0 into the others, and gives how many there are. Each of 1 to 256 rows is a
-// box. A row that is not named holds no padded point of a boom whose cover this is. Refused with 14 for no rows or more than 256, then with 6 or 7 of the cover, then with 6 or 7 of the
-// first refused row in order. Accuracy: exact.
+// Puts the places, counted from 0, of the rows that a cover meets, touching included, into the first places, 0 into the others, and gives how many there are.
+// Each of 1 to 256 rows is a box. A row that is not named holds no padded point of a boom whose cover this is. Refused with 14 for no rows or more than 256,
+// then with 6 or 7 of the cover, then with 6 or 7 of the first refused row in order. Accuracy: exact.
 #[no_mangle]
 pub extern "C" fn jellyplain_reached_rows(
     cover: &[f32; 6],
@@ -501,9 +530,12 @@ pub extern "C" fn jellyplain_reached_rows(
 ) -> Reached
     ensures refusal { λ r. ⌜ r .refusal ≡ rowsRefusal (Bounds3f·ofList (now (cover .entry))) (map Bounds3f·ofList (now (rows .entry))) ⌝ }
     ensures count { λ r. ⌜ r .count ≡ length (reachedRows (Bounds3f·ofList (now (cover .entry))) (map Bounds3f·ofList (now (rows .entry)))) ⌝ }
-    ensures left { λ _. ⌜ now (places .exit) ≡ rowsLeft (Bounds3f·ofList (now (cover .entry))) (map Bounds3f·ofList (now (rows .entry))) (now (places .entry)) ⌝ }
-    ensures apart { λ r. ⌜ (r .refusal ≡ 0 → RowsApart (Bounds3f·ofList (now (cover .entry))) (map Bounds3f·ofList (now (rows .entry))) (take (r .count) (now (places .exit)))) ⌝ }
-    ensures kept_apart { λ r. ⌜ (r .refusal ≡ 0 → KeptRowsApart (Bounds3f·ofList (now (cover .entry))) (map Bounds3f·ofList (now (rows .entry))) (take (r .count) (now (places .exit)))) ⌝ }
+    ensures left { λ _. ⌜ now (places .exit)
+        ≡ rowsLeft (Bounds3f·ofList (now (cover .entry))) (map Bounds3f·ofList (now (rows .entry))) (now (places .entry)) ⌝ }
+    ensures apart { λ r. ⌜ (r .refusal ≡ 0
+        → RowsApart (Bounds3f·ofList (now (cover .entry))) (map Bounds3f·ofList (now (rows .entry))) (take (r .count) (now (places .exit)))) ⌝ }
+    ensures kept_apart { λ r. ⌜ (r .refusal ≡ 0
+        → KeptRowsApart (Bounds3f·ofList (now (cover .entry))) (map Bounds3f·ofList (now (rows .entry))) (take (r .count) (now (places .exit)))) ⌝ }
 {
     reached_rows::list_rows(lent_arrays::bounds(cover), rows, places)
 }

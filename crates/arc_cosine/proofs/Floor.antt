@@ -3,7 +3,8 @@ use mathlib.Core.Path.{_≡_, refl, sym, ap, subst, _∙_}
 use mathlib.Core.Logic.{inl, inr}
 use mathlib.Core.Bool.{Bool, true, false, true≢false, _&&_}
 use Prim.Native.Nat.{ℕ, zero, suc, _+_, _-_, _*_, _/_, _%_, _^_, _≤_, _<_}
-use native.Mathlib.Nat.{eq-zero-or-pos, le-trans, le-of-eq, lt-of-le-of-lt, lt-of-mul-lt-mul-right, mul-le-mul-right, mul-lt-mul-of-pos-right, mul-pos, div-lt-iff-lt-mul}
+use native.Mathlib.Nat.{eq-zero-or-pos, le-trans, le-of-eq, lt-of-le-of-lt, lt-of-mul-lt-mul-right}
+use native.Mathlib.Nat.{mul-le-mul-right, mul-lt-mul-of-pos-right, mul-pos, div-lt-iff-lt-mul}
 use native.Mathlib.Nat.{div-mul-le-self, lt-div-mul-add, le-of-mul-le-mul-right, lt-of-lt-of-le, div-eq-of-lt-le}
 use native.Mathlib.Omega.{arith}
 use borrow.Author.Tests.{ltb-true, ltb-false}
@@ -84,7 +85,8 @@ unit-size (inf t) s v h k = absurd h
 unit-size (fin t m e) s v h k =
     let b : T (le (fin true 1 (pos 0)) (fin t m e) && le (fin t m e) (fin false 1 (pos 0))) = subst T (sym k) tt in
     le-of-mul-le-mul-right (clear (m * up e) (down e) v (2 ^ 149) (h .1)
-    (size t (record { holds = and-l (le (fin true 1 (pos 0)) (fin t m e)) (le (fin t m e) (fin false 1 (pos 0))) b }) (record { holds = and-r (le (fin true 1 (pos 0)) (fin t m e)) (le (fin t m e) (fin false 1 (pos 0))) b }))) (down-pos e)
+    (size t (record { holds = and-l (le (fin true 1 (pos 0)) (fin t m e)) (le (fin t m e) (fin false 1 (pos 0))) b })
+    (record { holds = and-r (le (fin true 1 (pos 0)) (fin t m e)) (le (fin t m e) (fin false 1 (pos 0))) b }))) (down-pos e)
   where
     size : (t : Bool) → fin true 1 (pos 0) ≼ fin t m e → fin t m e ≼ fin false 1 (pos 0) → m * up e ≤ down e
     size true a b = let l = to-fraction tt tt a in omega (arith, l)
@@ -110,7 +112,8 @@ floor-plus (inf t) s m E h k = absurd h
 floor-plus (fin false n e) s m E h k = ap pos (fixed-value (fin false n e) s 30 m E h)
 floor-plus (fin true n e) s m E h k =
     let l : m * 2 ^ 30 ≤ 0 = ltb-false 0 (m * 2 ^ 30) (subst (λ (b : Bool). (b && ltb 0 (m * 2 ^ 30)) ≡ false) (sym (h .0)) k) in
-    ap pos (fixed-value (fin true n e) s 30 m E h) ∙ floor-none (n * up e * 2 ^ 30) (down e) (none (n * up e) (2 ^ 149) (down e) (pow-pos 149) (let z : m ≡ 0 = omega arith in z) (h .1))
+    ap pos (fixed-value (fin true n e) s 30 m E h)
+    ∙ floor-none (n * up e * 2 ^ 30) (down e) (none (n * up e) (2 ^ 149) (down e) (pow-pos 149) (let z : m ≡ 0 = omega arith in z) (h .1))
   where
     none : (a L D : ℕ) → 0 < L → m ≡ 0 → a * L ≡ m * E * D → a * 2 ^ 30 ≡ 0
     none a L D p z h = elim (eq-zero-or-pos a) [
@@ -129,7 +132,8 @@ floor-minus (fin true n e) s m j g h k =
     let x : 0 < n * up e * 2 ^ 30 = some (n * up e) (2 ^ 149) (down e) (pow-pos j) (down-pos e) (let z : 0 < m = omega arith in z) (h .1) in
     let p : 2 ^ 149 ≡ 2 ^ j * 2 ^ (149 - j) = ap (λ (i : ℕ). 2 ^ i) (let z : 149 ≡ j + (149 - j) = omega arith in z) ∙ pow-add 2 j (149 - j) in
     ap negsuc (ap (λ (y : ℕ). (m * 2 ^ 30 - 1) * 2 ^ j / y) p
-    ∙ below-same (n * up e * 2 ^ 30) (down e) (m * 2 ^ 30) (2 ^ j) (2 ^ (149 - j)) x (down-pos e) (pow-pos j) (pow-pos (149 - j)) (regroup (n * up e) (2 ^ 149) (2 ^ j * 2 ^ (149 - j)) (2 ^ j) (down e) p (h .1)))
+    ∙ below-same (n * up e * 2 ^ 30) (down e) (m * 2 ^ 30) (2 ^ j) (2 ^ (149 - j)) x (down-pos e) (pow-pos j)
+    (pow-pos (149 - j)) (regroup (n * up e) (2 ^ 149) (2 ^ j * 2 ^ (149 - j)) (2 ^ j) (down e) p (h .1)))
     ∙ floor-some (n * up e * 2 ^ 30) (down e) x
   where
     some : (a L D : ℕ) → 0 < 2 ^ j → 0 < D → 0 < m → a * L ≡ m * 2 ^ j * D → 0 < a * 2 ^ 30
@@ -146,11 +150,13 @@ positive-part true n e = ltb-true 0 n e
 positive-part false n e = absurd (true≢false (sym e))
 
 floor-top : (m E L : ℕ) → 0 < L → m * E ≤ L → m * 2 ^ 30 * E / L ≤ 2 ^ 30
-floor-top m E L p h = let l : m * 2 ^ 30 * E / L < suc (2 ^ 30) = div-lt-iff-lt-mul p .1 (let z : m * 2 ^ 30 * E < suc (2 ^ 30) * L = omega arith in z) in omega arith
+floor-top m E L p h =
+    let l : m * 2 ^ 30 * E / L < suc (2 ^ 30) = div-lt-iff-lt-mul p .1 (let z : m * 2 ^ 30 * E < suc (2 ^ 30) * L = omega arith in z) in omega arith
 
 floor-bottom : (m E L : ℕ) → 0 < L → 0 < E → 0 < m * 2 ^ 30 → m * E ≤ L → (m * 2 ^ 30 - 1) * E / L < 2 ^ 30
 floor-bottom m E L p q k h =
-    div-lt-iff-lt-mul p .1 (lt-of-lt-of-le (mul-lt-mul-of-pos-right (let z : m * 2 ^ 30 - 1 < m * 2 ^ 30 = omega arith in z) q) (let z : m * 2 ^ 30 * E ≤ 2 ^ 30 * L = omega arith in z))
+    div-lt-iff-lt-mul p .1 (lt-of-lt-of-le (mul-lt-mul-of-pos-right (let z : m * 2 ^ 30 - 1 < m * 2 ^ 30 = omega arith in z) q)
+    (let z : m * 2 ^ 30 * E ≤ 2 ^ 30 * L = omega arith in z))
 
 -- What the code makes of a c in -1 to 1: d are its parts.
 module _ (c : Float) (f : fits binary32 c ≡ true) (h : inDomain c ≡ true) (d : Decoded) (D : d ≡ integerDecode c) where
@@ -164,7 +170,8 @@ module _ (c : Float) (f : fits binary32 c ≡ true) (h : inDomain c ≡ true) (d
   unit-digits = let l : d .significand < 2 ^ 24 = rw D (significand-lt c) in omega (arith, l)
 
   pub unit-exponent : d .exponent ≤ 149
-  unit-exponent = rw D (exponent-below c (lt-of-le-of-lt (subst (λ (p : Decoded). p .significand * 2 ^ p .exponent ≤ 2 ^ 149) D bounded) (pow-lt {i = 149} {j = 173} (lit< tt))))
+  unit-exponent = rw D
+      (exponent-below c (lt-of-le-of-lt (subst (λ (p : Decoded). p .significand * 2 ^ p .exponent ≤ 2 ^ 149) D bounded) (pow-lt {i = 149} {j = 173} (lit< tt))))
 
   exact : d .significand * 2 ^ 30 % 2 ^ 64 ≡ d .significand * 2 ^ 30
   exact = shl-exact (d .significand) 30 (rw D (significand-lt c)) (lit≤ tt)
@@ -176,15 +183,18 @@ module _ (c : Float) (f : fits binary32 c ≡ true) (h : inDomain c ≡ true) (d
         let k' = rw exact at k in
         let e' : q ≡ d .significand * 2 ^ 30 * 2 ^ d .exponent / 2 ^ 149 = e ∙ ap (λ (y : ℕ). y * 2 ^ d .exponent / 2 ^ 149) exact in (
           rw e' (floor-top (d .significand) (2 ^ d .exponent) (2 ^ 149) (pow-pos 149) bounded),
-          minus-above (2 ^ 30 + q) (2 ^ 30) (omega arith) ∙ ap pos (let z : 2 ^ 30 + q - 2 ^ 30 ≡ q = omega arith in z ∙ e') ∙ floor-plus c (d .negative) (d .significand) (2 ^ d .exponent) value k',
+          minus-above (2 ^ 30 + q) (2 ^ 30) (omega arith) ∙ ap pos (let z : 2 ^ 30 + q - 2 ^ 30 ≡ q = omega arith in z ∙ e')
+              ∙ floor-plus c (d .negative) (d .significand) (2 ^ d .exponent) value k',
         )
 
-    pub floor-negative : (d .negative && ltb 0 (d .significand * 2 ^ 30 % 2 ^ 64)) ≡ true → q ≡ (d .significand * 2 ^ 30 % 2 ^ 64 - 1) * 2 ^ d .exponent / 2 ^ 149
+    pub floor-negative : (d .negative && ltb 0 (d .significand * 2 ^ 30 % 2 ^ 64)) ≡ true
+        → q ≡ (d .significand * 2 ^ 30 % 2 ^ 64 - 1) * 2 ^ d .exponent / 2 ^ 149
         → (q < 2 ^ 30) × (minus (2 ^ 30 - 1 - q) (2 ^ 30) ≡ floorUnits c)
     floor-negative k e =
         let k' = rw exact at k in
         let e' : q ≡ (d .significand * 2 ^ 30 - 1) * 2 ^ d .exponent / 2 ^ 149 = e ∙ ap (λ (y : ℕ). (y - 1) * 2 ^ d .exponent / 2 ^ 149) exact in
-        let l : q < 2 ^ 30 = rw e' (floor-bottom (d .significand) (2 ^ d .exponent) (2 ^ 149) (pow-pos 149) (pow-pos (d .exponent)) (positive-part (d .negative) (d .significand * 2 ^ 30) k') bounded) in (
+        let l : q < 2 ^ 30 = rw e' (floor-bottom (d .significand) (2 ^ d .exponent) (2 ^ 149) (pow-pos 149)
+        (pow-pos (d .exponent)) (positive-part (d .negative) (d .significand * 2 ^ 30) k') bounded) in (
           l,
           minus-below (2 ^ 30 - 1 - q) (2 ^ 30) (omega arith) ∙ ap negsuc (let z : 2 ^ 30 - suc (2 ^ 30 - 1 - q) ≡ q = omega arith in z ∙ e')
               ∙ floor-minus c (d .negative) (d .significand) (d .exponent) unit-exponent value k',

@@ -15,7 +15,8 @@ use Rattle.arc_cosine.specs.declared.Bracket.{Bracket}
 use Rattle.trig.specs.Units.{cosUnits}
 use Rattle.arc_cosine.specs.Acos.{leastAngle, inDomain, floorUnits}
 use Rattle.trig.specs.Biased.{biased}
-use Rattle.arc_cosine.specs.Search.{Bracket·Carries, Bracket·Inside, Bracket·first, Bracket·middle, Bracket·upper, Bracket·lower, Bracket·half, Bracket·halve}
+use Rattle.arc_cosine.specs.Search.{Bracket·Carries, Bracket·Inside, Bracket·first, Bracket·middle}
+use Rattle.arc_cosine.specs.Search.{Bracket·upper, Bracket·lower, Bracket·half, Bracket·halve}
 use Rattle.arc_cosine.specs.Search.{Bracket·isOpen, Bracket·search, searchCosines, acosCosines}
 use Rattle.trig.proofs.Units.{cos-half-turn}
 use Rattle.arc_cosine.proofs.Least.{leastAngle-unique}

@@ -77,7 +77,8 @@ cos-gt u n h = subst (λ (z : ℤ). leZ z (minus n (2 ^ 30)) ≡ false) (cos-unb
 
 -- ---- the least angle
 
-pub leastAngle-unique : (n u : ℕ) → u ≤ 2 * quarterTurn → biased (cosUnits u) ≤ n → ((k : ℕ) → u ≡ suc k → n < biased (cosUnits k)) → leastAngle (minus n (2 ^ 30)) ≡ u
+pub leastAngle-unique : (n u : ℕ) → u ≤ 2 * quarterTurn → biased (cosUnits u) ≤ n
+    → ((k : ℕ) → u ≡ suc k → n < biased (cosUnits k)) → leastAngle (minus n (2 ^ 30)) ≡ u
 unfolding leastAngle
 leastAngle-unique n u h a b =
     least-unique (λ (k : ℕ). leZ (cosUnits k) (minus n (2 ^ 30))) (2 * quarterTurn) 0 u (omega arith) (omega arith) (cos-le u n a) (before u h b)

@@ -10,7 +10,8 @@ use Rattle.trig.proofs.Values.{taken, left, none}
 use Rattle.arc_cosine.specs.Acos.{inDomain, leastAngle, floorUnits, acos}
 use Rattle.arc_cosine.specs.Search.{searchCosines, acosCosines}
 
-pub acos-value : (c : Float) (w u : ℕ) (z : Float) → inDomain c ≡ true → minus w (2 ^ 30) ≡ floorUnits c → u ≡ leastAngle (minus w (2 ^ 30)) → z ≡ round binary32 false u (2 ^ 28) → z ≡ acos c
+pub acos-value : (c : Float) (w u : ℕ) (z : Float) → inDomain c ≡ true → minus w (2 ^ 30) ≡ floorUnits c
+    → u ≡ leastAngle (minus w (2 ^ 30)) → z ≡ round binary32 false u (2 ^ 28) → z ≡ acos c
 unfolding acos
 acos-value c w u z h W U Z =
     Z ∙ ap (λ (v : ℕ). round binary32 false v (2 ^ 28)) (U ∙ ap leastAngle W)

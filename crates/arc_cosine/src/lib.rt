@@ -29,8 +29,8 @@ struct LeastAngle {
     cosines: u32,
 }
 
-// The search for it: the angle lies above `low` and is at most `high`, unless `low` passes itself. The cosine of `low`, biased, is carried along; `cosines` were
-// worked out so far.
+// The search for it: the angle lies above `low` and is at most `high`, unless `low` passes itself.
+// The cosine of `low`, biased, is carried along; `cosines` were worked out so far.
 struct Bracket {
     low: u64,
     high: u64,

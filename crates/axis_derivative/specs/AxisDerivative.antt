@@ -1,5 +1,5 @@
--- The derivative along one axis: `AnimatedTransform::new` writes each formula three times, once for each column of the scale matrices; here each stands once, over the column.
--- Definitions only.
+-- The derivative along one axis: `AnimatedTransform::new` writes each formula three times, once for each column of the scale matrices;
+-- here each stands once, over the column. Definitions only.
 use Prim.Native.Nat.{ℕ}
 use lib.Ieee.{Float}
 use Rattle.quaternion.specs.declared.Quaternion.{Quaternion}
@@ -15,7 +15,8 @@ Formula = Float → Float → Float → Float → Float → Float → Float → 
 -- its value at columns a and b
 abbrev pub atColumns : Formula → Quaternion → Quaternion → Float → Row → Row → Float
 atColumns c q0 qperp θ a b =
-    c (q0 .v .x) (q0 .v .y) (q0 .v .z) (q0 .w) (qperp .v .x) (qperp .v .y) (qperp .v .z) (qperp .w) θ (col a 0) (col a 1) (col a 2) (col b 0) (col b 1) (col b 2)
+    c (q0 .v .x) (q0 .v .y) (q0 .v .z) (q0 .w) (qperp .v .x) (qperp .v .y) (qperp .v .z)
+    (qperp .w) θ (col a 0) (col a 1) (col a 2) (col b 0) (col b 1) (col b 2)
 
 -- `DerivativeTerm::new(kc, ..)` for c1, `DerivativeTerm::new(0.0, ..)` for c2 to c5, from the formulas at the columns x, y and z
 abbrev pub fromColumns : Float → ColumnTerms → ColumnTerms → ColumnTerms → Derivative

@@ -9,4 +9,5 @@ DerivativeTerm·isFinite k = finite (k .kc) && finite (k .kx) && finite (k .ky) 
 
 unfoldable pub Derivative·isFinite : Derivative → Bool
 Derivative·isFinite d =
-    DerivativeTerm·isFinite (d .c1) && DerivativeTerm·isFinite (d .c2) && DerivativeTerm·isFinite (d .c3) && DerivativeTerm·isFinite (d .c4) && DerivativeTerm·isFinite (d .c5)
+    DerivativeTerm·isFinite (d .c1) && DerivativeTerm·isFinite (d .c2) && DerivativeTerm·isFinite (d .c3)
+    && DerivativeTerm·isFinite (d .c4) && DerivativeTerm·isFinite (d .c5)

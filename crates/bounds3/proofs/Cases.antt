@@ -1,5 +1,5 @@
--- Cases of the definitions, by computing: the union of the empty box with a point is that point's box; corner 6 of a box is the least in x, the greatest in y and z;
--- a NaN is dropped by a union.
+-- Cases of the definitions, by computing: the union of the empty box with a point is that point's box;
+-- corner 6 of a box is the least in x, the greatest in y and z; a NaN is dropped by a union.
 use mathlib.Core.Path.{_≡_, refl}
 use mathlib.Core.Bool.{false}
 use Prim.Native.Nat.{ℕ}
@@ -28,6 +28,7 @@ corner-6 : Bounds3f·corner (Bounds3f·fromPoints high low) 6 ≡ point (whole 1
 unfolding computing
 corner-6 = refl
 
-union-nan : Bounds3f·unionPoint (Bounds3f·fromPoint low) (point nan (whole 2) (whole 9)) ≡ record { «p_min» = low; «p_max» = point (whole 1) (whole 2) (whole 9) }
+union-nan : Bounds3f·unionPoint (Bounds3f·fromPoint low)
+    (point nan (whole 2) (whole 9)) ≡ record { «p_min» = low; «p_max» = point (whole 1) (whole 2) (whole 9) }
 unfolding computing
 union-nan = refl

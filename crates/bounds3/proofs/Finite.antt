@@ -1,5 +1,5 @@
--- The test of a point and its three axes say the same (`test-finite`, `finite-test`), and a union of what is finite is finite (`union-point-finite`, `union-finite`).
--- Rests on `min-picks` and `max-picks` of `float32`: least and greatest are one of their arguments.
+-- The test of a point and its three axes say the same (`test-finite`, `finite-test`), and a union of what is finite is finite (`union-point-finite`,
+-- `union-finite`). Rests on `min-picks` and `max-picks` of `float32`: least and greatest are one of their arguments.
 use mathlib.Core.Bool.{_&&_}
 use lib.Dec.{T}
 use lib.Ieee.{Float}

@@ -1,6 +1,6 @@
--- A union of boxes holds what either holds (`union-inside-left`, `union-inside-right`), lies in every box that both lie in (`union-least`), and grows with both (`union-isotone`).
--- The union with a point is the union with that point's own box (`union-point-box`), and holds the point where it is finite (`union-point-inside`).
--- Rests on the order of `rounding` and on the laws of least and greatest in `float32`, one axis at a time.
+-- A union of boxes holds what either holds (`union-inside-left`, `union-inside-right`), lies in every box that both lie in (`union-least`), and
+-- grows with both (`union-isotone`). The union with a point is the union with that point's own box (`union-point-box`), and holds the point where
+-- it is finite (`union-point-inside`). Rests on the order of `rounding` and on the laws of least and greatest in `float32`, one axis at a time.
 use mathlib.Core.Path.{_≡_, refl}
 use lib.Dec.{T}
 use lib.Ieee.{Float}

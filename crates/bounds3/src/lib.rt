@@ -2,7 +2,8 @@
 // Nothing is refused here: each function is stated for all boxes and points, NaN, infinities and a least corner above the greatest included.
 ghost use mathlib.Core.Path.{_≡_};
 ghost use Rattle.bounds3.specs.Point3f.{Point3f·min, Point3f·max, Point3f·div};
-ghost use Rattle.bounds3.specs.Bounds3f.{Bounds3f·fromPoint, Bounds3f·fromPoints, Bounds3f·default, Bounds3f·index, Bounds3f·corner, Bounds3f·unionPoint, Bounds3f·unionBounds};
+ghost use Rattle.bounds3.specs.Bounds3f.{Bounds3f·fromPoint, Bounds3f·fromPoints, Bounds3f·default, Bounds3f·index};
+ghost use Rattle.bounds3.specs.Bounds3f.{Bounds3f·corner, Bounds3f·unionPoint, Bounds3f·unionBounds};
 ghost use Rattle.bounds3.specs.Finite.{Point3f·isFinite, Bounds3f·isFinite};
 
 pub struct Point3f {

@@ -1,5 +1,6 @@
--- What holds of every answer holds of their union: `union-all-keeps`, and so `union-all-proper`, `union-all-nonzero`, `union-all-numbered` and `union-all-within`. Every answer of an
--- accepted union lies in it: `union-all-parts`. A refusal stands whatever follows: `union-all-refused`. Two lists in a row: `union-append`.
+-- What holds of every answer holds of their union: `union-all-keeps`, and so `union-all-proper`,
+-- `union-all-nonzero`, `union-all-numbered` and `union-all-within`. Every answer of an accepted union lies in it:
+-- `union-all-parts`. A refusal stands whatever follows: `union-all-refused`. Two lists in a row: `union-append`.
 use Prim.Native.Nat.{ℕ}
 use mathlib.Core.Path.{_≡_, refl}
 use mathlib.Core.List.{List, [], _∷_, _++_, map}

@@ -1,4 +1,5 @@
--- One pose taken over the boxes in front, as a loop takes it: `taking-first`, `taking-next`; and what is left where it stops, `taking-refused`, or at the end, `taking-last`.
+-- One pose taken over the boxes in front, as a loop takes it: `taking-first`, `taking-next`;
+-- and what is left where it stops, `taking-refused`, or at the end, `taking-last`.
 use Prim.Native.Nat.{ℕ, suc, _+_, _≤_, _<_}
 use mathlib.Core.Path.{_≡_, refl, sym, ap, subst, _∙_}
 use mathlib.Core.Bool.{Bool, true, false, cond}

@@ -39,8 +39,8 @@ pub fn judged(boxes: &[[f32; 6]], depth: u32) -> Front
     }
 }
 
-// Puts the box that a pose moves the box at i to into its place, joined to what stands there unless it is the first. Gives the number of a refusal, which leaves
-// the place as it was. Accuracy: encloses.
+// Puts the box that a pose moves the box at i to into its place, joined to what stands there unless it is the first.
+// Gives the number of a refusal, which leaves the place as it was. Accuracy: encloses.
 fn take_box(first: bool, pose: PaddedPose, boxes: &[[f32; 6]], i: usize, place: &mut [f32; 6]) -> u8
     requires { ⌜ i < length (now boxes) ⌝ }
     ensures refusal { λ r. ⌜ r ≡ BoundsAnswer·refusal (PaddedPose·encloseBounds pose (boxAt (now (boxes .entry)) i)) ⌝ }

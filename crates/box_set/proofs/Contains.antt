@@ -1,6 +1,6 @@
--- The guarantee of a set, `chain-set-contains` and `move-set-contains`; that its finer covers are never wider ones, `chain-set-finer`; its numbers, `chain-set-numbered` and
--- `move-set-numbered`. A chain of one move has the move's own: `single-set`. What is known of each box's own cover is known of the set: `set-contains`, `set-finer`; so of any built
--- moves, whatever their times: `moves-set-contains`, `moves-set-finer`.
+-- The guarantee of a set, `chain-set-contains` and `move-set-contains`; that its finer covers are never wider ones, `chain-set-finer`; its numbers,
+-- `chain-set-numbered` and `move-set-numbered`. A chain of one move has the move's own: `single-set`. What is known of each box's own cover is
+-- known of the set: `set-contains`, `set-finer`; so of any built moves, whatever their times: `moves-set-contains`, `moves-set-finer`.
 use Prim.Native.Nat.{ℕ, _+_, _≤_}
 use mathlib.Core.Path.{_≡_, refl, sym, ap, subst, _∙_}
 use mathlib.Core.Bool.{not}
@@ -38,14 +38,16 @@ use Rattle.motion_chain.proofs.TwoPoses.{single-move}
 use Rattle.motion_chain.proofs.Built.{built-moves}
 use Rattle.motion_chain.proofs.Cover.{moves-proper, chain-cover-nonzero, moves-contain, moves-finer}
 use Rattle.motion_chain.proofs.Numbers.{chain-cover-numbered}
-use Rattle.box_set.specs.Set.{SetAnswer, covered, SetAnswer·refusal, SetAnswer·covers, SetAnswer·union, Boxes·covers, Chain·covers, AnimatedTransform·covers}
+use Rattle.box_set.specs.Set.{SetAnswer, covered, SetAnswer·refusal, SetAnswer·covers}
+use Rattle.box_set.specs.Set.{SetAnswer·union, Boxes·covers, Chain·covers, AnimatedTransform·covers}
 use Rattle.box_set.specs.Theorem.{SetContains, SetContainsMotion, MoveSetContainsMotion, SetWithin, SetFiner, SetAnswer·Numbered}
 use Rattle.box_set.proofs.Set.{AcceptedSet, set-of-accepted, set-accepted, set-within, set-numbered}
 
 -- ---- points
 module _ (cover : Bounds3f → BoundsAnswer) (nonzero : (b : Bounds3f) → BoundsAnswer·NonZero (cover b)) (proper : (b : Bounds3f) → Proper (cover b))
     (pad : Float) (moved : Point3f → PointAnswer)
-    (contains : (b : Bounds3f) → BoundsAnswer·refusal (cover b) ≡ 0 → (p : Point3f) → Inside b p → MovedInside (BoundsAnswer·bounds (cover b)) pad (moved p)) where
+    (contains : (b : Bounds3f) → BoundsAnswer·refusal (cover b) ≡ 0 → (p : Point3f)
+    → Inside b p → MovedInside (BoundsAnswer·bounds (cover b)) pad (moved p)) where
   each-contains : (u : Bounds3f) (boxes : List Bounds3f) → Each (λ b. BoxWithin (cover b) u) boxes
       → SetContains pad moved boxes (map (λ b. BoundsAnswer·bounds (cover b)) boxes) u
   each-contains u [] h = tt
@@ -65,7 +67,8 @@ module _ (cover : Bounds3f → BoundsAnswer) (nonzero : (b : Bounds3f) → Bound
 
 pub moves-set-contains : (c : Chain) (boxes : List Bounds3f) (d : ℕ) (time : Float)
     → Each Built (Chain·moves c) → SetAnswer·refusal (Chain·covers c boxes d) ≡ 0 → T (not (isNan time))
-    → SetContains (Chain·padAt c time) (Chain·transformPoint c time) boxes (SetAnswer·covers (Chain·covers c boxes d)) (SetAnswer·union (Chain·covers c boxes d))
+    → SetContains (Chain·padAt c time) (Chain·transformPoint c time) boxes
+    (SetAnswer·covers (Chain·covers c boxes d)) (SetAnswer·union (Chain·covers c boxes d))
 moves-set-contains c boxes d time built e n =
     set-contains (λ b. Chain·cover c b d) (λ b. chain-cover-nonzero b d c) (λ b. moves-proper b d c built) (Chain·padAt c time) (Chain·transformPoint c time)
     (λ b z p i. moves-contain c b d time p built z n i) boxes e
@@ -75,7 +78,8 @@ chain-set-contains c boxes d time built e n = moves-set-contains c boxes d time 
 
 pub move-set-contains : (m : AnimatedTransform) (boxes : List Bounds3f) (d : ℕ) → MoveSetContainsMotion m boxes (AnimatedTransform·covers m boxes d)
 move-set-contains m boxes d time built e n =
-    set-contains (λ b. AnimatedTransform·cover m b d) (λ b. cover-nonzero m b d) (λ b. cover-proper built b d) (AnimatedTransform·padAt m time) (AnimatedTransform·transformPoint m time)
+    set-contains (λ b. AnimatedTransform·cover m b d) (λ b. cover-nonzero m b d) (λ b. cover-proper built b d)
+    (AnimatedTransform·padAt m time) (AnimatedTransform·transformPoint m time)
     (λ b z p i. cover-contains m b d time p built z n i) boxes e
 
 -- The set of a chain of one move is the move's own.
@@ -115,7 +119,8 @@ module _ (fine coarse : Bounds3f → BoundsAnswer)
       let (v, vs) = subst (Each (λ b. BoxWithin (fine b) (a .union))) (a .nonempty) (each-finer (a .union) boxes w) in
       let rest = each-map (λ s. BoxWithin s (a .union)) fine (λ b (x : BoxWithin (fine b) (a .union)). x) (a .rest) vs in
       let u = union-all-within (a .union) (fine (a .first)) (map fine (a .rest)) v rest in
-      let f : AcceptedSet fine boxes = record { count = a .count; first = a .first; rest = a .rest; nonempty = a .nonempty; union = u .box; joined = u .accepted } in
+      let f : AcceptedSet fine boxes =
+      record { count = a .count; first = a .first; rest = a .rest; nonempty = a .nonempty; union = u .box; joined = u .accepted } in
       rw (set-of-accepted fine f, set-of-accepted coarse a) (record { accepted = refl; each = each-subset (a .union) boxes w; union = u .subset })
 
 pub moves-set-finer : (c : Chain) (boxes : List Bounds3f) (d n : ℕ)

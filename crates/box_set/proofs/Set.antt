@@ -1,5 +1,5 @@
--- What an accepted set says of its boxes, `set-accepted`: each box's answer is a box, and lies in the union. And back, `set-of-accepted`. The first refused box gives the number,
--- `first-refused`, and the numbers of a set are those of its boxes and 14, `set-numbered`.
+-- What an accepted set says of its boxes, `set-accepted`: each box's answer is a box, and lies in the union. And back, `set-of-accepted`.
+-- The first refused box gives the number, `first-refused`, and the numbers of a set are those of its boxes and 14, `set-numbered`.
 use Prim.Native.Nat.{ℕ, _≤_}
 use mathlib.Core.Path.{_≡_, refl, sym, ap, subst, _∙_}
 use mathlib.Core.Bool.{Bool, true, false, cond}
@@ -20,7 +20,8 @@ use Rattle.motion_cover.proofs.NonZero.{BoundsAnswer·NonZero, nonzero-box}
 use Rattle.cover_depth.proofs.Finer.{BoxWithin}
 use Rattle.bounds_answers.specs.UnionAll.{BoundsAnswer·unionAll, Each}
 use Rattle.bounds_answers.proofs.UnionAll.{each-map, each-unmap, each-of, union-all-nonzero, union-all-parts, union-all-refused, union-all-numbered}
-use Rattle.box_set.specs.Set.{maxBoxes, SetAnswer, covered, refused, SetAnswer·refusal, SetAnswer·covers, SetAnswer·union, SetAnswer·joined, SetAnswer·of, Boxes·covers}
+use Rattle.box_set.specs.Set.{maxBoxes, SetAnswer, covered, refused, SetAnswer·refusal, SetAnswer·covers}
+use Rattle.box_set.specs.Set.{SetAnswer·union, SetAnswer·joined, SetAnswer·of, Boxes·covers}
 use Rattle.box_set.specs.Theorem.{SetAnswer·Numbered, FirstRefused}
 
 module _ (cover : Bounds3f → BoundsAnswer) where

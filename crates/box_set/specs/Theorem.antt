@@ -1,10 +1,11 @@
 -- The guarantee of a set: at which moments may any part of the boom stand outside its own box of the reserved ones? At none.
 --
--- Take any chain that is built, any set of boxes, and any depth at which the set is accepted. Then at every time but NaN, for every box of the set and every point of that box, the
--- point query answers a moved point, and that point is inside the box's own cover, and inside the union, by itself and less and plus the pad at that time. One statement over the set's list: `SetContains`.
+-- Take any chain that is built, any set of boxes, and any depth at which the set is accepted. Then at every time but NaN, for every
+-- box of the set and every point of that box, the point query answers a moved point, and that point is inside the box's own cover,
+-- and inside the union, by itself and less and plus the pad at that time. One statement over the set's list: `SetContains`.
 --
--- A finer cover of a set is never a wider one, for each box and for the union: `SetFiner`. Which numbers a set can give: `SetAnswer·Numbered`. The statements of
--- `chain-set-contains`, `move-set-contains`, `chain-set-finer`, `chain-set-numbered`, `move-set-numbered`, and `FirstRefused` of `first-refused`.
+-- A finer cover of a set is never a wider one, for each box and for the union: `SetFiner`. Which numbers a set can give: `SetAnswer·Numbered`. The statements
+-- of `chain-set-contains`, `move-set-contains`, `chain-set-finer`, `chain-set-numbered`, `move-set-numbered`, and `FirstRefused` of `first-refused`.
 use Prim.Native.Nat.{ℕ, _+_, _≤_}
 use mathlib.Core.Path.{_≡_}
 use mathlib.Core.Bool.{not}
@@ -32,8 +33,8 @@ use Rattle.motion_chain.specs.Built.{BuiltChain}
 use Rattle.box_set.specs.Set.{maxBoxes, SetAnswer, covered, refused, SetAnswer·refusal, SetAnswer·covers, SetAnswer·union, Boxes·covers, Chain·covers}
 
 -- ---- the guarantee
--- Each box of the set has a cover in the answer, in order, and every point of the box, as it is moved, is inside that cover and inside the union, by itself and less and plus
--- the pad.
+-- Each box of the set has a cover in the answer, in order, and every point of the box, as it is moved,
+-- is inside that cover and inside the union, by itself and less and plus the pad.
 abbrev pub SetContains : Float → (Point3f → PointAnswer) → List Bounds3f → List Bounds3f → Bounds3f → Type 0
 SetContains pad moved boxes covers union =
     Pairwise (λ b cover. (p : Point3f) → Inside b p → MovedInside cover pad (moved p) × MovedInside union pad (moved p)) boxes covers

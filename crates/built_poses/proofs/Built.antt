@@ -1,4 +1,5 @@
--- A built chain's poses are those that it was built from, and its kind is: `built-poses`, `built-pairs`, `built-kind`. Every move stores the times, the matrices and the pads of its two poses: `new-poses`.
+-- A built chain's poses are those that it was built from, and its kind is: `built-poses`, `built-pairs`, `built-kind`.
+-- Every move stores the times, the matrices and the pads of its two poses: `new-poses`.
 use Prim.Native.Nat.{ℕ}
 use mathlib.Core.Path.{_≡_, refl, sym, ap, _∙_}
 use mathlib.Core.Bool.{Bool, true, false, cond, false≢true}
@@ -23,7 +24,8 @@ use Rattle.rotation_arc.specs.ArcCoefficients.{pairCoefficients}
 use Rattle.pose_pair.specs.declared.Pose.{Pose}
 use Rattle.animated_transform.specs.declared.AnimatedTransform.{AnimatedTransform}
 use Rattle.animated_transform.specs.declared.AnimatedTransformAnswer.{AnimatedTransformAnswer}
-use Rattle.animated_transform.specs.New.{AnimatedTransformAnswer·refused, AnimatedTransform·ofFields, AnimatedTransform·fromParts, AnimatedTransform·fromPoses, buildRefusal, AnimatedTransform·new}
+use Rattle.animated_transform.specs.New.{AnimatedTransformAnswer·refused, AnimatedTransform·ofFields, AnimatedTransform·fromParts}
+use Rattle.animated_transform.specs.New.{AnimatedTransform·fromPoses, buildRefusal, AnimatedTransform·new}
 use Rattle.animated_transform.proofs.Kept.{new-kept}
 use Rattle.motion_chain.specs.Chain.{neighbours, firstNumber, Chain, Chain·moves, ChainAnswer, built, refused, ChainAnswer·fromMoves, Chain·new}
 use Rattle.motion_chain.proofs.Built.{first-none, new-built}

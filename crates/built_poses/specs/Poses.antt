@@ -1,6 +1,6 @@
--- The poses in a chain: `Chain·poses`, each from the time, the matrix and the pad that a move stores; `Poses·lists`, poses as 18 floats each. A built chain's are those
--- that it was built from: `BuiltPoses` and `BuiltLists`, the statements of `built-poses` and `built-lists`; each move's are a neighbouring pair: `BuiltPairs`, that of `built-pairs`; and its
--- kind is the one that it was built in: `BuiltKind`, that of `built-kind`.
+-- The poses in a chain: `Chain·poses`, each from the time, the matrix and the pad that a move stores; `Poses·lists`, poses as 18 floats each. A built chain's
+-- are those that it was built from: `BuiltPoses` and `BuiltLists`, the statements of `built-poses` and `built-lists`; each move's are a neighbouring pair:
+-- `BuiltPairs`, that of `built-pairs`; and its kind is the one that it was built in: `BuiltKind`, that of `built-kind`.
 use Prim.Native.Nat.{ℕ}
 use mathlib.Core.Path.{_≡_}
 use mathlib.Core.Bool.{Bool}

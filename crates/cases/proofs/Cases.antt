@@ -18,7 +18,11 @@ use Rattle.animated_transform.specs.means.Computing as building
 use Rattle.motion_point.specs.means.Computing as point
 use Rattle.motion_cover.specs.means.Computing as cover
 use Rattle.cases.specs.Query.{number}
-use Rattle.cases.specs.Cases.{Row, holds, fraction, zero, one, translation-midpoint, start-at-minus-infinity, end-at-infinity, nan-time-refused, depth-0-zero-quaternion-norm, depth-1-translation-covered, depth-13-refused, end-before-start-refused, equal-times-built, equal-times-start-at-zero, equal-times-end-just-above, equal-times-end-at-one, equal-times-end-at-infinity, zero-linear-part-refused, infinite-entry-before-bottom-row, infinite-duration-refused, equal-poses-keep-box, acos-of-one, acos-of-zero, sin-of-zero, EveryRowHolds}
+use Rattle.cases.specs.Cases.{Row, holds, fraction, zero, one, translation-midpoint, start-at-minus-infinity, end-at-infinity}
+use Rattle.cases.specs.Cases.{nan-time-refused, depth-0-zero-quaternion-norm, depth-1-translation-covered, depth-13-refused}
+use Rattle.cases.specs.Cases.{end-before-start-refused, equal-times-built, equal-times-start-at-zero, equal-times-end-just-above}
+use Rattle.cases.specs.Cases.{equal-times-end-at-one, equal-times-end-at-infinity, zero-linear-part-refused, infinite-entry-before-bottom-row}
+use Rattle.cases.specs.Cases.{infinite-duration-refused, equal-poses-keep-box, acos-of-one, acos-of-zero, sin-of-zero, EveryRowHolds}
 
 -- ---- moves
 

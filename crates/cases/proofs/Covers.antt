@@ -22,7 +22,10 @@ abbrev high : Float
 high = ofBits binary32 0x3fc00000
 
 abbrev origin : Bounds3f
-origin = record { «p_min» = record { x = positiveZero; y = positiveZero; z = positiveZero }; «p_max» = record { x = positiveZero; y = positiveZero; z = positiveZero } }
+origin = record {
+  «p_min» = record { x = positiveZero; y = positiveZero; z = positiveZero };
+  «p_max» = record { x = positiveZero; y = positiveZero; z = positiveZero };
+}
 
 -- Over a half of dt the pad interval is 0.5 to 1.5, whose high end is above both pads.
 abbrev paddedA : AnimatedTransform

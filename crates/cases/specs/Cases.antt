@@ -1,5 +1,5 @@
--- Document 01's cases marked P, "Poses tried", as one table, with its two unmarked ones: a row is a query and the answer that is to come of it (`Row`, `holds`); `rows` is
--- the table, and `EveryRowHolds` the statement over all of it.
+-- Document 01's cases marked P, "Poses tried", as one table, with its two unmarked ones: a row is a query and the answer that is to come of it (`Row`,
+-- `holds`); `rows` is the table, and `EveryRowHolds` the statement over all of it.
 -- Every zero of the table is +0, and the comparison tells it from −0: more than document 01 asks of a box, whose zeros may have either sign.
 use mathlib.Core.Path.{_≡_}
 use mathlib.Core.Bool.{true, false}
@@ -128,7 +128,8 @@ zero-linear-part-refused = record { query = build (identityAt zero) (record { ti
 
 -- "An infinite entry and m30 = 1: 1."
 abbrev pub infinite-entry-before-bottom-row : Row
-infinite-entry-before-bottom-row = record { query = build (identityAt zero) (record { time = one; m = matrix one (inf false) one; pad = zero }); expected = refused 1 }
+infinite-entry-before-bottom-row =
+    record { query = build (identityAt zero) (record { time = one; m = matrix one (inf false) one; pad = zero }); expected = refused 1 }
 
 -- "Times −3e38 and 3e38: 3."
 abbrev pub infinite-duration-refused : Row

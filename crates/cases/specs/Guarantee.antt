@@ -1,5 +1,5 @@
--- That the guarantee's hypotheses can be met, `HypothesesMet`, so that `CoverContainsMotion` says something of some move: move A is built, and its cover of the origin at
--- depth 1 is accepted. The guarantee then gives `MidpointCovered`: at time 0.5 the origin is moved, and to a point of that cover. Statements only.
+-- That the guarantee's hypotheses can be met, `HypothesesMet`, so that `CoverContainsMotion` says something of some move: move A is built, and its cover of the
+-- origin at depth 1 is accepted. The guarantee then gives `MidpointCovered`: at time 0.5 the origin is moved, and to a point of that cover. Statements only.
 use mathlib.Core.Path.{_≡_}
 use mathlib.Core.Bool.{false, not}
 use lib.Dec.{T}

@@ -1,5 +1,5 @@
--- What a row of the table asks, `Query`, and what comes of it, `answer`: a query on a move builds it from its two poses first, and where building refuses, its number is the answer.
--- Definitions only.
+-- What a row of the table asks, `Query`, and what comes of it, `answer`: a query on a move builds it from its two poses first,
+-- and where building refuses, its number is the answer. Definitions only.
 use Prim.Native.Nat.{ℕ}
 use mathlib.Core.Bool.{false, cond}
 use lib.Dec.{eqb}

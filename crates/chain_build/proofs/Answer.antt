@@ -81,7 +81,8 @@ pair-fits rigid p q b z =
       same-binary32 (b .end) q (sym (own .end-time) ∙ kept .end-time) (sym (own .end-pad) ∙ kept .end-pad) (b .end-binary32),
     )
 
-poses-fit : (rigid : Bool) (p q : Pose) (poses : List Pose) → Each (Pair·Built rigid) (neighbours (p ∷ q ∷ poses)) → stage (Move·number rigid) (neighbours (p ∷ q ∷ poses)) ≡ 0
+poses-fit : (rigid : Bool) (p q : Pose) (poses : List Pose) → Each (Pair·Built rigid) (neighbours (p ∷ q ∷ poses))
+    → stage (Move·number rigid) (neighbours (p ∷ q ∷ poses)) ≡ 0
     → T (every Pose·isBinary32 (p ∷ q ∷ poses))
 unfolding neighbours every
 poses-fit rigid p q [] (b, bs) z =
@@ -100,22 +101,26 @@ Clauses rigid poses n old r blocks =
     × ((blocks ≡ ChainAnswer·left (Chain·new rigid poses) old)
     × ((c : Chain) → Chain·new rigid poses ≡ built c → Moves·Holds (take (n - 1) blocks) c))
 
-refused-clauses : (rigid : Bool) (poses : List Pose) (n : ℕ) (old : List Rows) {r : ℕ} → Chain·new rigid poses ≡ refused r → (r ≡ 0 → ⊥) → Clauses rigid poses n old r old
+refused-clauses : (rigid : Bool) (poses : List Pose) (n : ℕ) (old : List Rows) {r : ℕ}
+    → Chain·new rigid poses ≡ refused r → (r ≡ 0 → ⊥) → Clauses rigid poses n old r old
 refused-clauses rigid poses n old {r} e f = (
   sym (ap ChainAnswer·refusal e),
   (sym (ap (λ (a : ChainAnswer). ChainAnswer·left a old) e), λ c b. absurd (f (ap ChainAnswer·refusal (sym e ∙ b)))),
 )
 
-pub checks-refused : (rigid : Bool) (poses : List Pose) (n : ℕ) (old : List Rows) {r : ℕ} → r ≡ chainRefusal rigid poses → (r ≡ 0 → ⊥) → Clauses rigid poses n old r old
+pub checks-refused : (rigid : Bool) (poses : List Pose) (n : ℕ) (old : List Rows) {r : ℕ}
+    → r ≡ chainRefusal rigid poses → (r ≡ 0 → ⊥) → Clauses rigid poses n old r old
 unfolding Chain·new
 checks-refused rigid poses n old {r} e f = refused-clauses rigid poses n old (rw (← e, ne-eqb r 0 f)) f
 
-pub pair-refused : (rigid : Bool) (poses : List Pose) (n : ℕ) (old : List Rows) {r : ℕ} → chainRefusal rigid poses ≡ 0 → r ≡ stage (Move·number rigid) (neighbours poses) → (r ≡ 0 → ⊥)
+pub pair-refused : (rigid : Bool) (poses : List Pose) (n : ℕ) (old : List Rows) {r : ℕ}
+    → chainRefusal rigid poses ≡ 0 → r ≡ stage (Move·number rigid) (neighbours poses) → (r ≡ 0 → ⊥)
     → Clauses rigid poses n old r old
 unfolding neighbours
 pair-refused rigid [] n old z e f = let h = checks-passed rigid [] z .least in absurd (omega (arith, h))
 pair-refused rigid (p ∷ []) n old z e f = let h = checks-passed rigid (p ∷ []) z .least in absurd (omega (arith, h))
-pair-refused rigid (p ∷ q ∷ poses) n old z e f = refused-clauses rigid (p ∷ q ∷ poses) n old (new-refused rigid p q poses z (λ k. f (e ∙ k)) ∙ ap refused (sym e)) f
+pair-refused rigid (p ∷ q ∷ poses) n old z e f =
+    refused-clauses rigid (p ∷ q ∷ poses) n old (new-refused rigid p q poses z (λ k. f (e ∙ k)) ∙ ap refused (sym e)) f
 
 -- The rows of a chain that is built.
 rows-of : ChainAnswer → List Rows

@@ -33,11 +33,13 @@ put-behind rigid (pair ∷ pairs) done (y ∷ rest) h =
     let all = map (Pair·rows rigid) pairs ++ drop (length pairs) rest in
     rw (set-behind done y x rest, ← length-behind done x) (put-behind rigid pairs (done ++ x ∷ []) rest (omega (arith, h)) ∙ append-assoc done (x ∷ []) all)
 
-pub put-front : (rigid : Bool) (pairs : List (Pose × Pose)) (old : List Rows) → length pairs ≤ length old → put rigid old 0 pairs ≡ blocksLeft (map (Pair·rows rigid) pairs) old
+pub put-front : (rigid : Bool) (pairs : List (Pose × Pose)) (old : List Rows)
+    → length pairs ≤ length old → put rigid old 0 pairs ≡ blocksLeft (map (Pair·rows rigid) pairs) old
 put-front rigid pairs old h = rw (length-map pairs (Pair·rows rigid)) (put-behind rigid pairs [] old h)
 
 -- The loop's i is the place of the pair's second pose.
-pub put-next : (rigid : Bool) (blocks : List Rows) (i : ℕ) (pair : Pose × Pose) (pairs : List (Pose × Pose)) {u : List Rows} → 1 ≤ i → u ≡ set blocks (i - 1) (Pair·rows rigid pair)
+pub put-next : (rigid : Bool) (blocks : List Rows) (i : ℕ) (pair : Pose × Pose) (pairs : List (Pose × Pose)) {u : List Rows}
+    → 1 ≤ i → u ≡ set blocks (i - 1) (Pair·rows rigid pair)
     → put rigid u (i + 1 - 1) pairs ≡ put rigid blocks (i - 1) (pair ∷ pairs)
 unfolding put
 put-next rigid blocks i pair pairs l e = let n : i + 1 - 1 ≡ suc (i - 1) = omega (arith, l) in rw (n, e)

@@ -58,7 +58,8 @@ fn build_passed(
     requires { ⌜ copy ≡ now moves ⌝ }
     ensures refusal { λ r. ⌜ r ≡ ChainAnswer·refusal (Chain·new rigid (Poses·ofLists (now (poses .entry)))) ⌝ }
     ensures left { λ _. ⌜ now (moves .exit) ≡ ChainAnswer·left (Chain·new rigid (Poses·ofLists (now (poses .entry)))) (now (moves .entry)) ⌝ }
-    ensures holds { λ _. ⌜ ((c : Chain) → Chain·new rigid (Poses·ofLists (now (poses .entry))) ≡ built c → Moves·Holds (take (length (now (poses .entry)) - 1) (now (moves .exit))) c) ⌝ }
+    ensures holds { λ _. ⌜ ((c : Chain) → Chain·new rigid (Poses·ofLists (now (poses .entry))) ≡ built c
+        → Moves·Holds (take (length (now (poses .entry)) - 1) (now (moves .exit))) c) ⌝ }
 {
     let mut work = copy;
     let refusal = put_pairs(rigid, poses, &mut work);
@@ -74,7 +75,8 @@ fn build_passed(
 pub fn build(rigid: bool, poses: &[[f32; 18]], moves: &mut [[[f32; 4]; 45]; 31]) -> u8
     ensures refusal { λ r. ⌜ r ≡ ChainAnswer·refusal (Chain·new rigid (Poses·ofLists (now (poses .entry)))) ⌝ }
     ensures left { λ _. ⌜ now (moves .exit) ≡ ChainAnswer·left (Chain·new rigid (Poses·ofLists (now (poses .entry)))) (now (moves .entry)) ⌝ }
-    ensures holds { λ _. ⌜ ((c : Chain) → Chain·new rigid (Poses·ofLists (now (poses .entry))) ≡ built c → Moves·Holds (take (length (now (poses .entry)) - 1) (now (moves .exit))) c) ⌝ }
+    ensures holds { λ _. ⌜ ((c : Chain) → Chain·new rigid (Poses·ofLists (now (poses .entry))) ≡ built c
+        → Moves·Holds (take (length (now (poses .entry)) - 1) (now (moves .exit))) c) ⌝ }
 {
     let refusal = chain_poses::refusal(rigid, poses);
     if refusal != 0 {

@@ -31,7 +31,8 @@ fn union_move(
     )
 }
 
-// A box that holds the box b at every time of a kept chain, from 2^depth slices of each move. Refused with 5, 6, 7, 8 or 10, and with 12 where there are no moves.
+// A box that holds the box b at every time of a kept chain, from 2^depth slices of each move.
+// Refused with 5, 6, 7, 8 or 10, and with 12 where there are no moves.
 // Accuracy: encloses.
 pub fn cover(moves: &[[[f32; 4]; 45]], b: Bounds3f, depth: u32) -> BoundsAnswer
     ensures value { λ r. ⌜ r ≡ Moves·cover (now (moves .entry)) b depth ⌝ }

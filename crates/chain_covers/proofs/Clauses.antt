@@ -1,5 +1,5 @@
--- The five clauses of the set query from what is answered: `no-moves`, `no-boxes`, `many-boxes`, `box-refused`, `all-accepted`. The guarantee is that of built moves, since rows that
--- building has left are asked as the chain of their moves is (`kept-set`).
+-- The five clauses of the set query from what is answered: `no-moves`, `no-boxes`, `many-boxes`, `box-refused`, `all-accepted`.
+-- The guarantee is that of built moves, since rows that building has left are asked as the chain of their moves is (`kept-set`).
 use Prim.Native.Nat.{ℕ, _+_, _-_, _≤_, _<_}
 use mathlib.Core.Path.{_≡_, refl, sym, ap, subst, _∙_}
 use mathlib.Core.Bool.{Bool, true, false, cond}
@@ -22,7 +22,8 @@ use Rattle.motion_chain.specs.Chain.{Chain, Chain·transformPoint, Chain·cover
 use Rattle.motion_chain.proofs.Cover.{chain-cover-nonzero}
 use Rattle.chain_rows.specs.Kept.{Chain·toRows, Moves·chain, Moves·transformPoint}
 use Rattle.chain_rows.proofs.Kept.{chain-inverse, kept-point, kept-chain, built-rows}
-use Rattle.box_set.specs.Set.{maxBoxes, SetAnswer, covered, refused, SetAnswer·refusal, SetAnswer·covers, SetAnswer·union, SetAnswer·of, Boxes·covers, Chain·covers}
+use Rattle.box_set.specs.Set.{maxBoxes, SetAnswer, covered, refused, SetAnswer·refusal, SetAnswer·covers}
+use Rattle.box_set.specs.Set.{SetAnswer·union, SetAnswer·of, Boxes·covers, Chain·covers}
 use Rattle.box_set.specs.Theorem.{SetContains, SetWithin}
 use Rattle.box_set.proofs.Contains.{moves-set-contains, moves-set-finer}
 use Rattle.box_front.specs.declared.Front.{Front}

@@ -29,7 +29,8 @@ with-twelve n (inr (inr (inr (inr (inl e))))) = inr (inr (inr (inr (inl e))))
 with-twelve n (inr (inr (inr (inr (inr (inl e)))))) = inr (inr (inr (inr (inr (inl e)))))
 with-twelve n (inr (inr (inr (inr (inr (inr k)))))) = inr (inr (inr (inr (inr (inr (inr k))))))
 
-pub kept-set-numbered : (rows : List Rows) (boxes : List (List Float)) (depth : ℕ) → SetAnswer·Numbered (0 ∷ 5 ∷ 6 ∷ 7 ∷ 8 ∷ 10 ∷ 12 ∷ 14 ∷ []) (Moves·covers rows boxes depth)
+pub kept-set-numbered : (rows : List Rows) (boxes : List (List Float)) (depth : ℕ)
+    → SetAnswer·Numbered (0 ∷ 5 ∷ 6 ∷ 7 ∷ 8 ∷ 10 ∷ 12 ∷ 14 ∷ []) (Moves·covers rows boxes depth)
 unfolding Moves·covers
 kept-set-numbered rows boxes depth = go (eqb (length rows) 0)
   where

@@ -11,7 +11,8 @@ use Rattle.box_set.specs.Set.{covered}
 use Rattle.box_set.specs.Theorem.{SetWithin}
 use Rattle.chain_covers.specs.Kept.{Moves·covers}
 
--- document 02, "A finer cover is never a wider one": "The same is wanted of each box of a set and of their union." covers and union are what was answered at the depth.
+-- document 02, "A finer cover is never a wider one": "The same is wanted of each box
+-- of a set and of their union." covers and union are what was answered at the depth.
 abbrev pub KeptSetFiner : List Rows → List (List Float) → ℕ → List (List Float) → List Float → Type 0
 KeptSetFiner rows boxes depth covers union =
     (finer : ℕ)

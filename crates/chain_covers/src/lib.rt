@@ -29,8 +29,8 @@ fn union_places(places: &[[f32; 6]; 16], n: usize) -> Bounds3f
     union
 }
 
-// The cover of each box in a place of its own, the unused places +0, and the union of the covers. Gives 0, or a refusal's number, which leaves all as it was: 12
-// where there are no moves, then 14 for no box or more than 16, then 5, 6, 7, 8 or 10 of the first refused box in order. Accuracy: encloses.
+// The cover of each box in a place of its own, the unused places +0, and the union of the covers. Gives 0, or a refusal's number, which leaves all as it was:
+// 12 where there are no moves, then 14 for no box or more than 16, then 5, 6, 7, 8 or 10 of the first refused box in order. Accuracy: encloses.
 pub fn covers(
     moves: &[[[f32; 4]; 45]],
     boxes: &[[f32; 6]],

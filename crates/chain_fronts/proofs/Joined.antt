@@ -1,4 +1,5 @@
--- Boxes joined one by one, as a loop does it: `joined-first`, `joined-next`. What comes of a move whose covers are joined to those before it: `move-worked`, `all-worked`.
+-- Boxes joined one by one, as a loop does it: `joined-first`, `joined-next`. What comes of a move whose covers are joined to those before it:
+-- `move-worked`, `all-worked`.
 use Prim.Native.Nat.{ℕ, _+_, _≤_, _<_}
 use mathlib.Core.Path.{_≡_, refl, sym, subst, _∙_}
 use mathlib.Core.Bool.{Bool, true, false}

@@ -1,5 +1,5 @@
--- The loop over the moves of a kept chain: before the move at i each box in front holds the union of the covers before it, and with those that are left it is the chain's cover
--- (`Reached`); `reached-first`, `reached-next`, `reached-last`.
+-- The loop over the moves of a kept chain: before the move at i each box in front holds the union of the covers before it,
+-- and with those that are left it is the chain's cover (`Reached`); `reached-first`, `reached-next`, `reached-last`.
 use Prim.Native.Nat.{ℕ, suc, _+_, _≤_, _<_}
 use mathlib.Core.Path.{_≡_, refl, sym, subst, _∙_}
 use mathlib.Core.List.{List, [], _∷_, map}

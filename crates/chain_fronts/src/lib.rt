@@ -46,7 +46,8 @@ fn add_move(
     places: &mut [[f32; 6]; 16],
 ) -> Front
     requires { ⌜ length (now boxes) ≤ placeCount ⌝ }
-    ensures worked { λ r. ⌜ Continues (λ answer b. BoundsAnswer·unionBounds (answer b) (AnimatedTransform·cover (AnimatedTransform·fromRows (now (rows .entry))) b depth)) (now (boxes .entry)) (now (places .entry)) (now (places .exit)) front r ⌝ }
+    ensures worked { λ r. ⌜ Continues (λ answer b. BoundsAnswer·unionBounds (answer b) (AnimatedTransform·cover
+        (AnimatedTransform·fromRows (now (rows .entry))) b depth)) (now (boxes .entry)) (now (places .entry)) (now (places .exit)) front r ⌝ }
 {
     let n = front.count;
     if n > boxes.len() {
@@ -72,7 +73,8 @@ pub fn covers(
     depth: u32,
     places: &mut [[f32; 6]; 16],
 ) -> Front
-    ensures worked { λ r. ⌜ ((length (now (moves .entry)) ≡ 0 → ⊥) → Works (λ b. Chain·cover (Moves·chain (now (moves .entry))) b depth) (now (boxes .entry)) (now (places .entry)) (now (places .exit)) r) ⌝ }
+    ensures worked { λ r. ⌜ ((length (now (moves .entry)) ≡ 0 → ⊥)
+        → Works (λ b. Chain·cover (Moves·chain (now (moves .entry))) b depth) (now (boxes .entry)) (now (places .entry)) (now (places .exit)) r) ⌝ }
 {
     if moves.len() == 0 {
         return Front {

@@ -1,5 +1,5 @@
--- What joining gives to its caller, in the three ways that it ends: `no-moves`, `not-joined`, `all-joined`. The rows of the chain that was made of two are the rows of the two, so that
--- what holds of the chains holds of the rows: `kept-join`.
+-- What joining gives to its caller, in the three ways that it ends: `no-moves`, `not-joined`, `all-joined`. The rows of
+-- the chain that was made of two are the rows of the two, so that what holds of the chains holds of the rows: `kept-join`.
 use Prim.Native.Nat.{ℕ, zero, suc, _+_, _≤_, _<_}
 use mathlib.Core.Path.{_≡_, refl, sym, ap, subst, _∙_}
 use mathlib.Core.Bool.{Bool, true, false, not, _||_, cond, false≢true}
@@ -67,7 +67,8 @@ pub some-blocks : (n m : ℕ) → (eqb n 0 || eqb m 0) ≡ false → (0 < n) × 
 some-blocks n m e = let (f, g) = either-empty n m e in (above-zero n f, above-zero m g)
 
 module _ (first second : List Rows) (some : (eqb (length first) 0 || eqb (length second) 0) ≡ false) where
-  refusal-of : {mismatch count : ℕ} → mismatch ≡ mismatchRefusal (Moves·chain first) (Moves·chain second) → count ≡ countRefusal (length first + length second + 1)
+  refusal-of : {mismatch count : ℕ} → mismatch ≡ mismatchRefusal (Moves·chain first) (Moves·chain second)
+      → count ≡ countRefusal (length first + length second + 1)
       → firstRefusal mismatch count ≡ Moves·joinRefusal first second
   unfolding Moves·joinRefusal Chain·joinRefusal
   refusal-of e f = let (n, m) = either-empty (length first) (length second) some in rw (some, joined-count first second n m, ← e, ← f)
@@ -112,8 +113,10 @@ module _ (first second : List Rows) (c d : Chain) (h : Moves·Holds first c) (k 
             ∙ query-accepted e (early ++ late) p places z
             ∙ a .times early late p (subst (λ (x : Chain). Each (λ t. T (le t (sharedTime x))) early) chain l)
             (subst (λ (x : Chain). Each (λ t. T (not (le t (sharedTime x)))) late) chain u)
-            ∙ ap (λ (f : Float → PointAnswer). PointsAnswer·append (pointsAt f early) (pointsAt (λ t. Chain·transformPoint d t p) late)) (same-query first c p (h .same))
-            ∙ ap (λ (f : Float → PointAnswer). PointsAnswer·append (pointsAt (λ t. Moves·transformPoint first t p) early) (pointsAt f late)) (same-query second d p (k .same));
+            ∙ ap (λ (f : Float → PointAnswer). PointsAnswer·append (pointsAt f early) (pointsAt (λ t. Chain·transformPoint d t p) late))
+            (same-query first c p (h .same))
+            ∙ ap (λ (f : Float → PointAnswer). PointsAnswer·append (pointsAt (λ t. Moves·transformPoint first t p) early) (pointsAt f late))
+            (same-query second d p (k .same));
         cover = λ b depth.
             kept-cover rows e b depth same ∙ a .cover b depth ∙ sym (rw (kept-cover first c b depth (h .same), kept-cover second d b depth (k .same)));
       }
@@ -161,13 +164,15 @@ pub no-moves : (first second old : List Rows) → (eqb (length first) 0 || eqb (
 no-moves first second old e = refused-clauses first second old (unfold Moves·joinRefusal in rw e) (λ z. absurd (omega (arith, z)))
 
 module _ (first second old : List Rows) (some : (eqb (length first) 0 || eqb (length second) 0) ≡ false)
-    {mismatch count r : ℕ} (e : mismatch ≡ mismatchRefusal (Moves·chain first) (Moves·chain second)) (f : count ≡ countRefusal (length first + length second + 1))
+    {mismatch count r : ℕ} (e : mismatch ≡ mismatchRefusal (Moves·chain first) (Moves·chain second))
+    (f : count ≡ countRefusal (length first + length second + 1))
     (n : r ≡ firstRefusal mismatch count) where
   pub not-joined : (r ≡ 0 → ⊥) → Clauses first second old old r
   not-joined g = refused-clauses first second old (n ∙ refusal-of first second some e f) g
 
   pub has-room : r ≡ 0 → length first + length second ≤ 31
-  has-room z = go (ltb maxPoses (length first + length second + 1)) (ltb-false maxPoses (length first + length second + 1)) (sym f ∙ first-zero mismatch count (sym n ∙ z) .1)
+  has-room z = go (ltb maxPoses (length first + length second + 1))
+      (ltb-false maxPoses (length first + length second + 1)) (sym f ∙ first-zero mismatch count (sym n ∙ z) .1)
     where
       go : (b : Bool) → (b ≡ false → length first + length second + 1 ≤ maxPoses) → _≡_ {A = ℕ} (cond b 12 0) 0 → length first + length second ≤ 31
       go true t x = absurd (omega (arith, x))
@@ -181,17 +186,20 @@ module _ (first second old : List Rows) (some : (eqb (length first) 0 || eqb (le
       let poses = same (first-zero mismatch count (sym n ∙ z) .0) in
       (number, (rw (← number) w, λ c d h k. joined number poses w c d h k))
     where
-      joined : 0 ≡ Moves·joinRefusal first second → Chain·lastPose (Moves·chain first) ≡ Chain·firstPose (Moves·chain second) → {new : List Rows} → new ≡ blocksLeft (first ++ second) old
+      joined : 0 ≡ Moves·joinRefusal first second → Chain·lastPose (Moves·chain first) ≡ Chain·firstPose (Moves·chain second)
+          → {new : List Rows} → new ≡ blocksLeft (first ++ second) old
           → (c d : Chain) → Moves·Holds first c → Moves·Holds second d → Joined first second old new 0 c d
       joined number poses {new} w c d h k =
           let shared : Chain·lastPose c ≡ Chain·firstPose d = rw (← kept-chain first c (h .same), ← kept-chain second d (k .same)) poses in
           let (made, chain) = joins c d (h .built) (k .built) shared (sym (number ∙ own-refusal first second c d h k)) in
           let rows = rows-append first second c d h k in
           let size : length first + length second ≡ length (first ++ second) = sym (length-append first second) in
-          let front-rows : take (length first + length second) new ≡ first ++ second = rw (w, size) (take-append-seam (first ++ second) (drop (length (first ++ second)) old)) in
+          let front-rows : take (length first + length second) new ≡ first ++ second =
+          rw (w, size) (take-append-seam (first ++ second) (drop (length (first ++ second)) old)) in
           record {
             refusal = sym (ap ChainAnswer·refusal made);
             left = w ∙ ap (λ (l : List Rows). blocksLeft l old) rows ∙ sym (ap (λ (a : ChainAnswer). ChainAnswer·left a old) made);
-            holds = λ x b. subst (λ (y : Chain). Moves·Holds (take (length first + length second) new) y) (built-same (sym made ∙ b)) (record { built = chain; same = front-rows ∙ rows });
+            holds = λ x b. subst (λ (y : Chain). Moves·Holds (take (length first + length second) new) y)
+                (built-same (sym made ∙ b)) (record { built = chain; same = front-rows ∙ rows });
             answers = λ _. kept-join first second c d h k (take (length first + length second) new) front-rows;
           }

@@ -1,5 +1,6 @@
--- What the code that compares bits gives: the test of the definition, and where it is true one and the same float, row, matrix, pose: `bits-clauses`, `row-clauses`, `matrix-clauses`,
--- `pose-clauses`. The last block has the last pose of the chain in the rows, so that `poses-agree` and `poses-differ` speak of two chains.
+-- What the code that compares bits gives: the test of the definition, and where it is true one and the same float, row, matrix,
+-- pose: `bits-clauses`, `row-clauses`, `matrix-clauses`, `pose-clauses`. The last block has the last pose of the chain in the rows,
+-- so that `poses-agree` and `poses-differ` speak of two chains.
 use Prim.Native.Nat.{ℕ, zero, suc}
 use mathlib.Core.Path.{_≡_, refl, sym, ap, subst, _∙_}
 use mathlib.Core.Bool.{Bool, true, false, Bool·beq, _&&_, cond, false≢true}

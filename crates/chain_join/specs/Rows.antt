@@ -1,4 +1,5 @@
--- Joining the chains in any rows, which need not be rows that building left: its number, `Moves·joinRefusal`, and what it leaves in 31 lent blocks, `Moves·joinLeft`. Definitions only.
+-- Joining the chains in any rows, which need not be rows that building left: its number,
+-- `Moves·joinRefusal`, and what it leaves in 31 lent blocks, `Moves·joinLeft`. Definitions only.
 use Prim.Native.Nat.{ℕ}
 use mathlib.Core.Bool.{_||_, cond}
 use mathlib.Core.List.{List, _++_}

@@ -1,4 +1,5 @@
--- What is promised to who keeps two built chains and joins them: `Joined`, and how what is left answers, `KeptJoin`. Quotations are of document 02, "Two chains made one". Definitions only.
+-- What is promised to who keeps two built chains and joins them: `Joined`, and how what is left answers, `KeptJoin`.
+-- Quotations are of document 02, "Two chains made one". Definitions only.
 use Prim.Native.Nat.{ℕ, _+_}
 use mathlib.Core.Path.{_≡_}
 use mathlib.Core.Bool.{not}
@@ -30,8 +31,8 @@ UpTo first time = T (le time (sharedTime (Moves·chain first)))
 abbrev pub Above : List Rows → Float → Type 0
 Above first time = T (not (le time (sharedTime (Moves·chain first))))
 
--- "Up to the shared time it answers as the first, above it as the second, and its cover is the union of theirs." A list of times that is accepted is answered part by part, and the
--- first refusal stands, as in the union.
+-- "Up to the shared time it answers as the first, above it as the second, and its cover is the union of theirs."
+-- A list of times that is accepted is answered part by part, and the first refusal stands, as in the union.
 pub record KeptJoin (first second rows : List Rows) : Type 0 where
   pub up-to : (time : Float) → UpTo first time → KeptAs rows first time
   pub above : (time : Float) → Above first time → KeptAs rows second time
@@ -41,8 +42,8 @@ pub record KeptJoin (first second rows : List Rows) : Type 0 where
       ≡ PointsAnswer·append (pointsAt (λ t. Moves·transformPoint first t p) early) (pointsAt (λ t. Moves·transformPoint second t p) late)
   pub cover : (b : Bounds3f) (depth : ℕ) → Moves·cover rows b depth ≡ BoundsAnswer·unionBounds (Moves·cover first b depth) (Moves·cover second b depth)
 
--- c and d are the built chains that the rows hold, r is the number, and `new` is what stands in the blocks that had `old`: it is `Chain·join`, and what it leaves are again the rows of
--- a built chain, so that the guarantee and the finer cover are those of any built chain.
+-- c and d are the built chains that the rows hold, r is the number, and `new` is what stands in the blocks that had `old`: it is `Chain·join`,
+-- and what it leaves are again the rows of a built chain, so that the guarantee and the finer cover are those of any built chain.
 pub record Joined (first second old new : List Rows) (r : ℕ) (c d : Chain) : Type 0 where
   pub refusal : r ≡ ChainAnswer·refusal (Chain·join c d)
   pub left : new ≡ ChainAnswer·left (Chain·join c d) old

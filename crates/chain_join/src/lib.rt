@@ -1,5 +1,5 @@
-// Document 02's "Two chains made one": the rows of two kept chains, the first's and then the second's, in the first of 31 lent blocks, and behind them what stood there.
-// After a refusal all blocks are as they were.
+// Document 02's "Two chains made one": the rows of two kept chains, the first's and then the second's, in the first of 31 lent blocks,
+// and behind them what stood there. After a refusal all blocks are as they were.
 use refusal::first_refusal;
 ghost use Prim.Native.Nat.{_+_, _<_, _≤_};
 ghost use mathlib.Core.Path.{_≡_};
@@ -11,7 +11,8 @@ ghost use Rattle.built_poses.specs.Poses.{AnimatedTransform·startPose, Animate
 ghost use Rattle.motion_chain.specs.Chain.{Chain};
 ghost use Rattle.chain_rows.specs.Kept.{Moves·chain};
 ghost use Rattle.chain_rows.specs.Theorem.{Moves·Holds};
-ghost use Rattle.joined_chains.specs.Join.{Float·sameBits, Row·sameBits, Matrix4x4·sameBits, Pose·sameBits, Chain·lastPose, Chain·firstPose, mismatchRefusal, countRefusal};
+ghost use Rattle.joined_chains.specs.Join.{Float·sameBits, Row·sameBits, Matrix4x4·sameBits, Pose·sameBits};
+ghost use Rattle.joined_chains.specs.Join.{Chain·lastPose, Chain·firstPose, mismatchRefusal, countRefusal};
 ghost use Rattle.chain_join.specs.Rows.{Moves·joinRefusal, Moves·joinLeft};
 ghost use Rattle.chain_join.specs.Theorem.{Joined};
 
@@ -45,8 +46,10 @@ fn same_matrix(last: &[[f32; 4]; 45], first: &[[f32; 4]; 45]) -> bool
 
 // The end's pose of a block and the start's of another.
 fn same_pose(last: &[[f32; 4]; 45], first: &[[f32; 4]; 45]) -> bool
-    ensures value { λ r. ⌜ r ≡ Pose·sameBits (AnimatedTransform·endPose (AnimatedTransform·fromRows (now (last .entry)))) (AnimatedTransform·startPose (AnimatedTransform·fromRows (now (first .entry)))) ⌝ }
-    ensures same { λ r. ⌜ (r ≡ true → AnimatedTransform·endPose (AnimatedTransform·fromRows (now (last .entry))) ≡ AnimatedTransform·startPose (AnimatedTransform·fromRows (now (first .entry)))) ⌝ }
+    ensures value { λ r. ⌜ r ≡ Pose·sameBits (AnimatedTransform·endPose (AnimatedTransform·fromRows (now (last .entry))))
+        (AnimatedTransform·startPose (AnimatedTransform·fromRows (now (first .entry)))) ⌝ }
+    ensures same { λ r. ⌜ (r ≡ true → AnimatedTransform·endPose (AnimatedTransform·fromRows (now (last .entry)))
+        ≡ AnimatedTransform·startPose (AnimatedTransform·fromRows (now (first .entry)))) ⌝ }
 {
     same_bits(last[17][3], first[16][3])
         & same_matrix(last, first)
@@ -100,8 +103,9 @@ fn with_blocks(
     filled
 }
 
-// Makes one chain of two kept ones, with the pose that they share once, in the first blocks of `joined`. Refused with 12 where either has no moves, then with 20 where the last pose of
-// the first and the first pose of the second differ in a bit, or the chains in their kind, then with 12 for more than 32 poses. Accuracy: exact.
+// Makes one chain of two kept ones, with the pose that they share once, in the first blocks of `joined`. Refused with 12 where either has no moves, then with
+// 20 where the last pose of the first and the first pose of the second differ in a bit, or the chains in their kind, then with 12 for more than 32 poses.
+// Accuracy: exact.
 pub fn join(
     first: &[[[f32; 4]; 45]],
     second: &[[[f32; 4]; 45]],
@@ -109,7 +113,8 @@ pub fn join(
 ) -> u8
     ensures refusal { λ r. ⌜ r ≡ Moves·joinRefusal (now (first .entry)) (now (second .entry)) ⌝ }
     ensures left { λ _. ⌜ now (joined .exit) ≡ Moves·joinLeft (now (first .entry)) (now (second .entry)) (now (joined .entry)) ⌝ }
-    ensures kept { λ r. ⌜ ((c d : Chain) → Moves·Holds (now (first .entry)) c → Moves·Holds (now (second .entry)) d → Joined (now (first .entry)) (now (second .entry)) (now (joined .entry)) (now (joined .exit)) r c d) ⌝ }
+    ensures kept { λ r. ⌜ ((c d : Chain) → Moves·Holds (now (first .entry)) c → Moves·Holds (now (second .entry)) d
+        → Joined (now (first .entry)) (now (second .entry)) (now (joined .entry)) (now (joined .exit)) r c d) ⌝ }
 {
     if (first.len() == 0) | (second.len() == 0) {
         return 12;

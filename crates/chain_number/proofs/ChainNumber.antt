@@ -26,7 +26,8 @@ module _ (rigid : Bool) where
   numbers-same [] = refl
   numbers-same (pair ∷ pairs) = ap (λ (l : List ℕ). Move·number rigid pair ∷ l) (numbers-same pairs)
 
-  moves-number : (pair : Pose × Pose) (pairs : List (Pose × Pose)) → ChainAnswer·refusal (ChainAnswer·fromMoves (answers (pair ∷ pairs))) ≡ stage (Move·number rigid) (pair ∷ pairs)
+  moves-number : (pair : Pose × Pose) (pairs : List (Pose × Pose))
+      → ChainAnswer·refusal (ChainAnswer·fromMoves (answers (pair ∷ pairs))) ≡ stage (Move·number rigid) (pair ∷ pairs)
   unfolding ChainAnswer·fromMoves
   moves-number pair pairs = rw (numbers-same pairs) (go (eqb n 0) (eqb-true n 0))
     where
@@ -34,7 +35,8 @@ module _ (rigid : Bool) where
       n = stage (Move·number rigid) (pair ∷ pairs)
 
       go : (b : Bool) → (b ≡ true → n ≡ 0)
-          → ChainAnswer·refusal (cond b (built (record { first = AnimatedTransform·new rigid (pair .0) (pair .1) .value; rest = map (λ x. x .value) (answers pairs) })) (refused n)) ≡ n
+          → ChainAnswer·refusal (cond b
+          (built (record { first = AnimatedTransform·new rigid (pair .0) (pair .1) .value; rest = map (λ x. x .value) (answers pairs) })) (refused n)) ≡ n
       go true f = sym (f refl)
       go false f = refl
 

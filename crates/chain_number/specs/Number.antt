@@ -1,4 +1,5 @@
--- The number that building gives, 0 for none: `Move·number`, of a move from one pose to another, and `Chain·number`, of a chain, each of either kind, rigid or not. Definitions only.
+-- The number that building gives, 0 for none: `Move·number`, of a move from one pose to another,
+-- and `Chain·number`, of a chain, each of either kind, rigid or not. Definitions only.
 use Prim.Native.Nat.{ℕ}
 use mathlib.Core.Bool.{Bool}
 use mathlib.Core.List.{List}

@@ -1,5 +1,5 @@
--- The guarantee of a kept chain's cover, `kept-contains`: rows that building has left are asked as the chain of their moves is, and of built moves it is known (`moves-contain`). Of any
--- rows a cover whose number is 0 is a box, `cover-answered`. Likewise that a finer cover is never a wider one: `kept-finer`.
+-- The guarantee of a kept chain's cover, `kept-contains`: rows that building has left are asked as the chain of their moves is, and of built moves it is
+-- known (`moves-contain`). Of any rows a cover whose number is 0 is a box, `cover-answered`. Likewise that a finer cover is never a wider one: `kept-finer`.
 use Prim.Native.Nat.{ℕ, _+_, _-_}
 use mathlib.Core.Path.{_≡_, ap, sym, subst, _∙_}
 use mathlib.Core.Bool.{not}
@@ -33,7 +33,8 @@ kept-contains rows b depth none =
     record {
       at-time = λ time p h nan inside.
           let k = built-rows h in
-          rw (kept-point rows (k .chain) time p (k .same), kept-chain rows (k .chain) (k .same), kept-cover rows (k .chain) b depth (k .same)) (contains k time p nan inside);
+          rw (kept-point rows (k .chain) time p (k .same), kept-chain rows (k .chain) (k .same), kept-cover rows (k .chain) b depth (k .same))
+          (contains k time p nan inside);
       at-times = λ times p h numbers rises inside.
           let k = built-rows h in
           let box = BoundsAnswer·bounds (Chain·cover (k .chain) b depth) in
@@ -63,7 +64,8 @@ pub cover-answered : (rows : List Rows) (b : Bounds3f) (depth : ℕ) → BoundsA
     → Moves·cover rows b depth ≡ Bounds (BoundsAnswer·bounds (Moves·cover rows b depth))
 unfolding Moves·cover
 cover-answered rows b depth =
-    cond-keeps (λ (a : BoundsAnswer). BoundsAnswer·refusal a ≡ 0 → a ≡ Bounds (BoundsAnswer·bounds a)) (eqb (length rows) 0) (Refused 12) (Chain·cover (Moves·chain rows) b depth)
+    cond-keeps (λ (a : BoundsAnswer). BoundsAnswer·refusal a ≡ 0 → a ≡ Bounds (BoundsAnswer·bounds a))
+    (eqb (length rows) 0) (Refused 12) (Chain·cover (Moves·chain rows) b depth)
     (λ e. absurd (omega (arith, e))) (chain-cover-numbered (Moves·chain rows) b depth .none)
 
 -- The clauses of the cover, from its value.

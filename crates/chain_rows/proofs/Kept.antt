@@ -1,5 +1,5 @@
--- What is kept of a chain is the whole chain, `chain-inverse`; so the queries of its rows are its own: `kept-point`, `kept-points`, `kept-cover`, `kept-pad`. One block is asked as the
--- move in it is, `block-point`. What building leaves are built moves: `built-rows`.
+-- What is kept of a chain is the whole chain, `chain-inverse`; so the queries of its rows are its own: `kept-point`, `kept-points`, `kept-cover`, `kept-pad`.
+-- One block is asked as the move in it is, `block-point`. What building leaves are built moves: `built-rows`.
 use Prim.Native.Nat.{ℕ, zero, suc, _<_}
 use mathlib.Core.Path.{_≡_, refl, ap, _∙_}
 use mathlib.Core.Bool.{false, cond}
@@ -83,7 +83,8 @@ pub pad-clauses : (rows : List Rows) (time : Float) {r : PadAnswer} → r ≡ Mo
 pad-clauses rows time e = (e, λ c k. e ∙ kept-pad rows c time k)
 
 -- One block, whatever it holds.
-pub block-point : (rows : List Rows) (block : Rows) (time : Float) (p : Point3f) → rows ≡ block ∷ [] → Moves·transformPoint rows time p ≡ Rows·transformPoint block time p
+pub block-point : (rows : List Rows) (block : Rows) (time : Float) (p : Point3f)
+    → rows ≡ block ∷ [] → Moves·transformPoint rows time p ≡ Rows·transformPoint block time p
 unfolding Moves·transformPoint Moves·chain indexFrom
 block-point rows block time p e = rw e
 

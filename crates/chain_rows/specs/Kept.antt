@@ -1,5 +1,6 @@
--- A chain as its caller keeps it, the rows of its moves in rising order: `Chain·toRows`. Any rows may be asked; the chain in them is `Moves·chain`. No moves are no chain, which has
--- at least 2 poses: 12. The point query reads the constants that the rows hold beside each move, as that of a kept move does. Definitions only.
+-- A chain as its caller keeps it, the rows of its moves in rising order: `Chain·toRows`. Any rows may be asked;
+-- the chain in them is `Moves·chain`. No moves are no chain, which has at least 2 poses: 12. The point query
+-- reads the constants that the rows hold beside each move, as that of a kept move does. Definitions only.
 use Prim.Native.Nat.{ℕ}
 use mathlib.Core.Bool.{cond}
 use mathlib.Core.List.{List, [], map}

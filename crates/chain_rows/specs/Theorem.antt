@@ -1,5 +1,5 @@
--- What its caller keeps, a built chain, `Moves·Holds`, or a move built by itself: `Moves·Built`; and the guarantee of its cover in the words of who keeps it, `KeptChainContainsMotion`.
--- Definitions only.
+-- What its caller keeps, a built chain, `Moves·Holds`, or a move built by itself: `Moves·Built`; and the guarantee of its cover in the words of who keeps it,
+-- `KeptChainContainsMotion`. Definitions only.
 use Prim.Native.Nat.{_*_}
 use mathlib.Core.Path.{_≡_}
 use mathlib.Core.Bool.{not}
@@ -30,8 +30,9 @@ pub data Moves·Built (rows : List Rows) : Type 0 where
   chain-built : (c : Chain) → Moves·Holds rows c → Moves·Built rows
   move-built : (block : Rows) (m : AnimatedTransform) → rows ≡ block ∷ [] → Rows·Holds block m → Moves·Built rows
 
--- Where the rows hold a built chain or one built move: every point of the box b, asked of the same rows at any time but NaN, is answered and is inside the box `cover`, by itself and
--- less and plus the pad at that time; so is every point of a list of such times that never falls, for answers of three places a time. One block is asked as the move in it is:
+-- Where the rows hold a built chain or one built move: every point of the box b, asked of the same rows at any time but NaN, is answered and is inside the box
+-- `cover`, by itself and less and plus the pad at that time; so is every point of a list of such times that never falls, for answers of three places a time.
+-- One block is asked as the move in it is:
 -- `block-point`.
 pub record KeptChainContainsMotion (rows : List Rows) (b cover : Bounds3f) : Type 0 where
   pub at-time : (time : Float) (p : Point3f)

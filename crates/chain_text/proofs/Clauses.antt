@@ -14,7 +14,8 @@ use Rattle.matrix4x4.specs.Rows.{Rows}
 use Rattle.bounds3.specs.declared.Bounds3f.{Bounds3f}
 use Rattle.bounds_query.specs.Query.{Bounds3f·refusal}
 use Rattle.motion_text.specs.Answer.{textLeft}
-use Rattle.chain_text.specs.Write.{written, refused, TextAnswer·refusal, TextAnswer·length, TextAnswer·left, roomRefusal, Moves·text, Moves·writeRefusal, Moves·write}
+use Rattle.chain_text.specs.Write.{written, refused, TextAnswer·refusal, TextAnswer·length, TextAnswer·left}
+use Rattle.chain_text.specs.Write.{roomRefusal, Moves·text, Moves·writeRefusal, Moves·write}
 use Rattle.chain_text.specs.Theorem.{WrittenBack}
 use Rattle.chain_text.proofs.Pieces.{text-length}
 use Rattle.chain_text.proofs.Kept.{written-back}

@@ -1,4 +1,5 @@
--- Texts in a buffer: `part-front`, one written into the front of a part that reaches to the end; `paste-next`, the next piece of a text put behind its first bytes.
+-- Texts in a buffer: `part-front`, one written into the front of a part that reaches to the end;
+-- `paste-next`, the next piece of a text put behind its first bytes.
 use Prim.Native.Nat.{ℕ, _+_, _-_, _≤_}
 use native.Mathlib.Nat.{zero-add}
 use native.Mathlib.Omega.{arith}

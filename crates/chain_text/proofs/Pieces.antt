@@ -1,4 +1,5 @@
--- The text of a kept chain put into a buffer piece by piece: `put-end`, the end of one move more; `put-all`, the names, the first pose, the moves' ends and the box. `text-length`.
+-- The text of a kept chain put into a buffer piece by piece: `put-end`, the end of one move more;
+-- `put-all`, the names, the first pose, the moves' ends and the box. `text-length`.
 use Prim.Native.Nat.{ℕ, suc, _+_, _*_, _≤_, _<_}
 use native.Mathlib.Omega.{arith}
 use mathlib.Core.Path.{_≡_, refl, sym, _∙_, ap}
@@ -29,7 +30,8 @@ module _ (d : List ℕ) (rows : List Rows) (room : 183 + 126 * length rows ≤ l
       let next : 126 * (i + 1) ≡ 126 * i + 126 = omega arith in
       ep
       ∙ rw (eo, next)
-      (paste-paste d 183 (endsText rows) (valuesText (Rows·endValues (getD rows i []))) (126 * i) 126 (omega (arith, room, k)) (omega (arith, ends-length rows, k)) line)
+      (paste-paste d 183 (endsText rows) (valuesText (Rows·endValues (getD rows i [])))
+      (126 * i) 126 (omega (arith, room, k)) (omega (arith, ends-length rows, k)) line)
 
 -- ---- the whole text
 module _ (rows : List Rows) (b : Bounds3f) (h : 0 < length rows) where
@@ -49,7 +51,14 @@ module _ (rows : List Rows) (b : Bounds3f) (h : 0 < length rows) where
   text-length =
       ap length (text-lines rows b h)
       ∙ length-append namesLine (first ++ ends)
-      ∙ rw (names-length, length-append first ends, length-values (Rows·startValues (getD rows 0 [])), length-append (endsText rows) box, ends-length rows, bounds-length b) (omega arith)
+      ∙ rw (
+        names-length,
+        length-append first ends,
+        length-values (Rows·startValues (getD rows 0 [])),
+        length-append (endsText rows) box,
+        ends-length rows,
+        bounds-length b,
+      ) (omega arith)
 
   behind-names : drop 57 text ≡ first ++ ends
   behind-names = ap (drop 57) (text-lines rows b h) ∙ drop-at namesLine (first ++ ends) 57 names-length

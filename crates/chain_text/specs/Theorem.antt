@@ -16,7 +16,8 @@ use Rattle.file_text.specs.Text.{Chain·text}
 use Rattle.file_text.specs.RoundTrip.{Floats}
 use Rattle.file_text.specs.Theorem.{ReadsAs}
 
--- Where the rows are those of the chain of either kind that was built from these poses, 18 floats each: the text is the chain's, and "Reading it gives the same bits, a bottom row's zeros as +0."
+-- Where the rows are those of the chain of either kind that was built from these poses, 18 floats each:
+-- the text is the chain's, and "Reading it gives the same bits, a bottom row's zeros as +0."
 pub record WrittenBack (rows : List Rows) (b : Bounds3f) (text : List ℕ) : Type 0 where
   pub own-text : (rigid : Bool) (poses : List (List Float)) (c : Chain) → Chain·new rigid (Poses·ofLists poses) ≡ built c → rows ≡ Chain·toRows c
       → text ≡ Chain·text c b

@@ -1,5 +1,5 @@
--- Writing a kept chain and a box, whatever the rows: `Moves·write`, the text or a refusal's number, and what it leaves in the lent buffer. Quotations are of document 02, "One way to
--- write a move file". Definitions only.
+-- Writing a kept chain and a box, whatever the rows: `Moves·write`, the text or a refusal's number, and what it leaves in the lent buffer.
+-- Quotations are of document 02, "One way to write a move file". Definitions only.
 use Prim.Native.Nat.{ℕ}
 use mathlib.Core.Bool.{cond}
 use mathlib.Core.List.{List, [], _∷_, map}

@@ -92,7 +92,8 @@ fn put_bounds(b: Bounds3f, out: &mut [u8], at: usize)
 // Puts the lines of the moves' ends into `out`, behind those of the names and the first pose.
 fn put_ends(moves: &[[[f32; 4]; 45]], out: &mut [u8])
     requires { ⌜ 183 + 126 * length (now moves) ≤ length (now out) ⌝ }
-    ensures { λ _. ⌜ now (out .exit) ≡ paste (now (out .entry)) 183 (linesText (map Rows·endValues (now (moves .entry)))) (126 * length (now (moves .entry))) ⌝ }
+    ensures { λ _. ⌜ now (out .exit)
+        ≡ paste (now (out .entry)) 183 (linesText (map Rows·endValues (now (moves .entry)))) (126 * length (now (moves .entry))) ⌝ }
 {
     let mut i = 0;
     while i < moves.len() {
@@ -129,8 +130,9 @@ fn refused(refusal: u8) -> Written
     Written { length: 0, refusal }
 }
 
-// Writes the poses of a kept chain and the box b as a move file into the front of `out`, and gives the length of the text; the bytes behind it are kept. Refused
-// with 12 where there are no moves, then with 6 or 7, then with 15 where `out` is too short, and `out` is kept as it is. Accuracy: exact; a NaN is written as 7fc00000.
+// Writes the poses of a kept chain and the box b as a move file into the front of `out`, and gives the length of the text;
+// the bytes behind it are kept. Refused with 12 where there are no moves, then with 6 or 7, then with 15 where `out` is
+// too short, and `out` is kept as it is. Accuracy: exact; a NaN is written as 7fc00000.
 pub fn write(moves: &[[[f32; 4]; 45]], b: Bounds3f, out: &mut [u8]) -> Written
     ensures refusal { λ r. ⌜ r .refusal ≡ TextAnswer·refusal (Moves·write (now (moves .entry)) b (length (now (out .entry)))) ⌝ }
     ensures length { λ r. ⌜ r .length ≡ TextAnswer·length (Moves·write (now (moves .entry)) b (length (now (out .entry)))) ⌝ }

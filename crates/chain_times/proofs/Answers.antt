@@ -1,5 +1,5 @@
--- The number of a list's answer from those of its parts: `append-refused`, `append-accepted`; and what an answered list leaves, `left-floats`. No query is refused with 0
--- (`moves-point-nonzero`), so a number of 0 is points.
+-- The number of a list's answer from those of its parts: `append-refused`, `append-accepted`; and what an answered list leaves, `left-floats`.
+-- No query is refused with 0 (`moves-point-nonzero`), so a number of 0 is points.
 use Prim.Native.Nat.{ℕ}
 use mathlib.Core.Path.{_≡_, refl, ap}
 use mathlib.Core.List.{List, [], _∷_, _++_}
@@ -17,7 +17,8 @@ use Rattle.transform.specs.Answer.{PointAnswer·point}
 use Rattle.motion_point.proofs.NonZero.{PointAnswer·NonZero}
 use Rattle.motion_rows.proofs.NonZero.{rows-point-nonzero}
 use Rattle.motion_chain.specs.MoveAt.{Chain·indexAt}
-use Rattle.motion_chain.specs.Times.{PointsAnswer, moved, refused, PointsAnswer·refusal, PointsAnswer·cons, PointsAnswer·append, pointsAt, Points·list, PointsAnswer·left}
+use Rattle.motion_chain.specs.Times.{PointsAnswer, moved, refused, PointsAnswer·refusal, PointsAnswer·cons}
+use Rattle.motion_chain.specs.Times.{PointsAnswer·append, pointsAt, Points·list, PointsAnswer·left}
 use Rattle.chain_rows.specs.Kept.{Moves·chain, Moves·transformPoint}
 use Rattle.stretch_points.specs.Points.{floatsAt}
 

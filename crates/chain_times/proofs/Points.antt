@@ -1,4 +1,5 @@
--- What the query leaves to its caller, in the four ways that it ends: `none-kept`, `list-refused`, `time-refused`, `all-answered`. For the rows of a chain it is the chain's own.
+-- What the query leaves to its caller, in the four ways that it ends: `none-kept`, `list-refused`, `time-refused`, `all-answered`.
+-- For the rows of a chain it is the chain's own.
 use Prim.Native.Nat.{ℕ, _<_}
 use mathlib.Core.Path.{_≡_, refl, sym, ap, _∙_}
 use mathlib.Core.List.{List, [], _∷_}
@@ -10,7 +11,8 @@ use Rattle.matrix4x4.specs.Rows.{Rows}
 use Rattle.bounds3.specs.declared.Point3f.{Point3f}
 use Rattle.transform.specs.declared.PointAnswer.{PointAnswer}
 use Rattle.motion_chain.specs.Chain.{Chain}
-use Rattle.motion_chain.specs.Times.{listRefusal, PointsAnswer, moved, refused, PointsAnswer·refusal, pointsAt, Chain·transformPoints, PointsAnswer·left, Chain·pointsLeft}
+use Rattle.motion_chain.specs.Times.{listRefusal, PointsAnswer, moved, refused, PointsAnswer·refusal}
+use Rattle.motion_chain.specs.Times.{pointsAt, Chain·transformPoints, PointsAnswer·left, Chain·pointsLeft}
 use Rattle.chain_rows.specs.Kept.{Chain·toRows, Moves·transformPoint, Moves·transformPoints}
 use Rattle.chain_rows.proofs.Kept.{kept-points}
 use Rattle.stretch_points.specs.Points.{floatsAt}
@@ -37,7 +39,8 @@ module _ (moves : List Rows) (times : List Float) (p : Point3f) (old : List Floa
 
   clauses : {r : ℕ} {out : List Float} → r ≡ PointsAnswer·refusal answer → out ≡ PointsAnswer·left answer old → Clauses r out
   clauses e f =
-      let same : (c : Chain) → moves ≡ Chain·toRows c → answer ≡ Chain·transformPoints c times p (length old) = λ c k. kept-points moves c times p (length old) k in
+      let same : (c : Chain) → moves ≡ Chain·toRows c → answer ≡ Chain·transformPoints c times p (length old) =
+      λ c k. kept-points moves c times p (length old) k in
       (e, (f, λ c k. (e ∙ ap PointsAnswer·refusal (same c k), f ∙ ap (λ (a : PointsAnswer). PointsAnswer·left a old) (same c k))))
 
   pub none-kept : length moves ≡ 0 → Clauses 12 old

@@ -1,6 +1,6 @@
--- From a move on, the times of its stretch are asked of that move and those behind it of the moves after it: `stretch-split`, of any answer that is put together from those of the
--- parts of a list; of the last move all are asked, `stretch-last`. So of the floats that are written: `part-put`,
--- `floats-next`, `floats-last`.
+-- From a move on, the times of its stretch are asked of that move and those behind it of the moves after it:
+-- `stretch-split`, of any answer that is put together from those of the parts of a list; of the last move all are asked,
+-- `stretch-last`. So of the floats that are written: `part-put`, `floats-next`, `floats-last`.
 use Prim.Native.Nat.{ℕ, suc, _+_, _-_, _*_, _≤_, _<_}
 use mathlib.Core.Path.{_≡_, sym, ap, _∙_}
 use mathlib.Core.Bool.{false}

@@ -1,5 +1,5 @@
-// The point query of a kept chain with a list of times: judged, passed over once for a refusal, and then written. In both passes each stretch of times is handed to its own move as a
-// part of the list, and in the second that move's points go straight into its own part of the answers.
+// The point query of a kept chain with a list of times: judged, passed over once for a refusal, and then written. In both passes each stretch
+// of times is handed to its own move as a part of the list, and in the second that move's points go straight into its own part of the answers.
 use bounds3::Point3f;
 ghost use Prim.Native.Nat.{_+_, _-_, _*_, _≤_, _<_};
 ghost use mathlib.Core.Path.{_≡_};
@@ -8,7 +8,8 @@ ghost use mathlib.Core.List.{_++_};
 ghost use lib.ListN.{length, take, drop};
 ghost use Rattle.motion_rows.specs.TransformPoint.{Rows·transformPoint};
 ghost use Rattle.motion_chain.specs.Chain.{Chain};
-ghost use Rattle.motion_chain.specs.Times.{neverFalls, placesPerTime, PointsAnswer·refusal, pointsAt, PointsAnswer·left, Chain·transformPoints, Chain·pointsLeft};
+ghost use Rattle.motion_chain.specs.Times.{neverFalls, placesPerTime, PointsAnswer·refusal, pointsAt};
+ghost use Rattle.motion_chain.specs.Times.{PointsAnswer·left, Chain·transformPoints, Chain·pointsLeft};
 ghost use Rattle.motion_chain.specs.Stretches.{countUpTo};
 ghost use Rattle.chain_rows.specs.Kept.{Chain·toRows, Moves·transformPoint, Moves·transformPoints};
 ghost use Rattle.stretch_points.specs.Points.{floatsAt};
@@ -66,7 +67,8 @@ fn fill_part(
     requires { ⌜ from ≤ to ⌝ }
     requires { ⌜ to ≤ length (now times) ⌝ }
     requires { ⌜ length (now answers) ≡ placesPerTime * length (now times) ⌝ }
-    ensures left { λ _. ⌜ now (answers .exit) ≡ take (3 * from) (now (answers .entry)) ++ (floatsAt (λ t. Rows·transformPoint (now (motion .entry)) t p) (take (to - from) (drop from (now (times .entry)))) ++ drop (3 * to - 3 * from) (drop (3 * from) (now (answers .entry)))) ⌝ }
+    ensures left { λ _. ⌜ now (answers .exit) ≡ take (3 * from) (now (answers .entry)) ++ (floatsAt (λ t. Rows·transformPoint (now (motion .entry)) t p)
+        (take (to - from) (drop from (now (times .entry)))) ++ drop (3 * to - 3 * from) (drop (3 * from) (now (answers .entry)))) ⌝ }
     ensures same { λ _. ⌜ length (now (answers .exit)) ≡ length (now (answers .entry)) ⌝ }
 {
     stretch_points::put_points(motion, &times[from..to], p, &mut answers[3 * from..3 * to]);
@@ -92,8 +94,8 @@ fn fill_all(moves: &[[[f32; 4]; 45]], times: &[f32], p: Point3f, answers: &mut [
     fill_part(&moves[i], times, from, n, p, answers);
 }
 
-// Where a point stands at each time of a list that never falls, three places a time. Refused with 6, 13 or 5, and with 12 where there are no moves; after a refusal the answers are as
-// they came. Accuracy: each operation but sine and cosine is correctly rounded.
+// Where a point stands at each time of a list that never falls, three places a time. Refused with 6, 13 or 5, and with 12 where there are no moves;
+// after a refusal the answers are as they came. Accuracy: each operation but sine and cosine is correctly rounded.
 pub fn transform_points(
     moves: &[[[f32; 4]; 45]],
     times: &[f32],
@@ -101,8 +103,10 @@ pub fn transform_points(
     answers: &mut [f32],
 ) -> u8
     ensures refusal { λ r. ⌜ r ≡ PointsAnswer·refusal (Moves·transformPoints (now (moves .entry)) (now (times .entry)) p (length (now (answers .entry)))) ⌝ }
-    ensures left { λ _. ⌜ now (answers .exit) ≡ PointsAnswer·left (Moves·transformPoints (now (moves .entry)) (now (times .entry)) p (length (now (answers .entry)))) (now (answers .entry)) ⌝ }
-    ensures kept { λ r. ⌜ ((c : Chain) → now (moves .entry) ≡ Chain·toRows c → (r ≡ PointsAnswer·refusal (Chain·transformPoints c (now (times .entry)) p (length (now (answers .entry))))) × (now (answers .exit) ≡ Chain·pointsLeft c (now (times .entry)) p (now (answers .entry)))) ⌝ }
+    ensures left { λ _. ⌜ now (answers .exit)
+        ≡ PointsAnswer·left (Moves·transformPoints (now (moves .entry)) (now (times .entry)) p (length (now (answers .entry)))) (now (answers .entry)) ⌝ }
+    ensures kept { λ r. ⌜ ((c : Chain) → now (moves .entry) ≡ Chain·toRows c → (r ≡ PointsAnswer·refusal (Chain·transformPoints c (now (times .entry)) p
+        (length (now (answers .entry))))) × (now (answers .exit) ≡ Chain·pointsLeft c (now (times .entry)) p (now (answers .entry)))) ⌝ }
 {
     if moves.len() == 0 {
         return 12;

@@ -1,4 +1,5 @@
--- The poses beside a place of kept moves, written out: `beside-first`, `beside-last`, `beside-inner`; how many moves they have: `beside-count`. What building leaves of poses that equal them: `beside-clauses`.
+-- The poses beside a place of kept moves, written out: `beside-first`, `beside-last`, `beside-inner`; how many moves they have:
+-- `beside-count`. What building leaves of poses that equal them: `beside-clauses`.
 use Prim.Native.Nat.{ℕ, zero, suc, _-_, _≤_, _<_}
 use mathlib.Core.Path.{_≡_, refl, sym, subst, _∙_}
 use mathlib.Core.Bool.{Bool, true, false}
@@ -64,7 +65,8 @@ module _ (rows : List Rows) (p : Pose) (some : 0 < length rows) where
   unfolding Chain·beside Moves·chain
   beside-first = refl
 
-  pub beside-last : (place : ℕ) → 0 < place → place ≡ length rows → Chain·beside (Moves·chain rows) place p ≡ AnimatedTransform·startPose (moveAt (place - 1)) ∷ p ∷ []
+  pub beside-last : (place : ℕ) → 0 < place → place ≡ length rows
+      → Chain·beside (Moves·chain rows) place p ≡ AnimatedTransform·startPose (moveAt (place - 1)) ∷ p ∷ []
   unfolding Chain·beside
   beside-last place l e = rw (chain-moves rows some, start-at place l (omega (arith, e)), end-none place (omega (arith, e)))
 

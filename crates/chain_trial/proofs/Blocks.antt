@@ -31,7 +31,8 @@ left-length (built c) old h f =
 left-length (refused n) old h f = h
 
 -- poses are those of the lists
-pub built-clauses : (rigid : Bool) (lists : List (List Float)) (poses : List Pose) (old : List Rows) {blocks : List Rows} {r : ℕ} → Poses·ofLists lists ≡ poses → length old ≡ 31
+pub built-clauses : (rigid : Bool) (lists : List (List Float)) (poses : List Pose) (old : List Rows) {blocks : List Rows} {r : ℕ}
+    → Poses·ofLists lists ≡ poses → length old ≡ 31
     → r ≡ ChainAnswer·refusal (Chain·new rigid (Poses·ofLists lists))
     → blocks ≡ ChainAnswer·left (Chain·new rigid (Poses·ofLists lists)) old
     → ((c : Chain) → Chain·new rigid (Poses·ofLists lists) ≡ built c → Moves·Holds (take (length lists - 1) blocks) c)

@@ -1,5 +1,5 @@
--- A trial of the rows of a built chain is the chain's, `kept-try`: the moves beside the place are those of the changed chain, and the others are kept in it (`changed-beside`). So an
--- accepted trial is the cover of a built chain, which holds its motion: `kept-trial-contains`.
+-- A trial of the rows of a built chain is the chain's, `kept-try`: the moves beside the place are those of the changed chain, and the others
+-- are kept in it (`changed-beside`). So an accepted trial is the cover of a built chain, which holds its motion: `kept-trial-contains`.
 use Prim.Native.Nat.{ℕ, _+_, _-_, _≤_, _<_}
 use mathlib.Core.Path.{_≡_, refl, sym, ap, _∙_}
 use mathlib.Core.Bool.{Bool, true, false}

@@ -1,4 +1,5 @@
--- A trial in the ways that the code comes by it: refused, `refused-try`, or a cover, `cover-try`. What passing the first numbers tells of the place: `place-passed`. A trial whose number is 0 is a box: `try-answered`.
+-- A trial in the ways that the code comes by it: refused, `refused-try`, or a cover, `cover-try`. What passing the first numbers tells of the place:
+-- `place-passed`. A trial whose number is 0 is a box: `try-answered`.
 use Prim.Native.Nat.{ℕ, _+_, _-_, _≤_, _<_}
 use mathlib.Core.Path.{_≡_, refl, sym, ap, _∙_}
 use mathlib.Core.Bool.{Bool, true, false, cond}
@@ -58,11 +59,13 @@ place-passed rows place = go (eqb n 0) (eqb-false n 0)
         record { some = omega (arith, z); inside = omega (arith, h); few = omega (arith, k) }
 
 -- ---- a cover that the query refuses
-move-refused : (m : AnimatedTransform) (b : Bounds3f) (depth : ℕ) → (coverRefusal b depth ≡ 0 → ⊥) → AnimatedTransform·cover m b depth ≡ Refused (coverRefusal b depth)
+move-refused : (m : AnimatedTransform) (b : Bounds3f) (depth : ℕ) → (coverRefusal b depth ≡ 0 → ⊥)
+    → AnimatedTransform·cover m b depth ≡ Refused (coverRefusal b depth)
 unfolding AnimatedTransform·cover
 move-refused m b depth f = rw (ne-eqb (coverRefusal b depth) 0 f)
 
-rows-refused : (rows : List Rows) (b : Bounds3f) (depth : ℕ) → 0 < length rows → (coverRefusal b depth ≡ 0 → ⊥) → Moves·cover rows b depth ≡ Refused (coverRefusal b depth)
+rows-refused : (rows : List Rows) (b : Bounds3f) (depth : ℕ) → 0 < length rows
+    → (coverRefusal b depth ≡ 0 → ⊥) → Moves·cover rows b depth ≡ Refused (coverRefusal b depth)
 unfolding Moves·cover Chain·cover unionCovers
 rows-refused rows b depth some f =
     let c = Moves·chain rows in
@@ -127,7 +130,8 @@ module _ (rows : List Rows) (place : ℕ) (p : Pose) where
         let n = length-sets rows (place - 1) (Chain·toRows (new .chain)) in
         place-cover none ∙ (ap (Moves·coverBeside rows place b depth) (new .is-built) ∙ rows-refused blocks b depth (omega (arith, n, some)) f)
 
-    pub refused-try : (changed asked : ℕ) {r : ℕ} → changed ≡ Moves·changeRefusal rows place p → asked ≡ coverRefusal b depth → r ≡ cond (eqb changed 0) asked changed → (r ≡ 0 → ⊥)
+    pub refused-try : (changed asked : ℕ) {r : ℕ} → changed ≡ Moves·changeRefusal rows place p
+        → asked ≡ coverRefusal b depth → r ≡ cond (eqb changed 0) asked changed → (r ≡ 0 → ⊥)
         → Refused r ≡ Moves·try rows place p b depth
     refused-try changed asked {r} ec ea er f = go (eqb changed 0) (eqb-true changed 0) (eqb-false changed 0) er
       where

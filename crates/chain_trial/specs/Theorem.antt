@@ -19,13 +19,14 @@ use Rattle.motion_chain.specs.TimesAnswer.{PointsInside}
 use Rattle.chain_rows.specs.Theorem.{Moves·Holds}
 use Rattle.changed_chain.specs.Trial.{Chain·changed}
 
--- Changing a copy builds a chain, and every point of the box b, asked of that chain at any time but NaN, or at a list of such times that never falls, is answered and is inside the box
--- `cover`, by itself and less and plus the pad at that time.
+-- Changing a copy builds a chain, and every point of the box b, asked of that chain at any time but NaN, or at a list of such times that never falls,
+-- is answered and is inside the box `cover`, by itself and less and plus the pad at that time.
 pub record ChangedContainsMotion (c : Chain) (place : ℕ) (p : Pose) (b cover : Bounds3f) : Type 0 where
   pub chain : Chain
   pub changed : Chain·changed c place p ≡ built chain
   pub is-built : BuiltChain chain
-  pub at-time : (time : Float) (q : Point3f) → T (not (isNan time)) → Inside b q → MovedInside cover (Chain·padAt chain time) (Chain·transformPoint chain time q)
+  pub at-time : (time : Float) (q : Point3f) → T (not (isNan time)) → Inside b q
+      → MovedInside cover (Chain·padAt chain time) (Chain·transformPoint chain time q)
   pub at-times : (times : List Float) (q : Point3f) → T (timesAreNumbers times) → T (neverFalls times) → Inside b q
       → PointsInside cover (Chain·padAt chain) times (Chain·transformPoints chain times q (placesPerTime * length times))
 

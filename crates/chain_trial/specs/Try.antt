@@ -1,5 +1,5 @@
--- A trial of a kept chain, whatever the rows: `Moves·try`. The moves beside the place are built anew, the others are asked as they are kept; of the rows of a built chain this is
--- `Chain·try` (`kept-try`). Definitions only.
+-- A trial of a kept chain, whatever the rows: `Moves·try`. The moves beside the place are built anew, the others are asked as they are kept;
+-- of the rows of a built chain this is `Chain·try` (`kept-try`). Definitions only.
 use Prim.Native.Nat.{ℕ, _+_, _-_}
 use mathlib.Core.Bool.{cond}
 use mathlib.Core.List.{List}

@@ -59,7 +59,8 @@ fn build_beside(
     requires { ⌜ place ≤ length (now moves) ⌝ }
     requires { ⌜ length (now blocks) ≡ 31 ⌝ }
     ensures refusal { λ r. ⌜ r ≡ ChainAnswer·refusal (Chain·newBeside (Moves·chain (now (moves .entry))) place (Pose·ofList (now (pose .entry)))) ⌝ }
-    ensures built { λ r. ⌜ (r ≡ 0 → NewMoves (Chain·isRigid (Moves·chain (now (moves .entry)))) (Chain·beside (Moves·chain (now (moves .entry))) place (Pose·ofList (now (pose .entry)))) (now (blocks .exit))) ⌝ }
+    ensures built { λ r. ⌜ (r ≡ 0 → NewMoves (Chain·isRigid (Moves·chain (now (moves .entry))))
+        (Chain·beside (Moves·chain (now (moves .entry))) place (Pose·ofList (now (pose .entry)))) (now (blocks .exit))) ⌝ }
     ensures same { λ _. ⌜ length (now (blocks .exit)) ≡ 31 ⌝ }
 {
     let rigid = kept_poses::is_rigid(&moves[0]);
@@ -98,7 +99,8 @@ fn change_refusal(
 ) -> u8
     requires { ⌜ length (now blocks) ≡ 31 ⌝ }
     ensures refusal { λ r. ⌜ r ≡ Moves·changeRefusal (now (moves .entry)) place (Pose·ofList (now (pose .entry))) ⌝ }
-    ensures built { λ r. ⌜ (r ≡ 0 → NewMoves (Chain·isRigid (Moves·chain (now (moves .entry)))) (Chain·beside (Moves·chain (now (moves .entry))) place (Pose·ofList (now (pose .entry)))) (now (blocks .exit))) ⌝ }
+    ensures built { λ r. ⌜ (r ≡ 0 → NewMoves (Chain·isRigid (Moves·chain (now (moves .entry))))
+        (Chain·beside (Moves·chain (now (moves .entry))) place (Pose·ofList (now (pose .entry)))) (now (blocks .exit))) ⌝ }
     ensures same { λ _. ⌜ length (now (blocks .exit)) ≡ 31 ⌝ }
 {
     let judged = trial_blocks::place_refusal(pose_count(moves), place);
@@ -120,7 +122,8 @@ fn changed_cover(
     requires { ⌜ length (now moves) ≤ 31 ⌝ }
     requires { ⌜ place ≤ length (now moves) ⌝ }
     requires { ⌜ length (now beside) ≡ 31 ⌝ }
-    ensures value { λ r. ⌜ r ≡ Moves·cover (sets (now (moves .entry)) (place - 1) (take (besideCount (length (now (moves .entry))) place) (now (beside .entry)))) b depth ⌝ }
+    ensures value { λ r. ⌜ r ≡ Moves·cover
+        (sets (now (moves .entry)) (place - 1) (take (besideCount (length (now (moves .entry))) place) (now (beside .entry)))) b depth ⌝ }
 {
     let mut blocks = [[[0.0f32; 4]; 45]; 31];
     trial_blocks::put_changed(moves, place, beside, &mut blocks);
@@ -139,7 +142,8 @@ pub fn try_pose(
 ) -> BoundsAnswer
     ensures value { λ r. ⌜ r ≡ Moves·try (now (moves .entry)) place (Pose·ofList (now (pose .entry))) b depth ⌝ }
     ensures kept { λ r. ⌜ ((c : Chain) → Moves·Holds (now (moves .entry)) c → r ≡ Chain·try c place (Pose·ofList (now (pose .entry))) b depth) ⌝ }
-    ensures contains_motion { λ r. ⌜ (BoundsAnswer·refusal r ≡ 0 → TrialContainsMotion (now (moves .entry)) place (Pose·ofList (now (pose .entry))) b (BoundsAnswer·bounds r)) ⌝ }
+    ensures contains_motion { λ r. ⌜ (BoundsAnswer·refusal r ≡ 0
+        → TrialContainsMotion (now (moves .entry)) place (Pose·ofList (now (pose .entry))) b (BoundsAnswer·bounds r)) ⌝ }
 {
     let mut beside = [[[0.0f32; 4]; 45]; 31];
     let changed = change_refusal(moves, place, pose, &mut beside);

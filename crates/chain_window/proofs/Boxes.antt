@@ -1,5 +1,5 @@
--- The boxes of a window. Each has grown by a pad, so that none that is answered has a NaN corner (`boxes-self`); those that are refused are so with 5 or 10 (`boxes-numbered`). A move's share of dt is a
--- part of the unit interval (`move-part`).
+-- The boxes of a window. Each has grown by a pad, so that none that is answered has a NaN corner (`boxes-self`); those that
+-- are refused are so with 5 or 10 (`boxes-numbered`). A move's share of dt is a part of the unit interval (`move-part`).
 use Prim.Native.Nat.{ℕ}
 use mathlib.Core.Logic.{inl, inr}
 use mathlib.Core.Path.{_≡_, refl, sym, subst}
@@ -66,7 +66,8 @@ chain-rising {c} built = let k = built-moves built in rising-moves (c .first .«
 pub move-part : {m : AnimatedTransform} → Rising m → (w : Window) → w .earlier ≼ w .later → UnitPart (shareIn w m)
 move-part {m} r w h =
     let j = built-judged (r .built) in
-    share-part (m .«start_time») (m .«end_time») (j .start-time) (j .start-binary32) (j .end-time) (j .end-binary32) (j .duration) (r .rises) (w .earlier) (w .later) h
+    share-part (m .«start_time») (m .«end_time») (j .start-time) (j .start-binary32)
+    (j .end-time) (j .end-binary32) (j .duration) (r .rises) (w .earlier) (w .later) h
 
 -- ---- which list a box stands in
 -- What holds of every box that has grown holds of all boxes of the window.
@@ -78,7 +79,8 @@ module _ (Q : BoundsAnswer → Type 0)
   piece-grown m D =
       let a = AnimatedTransform·constants m in
       let B = Bounds3f·intervals b in
-      grown (Pad·enclose (m .pad0) (m .pad1) D) (Pose·enclosePoint a (m .s0) (m .s1) D B) (pad-enclose-number (m .pad0) (m .pad1) D) (point-number a (m .s0) (m .s1) D B)
+      grown (Pad·enclose (m .pad0) (m .pad1) D) (Pose·enclosePoint a (m .s0) (m .s1) D B)
+      (pad-enclose-number (m .pad0) (m .pad1) D) (point-number a (m .s0) (m .s1) D B)
 
   stored-grown : (pad : Float) (t : Transform) → Q (Transform·enclosePadded pad t b)
   unfolding Transform·enclosePadded Transform·encloseBounds
@@ -138,7 +140,8 @@ finite-self {box} f =
     own {v} f = ≼-refl v (finite-number v f)
 
 -- A face that isn't finite is refused.
-grown-self : (pad : Judged) (j : JudgedVector) → PadNumber (pad .refusal) → SliceNumber (j .refusal) → Self (BoundsAnswer·grow pad (BoundsAnswer·fromEnclosure j))
+grown-self : (pad : Judged) (j : JudgedVector) → PadNumber (pad .refusal)
+    → SliceNumber (j .refusal) → Self (BoundsAnswer·grow pad (BoundsAnswer·fromEnclosure j))
 grown-self pad j i n = record {
   self = λ box e.
       let g = grow-accepted pad (BoundsAnswer·fromEnclosure j) box e in
@@ -169,12 +172,14 @@ enclosure-numbered j n = go (eqb (j .refusal) 0) (eqb-false (j .refusal) 0)
     go true f = record { number = inl refl; none = λ _. refl }
     go false f = record { number = slice-number n; none = λ e. absurd (f refl e) }
 
-grown-numbered : (pad : Judged) (j : JudgedVector) → PadNumber (pad .refusal) → SliceNumber (j .refusal) → Numbered (BoundsAnswer·grow pad (BoundsAnswer·fromEnclosure j))
+grown-numbered : (pad : Judged) (j : JudgedVector) → PadNumber (pad .refusal)
+    → SliceNumber (j .refusal) → Numbered (BoundsAnswer·grow pad (BoundsAnswer·fromEnclosure j))
 grown-numbered pad j i n =
     grow-cases Numbered pad (BoundsAnswer·fromEnclosure j) (enclosure-numbered j n)
     (λ b. record { number = inl refl; none = λ _. refl })
     (record { number = inr (inl refl); none = λ e. absurd (omega (arith, e)) })
     (λ h. record { number = pad-number i; none = λ e. absurd (h e) })
 
-pub boxes-numbered : (c : Chain) (b : Bounds3f) (d : ℕ) (w : Window) → (r : BoundsAnswer) → List·Memᴰ r (windowBoxes c b d w) → BoundsAnswer·Numbered (0 ∷ 5 ∷ 10 ∷ []) r
+pub boxes-numbered : (c : Chain) (b : Bounds3f) (d : ℕ) (w : Window) → (r : BoundsAnswer)
+    → List·Memᴰ r (windowBoxes c b d w) → BoundsAnswer·Numbered (0 ∷ 5 ∷ 10 ∷ []) r
 boxes-numbered = window-each Numbered grown-numbered

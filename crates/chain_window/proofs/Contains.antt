@@ -1,5 +1,6 @@
--- The guarantee for a window, `window-contains`. A time of the window belongs to one of the chain's moves (`chosen`), and by where it lies in that move one of the window's boxes
--- holds the moved point, less and plus its pad too (`some-box`): the box of equal poses, a pose's box, or the piece of the share that dt lies in.
+-- The guarantee for a window, `window-contains`. A time of the window belongs to one of the chain's moves (`chosen`), and
+-- by where it lies in that move one of the window's boxes holds the moved point, less and plus its pad too (`some-box`):
+-- the box of equal poses, a pose's box, or the piece of the share that dt lies in.
 use Prim.Native.Nat.{ℕ}
 use mathlib.Core.Path.{_≡_, refl, sym, subst, _∙_}
 use mathlib.Core.Bool.{Bool, true, false, not, cond, _&&_, _||_, true≢false}
@@ -53,7 +54,8 @@ use Rattle.dt_share.proofs.DtShare.{share-contains}
 use Rattle.dt_share.proofs.Pieces.{pieces-part, pieces-cover}
 use Rattle.window_times.specs.declared.Window.{Window}
 use Rattle.window_times.specs.Window.{Window·refusal, Window·contains, Window·overlaps, Window·asksFirst, Window·asksEnd, Window·belongs}
-use Rattle.chain_window.specs.Cover.{movesIn, staysIn, sliceBoxes, firstPoseBoxes, endPoseBoxes, equalPoseBoxes, startBox, endBox, equalBox, boxesFrom, windowBoxes, Chain·encloseWindow, Chain·windowCover}
+use Rattle.chain_window.specs.Cover.{movesIn, staysIn, sliceBoxes, firstPoseBoxes, endPoseBoxes, equalPoseBoxes, startBox}
+use Rattle.chain_window.specs.Cover.{endBox, equalBox, boxesFrom, windowBoxes, Chain·encloseWindow, Chain·windowCover}
 use Rattle.chain_window.specs.Theorem.{InWindow, WindowContainsMotion}
 use Rattle.chain_window.proofs.Members.{or-left, or-right, member-if}
 use Rattle.chain_window.proofs.Parts.{default-self, union-parts}
@@ -104,7 +106,8 @@ module _ (time : Float) where
           record {
             first = f;
             last = false;
-            member = λ boxes r' i. unfold boxesFrom in Memᴰ·append-left (boxesFrom boxes false (next ∷ moves)) (subst (λ (z : AnimatedTransform). List·Memᴰ r' (boxes f false z)) x i);
+            member = λ boxes r' i. unfold boxesFrom in
+                Memᴰ·append-left (boxesFrom boxes false (next ∷ moves)) (subst (λ (z : AnimatedTransform). List·Memᴰ r' (boxes f false z)) x i);
             is-first = λ q. (q, x);
             after = λ q. rw x (a q);
             until = λ _. rw x k;
@@ -117,7 +120,8 @@ module _ (time : Float) where
             first = l .first;
             last = l .last;
             member = λ boxes r' i.
-                unfold boxesFrom in Memᴰ·append-right (boxes f false m) (l .member boxes r' (subst (λ (z : AnimatedTransform). List·Memᴰ r' (boxes (l .first) (l .last) z)) x i));
+                unfold boxesFrom in Memᴰ·append-right (boxes f false m)
+                (l .member boxes r' (subst (λ (z : AnimatedTransform). List·Memᴰ r' (boxes (l .first) (l .last) z)) x i));
             is-first = λ q. absurd (true≢false (sym (l .is-first q .0)));
             after = λ q. rw x (l .after q);
             until = λ q. rw x (l .until q);
@@ -156,7 +160,8 @@ module _ (c : Chain) (b : Bounds3f) (d : ℕ) (w : Window) (r : BoundsAnswer) wh
   unfolding windowBoxes
   in-equals m = Memᴰ·append-right (slices ++ firstPoseBoxes b w (c .first) ++ ends) m
 
-module _ {c : Chain} (built : BuiltChain c) (b : Bounds3f) (fb : T (Bounds3f·isFinite b)) (d : ℕ) (w : Window) (time : Float) (t : InWindow w time) (p : Point3f) (i : Inside b p) where
+module _ {c : Chain} (built : BuiltChain c) (b : Bounds3f) (fb : T (Bounds3f·isFinite b)) (d : ℕ)
+    (w : Window) (time : Float) (t : InWindow w time) (p : Point3f) (i : Inside b p) where
   abbrev x : AnimatedTransform
   x = moveFrom (c .first) (c .rest) time
 
@@ -182,7 +187,8 @@ module _ {c : Chain} (built : BuiltChain c) (b : Bounds3f) (fb : T (Bounds3f·is
   ends-after e = above (x .«end_time») (w .earlier) end-number (number-left (t .from)) (λ k. not-below e (≼-trans k (t .from)))
 
   belongs : T (Window·belongs w (h .first) (h .last) (x .«start_time») (x .«end_time»))
-  belongs = and-i (h .first || lt (x .«start_time») (w .later)) (h .last || le (w .earlier) (x .«end_time»)) (begun (h .first) (h .after)) (going (h .last) (h .until))
+  belongs = and-i (h .first || lt (x .«start_time») (w .later)) (h .last || le (w .earlier) (x .«end_time»))
+      (begun (h .first) (h .after)) (going (h .last) (h .until))
     where
       begun : (f : Bool) → (f ≡ false → le time (x .«start_time») ≡ false) → T (f || lt (x .«start_time») (w .later))
       begun true a = tt
@@ -210,7 +216,8 @@ module _ {c : Chain} (built : BuiltChain c) (b : Bounds3f) (fb : T (Bounds3f·is
       up = ≼-trans (t .from) (record { holds = rw e tt })
 
       go : (y : Bool) → le (x .«start_time») (w .later) ≡ y → T (Window·asksFirst w (x .«start_time»))
-      go true k = or-left (Window·contains w (x .«start_time»)) (lt (w .earlier) (x .«start_time»)) (and-i (le (w .earlier) (x .«start_time»)) (le (x .«start_time») (w .later)) (up .holds) (rw k tt))
+      go true k = or-left (Window·contains w (x .«start_time»)) (lt (w .earlier) (x .«start_time»))
+          (and-i (le (w .earlier) (x .«start_time»)) (le (x .«start_time») (w .later)) (up .holds) (rw k tt))
       go false k =
           or-right (Window·contains w (x .«start_time»)) (lt (w .earlier) (x .«start_time»))
           (above (x .«start_time») (w .earlier) start-number (number-left (t .from)) (λ l. not-below k (≼-trans l (≼-trans (t .from) (t .until)))))
@@ -226,7 +233,8 @@ module _ {c : Chain} (built : BuiltChain c) (b : Bounds3f) (fb : T (Bounds3f·is
       go : (y : Bool) → le (w .earlier) (x .«end_time») ≡ y → (l : Bool) → (l ≡ false → le time (x .«end_time») ≡ true)
           → T (Window·asksEnd w l (x .«end_time»))
       go true k l u =
-          or-left (Window·contains w (x .«end_time»)) (l && lt (x .«end_time») (w .later)) (and-i (le (w .earlier) (x .«end_time»)) (le (x .«end_time») (w .later)) (rw k tt) (down .holds))
+          or-left (Window·contains w (x .«end_time»)) (l && lt (x .«end_time») (w .later))
+          (and-i (le (w .earlier) (x .«end_time»)) (le (x .«end_time») (w .later)) (rw k tt) (down .holds))
       go false k true u =
           or-right (Window·contains w (x .«end_time»)) (lt (x .«end_time») (w .later))
           (above (w .later) (x .«end_time») (number-right (t .until)) end-number (λ m. not-below k (≼-trans (t .from) (≼-trans (t .until) m))))
@@ -243,7 +251,8 @@ module _ {c : Chain} (built : BuiltChain c) (b : Bounds3f) (fb : T (Bounds3f·is
       let n = number-right (t .from) in
       let part = move-part r w (≼-trans (t .from) (t .until)) in
       let inShare =
-      share-contains (x .«start_time») (x .«end_time») (j .start-time) (j .start-binary32) (j .end-time) (j .end-binary32) (j .duration) (r .rises) (w .earlier) (w .later)
+      share-contains (x .«start_time») (x .«end_time») (j .start-time) (j .start-binary32)
+      (j .end-time) (j .end-binary32) (j .duration) (r .rises) (w .earlier) (w .later)
       (≼-trans (t .from) (t .until)) time (t .from) (t .until)
       (above time (x .«start_time») n start-number (not-below e)) (above (x .«end_time») time end-number n (not-below f)) in
       let q = pieces-cover d part inShare in
@@ -255,7 +264,8 @@ module _ {c : Chain} (built : BuiltChain c) (b : Bounds3f) (fb : T (Bounds3f·is
       record {
         answer = box (q .piece);
         member = member-if (movesIn w x) test (Memᴰ·map box (q .member));
-        holds = piece-contains x (AnimatedTransform·constants x) (built-valid (r .built)) s0 s1 (j .pad0) (j .pad1) b p fb i (q .piece) (dt (x .«start_time») (x .«end_time») time)
+        holds = piece-contains x (AnimatedTransform·constants x) (built-valid (r .built)) s0 s1
+            (j .pad0) (j .pad1) b p fb i (q .piece) (dt (x .«start_time») (x .«end_time») time)
             (pieces-part d part (q .piece) (q .member) .unit .subset) (q .contains);
       }
 
@@ -279,7 +289,8 @@ module _ {c : Chain} (built : BuiltChain c) (b : Bounds3f) (fb : T (Bounds3f·is
       go true true z e f g = record {
         answer = startBox x b;
         member = in-first c b d w (startBox x b) (first-box f (first-move (h .first) (h .is-first) (h .after)));
-        holds = same (pad-at-start x time e f) (moved-point-start x (AnimatedTransform·constants x) time p (rw (e, f))) (stored-contains (j .pad0) (x .«start_transform») (j .start) b p fb i);
+        holds = same (pad-at-start x time e f) (moved-point-start x (AnimatedTransform·constants x) time p (rw (e, f)))
+            (stored-contains (j .pad0) (x .«start_transform») (j .start) b p fb i);
       }
         where
           first-move : (s : Bool) → (s ≡ true → (true ≡ true) × (x ≡ c .first)) → (s ≡ false → le time (x .«start_time») ≡ false) → x ≡ c .first
@@ -288,7 +299,8 @@ module _ {c : Chain} (built : BuiltChain c) (b : Bounds3f) (fb : T (Bounds3f·is
       go true false true e f g = record {
         answer = endBox x b;
         member = in-ends c b d w (endBox x b) (h .member (λ first last m. endPoseBoxes b w last m) (endBox x b) (end-box g));
-        holds = same (pad-at-end x time e f g) (moved-point-end x (AnimatedTransform·constants x) time p (rw (e, f)) g) (stored-contains (j .pad1) (x .«end_transform») (j .end) b p fb i);
+        holds = same (pad-at-end x time e f g) (moved-point-end x (AnimatedTransform·constants x) time p (rw (e, f)) g)
+            (stored-contains (j .pad1) (x .«end_transform») (j .end) b p fb i);
       }
       go true false false e f g =
           let s = during-box e f g in

@@ -1,4 +1,5 @@
--- A finer cover of a window is never a wider one: `window-finer`. Only slices depend on the depth, and a piece of a deeper cut lies in a piece of the shallower one.
+-- A finer cover of a window is never a wider one: `window-finer`. Only slices depend on the depth,
+-- and a piece of a deeper cut lies in a piece of the shallower one.
 use Prim.Native.Nat.{ℕ, _+_, _≤_}
 use mathlib.Core.Logic.{inl, inr}
 use mathlib.Core.Path.{_≡_, refl, sym, subst}
@@ -29,7 +30,8 @@ use Rattle.dt_share.specs.Share.{pieces}
 use Rattle.dt_share.proofs.Pieces.{pieces-part, pieces-finer}
 use Rattle.window_times.specs.declared.Window.{Window}
 use Rattle.window_times.specs.Window.{Window·refusal}
-use Rattle.chain_window.specs.Cover.{movesIn, shareIn, sliceBoxes, firstPoseBoxes, endPoseBoxes, boxesFrom, windowBoxes, Chain·encloseWindow, Chain·windowCover}
+use Rattle.chain_window.specs.Cover.{movesIn, shareIn, sliceBoxes, firstPoseBoxes, endPoseBoxes}
+use Rattle.chain_window.specs.Cover.{boxesFrom, windowBoxes, Chain·encloseWindow, Chain·windowCover}
 use Rattle.chain_window.specs.Theorem.{WindowCoverFiner}
 use Rattle.chain_window.proofs.Members.{member-if, member-only, each-member, boxes-along}
 use Rattle.chain_window.proofs.Parts.{default-self, union-parts}
@@ -49,7 +51,8 @@ module _ (b : Bounds3f) (ok : BoxRefines b) (w : Window) (rise : w .earlier ≼ 
       let whole = pieces-finer d n part D j in
       let u = pieces-part d part (whole .piece) (whole .member) .unit .subset in
       subst (λ (x : BoundsAnswer). BoxWithin x box) e
-      (piece-isotone (h .built) b ok D (whole .piece) box (whole .subset) u (coarse (f (whole .piece)) (member-if (movesIn w m) t (Memᴰ·map f (whole .member)))))
+      (piece-isotone (h .built) b ok D (whole .piece) box (whole .subset) u
+      (coarse (f (whole .piece)) (member-if (movesIn w m) t (Memᴰ·map f (whole .member)))))
 
   boxes-finer : {c : Chain} → BuiltChain c → ((r : BoundsAnswer) → List·Memᴰ r (windowBoxes c b d w) → BoxWithin r box)
       → (r : BoundsAnswer) → List·Memᴰ r (windowBoxes c b (d + n) w) → BoxWithin r box
@@ -62,7 +65,8 @@ module _ (b : Bounds3f) (ok : BoxRefines b) (w : Window) (rise : w .earlier ≼ 
         | inl j ↦ elim (List·Memᴰ·append-cases poses j) [
           | inl k ↦ elim (List·Memᴰ·append-cases slices k) [
             | inl l ↦
-                boxes-along Rising (λ s. BoxWithin s box) (λ first last m. sliceBoxes b d w m) (λ first last m. sliceBoxes b (d + n) w m) slices-finer true (Chain·moves c)
+                boxes-along Rising (λ s. BoxWithin s box) (λ first last m. sliceBoxes b d w m)
+                (λ first last m. sliceBoxes b (d + n) w m) slices-finer true (Chain·moves c)
                 (chain-rising built) (λ s m. coarse s (in-slices c b d w s m)) r l
             | inr l ↦ coarse r (in-first c b d w r l)
           ]

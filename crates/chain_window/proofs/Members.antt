@@ -1,5 +1,5 @@
--- What stands in the lists of boxes: what a test lets in (`member-if`, `member-only`), a property of each move's boxes as one of all of them (`boxes-each`), and along two ways of
--- finding boxes (`boxes-along`).
+-- What stands in the lists of boxes: what a test lets in (`member-if`, `member-only`), a property of each move's boxes as one of all of them (`boxes-each`),
+-- and along two ways of finding boxes (`boxes-along`).
 use mathlib.Core.Logic.{inl, inr}
 use mathlib.Core.Bool.{Bool, true, false, cond, _||_}
 use mathlib.Core.List.{List, [], _∷_, List·Memᴰ, List·Memᴰ·head, List·Memᴰ·tail, List·Memᴰ·not-nil, List·Memᴰ·append-cases, Memᴰ·append-left, Memᴰ·append-right}
@@ -35,7 +35,8 @@ each-member (r ∷ answers) h = (h r (List·Memᴰ·head refl), each-member answ
 abbrev Boxes : Type 0
 Boxes = Bool → Bool → AnimatedTransform → List BoundsAnswer
 
-module _ (Q : BoundsAnswer → Type 0) (boxes : Boxes) (own : (first last : Bool) (m : AnimatedTransform) (r : BoundsAnswer) → List·Memᴰ r (boxes first last m) → Q r) where
+module _ (Q : BoundsAnswer → Type 0) (boxes : Boxes)
+    (own : (first last : Bool) (m : AnimatedTransform) (r : BoundsAnswer) → List·Memᴰ r (boxes first last m) → Q r) where
   pub boxes-each : (first : Bool) (moves : List AnimatedTransform) (r : BoundsAnswer) → List·Memᴰ r (boxesFrom boxes first moves) → Q r
   unfolding boxesFrom
   boxes-each first [] r m = absurd (List·Memᴰ·not-nil m)

@@ -1,4 +1,5 @@
--- What is joined in an accepted union lies in it: `union-parts`. As `union-all-parts` of bounds_answers, but the empty box, whose corners are out of order, may be among the parts:
+-- What is joined in an accepted union lies in it: `union-parts`. As `union-all-parts` of bounds_answers,
+-- but the empty box, whose corners are out of order, may be among the parts:
 -- all that is asked is that no corner is NaN, `Self`.
 use mathlib.Core.Logic.{inl, inr}
 use mathlib.Core.Path.{_≡_, refl, sym, subst}

@@ -1,5 +1,6 @@
 -- The cover of one window of a chain's times. Definitions only. Quotations are of document 02, "Two booms over one bay", unless another document is named.
--- The boxes stand in one list in the order in which they are worked: slices of all moves, then poses, then moves with equal poses. The first refusal in it stands.
+-- The boxes stand in one list in the order in which they are worked: slices of all moves, then poses, then moves with equal poses.
+-- The first refusal in it stands.
 use Prim.Native.Nat.{ℕ}
 use mathlib.Core.Bool.{Bool, true, false, not, _&&_, cond}
 use mathlib.Core.List.{List, [], _∷_, _++_, map}

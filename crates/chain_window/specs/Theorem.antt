@@ -1,5 +1,5 @@
--- The guarantee for a window: at every time of it, ticks included, a point of the box is inside the window's cover, by itself and less and plus the pad at that time, each rounded.
--- `WindowContainsMotion`, the statement of `window-contains`.
+-- The guarantee for a window: at every time of it, ticks included, a point of the box is inside the window's cover, by
+-- itself and less and plus the pad at that time, each rounded. `WindowContainsMotion`, the statement of `window-contains`.
 -- And that a finer cover of a window is never a wider one: `WindowCoverFiner`, the statement of `window-finer`.
 --
 --   BuiltChain c             c is what building gives, unrefused, for poses of binary32 times and pads    crates/motion_chain/specs/Built.antt

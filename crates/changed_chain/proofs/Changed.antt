@@ -1,5 +1,6 @@
--- A changed pose changes the moves beside it alone: `changed-beside`. The poses of a built chain have passed every check, so that of the changed ones only those in the window
--- tell (`Window.antt`), and the window is what the moves beside the place store (`beside-window`). If the changed chain is built, its poses are binary32 where the new one is: `changed-built`. A chain whose number is 0 is built: `new-none`.
+-- A changed pose changes the moves beside it alone: `changed-beside`. The poses of a built chain have passed every check, so that of the
+-- changed ones only those in the window tell (`Window.antt`), and the window is what the moves beside the place store (`beside-window`). If
+-- the changed chain is built, its poses are binary32 where the new one is: `changed-built`. A chain whose number is 0 is built: `new-none`.
 use Prim.Native.Nat.{ℕ, zero, suc, _-_, _≤_, _<_}
 use mathlib.Core.Path.{_≡_, refl, sym, ap, _∙_}
 use mathlib.Core.Bool.{Bool, true, false, _||_, cond, false≢true}
@@ -115,7 +116,8 @@ module _ (rigid : Bool) where
   pub new-none : (poses : List Pose) → ChainAnswer·refusal (Chain·new rigid poses) ≡ 0 → BuiltOf (Chain·new rigid poses) (values (answers poses))
   new-none poses e = go (eqb (chainRefusal rigid poses) 0) refl (eqb (number (answers poses)) 0) refl
     where
-      go : (s : Bool) → eqb (chainRefusal rigid poses) 0 ≡ s → (t : Bool) → eqb (number (answers poses)) 0 ≡ t → BuiltOf (Chain·new rigid poses) (values (answers poses))
+      go : (s : Bool) → eqb (chainRefusal rigid poses) 0 ≡ s → (t : Bool)
+          → eqb (number (answers poses)) 0 ≡ t → BuiltOf (Chain·new rigid poses) (values (answers poses))
       go false s t u = let f = eqb-false (chainRefusal rigid poses) 0 s in absurd (f (sym (ap ChainAnswer·refusal (unchecked poses f)) ∙ e))
       go true s false u =
           let z = eqb-true (chainRefusal rigid poses) 0 s in
@@ -132,7 +134,8 @@ module _ (rigid : Bool) where
     both-refused : (n : ℕ) → a ≡ refused n → b ≡ refused n → Both a b moves others
     both-built : BuiltOf a moves → BuiltOf b others → Both a b moves others
 
-  module _ (poses others : List Pose) (checks : chainRefusal rigid poses ≡ chainRefusal rigid others) (numbers : number (answers poses) ≡ number (answers others))
+  module _ (poses others : List Pose) (checks : chainRefusal rigid poses ≡ chainRefusal rigid others)
+      (numbers : number (answers poses) ≡ number (answers others))
       (l : 2 ≤ length poses) (k : 2 ≤ length others) where
     abbrev AlikeNew : Type 0
     AlikeNew = Both (Chain·new rigid poses) (Chain·new rigid others) (values (answers poses)) (values (answers others))
@@ -162,7 +165,8 @@ module _ (rigid : Bool) where
     abbrev besideOf : List AnimatedTransform → ℕ → List Pose
     besideOf moves i = map AnimatedTransform·startPose (drop (i - 1) (take i moves)) ++ p ∷ map AnimatedTransform·endPose (take 1 (drop i moves))
 
-    pub beside-window : (poses : List Pose) (i : ℕ) → number (answers poses) ≡ 0 → i < length poses → besideOf (values (answers poses)) i ≡ window (set poses i p) i
+    pub beside-window : (poses : List Pose) (i : ℕ) → number (answers poses) ≡ 0
+        → i < length poses → besideOf (values (answers poses)) i ≡ window (set poses i p) i
     unfolding neighbours
     beside-window [] i z h = absurd (omega (arith, h))
     beside-window (a ∷ []) zero z h = refl
@@ -242,7 +246,8 @@ module _ (rigid : Bool) where
     beside-same = rw (was .moves) (beside-window p poses place (was .none) inside)
 
     numbers : number (answers changed) ≡ number (answers (window changed place))
-    numbers = number-same changed ∙ (pairs-window p pairNumber poses place (sym (number-same poses) ∙ was .none) inside ∙ sym (number-same (window changed place)))
+    numbers =
+        number-same changed ∙ (pairs-window p pairNumber poses place (sym (number-same poses) ∙ was .none) inside ∙ sym (number-same (window changed place)))
 
     moves-changed : values (answers changed) ≡ sets (Chain·moves c) (place - 1) (values (answers (window changed place)))
     moves-changed =
@@ -268,7 +273,8 @@ module _ (rigid : Bool) where
     pub changed-beside : ChangedBeside c place p
     changed-beside = go both
       where
-        go : Both (Chain·new rigid changed) (Chain·new rigid (window changed place)) (values (answers changed)) (values (answers (window changed place))) → ChangedBeside c place p
+        go : Both (Chain·new rigid changed) (Chain·new rigid (window changed place)) (values (answers changed)) (values (answers (window changed place)))
+            → ChangedBeside c place p
         go (both-refused m a b) =
             record {
               refused-beside = λ n e. changed-new ∙ (a ∙ (sym b ∙ (sym beside-new ∙ e)));
@@ -278,7 +284,8 @@ module _ (rigid : Bool) where
             record {
               refused-beside = λ n e. absurd (refused-built (sym e ∙ (beside-new ∙ b .is-built)));
               built-beside = λ d e.
-                  let new : values (answers (window changed place)) ≡ Chain·moves d = sym (b .same-moves) ∙ ap movesOf (sym (b .is-built) ∙ (sym beside-new ∙ e)) in
+                  let new : values (answers (window changed place)) ≡ Chain·moves d =
+                  sym (b .same-moves) ∙ ap movesOf (sym (b .is-built) ∙ (sym beside-new ∙ e)) in
                   record {
                     chain = a .chain;
                     is-built = changed-new ∙ a .is-built;

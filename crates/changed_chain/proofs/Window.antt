@@ -1,5 +1,5 @@
--- A list with one pose changed, and its part from the pose before to the pose behind, `window`. What every pose or every neighbouring pair passed but for those that the change touches
--- is told by the window: `stage-window`, `pairs-window`, `every-window`; and so is what comes of the pairs, `answers-window`.
+-- A list with one pose changed, and its part from the pose before to the pose behind, `window`. What every pose or every neighbouring pair passed but for
+-- those that the change touches is told by the window: `stage-window`, `pairs-window`, `every-window`; and so is what comes of the pairs, `answers-window`.
 use Prim.Native.Nat.{ℕ, zero, suc, _-_, _≤_, _<_}
 use mathlib.Core.Path.{_≡_, refl, sym, ap, _∙_}
 use mathlib.Core.Bool.{Bool, _&&_}
@@ -82,12 +82,14 @@ module _ (p : Pose) where
       let (y, x) = first-none (number (a, b)) (map number (neighbours (b ∷ poses))) z in
       rw y (pairs-window number (b ∷ poses) (suc i) x (omega (arith, h)))
 
-  pub every-window : (test : Pose → Bool) (poses : List Pose) (i : ℕ) → T (every test poses) → T (every test (windowOf poses i)) → T (every test (set poses i p))
+  pub every-window : (test : Pose → Bool) (poses : List Pose) (i : ℕ) → T (every test poses)
+      → T (every test (windowOf poses i)) → T (every test (set poses i p))
   unfolding every
   every-window test [] i e w = e
   every-window test (a ∷ []) zero e w = w
   every-window test (a ∷ []) (suc i) e w = e
-  every-window test (a ∷ b ∷ poses) zero e w = and-i (test p) (every test (b ∷ poses)) (and-l (test p) (every test (b ∷ [])) w) (and-r (test a) (every test (b ∷ poses)) e)
+  every-window test (a ∷ b ∷ poses) zero e w =
+      and-i (test p) (every test (b ∷ poses)) (and-l (test p) (every test (b ∷ [])) w) (and-r (test a) (every test (b ∷ poses)) e)
   every-window test (a ∷ b ∷ []) (suc zero) e w = w
   every-window test (a ∷ b ∷ c ∷ poses) (suc zero) e w =
       let old = and-r (test b) (every test (c ∷ poses)) (and-r (test a) (every test (b ∷ c ∷ poses)) e) in

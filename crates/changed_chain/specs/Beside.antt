@@ -10,7 +10,8 @@ use Rattle.motion_chain.specs.Chain.{Chain, Chain·moves, ChainAnswer, built, r
 use Rattle.built_poses.specs.Poses.{AnimatedTransform·startPose, AnimatedTransform·endPose, Chain·isRigid}
 use Rattle.changed_chain.specs.Trial.{Chain·changed}
 
--- The pose p at a place, between the start of the move before the place and the end of the move behind it. At the first and at the last place one of the two is missing.
+-- The pose p at a place, between the start of the move before the place and the end of the move behind it.
+-- At the first and at the last place one of the two is missing.
 unfoldable pub Chain·beside : Chain → ℕ → Pose → List Pose
 Chain·beside c place p =
     let moves = Chain·moves c in

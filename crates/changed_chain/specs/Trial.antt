@@ -20,7 +20,7 @@ abbrev pub ChainAnswer·coverAt : ChainAnswer → Bounds3f → ℕ → BoundsAns
 ChainAnswer·coverAt (built c) b depth = Chain·cover c b depth
 ChainAnswer·coverAt (refused n) b depth = Refused n
 
--- "Given a chain, a place, a new pose with its time and pad, and a box with a depth, show the cover or the refusal. It is the same in every bit as changing a copy and asking that
--- copy"; "Places count from 0; one beyond the last pose is 19, judged before all else."
+-- "Given a chain, a place, a new pose with its time and pad, and a box with a depth, show the cover or the refusal. It is the same in
+-- every bit as changing a copy and asking that copy"; "Places count from 0; one beyond the last pose is 19, judged before all else."
 unfoldable pub Chain·try : Chain → ℕ → Pose → Bounds3f → ℕ → BoundsAnswer
 Chain·try c place p b depth = cond (ltb place (length (Chain·poses c))) (ChainAnswer·coverAt (Chain·changed c place p) b depth) (Refused 19)

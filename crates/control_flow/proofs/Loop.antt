@@ -1,5 +1,5 @@
--- The rules of a loop's invariant `s ≡ loop body k s₀`: it holds at the start (`loop-start`), after one more turn (`loop-next`) and, as the loop ends, for all turns (`loop-end`).
--- What the body keeps, the loop keeps: `loop-keeps`.
+-- The rules of a loop's invariant `s ≡ loop body k s₀`: it holds at the start (`loop-start`), after one more turn (`loop-next`) and,
+-- as the loop ends, for all turns (`loop-end`). What the body keeps, the loop keeps: `loop-keeps`.
 use mathlib.Core.Path.{_≡_, refl}
 use Prim.Native.Nat.{ℕ, zero, suc, _+_, _<_}
 use native.Mathlib.Numerals.{add-one}

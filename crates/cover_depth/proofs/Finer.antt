@@ -1,6 +1,6 @@
 -- A finer cover of a built move is never a wider one: `cover-finer`. A part of an interval of dt is accepted where the whole is, and its box lies in the
--- whole's (`piece-isotone`), grown by no greater pad; so it is of a slice of a greater depth and the slice that it was cut from (`piece-finer`). What lies in the coarse cover, part by
--- part, has its union in it.
+-- whole's (`piece-isotone`), grown by no greater pad; so it is of a slice of a greater depth and the slice that it was cut from (`piece-finer`).
+-- What lies in the coarse cover, part by part, has its union in it.
 use Prim.Native.Nat.{ℕ, zero, suc, _+_, _/_, _^_, _≤_, _<_}
 use mathlib.Core.Path.{_≡_, refl, sym, ap, subst}
 use mathlib.Core.Bool.{Bool, true, false}
@@ -39,7 +39,8 @@ use Rattle.motion_pad.specs.Pad.{Pad·enclose}
 use Rattle.motion_pad.specs.Grow.{Bounds3f·grow, BoundsAnswer·grow}
 use Rattle.motion_pad.proofs.Pad.{pad-high-within}
 use Rattle.motion_pad.proofs.Box.{grow-accepted, grow-isotone}
-use Rattle.motion_cover.specs.Cover.{BoundsAnswer·fromEnclosure, AnimatedTransform·encloseBounds, AnimatedTransform·encloseEnds, unionSlices, AnimatedTransform·encloseMotion, AnimatedTransform·cover}
+use Rattle.motion_cover.specs.Cover.{BoundsAnswer·fromEnclosure, AnimatedTransform·encloseBounds, AnimatedTransform·encloseEnds}
+use Rattle.motion_cover.specs.Cover.{unionSlices, AnimatedTransform·encloseMotion, AnimatedTransform·cover}
 use Rattle.motion_cover.specs.Answer.{Proper}
 use Rattle.motion_cover.proofs.Contains.{from-enclosure-accepted, motion-stored, motion-slices, cover-accepted, cover-box}
 use Rattle.motion_cover.proofs.NonZero.{cover-answered}
@@ -66,7 +67,8 @@ proper-within r c p e = record { box = c; accepted = e; subset = order-refl (box
 
 pub union-within : (r s : BoundsAnswer) {c : Bounds3f} → BoxWithin r c → BoxWithin s c → BoxWithin (BoundsAnswer·unionBounds r s) c
 unfolding BoundsAnswer·unionBounds
-union-within r s f g = record { box = Bounds3f·unionBounds (f .box) (g .box); accepted = rw (f .accepted, g .accepted); subset = union-least (f .subset) (g .subset) }
+union-within r s f g =
+    record { box = Bounds3f·unionBounds (f .box) (g .box); accepted = rw (f .accepted, g .accepted); subset = union-least (f .subset) (g .subset) }
 
 -- Both parts of an accepted union lie in it.
 pub parts-within : (r s : BoundsAnswer) (c : Bounds3f) → Proper r → Proper s → BoundsAnswer·unionBounds r s ≡ Bounds c → BoxWithin r c × BoxWithin s c
@@ -119,7 +121,8 @@ module _ {m : AnimatedTransform} (built : Built m) (b : Bounds3f) (r : BoxRefine
       let g = from-enclosure-accepted whole (grown .before) (grown .worked) in
       let (s0, s1) = built-scales built in
       let (z, e) = point-isotone (built-valid built) s0 s1 u s B B r (g .accepted) in
-      let (k, within) = pad-high-within (m .pad0) (m .pad1) (j .pad0 .finite) (j .pad1 .finite) (j .pad0 .at-least-zero) (j .pad1 .at-least-zero) s u (grown .accepted) in
+      let (k, within) =
+      pad-high-within (m .pad0) (m .pad1) (j .pad0 .finite) (j .pad1 .finite) (j .pad0 .at-least-zero) (j .pad1 .at-least-zero) s u (grown .accepted) in
       let box = IntervalVector·bounds (part .vector) in
       let (accepted, inWhole) = grow-isotone pad (Pad·enclose (m .pad0) (m .pad1) D') box (IntervalVector·bounds (whole .vector)) (w .box) k within
       (refines-order (part .vector) (whole .vector) e) (refines-finite (part .vector) (whole .vector) e) (wider-finite (part .vector) (whole .vector) e)
@@ -148,9 +151,12 @@ module _ {m : AnimatedTransform} (built : Built m) (b : Bounds3f) (r : BoxRefine
       let a = AnimatedTransform·constants m in
       let before = unionSlices m a b d (AnimatedTransform·encloseEnds m b) k in
       let u = slice-unit d k (omega (arith, l)) in
-      let (v, w) = parts-within before (AnimatedTransform·encloseBounds m a (slice d k) b) c (slices-proper built b r d k (omega (arith, l))) (piece-proper built b r (slice d k) u (subset-self u)) e in
-      let (ends, earlier) = slices-within d k (v .box) (omega (arith, l)) (v .accepted) in
-      (within-subset ends (v .subset), λ i h. go i (eqb i k) (eqb-true i k) (eqb-false i k) h w (λ (i' : ℕ) (h' : i' < k). within-subset (earlier i' h') (v .subset)))
+      let (v, w) = parts-within before (AnimatedTransform·encloseBounds m a (slice d k) b) c
+      (slices-proper built b r d k (omega (arith, l))) (piece-proper built b r (slice d k) u (subset-self u)) e in
+      let (ends, earlier) = slices-within d k (v .box) (omega (arith, l)) (v .accepted) in (
+        within-subset ends (v .subset),
+        λ i h. go i (eqb i k) (eqb-true i k) (eqb-false i k) h w (λ (i' : ℕ) (h' : i' < k). within-subset (earlier i' h') (v .subset)),
+      )
     where
       go : (i : ℕ) (t : Bool) → (t ≡ true → i ≡ k) → (t ≡ false → i ≡ k → ⊥) → i < suc k
           → BoxWithin (AnimatedTransform·encloseBounds m (AnimatedTransform·constants m) (slice d k) b) c
@@ -167,7 +173,8 @@ module _ {m : AnimatedTransform} (built : Built m) (b : Bounds3f) (r : BoxRefine
   slices-finer d n c ends pieces zero l = ends
   slices-finer d n c ends pieces (suc k) l =
       let h : k < 2 ^ (d + n) = omega (arith, l) in
-      union-within (unionSlices m (AnimatedTransform·constants m) b (d + n) (AnimatedTransform·encloseEnds m b) k) (AnimatedTransform·encloseBounds m (AnimatedTransform·constants m) (slice (d + n) k) b)
+      union-within (unionSlices m (AnimatedTransform·constants m) b (d + n) (AnimatedTransform·encloseEnds m b) k)
+      (AnimatedTransform·encloseBounds m (AnimatedTransform·constants m) (slice (d + n) k) b)
       (slices-finer d n c ends pieces k (omega (arith, l)))
       (piece-finer d n k c h (pieces (k / 2 ^ n) (finer-lt d n k h)))
 

@@ -1,5 +1,6 @@
 -- What a decomposition can be: its refusal is 0, 4 or 5 (`decompose-refusal`), and without one the quaternion and all of the
--- scale are finite, and the translation is the matrix's (`Accepted`, `decompose-accepted`). Rests on `inverse-refusal`: a round hands on no number but the inverse's and 5.
+-- scale are finite, and the translation is the matrix's (`Accepted`, `decompose-accepted`).
+-- Rests on `inverse-refusal`: a round hands on no number but the inverse's and 5.
 use mathlib.Core.Path.{_≡_, refl, ap}
 use mathlib.Core.Bool.{Bool, true, false, _&&_, cond}
 use mathlib.Core.Logic.{_⊎_, inl, inr}
@@ -96,7 +97,8 @@ unfolding parts
 parts-answered rigid m r = go (eqb (Matrix4x4·inverse r .refusal) 0) refl
   where
     go : (b : Bool) → eqb (Matrix4x4·inverse r .refusal) 0 ≡ b
-        → Answered m (cond b (Decomposition·judged m (Quaternion·fromMatrix r) (scaleBy rigid (Matrix4x4·toRows (Matrix4x4·inverse r .m)) m)) (Decomposition·refused (Matrix4x4·inverse r .refusal)))
+        → Answered m (cond b (Decomposition·judged m (Quaternion·fromMatrix r) (scaleBy rigid (Matrix4x4·toRows (Matrix4x4·inverse r .m)) m))
+        (Decomposition·refused (Matrix4x4·inverse r .refusal)))
     go true e = judged-answered m (Quaternion·fromMatrix r) (scaleBy rigid (Matrix4x4·toRows (Matrix4x4·inverse r .m)) m)
     go false e = none (Matrix4x4·inverse r .refusal) (number (inverse-refusal r) (eqb-false (Matrix4x4·inverse r .refusal) 0 e)) refl
 
@@ -110,7 +112,8 @@ decompose-answered : (rigid : Bool) (m : Rows) → Answered m (Matrix4x4·decomp
 unfolding Matrix4x4·decompose
 decompose-answered rigid m = finish-answered rigid m (polar m) (polar-numbered m)
 
-pub decompose-refusal : (rigid : Bool) (m : Rows) → (Matrix4x4·decompose rigid m .refusal ≡ 0) ⊎ ((Matrix4x4·decompose rigid m .refusal ≡ 4) ⊎ (Matrix4x4·decompose rigid m .refusal ≡ 5))
+pub decompose-refusal : (rigid : Bool) (m : Rows)
+    → (Matrix4x4·decompose rigid m .refusal ≡ 0) ⊎ ((Matrix4x4·decompose rigid m .refusal ≡ 4) ⊎ (Matrix4x4·decompose rigid m .refusal ≡ 5))
 decompose-refusal rigid m = go (Matrix4x4·decompose rigid m) (decompose-answered rigid m)
   where
     go : (d : Decomposition) → Answered m d → (d .refusal ≡ 0) ⊎ ((d .refusal ≡ 4) ⊎ (d .refusal ≡ 5))

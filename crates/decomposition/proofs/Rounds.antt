@@ -1,5 +1,6 @@
--- A turn of the loop in `decompose`, which stands at r after k rounds (`Reached`): its inverse refuses (`inverse-refuses`), its matrix does (`matrix-refuses`), it is the last
--- (`turn-last`), or the loop goes on from its matrix (`turn-next`). Rests on `loop-fixed`: where the body changes nothing, no turn that is left does.
+-- A turn of the loop in `decompose`, which stands at r after k rounds (`Reached`): its inverse refuses (`inverse-refuses`),
+-- its matrix does (`matrix-refuses`), it is the last (`turn-last`), or the loop goes on from its matrix (`turn-next`).
+-- Rests on `loop-fixed`: where the body changes nothing, no turn that is left does.
 use mathlib.Core.Path.{_≡_, refl, _∙_}
 use mathlib.Core.Bool.{Bool, true, false, _||_, true≢false, false≢true}
 use mathlib.Core.Logic.{⊎-elim}
@@ -72,7 +73,8 @@ module _ {m : Rows} {k : ℕ} {r : Rows} (reached : Reached m k r) where
         pub turn-last : (rigid : Bool) → (leb 100 (k + 1) || le (distance r rnext) settledNorm) ≡ true → Matrix4x4·decompose rigid m ≡ parts rigid m rnext
         turn-last rigid = go (leb 100 (k + 1)) (le (distance r rnext) settledNorm) refl refl
           where
-            go : (a b : Bool) → leb 100 (k + 1) ≡ a → le (distance r rnext) settledNorm ≡ b → (a || b) ≡ true → Matrix4x4·decompose rigid m ≡ parts rigid m rnext
+            go : (a b : Bool) → leb 100 (k + 1) ≡ a → le (distance r rnext) settledNorm ≡ b
+                → (a || b) ≡ true → Matrix4x4·decompose rigid m ≡ parts rigid m rnext
             go a true ea eb h = near rigid eb
             go true false ea eb h = full rigid (leb-true 100 (k + 1) ea) eb
             go false false ea eb h = absurd (false≢true h)

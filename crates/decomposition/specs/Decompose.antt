@@ -1,5 +1,6 @@
--- pbrt's `decompose`: a matrix m as translation t, rotation r and scale s, with m = t r s up to rounding; of a rigid move s is the identity. A refusal stands beside them: 4 or 5 of an inverse, 5 where a
--- polar round's matrix, the quaternion or the scale holds a value that isn't finite, in working order; after it every number is +0. Definitions only.
+-- pbrt's `decompose`: a matrix m as translation t, rotation r and scale s, with m = t r s up to rounding; of a rigid move s is the identity.
+-- A refusal stands beside them: 4 or 5 of an inverse, 5 where a polar round's matrix, the quaternion or the scale holds a value that isn't
+-- finite, in working order; after it every number is +0. Definitions only.
 use Prim.Native.Nat.{ℕ}
 use mathlib.Core.Bool.{Bool, true, false, _&&_, cond}
 use lib.Dec.{eqb}

@@ -1,5 +1,5 @@
--- The polar rounds of pbrt's `decompose`: the linear part of a matrix is averaged with the inverse of its transpose until a round changes it little, or 100 times.
--- A round refuses with its inverse's number, and with 5 where its own matrix holds a value that isn't finite. Definitions only.
+-- The polar rounds of pbrt's `decompose`: the linear part of a matrix is averaged with the inverse of its transpose until a round changes it little,
+-- or 100 times. A round refuses with its inverse's number, and with 5 where its own matrix holds a value that isn't finite. Definitions only.
 use Prim.Native.Nat.{ℕ}
 use mathlib.Core.Bool.{cond}
 use lib.Dec.{eqb}

@@ -88,8 +88,8 @@ fn parts(rigid: bool, m: [[f32; 4]; 4], r: [[f32; 4]; 4]) -> Decomposition
     }
 }
 
-// pbrt's `decompose`: translation, rotation and scale of a matrix; a rigid move's scale is the identity. pbrt goes on where this refuses: 4 at a zero pivot, 5 where a matrix or the quaternion holds
-// a value that isn't finite. Accuracy: each operation is correctly rounded.
+// pbrt's `decompose`: translation, rotation and scale of a matrix; a rigid move's scale is the identity. pbrt goes on where this refuses:
+// 4 at a zero pivot, 5 where a matrix or the quaternion holds a value that isn't finite. Accuracy: each operation is correctly rounded.
 pub fn decompose(rigid: bool, m: [[f32; 4]; 4]) -> Decomposition
     ensures value { λ r. ⌜ r ≡ Matrix4x4·decompose rigid m ⌝ }
 {

@@ -24,8 +24,10 @@ module _ (box : Interval → BoundsAnswer) (r : BoundsAnswer) where
   halves : (d : ℕ) (i : Interval) → unionPieces box r (suc d) i ≡ unionPieces box (unionPieces box r d (lowerHalf i)) d (upperHalf i)
   unfolding unionPieces pieces
   halves d i =
-      rw (map-append box (pieces d (lowerHalf i)) (pieces d (upperHalf i))) (union-append r (map box (pieces d (lowerHalf i))) (map box (pieces d (upperHalf i))))
+      rw (map-append box (pieces d (lowerHalf i)) (pieces d (upperHalf i)))
+      (union-append r (map box (pieces d (lowerHalf i))) (map box (pieces d (upperHalf i))))
 
-  pub pieces-halves : (d : ℕ) (i : Interval) → (d ≡ 0 → ⊥) → unionPieces box r d i ≡ unionPieces box (unionPieces box r (d - 1) (lowerHalf i)) (d - 1) (upperHalf i)
+  pub pieces-halves : (d : ℕ) (i : Interval) → (d ≡ 0 → ⊥)
+      → unionPieces box r d i ≡ unionPieces box (unionPieces box r (d - 1) (lowerHalf i)) (d - 1) (upperHalf i)
   pieces-halves zero i e = absurd (e refl)
   pieces-halves (suc d) i e = let k : suc d - 1 ≡ d = omega arith in rw k (halves d i)

@@ -34,6 +34,7 @@ midpoint-contained {i} l h u =
     let b = subset-high u in
     let f = unit-finite a in
     let g = unit-finite b in
-    let sum = between-finite zeros-finite ones-finite (add-mono binary32 zero-finite f zero-finite g (a .low) (b .low)) (add-mono binary32 f one-finite g one-finite (a .high) (b .high)) in
+    let sum = between-finite zeros-finite ones-finite (add-mono binary32 zero-finite f zero-finite g (a .low) (b .low))
+    (add-mono binary32 f one-finite g one-finite (a .high) (b .high)) in
     let (low, high) = midpoint-between (i .low) (i .high) f g l h (u .proper) sum in
     record { low = low; high = high }

@@ -1,5 +1,6 @@
--- The share of dt that a window has of a move: it is a part of the unit interval with binary32 ends (`share-part`), and contains dt at every time of the window between the
--- move's start and its end (`share-contains`). Both rest on dt rising with the time, ticks of either infinity and differences that overflow included (`dt-mono`).
+-- The share of dt that a window has of a move: it is a part of the unit interval with binary32 ends (`share-part`),
+-- and contains dt at every time of the window between the move's start and its end (`share-contains`). Both rest on
+-- dt rising with the time, ticks of either infinity and differences that overflow included (`dt-mono`).
 use mathlib.Core.Path.{_≡_, refl}
 use mathlib.Core.Bool.{Bool, true, false}
 use lib.Dec.{T}
@@ -73,13 +74,15 @@ module _ (start end : Float) (s : T (finite start)) (S : T (fits binary32 start)
     (d : T (finite (end ⊖ start))) (rise : T (lt start end)) where
   since-mono : {x y : Float} → x ≼ y → x ⊖ start ≼ y ⊖ start
   since-mono {x} {y} h =
-      extended-mono (λ z. z ⊖ start) (λ t. inf-sub t start s) (λ a b f g k. sub-mono binary32 {x = a} {x' = b} f g s s k (≼-refl start (finite-number start s))) x y h
+      extended-mono (λ z. z ⊖ start) (λ t. inf-sub t start s)
+      (λ a b f g k. sub-mono binary32 {x = a} {x' = b} f g s s k (≼-refl start (finite-number start s))) x y h
 
   pub dt-mono : {x y : Float} → x ≼ y → dt start end x ≼ dt start end y
   unfolding dt
   dt-mono {x} {y} h =
       let p = sub-positive start end s S e E rise d in
-      extended-mono (λ z. z ⊘ (end ⊖ start)) (λ t. inf-div t (end ⊖ start) p) (λ a b f g k. div-mono binary32 {x = a} {x' = b} (end ⊖ start) f g p k) (x ⊖ start) (y ⊖ start) (since-mono h)
+      extended-mono (λ z. z ⊘ (end ⊖ start)) (λ t. inf-div t (end ⊖ start) p)
+      (λ a b f g k. div-mono binary32 {x = a} {x' = b} (end ⊖ start) f g p k) (x ⊖ start) (y ⊖ start) (since-mono h)
 
   module _ (earlier later : Float) (w : earlier ≼ later) where
     pub share-part : UnitPart (share start end earlier later)
@@ -94,7 +97,8 @@ module _ (start end : Float) (s : T (finite start)) (S : T (fits binary32 start)
           high-fits = limited-fits (dt start end later) (div-fits binary32 (later ⊖ start) (end ⊖ start));
         }
 
-    pub share-contains : (time : Float) → earlier ≼ time → time ≼ later → T (lt start time) → T (lt time end) → Contains (share start end earlier later) (dt start end time)
+    pub share-contains : (time : Float) → earlier ≼ time → time ≼ later → T (lt start time)
+        → T (lt time end) → Contains (share start end earlier later) (dt start end time)
     unfolding share
     share-contains time h k a b =
         let u = dt-unit start end time s S e E d a b in

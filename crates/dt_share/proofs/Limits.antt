@@ -1,5 +1,5 @@
--- A number limited to 0 and 1 is from 0 to 1 (`limited-unit`), rises with the number (`limited-mono`), is no greater than what is above the number and 0 (`limited-low`), no less
--- than what is below the number and 1 (`limited-high`), and is binary32 where the number is (`limited-fits`).
+-- A number limited to 0 and 1 is from 0 to 1 (`limited-unit`), rises with the number (`limited-mono`), is no greater than what is above the number
+-- and 0 (`limited-low`), no less than what is below the number and 1 (`limited-high`), and is binary32 where the number is (`limited-fits`).
 use mathlib.Core.Bool.{Bool, true, false, not, cond}
 use lib.Dec.{T}
 use lib.Ieee.{Float, binary32, fits, lt, le, ofBits}
@@ -26,16 +26,19 @@ one-refl = ≼-refl one (number-right zero-one)
 module _ (P : Float → Type 0) (x : Float) (n : Number x) where
   limited-cases : (x ≼ positiveZero → P positiveZero) → (one ≼ x → P one) → (positiveZero ≼ x → x ≼ one → P x) → P (limited x)
   unfolding limited clamp
-  limited-cases low high mid = go (lt x positiveZero) (lt one x) (lt-≼ x positiveZero) (not-lt-≼ positiveZero x (number-left zero-one) n) (lt-≼ one x) (not-lt-≼ x one n (number-right zero-one))
+  limited-cases low high mid = go (lt x positiveZero) (lt one x) (lt-≼ x positiveZero)
+      (not-lt-≼ positiveZero x (number-left zero-one) n) (lt-≼ one x) (not-lt-≼ x one n (number-right zero-one))
     where
-      go : (a b : Bool) → (T a → x ≼ positiveZero) → (T (not a) → positiveZero ≼ x) → (T b → one ≼ x) → (T (not b) → x ≼ one) → P (cond a positiveZero (cond b one x))
+      go : (a b : Bool) → (T a → x ≼ positiveZero) → (T (not a) → positiveZero ≼ x)
+          → (T b → one ≼ x) → (T (not b) → x ≼ one) → P (cond a positiveZero (cond b one x))
       go true b f g h k = low (f tt)
       go false true f g h k = high (h tt)
       go false false f g h k = mid (g tt) (k tt)
 
 pub limited-unit : (x : Float) → Number x → Contains unitInterval (limited x)
 limited-unit x n =
-    limited-cases (Contains unitInterval) x n (λ _. record { low = zero-refl; high = zero-one }) (λ _. record { low = zero-one; high = one-refl }) (λ l h. record { low = l; high = h })
+    limited-cases (Contains unitInterval) x n (λ _. record { low = zero-refl; high = zero-one })
+    (λ _. record { low = zero-one; high = one-refl }) (λ l h. record { low = l; high = h })
 
 pub limited-low : {x y : Float} → x ≼ y → positiveZero ≼ y → limited x ≼ y
 limited-low {x} {y} h z = limited-cases (λ v. v ≼ y) x (number-left h) (λ _. z) (λ o. ≼-trans o h) (λ _ _. h)

@@ -1,5 +1,5 @@
--- The pieces of a part of the unit interval: each is such a part and lies in the whole (`pieces-part`), every number of the whole lies in one (`pieces-cover`), and each
--- piece of a deeper cut lies in a piece of the shallower one (`pieces-finer`).
+-- The pieces of a part of the unit interval: each is such a part and lies in the whole (`pieces-part`), every number of the whole lies in one (`pieces-cover`),
+-- and each piece of a deeper cut lies in a piece of the shallower one (`pieces-finer`).
 use mathlib.Core.Path.{_≡_, refl, sym, subst}
 use mathlib.Core.Logic.{inl, inr}
 use mathlib.Core.List.{List·Memᴰ, List·Memᴰ·head, List·Memᴰ·append-cases, List·Memᴰ·eq-of-singleton, Memᴰ·append-left, Memᴰ·append-right}

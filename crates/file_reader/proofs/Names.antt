@@ -1,4 +1,5 @@
--- A line of names compared with its text from a place on: `names-same` goes one byte on, `names-differ`, `names-short` and `names-end` decide. Rests on `Spaces.antt`.
+-- A line of names compared with its text from a place on: `names-same` goes one byte on, `names-differ`, `names-short` and `names-end` decide.
+-- Rests on `Spaces.antt`.
 use Prim.Native.Nat.{ℕ, suc, _+_, _≤_, _<_}
 use native.Mathlib.Numerals.{add-one}
 use native.Mathlib.Omega.{arith}

@@ -1,4 +1,5 @@
--- Runs of spaces written as one, by place in a line: `next-other`, a byte that is no space; `run-first`, `run-more`, `run-over`, the run that begins at a space.
+-- Runs of spaces written as one, by place in a line: `next-other`, a byte that is no space;
+-- `run-first`, `run-more`, `run-over`, the run that begins at a space.
 use Prim.Native.Nat.{ℕ, suc, _+_, _≤_, _<_}
 use native.Mathlib.Numerals.{add-one}
 use native.Mathlib.Omega.{arith}

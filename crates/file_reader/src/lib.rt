@@ -11,8 +11,8 @@ ghost use Rattle.motion_file.specs.means.Place.{lineAt, afterLine, through, lin
 use hexadecimal::Word;
 use motion_file::MoveFile;
 
-// Puts the poses that a file's bytes hold into the front of `poses`, each its time, its matrix row by row and its pad, and gives their number and the box; refused
-// with 11, and `poses` kept as it is, where the bytes depart from the layout. Accuracy: exact; every pattern of a NaN gives NaN.
+// Puts the poses that a file's bytes hold into the front of `poses`, each its time, its matrix row by row and its pad, and gives their number and the box;
+// refused with 11, and `poses` kept as it is, where the bytes depart from the layout. Accuracy: exact; every pattern of a NaN gives NaN.
 pub fn read(bytes: &[u8], poses: &mut [[f32; 18]; 559]) -> MoveFile
     ensures value { λ r. ⌜ r ≡ MoveFile·read (now (bytes .entry)) ⌝ }
     ensures left { λ _. ⌜ now (poses .exit) ≡ front (MoveFile·poses (now (bytes .entry))) (now (poses .entry)) ⌝ }

@@ -30,7 +30,8 @@ use Rattle.file_rewrite.specs.Theorem.{longestText}
 refusal-length : (n : ℕ) → length (refusalText n) ≤ longestText
 refusal-length n =
     let few : zerosInFront n ≤ 2 =
-    cond-keeps (λ (z : ℕ). z ≤ 2) (ltb n 10) 2 (cond (ltb n 100) 1 0) (omega arith) (cond-keeps (λ (z : ℕ). z ≤ 2) (ltb n 100) 1 0 (omega arith) (omega arith)) in
+    cond-keeps (λ (z : ℕ). z ≤ 2) (ltb n 10) 2 (cond (ltb n 100) 1 0) (omega arith)
+    (cond-keeps (λ (z : ℕ). z ≤ 2) (ltb n 100) 1 0 (omega arith) (omega arith)) in
     omega (arith, length-refusal n (zerosInFront n) refl few)
 
 -- ---- a chain's text

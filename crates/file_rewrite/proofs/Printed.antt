@@ -1,5 +1,5 @@
--- What is printed, in the ways in which the code comes by it: `box-printed` and `text-printed` of a kept chain, `refused-printed` and `built-printed` of poses, `file-refused` and
--- `file-printed` of a file.
+-- What is printed, in the ways in which the code comes by it: `box-printed` and `text-printed` of a kept chain,
+-- `refused-printed` and `built-printed` of poses, `file-refused` and `file-printed` of a file.
 use Prim.Native.Nat.{ℕ, _≤_, _<_}
 use native.Mathlib.Omega.{arith}
 use mathlib.Core.Path.{_≡_, refl, sym, _∙_, ap}
@@ -49,7 +49,8 @@ module _ (rows : List Rows) (b : Bounds3f) (old after : List ℕ) (size : ℕ) (
   unfolding Moves·write
   answer-refused e = rw (number-of false e)
 
-  text-left : size ≡ TextAnswer·length (Moves·write rows b (length old)) → after ≡ TextAnswer·left (Moves·write rows b (length old)) old → Wrote text old after size
+  text-left : size ≡ TextAnswer·length (Moves·write rows b (length old))
+      → after ≡ TextAnswer·left (Moves·write rows b (length old)) old → Wrote text old after size
   text-left es ea = go (leb (length text) (length old)) refl
     where
       go : (p : Bool) → leb (length text) (length old) ≡ p → Wrote text old after size
@@ -73,7 +74,8 @@ unfolding ChainAnswer·text
 refused-printed (built c) b e h = absurd (h e)
 refused-printed (refused n) b e h = ap refusalText (sym e)
 
-pub built-printed : (lists : List (List Float)) (b : Bounds3f) (rows : List Rows) {r : ℕ} → r ≡ ChainAnswer·refusal (Chain·new false (Poses·ofLists lists)) → r ≡ 0
+pub built-printed : (lists : List (List Float)) (b : Bounds3f) (rows : List Rows) {r : ℕ}
+    → r ≡ ChainAnswer·refusal (Chain·new false (Poses·ofLists lists)) → r ≡ 0
     → ((c : Chain) → Chain·new false (Poses·ofLists lists) ≡ built c → rows ≡ Chain·toRows c)
     → ChainAnswer·text (Chain·new false (Poses·ofLists lists)) b ≡ boxedText b (Moves·text rows b)
 unfolding ChainAnswer·text
@@ -87,7 +89,8 @@ module _ (bytes : List ℕ) (file : MoveFile) (e : file ≡ MoveFile·read bytes
   unfolding rewrittenText
   file-refused h = rw (← e, ne-eqb (file .refusal) 0 h)
 
-  pub file-printed : (old left : List (List Float)) (b : Bounds3f) → file .refusal ≡ 0 → left ≡ lent.front (MoveFile·poses bytes) old → b ≡ Bounds3f·ofList (file .bounds)
+  pub file-printed : (old left : List (List Float)) (b : Bounds3f) → file .refusal ≡ 0
+      → left ≡ lent.front (MoveFile·poses bytes) old → b ≡ Bounds3f·ofList (file .bounds)
       → rewrittenText bytes ≡ ChainAnswer·text (Chain·new false (Poses·ofLists (take (file .count) left))) b
   unfolding rewrittenText
   file-printed old left b h el eb =

@@ -1,4 +1,5 @@
--- Rewritten files: `rewritten-form`, that of an accepted file is its written form; `rewritten-same`, what two of them tell; `rewritten-again`, what is read from one.
+-- Rewritten files: `rewritten-form`, that of an accepted file is its written form;
+-- `rewritten-same`, what two of them tell; `rewritten-again`, what is read from one.
 use Prim.Native.Nat.{ℕ, _≤_}
 use mathlib.Core.Path.{_≡_, refl, sym, _∙_, ap}
 use mathlib.Core.Logic.{_↔_}

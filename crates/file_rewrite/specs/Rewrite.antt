@@ -1,5 +1,5 @@
--- What the program `rewrite` prints for a move file: `rewrittenText`, the file's one form or its refusal. 11 "precedes all others" (document 01); then come building's numbers, then 6
--- and 7 of the box. Definitions only.
+-- What the program `rewrite` prints for a move file: `rewrittenText`, the file's one form or its refusal. 11 "precedes all others" (document 01);
+-- then come building's numbers, then 6 and 7 of the box. Definitions only.
 use Prim.Native.Nat.{ℕ}
 use mathlib.Core.Bool.{false, cond}
 use mathlib.Core.List.{List}

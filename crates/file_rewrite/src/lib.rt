@@ -42,8 +42,8 @@ fn write_poses(poses: &[[f32; 18]], b: Bounds3f, out: &mut [u8]) -> usize
     write_moves(&moves[..n], b, out)
 }
 
-// Writes the one form of a move file, or its refusal: 11, then building's numbers, then 6 or 7 of the box, into the front of `out`, and gives the length of the text, at
-// most 4,161; where it doesn't fit, `out` is kept as it is and the answer is 0. Accuracy: exact.
+// Writes the one form of a move file, or its refusal: 11, then building's numbers, then 6 or 7 of the box, into the front of `out`,
+// and gives the length of the text, at most 4,161; where it doesn't fit, `out` is kept as it is and the answer is 0. Accuracy: exact.
 pub fn rewrite(bytes: &[u8], out: &mut [u8]) -> usize
     ensures value { λ r. ⌜ r ≡ lengthIn (rewrittenText (now (bytes .entry))) (now (out .entry)) ⌝ }
     ensures text { λ _. ⌜ now (out .exit) ≡ textLeft (rewrittenText (now (bytes .entry))) (now (out .entry)) ⌝ }

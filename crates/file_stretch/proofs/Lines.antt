@@ -50,7 +50,8 @@ module _ (first last a b : ℕ) (ea : a ≡ zerosInFront first) (eb : b ≡ zero
 
   lines-text : linesText first last ≡ ascii "lines " ++ numbers
   unfolding linesText
-  lines-text = rw (← ea, ← eb) (ap (λ (t : List ℕ). ascii "lines " ++ t) (sym (append-assoc (drop a (threeDigits first)) to (drop b (threeDigits last) ++ (lineFeed ∷ [])))))
+  lines-text = rw (← ea, ← eb)
+      (ap (λ (t : List ℕ). ascii "lines " ++ t) (sym (append-assoc (drop a (threeDigits first)) to (drop b (threeDigits last) ++ (lineFeed ∷ [])))))
 
   pub lines-written : (buffer half after start end : List ℕ) → start ≡ threeDigits first ++ to → end ≡ threeDigits last ++ (lineFeed ∷ []) → 17 ≤ length buffer
       → half ≡ textLeft (ascii "lines ") buffer
@@ -62,7 +63,8 @@ module _ (first last a b : ℕ) (ea : a ≡ zerosInFront first) (eb : b ≡ zero
       let cut : take (7 - a) (drop a start) ++ take (4 - b) (drop b end) ≡ numbers = rw (es, ee, first-cut a first ha, number-line b last hb) in
       let size = numbers-length in
       let six : 6 ≡ length (ascii "lines ") = unfold ascii in refl in
-      let whole : length (ascii "lines " ++ numbers) ≡ 6 + length numbers = length-append (ascii "lines ") numbers ∙ ap (λ (k : ℕ). k + length numbers) (sym six) in
+      let whole : length (ascii "lines " ++ numbers) ≡ 6 + length numbers =
+      length-append (ascii "lines ") numbers ∙ ap (λ (k : ℕ). k + length numbers) (sym six) in
       rw lines-text (
         omega (arith, whole, size, ha, hb),
         (both-written (ascii "lines ") numbers buffer half 6 six (omega (arith, size, room)) written after (rw cut at e), omega arith),

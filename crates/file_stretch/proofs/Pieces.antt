@@ -1,5 +1,5 @@
--- Texts put one behind the other into the front of a buffer, and what they leave: `both-written`. A text in its front leaves it as long as it was, `front-size`, and is what stands there,
--- `front-taken`.
+-- Texts put one behind the other into the front of a buffer, and what they leave: `both-written`. A text in its front leaves it as long as it was,
+-- `front-size`, and is what stands there, `front-taken`.
 use Prim.Native.Nat.{ℕ, _+_, _-_, _≤_}
 use native.Mathlib.Omega.{arith}
 use mathlib.Core.Path.{_≡_, refl, sym, ap, _∙_}
@@ -38,7 +38,8 @@ wrote text buffer after r er ea = go (leb (length text) (length buffer)) refl
         (er, (ea, rw (ea, size) (front-counts text buffer fit)))
     go false e = let none : r ≡ 0 = er ∙ sym (lengthIn-short text buffer (leb-false (length text) (length buffer) e)) in (er, (ea, rw none (omega arith, refl)))
 
-module _ (first second buffer half : List ℕ) (m : ℕ) (counted : m ≡ length first) (room : m + length second ≤ length buffer) (written : half ≡ textLeft first buffer) where
+module _ (first second buffer half : List ℕ) (m : ℕ) (counted : m ≡ length first)
+    (room : m + length second ≤ length buffer) (written : half ≡ textLeft first buffer) where
   pasted : half ≡ paste buffer 0 first m
   pasted = written ∙ (sym (front-fits first buffer (omega (arith, counted, room))) ∙ ap (λ (k : ℕ). paste buffer 0 first k) (sym counted))
 

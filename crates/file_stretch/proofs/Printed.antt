@@ -1,4 +1,5 @@
--- What is printed, in the ways in which the code comes by it: of a run `run-refused`, `run-accepted` and `run-lines`, of poses `poses-printed`, of a file `file-refused` and `file-printed`.
+-- What is printed, in the ways in which the code comes by it: of a run `run-refused`, `run-accepted` and `run-lines`,
+-- of poses `poses-printed`, of a file `file-refused` and `file-printed`.
 use Prim.Native.Nat.{ℕ, _+_, _-_, _≤_}
 use native.Mathlib.Nat.{min-le-left}
 use native.Mathlib.Omega.{arith}
@@ -50,7 +51,8 @@ refusal-put n buffer after r room er ea =
     (e, (ea, omega (arith, e, bound)))
 
 -- what is left of the buffer behind the first bytes
-pub part-room : (text buffer half : List ℕ) (n : ℕ) → n ≤ 12 → 32 ≤ length buffer → half ≡ textLeft text buffer → 17 ≤ length (take (length half - n) (drop n half))
+pub part-room : (text buffer half : List ℕ) (n : ℕ) → n ≤ 12 → 32 ≤ length buffer
+    → half ≡ textLeft text buffer → 17 ≤ length (take (length half - n) (drop n half))
 part-room text buffer half n h room e =
     let size : length half ≡ length buffer = ap length e ∙ front-size text buffer in
     let left : length (drop n half) ≡ length half - n = length-drop n half in
@@ -71,7 +73,8 @@ module _ (number : ℕ) (run : Run) where
       rw (eq-eqb (run .refusal) 0 z, eq-eqb (run .length) 0 l) (e, (ea, omega (arith, e, nine)))
 
   pub run-lines : (buffer half after : List ℕ) (n m : ℕ) → run .refusal ≡ 0 → (run .length ≡ 0 → ⊥) → 32 ≤ length buffer
-      → n ≡ lengthIn (refusalText number) buffer → half ≡ textLeft (refusalText number) buffer → m ≡ length (linesText (run .place + 2) (run .place + run .length + 1)) → m ≤ 17
+      → n ≡ lengthIn (refusalText number) buffer → half ≡ textLeft (refusalText number) buffer
+      → m ≡ length (linesText (run .place + 2) (run .place + run .length + 1)) → m ≤ 17
       → after
       ≡ take n half
       ++ (textLeft (linesText (run .place + 2) (run .place + run .length + 1)) (take (length half - n) (drop n half)) ++ drop (length half - n) (drop n half))
@@ -84,11 +87,15 @@ module _ (number : ℕ) (run : Run) where
       let joined = length-append (refusalText number) lines in
       rw (eq-eqb (run .refusal) 0 z, ne-eqb (run .length) 0 l) (
         omega (arith, joined, counted, em),
-        (both-written (refusalText number) lines buffer half n counted (omega (arith, counted, few, em, bound, room)) written after e, omega (arith, counted, few, bound)),
+        (
+          both-written (refusalText number) lines buffer half n counted (omega (arith, counted, few, em, bound, room)) written after e,
+          omega (arith, counted, few, bound),
+        ),
       )
 
 -- ---- poses
-pub poses-printed : (poses : List Pose) (number : ℕ) (run : Run) → number ≡ Chain·number false poses → run ≡ shortestRun false poses → posesText poses ≡ runText number run
+pub poses-printed : (poses : List Pose) (number : ℕ) (run : Run) → number ≡ Chain·number false poses
+    → run ≡ shortestRun false poses → posesText poses ≡ runText number run
 unfolding posesText
 poses-printed poses number run en er = rw (en, er)
 

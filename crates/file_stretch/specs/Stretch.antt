@@ -1,5 +1,6 @@
--- What the program `stretch` prints for a move file: `stretchText`. 11 "precedes all others" (document 01) and is printed as the program `cover` prints it, and so is 12 of the chain; of any
--- other refused chain the number is followed by the lines of its shortest refused stretch (document 02). The box is not asked for. Definitions only.
+-- What the program `stretch` prints for a move file: `stretchText`. 11 "precedes all others" (document 01) and is printed as the program `cover`
+-- prints it, and so is 12 of the chain; of any other refused chain the number is followed by the lines of its shortest refused stretch (document 02).
+-- The box is not asked for. Definitions only.
 use Prim.Native.Nat.{ℕ, _+_}
 use mathlib.Core.Bool.{false, cond}
 use mathlib.Core.List.{List, [], _∷_, _++_}

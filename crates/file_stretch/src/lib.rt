@@ -117,8 +117,8 @@ fn put_file(bytes: &[u8], out: &mut [u8]) -> usize
     put_poses(&poses[..n], out)
 }
 
-// Writes what the program `stretch` prints for a file's bytes, `accepted`, or a refusal and the lines that it is met in, into the front of `out`, and gives the length of the text, at most
-// 32; where it doesn't fit, `out` is kept as it is and the answer is 0. Accuracy: exact.
+// Writes what the program `stretch` prints for a file's bytes, `accepted`, or a refusal and the lines that it is met in, into the front of `out`,
+// and gives the length of the text, at most 32; where it doesn't fit, `out` is kept as it is and the answer is 0. Accuracy: exact.
 pub fn stretch(bytes: &[u8], out: &mut [u8]) -> usize
     ensures value { λ r. ⌜ r ≡ lengthIn (stretchText (now (bytes .entry))) (now (out .entry)) ⌝ }
     ensures text { λ _. ⌜ now (out .exit) ≡ textLeft (stretchText (now (bytes .entry))) (now (out .entry)) ⌝ }

@@ -19,7 +19,8 @@ use Rattle.file_text.specs.Text.{linesText, fileText, MoveFile·text, Mo
 use Rattle.file_text.specs.Theorem.{MoveFile·Accepted}
 
 unfoldable reading : Unit {0}
-unfolding ascii split singleSpaced equal allValues fits valuesOf conforms keepsColumns hasPads keepsLayout poseOf MoveFile·read MoveFile·poses digitsOnly number digitValue ofBits
+unfolding ascii split singleSpaced equal allValues fits valuesOf conforms keepsColumns hasPads keepsLayout poseOf MoveFile·read MoveFile·poses digitsOnly number
+    digitValue ofBits
 reading = tt
 
 unfoldable computing : Unit {0}

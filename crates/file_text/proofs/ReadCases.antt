@@ -1,5 +1,5 @@
--- The layout's definition on files written out: `all-read` lists files that keep the layout, with no poses, one, two and three, and with pads, `all-depart` files that don't.
--- antt computes each.
+-- The layout's definition on files written out: `all-read` lists files that keep the layout, with no poses,
+-- one, two and three, and with pads, `all-depart` files that don't. antt computes each.
 use Prim.Native.String.{String, _++_}
 use mathlib.Core.Path.{_≡_, refl}
 use mathlib.Core.List.{List, [], _∷_, map}
@@ -9,7 +9,8 @@ use lib.Ieee.{Float, binary32, ofBits}
 use Rattle.hexadecimal.specs.Digit.{digitValue}
 use Rattle.hexadecimal.specs.Word.{digitsOnly, number}
 use Rattle.motion_file.specs.Text.{ascii, split, singleSpaced, equal}
-use Rattle.motion_file.specs.Layout.{allValues, fits, valuesOf, conforms, keepsColumns, hasPads, keepsLayout, poseOf, MoveFile·departs, MoveFile·read, MoveFile·poses}
+use Rattle.motion_file.specs.Layout.{allValues, fits, valuesOf, conforms, keepsColumns, hasPads}
+use Rattle.motion_file.specs.Layout.{keepsLayout, poseOf, MoveFile·departs, MoveFile·read, MoveFile·poses}
 use Rattle.motion_file.specs.declared.MoveFile.{MoveFile}
 
 -- a line of names, a pose that leaves everything in its place at time 0 and at time 1, a box from 1 2 3 to 4 5 6
@@ -35,7 +36,8 @@ abbrev floats : List ℕ → List Float
 floats ns = map (ofBits binary32) ns
 
 unfoldable computing : Unit {0}
-unfolding ascii split singleSpaced equal allValues fits valuesOf conforms keepsColumns hasPads keepsLayout poseOf MoveFile·read MoveFile·poses digitsOnly number digitValue
+unfolding ascii split singleSpaced equal allValues fits valuesOf conforms keepsColumns hasPads keepsLayout poseOf MoveFile·read MoveFile·poses digitsOnly number
+    digitValue
 computing = tt
 
 -- a file by its lines of poses; one by its last two lines
@@ -80,7 +82,8 @@ rows =
     }
     -- fourteen names
     ∷ record {
-      text = paddedNames ++ "00000000 3f800000 00000000 00000000 00000000 00000000 3f800000 00000000 00000000 00000000 00000000 3f800000 00000000 40000000\n" ++ boundsNames ++ bounds;
+      text = paddedNames ++ "00000000 3f800000 00000000 00000000 00000000 00000000 3f800000 00000000 00000000 00000000 00000000 3f800000 00000000 40000000\n"
+          ++ boundsNames ++ bounds;
       file = kept 1;
       poses = padded 0 0x40000000 ∷ [];
     }

@@ -23,7 +23,8 @@ use Rattle.built_poses.proofs.Lists.{entries-all, built-lists}
 use Rattle.motion_file.specs.Text.{lineFeed, split}
 use Rattle.motion_file.specs.declared.MoveFile.{MoveFile}
 use Rattle.motion_file.specs.Layout.{names, values, poseNames, paddedNames, boundsNames, layout, words, valueOf, allValues, fits, valuesOf, conforms, maxBytes}
-use Rattle.motion_file.specs.Layout.{poseLines, keepsColumns, hasPads, keepsLayout, MoveFile·departs, MoveFile·contents, bottomRow, poseOfValues, poseOf, MoveFile·read, MoveFile·poses}
+use Rattle.motion_file.specs.Layout.{poseLines, keepsColumns, hasPads, keepsLayout, MoveFile·departs}
+use Rattle.motion_file.specs.Layout.{MoveFile·contents, bottomRow, poseOfValues, poseOf, MoveFile·read, MoveFile·poses}
 use Rattle.motion_file.proofs.Shapes.{Shaped, AllShaped, poses-shaped}
 use Rattle.file_text.specs.Text.{poseColumns, poseValues, Chain·text, MoveFile·written}
 use Rattle.file_text.specs.RoundTrip.{Floats, TextHolds}
@@ -117,7 +118,8 @@ box-fits columns (suc n) (line ∷ lines) h =
     box-fits columns n lines
     (and-eq-true-iff (fits (values columns) line) (conforms (replicate n (values columns) ++ (names boundsNames ∷ values 6 ∷ [])) lines) .0 h .1)
 
-layout-box : (text : List ℕ) (columns n : ℕ) (lines : List (List ℕ)) → conforms (layout text columns n) lines ≡ true → fits (values 6) (getD lines (n + 2) []) ≡ true
+layout-box : (text : List ℕ) (columns n : ℕ) (lines : List (List ℕ))
+    → conforms (layout text columns n) lines ≡ true → fits (values 6) (getD lines (n + 2) []) ≡ true
 unfolding conforms
 layout-box text columns n [] h = absurd (false≢true h)
 layout-box text columns n (line ∷ lines) h =
@@ -153,7 +155,8 @@ bounds-held bytes = either (hasPads bytes)
     of-columns text columns =
         unfold keepsColumns in go text columns (leb (length bytes) maxBytes) (conforms (layout text columns (poseLines lines)) lines) refl
 
-    either : (b : Bool) → Floats 6 (cond (cond b (keepsColumns paddedNames 14 bytes) (keepsColumns poseNames 13 bytes)) (MoveFile·contents lines) MoveFile·departs .bounds)
+    either : (b : Bool)
+        → Floats 6 (cond (cond b (keepsColumns paddedNames 14 bytes) (keepsColumns poseNames 13 bytes)) (MoveFile·contents lines) MoveFile·departs .bounds)
     either true = of-columns paddedNames 14
     either false = of-columns poseNames 13
 
@@ -228,7 +231,10 @@ box-list l h = entries-all l 6 0 (omega (arith, h)) ∙ take-all 6 l (omega (ari
 pub accepted-written : (f : List ℕ) (c : Chain) → AcceptedWritten f c
 unfolding Chain·text MoveFile·written
 accepted-written f c a =
-    rw (built-lists false (MoveFile·poses f) c (held-places (MoveFile·poses f) (poses-held f)) (a .chain), box-list (MoveFile·read f .bounds) (bounds-held f .count))
+    rw (
+      built-lists false (MoveFile·poses f) c (held-places (MoveFile·poses f) (poses-held f)) (a .chain),
+      box-list (MoveFile·read f .bounds) (bounds-held f .count),
+    )
 
 pub same-bits : (f g : List ℕ) → SameBits f g
 same-bits f g c d a b = rw (accepted-written f c a, accepted-written g d b) (same-written f g)

@@ -23,7 +23,8 @@ use Rattle.chain_poses.specs.Poses.{Poses·ofLists}
 use Rattle.built_poses.specs.Poses.{placesPerPose, Chain·poses, Poses·lists}
 use Rattle.built_poses.proofs.Lists.{built-lists, poses-count}
 use Rattle.motion_file.specs.Text.{ascii, lineFeed, split, singleSpaced}
-use Rattle.motion_file.specs.Layout.{names, values, paddedNames, boundsNames, layout, conforms, fits, maxBytes, keepsColumns, hasPads, keepsLayout, valuesOf, poseOfValues, poseOf}
+use Rattle.motion_file.specs.Layout.{names, values, paddedNames, boundsNames, layout, conforms, fits, maxBytes}
+use Rattle.motion_file.specs.Layout.{keepsColumns, hasPads, keepsLayout, valuesOf, poseOfValues, poseOf}
 use Rattle.motion_file.specs.Layout.{MoveFile·read, MoveFile·poses}
 use Rattle.file_text.specs.Text.{poseColumns, poseValues, fileText, MoveFile·text, Chain·text}
 use Rattle.file_text.specs.RoundTrip.{Floats, NamesLine, TextHolds}

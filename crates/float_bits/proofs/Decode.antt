@@ -1,11 +1,12 @@
--- A float's significand and exponent: they are the magnitude exactly (`decode-exact`), and the float's value with its sign (`decode-value`; of a float above zero
--- `decode-positive`). The significand has at most 24 digits (`significand-lt`), all 24 where the exponent is above 0 (`significand-normal`), and is above 0 with the float
--- (`significand-pos`); the exponent is at most 253 (`exponent-le`). Rests on lib.Ieee's `fits`: such a float is a whole number of units.
+-- A float's significand and exponent: they are the magnitude exactly (`decode-exact`), and the float's value with its sign (`decode-value`; of a float above
+-- zero `decode-positive`). The significand has at most 24 digits (`significand-lt`), all 24 where the exponent is above 0 (`significand-normal`), and is above
+-- 0 with the float (`significand-pos`); the exponent is at most 253 (`exponent-le`). Rests on lib.Ieee's `fits`: such a float is a whole number of units.
 use mathlib.Core.Path.{_≡_, refl, sym, ap, _∙_, subst}
 use mathlib.Core.Logic.{_⊎_, inl, inr}
 use mathlib.Core.Bool.{Bool, true, false, _&&_}
 use Prim.Native.Nat.{ℕ, zero, suc, _+_, _-_, _*_, _/_, _%_, _^_, _≤_, _<_}
-use native.Mathlib.Nat.{sub-add-cancel, div-lt-iff-lt-mul, le-trans, le-of-eq, lt-of-lt-of-le, lt-of-le-of-lt, le-of-suc-le-suc, eq-zero-or-pos, mul-one, one-mul, mul-assoc, mul-right-comm, mul-lt-mul-of-pos-right, mul-pos, mul-div-cancel, le-div-iff-mul-le, zero-mul}
+use native.Mathlib.Nat.{sub-add-cancel, div-lt-iff-lt-mul, le-trans, le-of-eq, lt-of-lt-of-le, lt-of-le-of-lt, le-of-suc-le-suc, eq-zero-or-pos}
+use native.Mathlib.Nat.{mul-one, one-mul, mul-assoc, mul-right-comm, mul-lt-mul-of-pos-right, mul-pos, mul-div-cancel, le-div-iff-mul-le, zero-mul}
 use native.Mathlib.Omega.{arith}
 use lib.IntN.{ℤ, pos, negsuc}
 use lib.Dec.{T, leb, ltb, eqb, leb→le, ltb→lt, eqb→eq, lit≤, lit<}
@@ -73,7 +74,8 @@ module _ (s : Bool) (m : ℕ) (e : ℤ) (f : T (fits binary32 (fin s m e))) wher
   unfolding magnitude
   units-lt =
       div-lt-iff-lt-mul (down-pos e) .1
-      (lt-of-lt-of-le (mul-lt-mul-of-pos-right (under-top s m e f) (pow-pos 149)) (le-of-eq (mul-right-comm (2 ^ 128) (down e) (2 ^ 149) ∙ ap (λ (x : ℕ). x * down e) (sym (pow-add 2 128 149)))))
+      (lt-of-lt-of-le (mul-lt-mul-of-pos-right (under-top s m e f) (pow-pos 149))
+      (le-of-eq (mul-right-comm (2 ^ 128) (down e) (2 ^ 149) ∙ ap (λ (x : ℕ). x * down e) (sym (pow-add 2 128 149)))))
 
   -- m has 24 digits at most, so that no more than the j zeros after it are dropped
   dropped-le : exponent (fin s m e) ≤ j
@@ -89,7 +91,8 @@ module _ (s : Bool) (m : ℕ) (e : ℤ) (f : T (fits binary32 (fin s m e))) wher
   dropped-zeros : magnitude (fin s m e) / 2 ^ exponent (fin s m e) * 2 ^ exponent (fin s m e) ≡ magnitude (fin s m e)
   dropped-zeros =
       let k = exponent (fin s m e) in
-      let n : magnitude (fin s m e) ≡ m * 2 ^ (j - k) * 2 ^ k = whole-units ∙ ap (λ (x : ℕ). m * 2 ^ x) (sym (sub-add-cancel dropped-le)) ∙ ap (λ (x : ℕ). m * x) (pow-add 2 (j - k) k) ∙ sym (mul-assoc m (2 ^ (j - k)) (2 ^ k)) in
+      let n : magnitude (fin s m e) ≡ m * 2 ^ (j - k) * 2 ^ k = whole-units ∙ ap (λ (x : ℕ). m * 2 ^ x) (sym (sub-add-cancel dropped-le))
+      ∙ ap (λ (x : ℕ). m * x) (pow-add 2 (j - k) k) ∙ sym (mul-assoc m (2 ^ (j - k)) (2 ^ k)) in
       ap (λ (x : ℕ). x / 2 ^ k * 2 ^ k) n ∙ ap (λ (x : ℕ). x * 2 ^ k) (mul-div-cancel (m * 2 ^ (j - k)) (pow-pos k)) ∙ sym n
 
 -- ---- the laws of the parts
@@ -134,13 +137,16 @@ negative-positive (inf s) p = absurd p
 negative-positive (fin true m e) p = absurd p
 negative-positive (fin false m e) p = refl
 
-pub decode-positive : (x : Float) → T (fits binary32 x) → T (positive x) → HasValue x false (integerDecode x .significand * 2 ^ integerDecode x .exponent) (2 ^ 149)
+pub decode-positive : (x : Float) → T (fits binary32 x) → T (positive x)
+    → HasValue x false (integerDecode x .significand * 2 ^ integerDecode x .exponent) (2 ^ 149)
 decode-positive x f p =
-    subst (λ (n : Bool). HasValue x n (integerDecode x .significand * 2 ^ integerDecode x .exponent) (2 ^ 149)) (negative-positive x p) (decode-value x f (positive-finite x p))
+    subst (λ (n : Bool). HasValue x n (integerDecode x .significand * 2 ^ integerDecode x .exponent) (2 ^ 149))
+    (negative-positive x p) (decode-value x f (positive-finite x p))
 
 pub significand-pos : (x : Float) → T (fits binary32 x) → T (positive x) → 0 < integerDecode x .significand
 significand-pos x f p =
-    first-pos (integerDecode x .significand) (2 ^ integerDecode x .exponent) (value-pos x (integerDecode x .significand * 2 ^ integerDecode x .exponent) (2 ^ 149) p (pow-pos 149) (decode-positive x f p))
+    first-pos (integerDecode x .significand) (2 ^ integerDecode x .exponent)
+    (value-pos x (integerDecode x .significand * 2 ^ integerDecode x .exponent) (2 ^ 149) p (pow-pos 149) (decode-positive x f p))
 
 -- ---- the digits
 pub significand-lt : (x : Float) → integerDecode x .significand < 2 ^ 24

@@ -1,5 +1,6 @@
 -- The bits of a float, read as sign, exponent's field and digits, give its parts: `decode-infinite` (a field of all ones), `decode-subnormal` (a field of 0),
--- `decode-normal` (any other), and `decode-nan` beside them. Rests on the bits being exponent * 2 ^ 23 + significand under the sign (`finite-bits`), and on the bounds of `Decode`.
+-- `decode-normal` (any other), and `decode-nan` beside them. Rests on the bits being exponent * 2 ^ 23 + significand under the sign (`finite-bits`),
+-- and on the bounds of `Decode`.
 use mathlib.Core.Path.{_≡_, refl, sym, subst}
 use mathlib.Core.Logic.{inl, inr}
 use mathlib.Core.Bool.{Bool, true, false, cond, true≢false}
@@ -112,7 +113,8 @@ decode-subnormal (inf s) f n h = absurd (omega (arith, infinite-field s, h))
 decode-subnormal (fin s m e) f n h = subnormal s m e f h
 
 pub decode-normal : (x : Float) → fits binary32 x ≡ true → ne x x ≡ false → (field (toBits binary32 x) ≡ 255 → ⊥) → (field (toBits binary32 x) ≡ 0 → ⊥)
-    → record { negative = sign (toBits binary32 x); significand = hid binary32 + digits (toBits binary32 x); exponent = field (toBits binary32 x) - 1 } ≡ integerDecode x
+    → record { negative = sign (toBits binary32 x); significand = hid binary32 + digits (toBits binary32 x); exponent = field (toBits binary32 x) - 1 }
+    ≡ integerDecode x
 unfolding ne
 decode-normal nan f n g h = absurd (true≢false n)
 decode-normal (inf s) f n g h = absurd (g (infinite-field s))

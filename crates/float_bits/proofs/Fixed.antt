@@ -4,7 +4,8 @@
 use mathlib.Core.Path.{_≡_, refl, sym, ap, _∙_, subst}
 use mathlib.Core.Bool.{Bool, false, not}
 use Prim.Native.Nat.{ℕ, suc, _+_, _-_, _*_, _/_, _%_, _^_, _≤_, _<_, compare, Ordering, Ordering·lt, Ordering·eq, Ordering·gt}
-use native.Mathlib.Nat.{le-trans, le-of-eq, lt-of-lt-of-le, mul-le-mul-right, mul-lt-mul-of-pos-right, mul-pos, le-div-iff-mul-le, div-lt-iff-lt-mul, mod-eq-of-lt, zero-mul, zero-lt-suc, add-sub-cancel-left}
+use native.Mathlib.Nat.{le-trans, le-of-eq, lt-of-lt-of-le, mul-le-mul-right, mul-lt-mul-of-pos-right, mul-pos}
+use native.Mathlib.Nat.{le-div-iff-mul-le, div-lt-iff-lt-mul, mod-eq-of-lt, zero-mul, zero-lt-suc, add-sub-cancel-left}
 use native.Mathlib.Omega.{arith}
 use lib.Dec.{T, ltb, ltb→lt, not-T, lit≤}
 use lib.Pow.{pow-add, pow-pos}
@@ -47,7 +48,8 @@ module _ (n d z y : ℕ) (e : z + suc y ≡ 64) (lo : 2 ^ y ≤ n) (hi : n < 2 ^
   wide-lo = le-trans (le-of-eq (ap (λ (x : ℕ). 2 ^ x) (let p : 63 ≡ y + z = omega arith in p) ∙ pow-add 2 y z)) (mul-le-mul-right (2 ^ z) lo)
 
   wide-hi : n * 2 ^ z < 2 ^ 64
-  wide-hi = lt-of-lt-of-le (mul-lt-mul-of-pos-right hi (pow-pos z)) (le-of-eq (sym (pow-add 2 (suc y) z) ∙ ap (λ (x : ℕ). 2 ^ x) (let p : suc y + z ≡ 64 = omega arith in p)))
+  wide-hi = lt-of-lt-of-le (mul-lt-mul-of-pos-right hi (pow-pos z))
+      (le-of-eq (sym (pow-add 2 (suc y) z) ∙ ap (λ (x : ℕ). 2 ^ x) (let p : suc y + z ≡ 64 = omega arith in p)))
 
   q : ℕ
   q = closest (n * 2 ^ z) (2 ^ 40)
@@ -70,8 +72,10 @@ module _ (n d z y : ℕ) (e : z + suc y ≡ 64) (lo : 2 ^ y ≤ n) (hi : n < 2 ^
   fraction-size : size (n * 2 ^ 149 / 2 ^ d) ≡ 24 + k
   fraction-size =
       size-exact 23 (n * 2 ^ 149 / 2 ^ d) k
-      (le-div-iff-mul-le (pow-pos d) .1 (le-trans (le-of-eq (sym (pow-add 2 (23 + k) d) ∙ ap (λ (x : ℕ). 2 ^ x) low-place ∙ pow-add 2 y 149)) (mul-le-mul-right (2 ^ 149) lo)))
-      (div-lt-iff-lt-mul (pow-pos d) .1 (lt-of-lt-of-le (mul-lt-mul-of-pos-right hi (pow-pos 149)) (le-of-eq (sym (pow-add 2 (suc y) 149) ∙ ap (λ (x : ℕ). 2 ^ x) (sym high-place) ∙ pow-add 2 (24 + k) d))))
+      (le-div-iff-mul-le (pow-pos d) .1
+      (le-trans (le-of-eq (sym (pow-add 2 (23 + k) d) ∙ ap (λ (x : ℕ). 2 ^ x) low-place ∙ pow-add 2 y 149)) (mul-le-mul-right (2 ^ 149) lo)))
+      (div-lt-iff-lt-mul (pow-pos d) .1 (lt-of-lt-of-le (mul-lt-mul-of-pos-right hi (pow-pos 149))
+      (le-of-eq (sym (pow-add 2 (suc y) 149) ∙ ap (λ (x : ℕ). 2 ^ x) (sym high-place) ∙ pow-add 2 (24 + k) d))))
     where
       low-place : 23 + k + d ≡ y + 149
       low-place = unfold k in omega arith
@@ -96,14 +100,16 @@ module _ (n d z y : ℕ) (e : z + suc y ≡ 64) (lo : 2 ^ y ≤ n) (hi : n < 2 ^
   round-units =
       round-is binary32 false n (2 ^ d)
       ∙ ap (λ (x : ℕ). units binary32 false (closest (n * 2 ^ 149) (2 ^ d * 2 ^ x)) x) (ap (λ (x : ℕ). x - 24) fraction-size ∙ add-sub-cancel-left 24 k)
-      ∙ ap (λ (x : ℕ). units binary32 false x k) (closest-same (n * 2 ^ 149) (2 ^ d * 2 ^ k) (n * 2 ^ z) (2 ^ 40) (mul-pos (pow-pos d) (pow-pos k)) (pow-pos 40) same-fraction)
+      ∙ ap (λ (x : ℕ). units binary32 false x k)
+      (closest-same (n * 2 ^ 149) (2 ^ d * 2 ^ k) (n * 2 ^ z) (2 ^ 40) (mul-pos (pow-pos d) (pow-pos k)) (pow-pos 40) same-fraction)
 
   pattern : Pattern n d (k * hid binary32 + q)
   pattern =
       let x = round binary32 false n (2 ^ d) in
       record {
         below = let h = k-le in let l = q-hi in omega arith;
-        is = ap (ofBits binary32) (sym (ap (toBits binary32) round-units ∙ units-bits q k q-lo q-hi (le-trans k-le (lit≤ tt)))) ∙ ofBits-toBits binary32 x (round-fits binary32 false n (2 ^ d));
+        is = ap (ofBits binary32) (sym (ap (toBits binary32) round-units ∙ units-bits q k q-lo q-hi (le-trans k-le (lit≤ tt))))
+            ∙ ofBits-toBits binary32 x (round-fits binary32 false n (2 ^ d));
       }
 
   moved : (r : ℕ) → r ≡ closest (n * 2 ^ z % 2 ^ 64) (2 ^ 40) → (r ≤ 2 ^ 24) × Pattern n d ((189 - z - d) * hid binary32 + r)
@@ -132,4 +138,5 @@ fixed-zero d = unsigned ∙ sym (round-same binary32 false 0 (2 ^ d) 0 1 (pow-po
 pub pattern-number : (b : ℕ) → b < infinityBits → T (not (nanBits binary32 b))
 pattern-number b h =
     subst (λ (b : Bool). T (not b)) (sym (nanBits-above binary32 b))
-    (not-T (ltb infinityBits (b % top binary32)) (λ (t : T (ltb infinityBits (b % top binary32))). absurd (let l = ltb→lt infinityBits (b % top binary32) t in omega arith)))
+    (not-T (ltb infinityBits (b % top binary32))
+    (λ (t : T (ltb infinityBits (b % top binary32))). absurd (let l = ltb→lt infinityBits (b % top binary32) t in omega arith)))

@@ -1,5 +1,6 @@
 -- The first number met stands, in every formula: a number met before decides nothing but the number (`expr-carries`, `program-carries`).
--- So one that is 0 at the end was 0 all along (`expr-zero`, `program-zero`), and one that is not 0 is handed on (`program-stands`). Rests on the operations' laws of `interval`.
+-- So one that is 0 at the end was 0 all along (`expr-zero`, `program-zero`), and one that is not 0 is handed on (`program-stands`).
+-- Rests on the operations' laws of `interval`.
 use mathlib.Core.Path.{_≡_, sym, ap, _∙_}
 use Prim.Native.Nat.{ℕ}
 use mathlib.Core.List.{List, [], _∷_, _++_}
@@ -11,7 +12,8 @@ use Rattle.interval.specs.declared.Judged.{Judged}
 use Rattle.interval.specs.Interval.{Interval·point}
 use Rattle.interval.specs.Extension.{carry, Carries₁, Carries₂}
 use Rattle.interval.proofs.Refusal.{add-carries, sub-carries, mul-carries, div-carries, sqrt-carries, sin-carries, cos-carries}
-use Rattle.formula.specs.Program.{Binary, sum, difference, product, quotient, Unary, root, sine, cosine, Expr, var, con, binary, unary, Program, _>>=_, give}
+use Rattle.formula.specs.Program.{Binary, sum, difference, product, quotient, Unary, root, sine}
+use Rattle.formula.specs.Program.{cosine, Expr, var, con, binary, unary, Program, _>>=_, give}
 use Rattle.formula.specs.Enclose.{Binary·enclose, Unary·enclose, Expr·enclose, Enclosure, enclosure, Expr·encloseAll, extend, Program·enclose, unbound}
 
 -- ---- one operation
@@ -84,7 +86,8 @@ all-carries m σ (e ∷ es) = go (Expr·enclose m σ e) (expr-carries m σ e) (�
   where
     go : (p : Judged) → p ≡ carry m (Expr·enclose 0 σ e) → ((n : ℕ) → Expr·encloseAll n σ es ≡ carryAll n (Expr·encloseAll 0 σ es))
         → enclosure (Expr·encloseAll (p .refusal) σ es .refusal) (p .interval ∷ Expr·encloseAll (p .refusal) σ es .intervals)
-        ≡ carryAll m (enclosure (Expr·encloseAll (Expr·enclose 0 σ e .refusal) σ es .refusal) (Expr·enclose 0 σ e .interval ∷ Expr·encloseAll (Expr·enclose 0 σ e .refusal) σ es .intervals))
+        ≡ carryAll m (enclosure (Expr·encloseAll (Expr·enclose 0 σ e .refusal) σ es .refusal)
+        (Expr·enclose 0 σ e .interval ∷ Expr·encloseAll (Expr·enclose 0 σ e .refusal) σ es .intervals))
     go p h k = let r = Expr·enclose 0 σ e .refusal in rw (h, k (firstRefusal m r), k r, first-assoc m r (Expr·encloseAll 0 σ es .refusal))
 
 pub program-carries : (m : ℕ) (σ : List Interval) (p : Program) → Program·enclose (enclosure m σ) p ≡ carryAll m (Program·enclose (enclosure 0 σ) p)
@@ -93,7 +96,8 @@ program-carries m σ (give es) = all-carries m σ es
 program-carries m σ (e >>= k) = go (Expr·enclose m σ e) (expr-carries m σ e) (λ n τ. program-carries n τ (k (var (length σ))))
   where
     go : (p : Judged) → p ≡ carry m (Expr·enclose 0 σ e)
-        → ((n : ℕ) (τ : List Interval) → Program·enclose (enclosure n τ) (k (var (length σ))) ≡ carryAll n (Program·enclose (enclosure 0 τ) (k (var (length σ)))))
+        → ((n : ℕ) (τ : List Interval)
+        → Program·enclose (enclosure n τ) (k (var (length σ))) ≡ carryAll n (Program·enclose (enclosure 0 τ) (k (var (length σ)))))
         → Program·enclose (extend σ p) (k (var (length σ))) ≡ carryAll m (Program·enclose (extend σ (Expr·enclose 0 σ e)) (k (var (length σ))))
     go p h g =
         let r = Expr·enclose 0 σ e .refusal in

@@ -13,9 +13,11 @@ use Rattle.interval.specs.Extension.{Extends₁, Extends₂}
 use Rattle.interval.proofs.Contains.{point-encloses}
 use Rattle.interval.proofs.Extends.{add-extends, sub-extends, mul-extends, div-extends, sqrt-extends}
 use Rattle.interval.proofs.Angles.{sin-extends, cos-extends}
-use Rattle.formula.specs.Program.{Binary, sum, difference, product, quotient, Unary, root, sine, cosine, Expr, var, con, binary, unary, Program, _>>=_, give}
+use Rattle.formula.specs.Program.{Binary, sum, difference, product, quotient, Unary, root, sine}
+use Rattle.formula.specs.Program.{cosine, Expr, var, con, binary, unary, Program, _>>=_, give}
 use Rattle.formula.specs.Eval.{Binary·eval, Unary·eval, Expr·eval, Expr·evalAll, Program·eval}
-use Rattle.formula.specs.Enclose.{Binary·enclose, Unary·enclose, unbound, Expr·enclose, Enclosure, Expr·encloseAll, extend, Program·enclose, Unary·valid, Expr·valid, Expr·validAll, Program·valid}
+use Rattle.formula.specs.Enclose.{Binary·enclose, Unary·enclose, unbound, Expr·enclose, Enclosure, Expr·encloseAll}
+use Rattle.formula.specs.Enclose.{extend, Program·enclose, Unary·valid, Expr·valid, Expr·validAll, Program·valid}
 use Rattle.formula.specs.Promise.{Pairwise, EnclosesAll}
 use Rattle.formula.proofs.Pairwise.{pairwise-length, pairwise-getD, pairwise-append}
 use Rattle.formula.proofs.Carries.{binary-zero, unary-zero, expr-zero, all-zero, program-zero}
@@ -63,7 +65,8 @@ all-extend m σ ρ (e ∷ es) v a h =
     (expr-extends m σ ρ e (and-l L R v) a (all-zero n σ es h), all-extend n σ ρ es (and-r L R v) a h)
 
 -- Where nothing is refused, each output encloses its value, whatever the inputs contain.
-pub program-extends : (p : Program) (c : Enclosure) (ρ : List Float) → T (Program·valid c p) → EnclosesAll c ρ → EnclosesAll (Program·enclose c p) (Program·eval ρ p)
+pub program-extends : (p : Program) (c : Enclosure) (ρ : List Float) → T (Program·valid c p)
+    → EnclosesAll c ρ → EnclosesAll (Program·enclose c p) (Program·eval ρ p)
 unfolding Program·enclose
 program-extends (give es) c ρ v a h = all-extend (c .refusal) (c .intervals) ρ es v (a (all-zero (c .refusal) (c .intervals) es h)) h
 program-extends (e >>= k) c ρ v a h =

@@ -12,8 +12,10 @@ use Rattle.interval.specs.Extension.{Narrower, Isotone₁, Isotone₂}
 use Rattle.interval.proofs.Contains.{point-refines}
 use Rattle.interval.proofs.Isotone.{add-isotone, sub-isotone, mul-isotone, div-isotone, sqrt-isotone}
 use Rattle.interval.proofs.Angles.{sin-isotone, cos-isotone}
-use Rattle.formula.specs.Program.{Binary, sum, difference, product, quotient, Unary, root, sine, cosine, Expr, var, con, binary, unary, Program, _>>=_, give}
-use Rattle.formula.specs.Enclose.{Binary·enclose, Unary·enclose, unbound, Expr·enclose, Enclosure, Expr·encloseAll, extend, Program·enclose, Unary·valid, Expr·valid, Expr·validAll, Program·valid}
+use Rattle.formula.specs.Program.{Binary, sum, difference, product, quotient, Unary, root, sine}
+use Rattle.formula.specs.Program.{cosine, Expr, var, con, binary, unary, Program, _>>=_, give}
+use Rattle.formula.specs.Enclose.{Binary·enclose, Unary·enclose, unbound, Expr·enclose, Enclosure, Expr·encloseAll}
+use Rattle.formula.specs.Enclose.{extend, Program·enclose, Unary·valid, Expr·valid, Expr·validAll, Program·valid}
 use Rattle.formula.specs.Promise.{Pairwise, NarrowerAll}
 use Rattle.formula.proofs.Pairwise.{pairwise-length, pairwise-getD, pairwise-append}
 use Rattle.formula.proofs.Carries.{binary-zero, unary-zero, expr-zero, all-zero, program-zero}
@@ -90,6 +92,7 @@ program-isotone (e >>= k) c c' v a h =
     let (z, i) = a (expr-zero m' σ' e zj) in
     let n = expr-isotone m m' σ σ' e (and-l L R v) i z zj in
     let o' = Program·enclose (extend σ' j') rest in
-    subst (λ (n : ℕ). let o = Program·enclose (extend σ j) (k (var n)) in (o .refusal ≡ 0) × Pairwise Refines (o .intervals) (o' .intervals)) (sym (pairwise-length Refines σ σ' i))
+    subst (λ (n : ℕ). let o = Program·enclose (extend σ j) (k (var n)) in
+    (o .refusal ≡ 0) × Pairwise Refines (o .intervals) (o' .intervals)) (sym (pairwise-length Refines σ σ' i))
     (program-isotone (k (var (length σ'))) (extend σ j) (extend σ' j') (and-r L R v)
     (λ zj. (n .accepted, pairwise-append Refines σ (j .interval ∷ []) σ' (j' .interval ∷ []) i (n .refines, tt))) h)

@@ -9,11 +9,14 @@ use lib.Ieee.{Float, nan}
 use lib.Ieee.Fits.{and-l, and-r}
 use Rattle.interval.specs.declared.Interval.{Interval}
 use Rattle.interval.specs.Interval.{Interval·point}
-use Rattle.interval.specs.Enclosure.{Judged·judge, Judged·addEnclosure, Judged·subEnclosure, Judged·mulEnclosure, Judged·divEnclosure, Judged·sqrtEnclosure, Judged·sinEnclosure, Judged·cosEnclosure}
+use Rattle.interval.specs.Enclosure.{Judged·judge, Judged·addEnclosure, Judged·subEnclosure, Judged·mulEnclosure}
+use Rattle.interval.specs.Enclosure.{Judged·divEnclosure, Judged·sqrtEnclosure, Judged·sinEnclosure, Judged·cosEnclosure}
 use Rattle.interval.proofs.Points.{add-point, sub-point, mul-point, div-point, sqrt-point, point-angle, sin-point, cos-point}
-use Rattle.formula.specs.Program.{Binary, sum, difference, product, quotient, Unary, root, sine, cosine, Expr, var, con, binary, unary, Program, _>>=_, give}
+use Rattle.formula.specs.Program.{Binary, sum, difference, product, quotient, Unary, root, sine}
+use Rattle.formula.specs.Program.{cosine, Expr, var, con, binary, unary, Program, _>>=_, give}
 use Rattle.formula.specs.Eval.{Binary·eval, Unary·eval, Expr·eval, Expr·evalAll, Program·eval}
-use Rattle.formula.specs.Enclose.{Binary·enclose, Unary·enclose, Expr·enclose, Enclosure, enclosure, Expr·encloseAll, extend, Program·enclose, Unary·valid, Expr·valid, Expr·validAll, Program·valid}
+use Rattle.formula.specs.Enclose.{Binary·enclose, Unary·enclose, Expr·enclose, Enclosure, enclosure, Expr·encloseAll}
+use Rattle.formula.specs.Enclose.{extend, Program·enclose, Unary·valid, Expr·valid, Expr·validAll, Program·valid}
 
 abbrev points : List Float → List Interval
 points ρ = map Interval·point ρ
@@ -51,7 +54,8 @@ expr-point m ρ (unary o a) v =
     ap (λ (X : Interval). Unary·enclose o (p .refusal) X .interval) e
     ∙ unary-point o (p .refusal) (Expr·eval ρ a) (subst (λ (X : Interval). T (Unary·valid o X)) e (and-r L R v))
 
-all-point : (m : ℕ) (ρ : List Float) (es : List Expr) → T (Expr·validAll m (points ρ) es) → Expr·encloseAll m (points ρ) es .intervals ≡ points (Expr·evalAll ρ es)
+all-point : (m : ℕ) (ρ : List Float) (es : List Expr) → T (Expr·validAll m (points ρ) es)
+    → Expr·encloseAll m (points ρ) es .intervals ≡ points (Expr·evalAll ρ es)
 unfolding Expr·encloseAll
 all-point m ρ [] v = refl
 all-point m ρ (e ∷ es) v =

@@ -13,16 +13,19 @@ use Rattle.interval.specs.declared.Interval.{Interval}
 use Rattle.interval.specs.Contains.{Encloses}
 use Rattle.interval.proofs.Contains.{contains-finite}
 use Rattle.interval.proofs.Extends.{divisor-positive, rooted-positive}
-use Rattle.formula.specs.Program.{Binary, sum, difference, product, quotient, Unary, root, sine, cosine, Expr, var, con, binary, unary, Program, _>>=_, give}
+use Rattle.formula.specs.Program.{Binary, sum, difference, product, quotient, Unary, root, sine}
+use Rattle.formula.specs.Program.{cosine, Expr, var, con, binary, unary, Program, _>>=_, give}
 use Rattle.formula.specs.Eval.{Expr·eval}
-use Rattle.formula.specs.Enclose.{Binary·enclose, Unary·enclose, Expr·enclose, Enclosure, Expr·encloseAll, extend, Program·enclose, Unary·valid, Expr·valid, Expr·validAll, Program·valid}
+use Rattle.formula.specs.Enclose.{Binary·enclose, Unary·enclose, Expr·enclose, Enclosure, Expr·encloseAll}
+use Rattle.formula.specs.Enclose.{extend, Program·enclose, Unary·valid, Expr·valid, Expr·validAll, Program·valid}
 use Rattle.formula.specs.Promise.{Pairwise, EnclosesAll}
 use Rattle.formula.specs.Regular.{Binary·regular, Unary·regular, Expr·regular, Expr·regularAll, Program·regular}
 use Rattle.formula.proofs.Pairwise.{pairwise-length, pairwise-append}
 use Rattle.formula.proofs.Carries.{binary-zero, unary-zero, expr-zero, all-zero, program-zero}
 use Rattle.formula.proofs.Extends.{expr-extends}
 
-binary-regular : (o : Binary) (m : ℕ) {X Y : Interval} {x y : Float} → Encloses X x → Encloses Y y → Binary·enclose o m X Y .refusal ≡ 0 → T (Binary·regular o x y)
+binary-regular : (o : Binary) (m : ℕ) {X Y : Interval} {x y : Float} → Encloses X x
+    → Encloses Y y → Binary·enclose o m X Y .refusal ≡ 0 → T (Binary·regular o x y)
 binary-regular sum m i j h = tt
 binary-regular difference m i j h = tt
 binary-regular product m i j h = tt

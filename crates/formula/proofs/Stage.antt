@@ -1,4 +1,5 @@
--- For stages that hand structs on: what a struct lists is what it was filled from (`stage-is`), so that `stage-extends` and `stage-isotone` are the promises from struct to struct.
+-- For stages that hand structs on: what a struct lists is what it was filled from (`stage-is`),
+-- so that `stage-extends` and `stage-isotone` are the promises from struct to struct.
 use mathlib.Core.Path.{_≡_, refl, sym, ap, ap₂, _∙_, subst, subst₂}
 use Prim.Native.Nat.{ℕ, suc}
 use mathlib.Core.List.{List, [], _∷_, _++_, append-assoc}
@@ -47,7 +48,8 @@ stage-is c p =
     let τ = Program·enclose c p .intervals in
     ap (enclosure (Program·enclose c p .refusal)) (subst (λ (n : ℕ). fields 0 n τ ≡ τ) (program-length p c) (fields-append [] τ))
 
-pub stage-extends : (p : Program) (c : Enclosure) (ρ : List Float) → T (Program·valid c p) → EnclosesAll c ρ → EnclosesAll (Program·stage c p) (Program·eval ρ p)
+pub stage-extends : (p : Program) (c : Enclosure) (ρ : List Float) → T (Program·valid c p)
+    → EnclosesAll c ρ → EnclosesAll (Program·stage c p) (Program·eval ρ p)
 stage-extends p c ρ v a = subst (λ (o : Enclosure). EnclosesAll o (Program·eval ρ p)) (sym (stage-is c p)) (program-extends p c ρ v a)
 
 pub stage-isotone : (p : Program) (c c' : Enclosure) → T (Program·valid c' p) → NarrowerAll c c' → NarrowerAll (Program·stage c p) (Program·stage c' p)

@@ -24,23 +24,27 @@ expr-stops σ (con x) = refl
 expr-stops σ (binary o a b) = first (Expr·enclose 0 σ a) (expr-stops σ a) (expr-stops σ b)
   where
     second : (X : Interval) (q : Judged) → Judged·outcome q ≡ Expr·encloseOrStop σ b
-        → Judged·outcome (Binary·enclose o (q .refusal) X (q .interval)) ≡ andThen (Expr·encloseOrStop σ b) (λ (Y : Interval). Judged·outcome (Binary·enclose o 0 X Y))
+        → Judged·outcome (Binary·enclose o (q .refusal) X (q .interval))
+        ≡ andThen (Expr·encloseOrStop σ b) (λ (Y : Interval). Judged·outcome (Binary·enclose o 0 X Y))
     second X q h =
         let r = Binary·enclose o (q .refusal) X (q .interval) in
         chain (q .interval) (q .refusal) (Expr·encloseOrStop σ b) (λ (Y : Interval). Judged·outcome (Binary·enclose o 0 X Y)) (r .interval) (r .refusal) h
         (λ z. rw z) (binary-stands o (q .refusal) X (q .interval))
 
     first : (p : Judged) → Judged·outcome p ≡ Expr·encloseOrStop σ a → Judged·outcome (Expr·enclose 0 σ b) ≡ Expr·encloseOrStop σ b
-        → Judged·outcome (Binary·enclose o (Expr·enclose (p .refusal) σ b .refusal) (p .interval) (Expr·enclose (p .refusal) σ b .interval)) ≡ Expr·encloseOrStop σ (binary o a b)
+        → Judged·outcome (Binary·enclose o (Expr·enclose (p .refusal) σ b .refusal) (p .interval) (Expr·enclose (p .refusal) σ b .interval))
+        ≡ Expr·encloseOrStop σ (binary o a b)
     first p h g =
         let q = Expr·enclose (p .refusal) σ b in
         let r = Binary·enclose o (q .refusal) (p .interval) (q .interval) in
-        chain (p .interval) (p .refusal) (Expr·encloseOrStop σ a) (λ (X : Interval). andThen (Expr·encloseOrStop σ b) (λ (Y : Interval). Judged·outcome (Binary·enclose o 0 X Y))) (r .interval) (r .refusal) h
+        chain (p .interval) (p .refusal) (Expr·encloseOrStop σ a)
+        (λ (X : Interval). andThen (Expr·encloseOrStop σ b) (λ (Y : Interval). Judged·outcome (Binary·enclose o 0 X Y))) (r .interval) (r .refusal) h
         (λ z. second (p .interval) q (rw z g))
         (λ n. let e : q .refusal ≡ p .refusal = expr-stands (p .refusal) σ b n in binary-stands o (q .refusal) (p .interval) (q .interval) (rw e n) ∙ e)
 expr-stops σ (unary o a) = first (Expr·enclose 0 σ a) (expr-stops σ a)
   where
-    first : (p : Judged) → Judged·outcome p ≡ Expr·encloseOrStop σ a → Judged·outcome (Unary·enclose o (p .refusal) (p .interval)) ≡ Expr·encloseOrStop σ (unary o a)
+    first : (p : Judged) → Judged·outcome p ≡ Expr·encloseOrStop σ a
+        → Judged·outcome (Unary·enclose o (p .refusal) (p .interval)) ≡ Expr·encloseOrStop σ (unary o a)
     first p h =
         let r = Unary·enclose o (p .refusal) (p .interval) in
         chain (p .interval) (p .refusal) (Expr·encloseOrStop σ a) (λ (X : Interval). Judged·outcome (Unary·enclose o 0 X)) (r .interval) (r .refusal) h
@@ -63,7 +67,8 @@ all-stop σ (e ∷ es) = first (Expr·enclose 0 σ e) (expr-stops σ e) (all-sto
         → outcome (p .interval ∷ Expr·encloseAll (p .refusal) σ es .intervals) (Expr·encloseAll (p .refusal) σ es .refusal) ≡ Expr·encloseAllOrStop σ (e ∷ es)
     first p h g =
         let q = Expr·encloseAll (p .refusal) σ es in
-        chain (p .interval) (p .refusal) (Expr·encloseOrStop σ e) (λ (X : Interval). andThen (Expr·encloseAllOrStop σ es) (λ (Xs : List Interval). accepted (X ∷ Xs))) (p .interval ∷ q .intervals) (q .refusal) h
+        chain (p .interval) (p .refusal) (Expr·encloseOrStop σ e)
+        (λ (X : Interval). andThen (Expr·encloseAllOrStop σ es) (λ (Xs : List Interval). accepted (X ∷ Xs))) (p .interval ∷ q .intervals) (q .refusal) h
         (λ z. second (p .interval) (q .intervals) (q .refusal) (Expr·encloseAllOrStop σ es) (rw z g)) (all-stands (p .refusal) σ es)
 
 pub program-stops : (p : Program) (σ : List Interval) → Enclosure·outcome (Program·enclose (enclosure 0 σ) p) ≡ Program·encloseOrStop σ p
@@ -72,9 +77,11 @@ program-stops (give es) σ = all-stop σ es
 program-stops (e >>= k) σ = first (Expr·enclose 0 σ e) (expr-stops σ e) (λ (X : Interval). program-stops (k (var (length σ))) (σ ++ X ∷ []))
   where
     first : (j : Judged) → Judged·outcome j ≡ Expr·encloseOrStop σ e
-        → ((X : Interval) → Enclosure·outcome (Program·enclose (enclosure 0 (σ ++ X ∷ [])) (k (var (length σ)))) ≡ Program·encloseOrStop (σ ++ X ∷ []) (k (var (length σ))))
+        → ((X : Interval)
+        → Enclosure·outcome (Program·enclose (enclosure 0 (σ ++ X ∷ [])) (k (var (length σ)))) ≡ Program·encloseOrStop (σ ++ X ∷ []) (k (var (length σ))))
         → Enclosure·outcome (Program·enclose (extend σ j) (k (var (length σ)))) ≡ Program·encloseOrStop σ (e >>= k)
     first j h g =
         let o = Program·enclose (extend σ j) (k (var (length σ))) in
-        chain (j .interval) (j .refusal) (Expr·encloseOrStop σ e) (λ (X : Interval). Program·encloseOrStop (σ ++ X ∷ []) (k (var (length σ)))) (o .intervals) (o .refusal) h
+        chain (j .interval) (j .refusal) (Expr·encloseOrStop σ e)
+        (λ (X : Interval). Program·encloseOrStop (σ ++ X ∷ []) (k (var (length σ)))) (o .intervals) (o .refusal) h
         (λ z. rw z (g (j .interval))) (program-stands (extend σ j) (k (var (length σ))))

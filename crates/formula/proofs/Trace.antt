@@ -1,5 +1,5 @@
--- An interval function that calls one judged operation for each step works out what the formula's interval reading says: `traced`, which takes the calls' contracts
--- in working order. tools/trace.py writes its arguments from the code.
+-- An interval function that calls one judged operation for each step works out what the formula's interval reading says:
+-- `traced`, which takes the calls' contracts in working order. tools/trace.py writes its arguments from the code.
 use mathlib.Core.Path.{_≡_, refl, sym, subst}
 use Prim.Native.Nat.{ℕ}
 use mathlib.Core.List.{List, [], _∷_}

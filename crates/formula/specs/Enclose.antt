@@ -1,5 +1,6 @@
 -- A formula read in intervals, with the first refusal number met carried along: `Program·enclose`. Definitions only.
--- An operation is that of document 01's cover, judged as it is formed. A constant has equal ends. `Program·valid` is what the promises ask of a program at its inputs.
+-- An operation is that of document 01's cover, judged as it is formed. A constant has equal ends.
+-- `Program·valid` is what the promises ask of a program at its inputs.
 use Prim.Native.Nat.{ℕ}
 use mathlib.Core.Bool.{Bool, true, _&&_}
 use mathlib.Core.List.{List, [], _∷_, _++_}
@@ -10,8 +11,10 @@ use lib.Ieee.Scale.{finite}
 use Rattle.interval.specs.declared.Interval.{Interval}
 use Rattle.interval.specs.declared.Judged.{Judged}
 use Rattle.interval.specs.Interval.{Interval·point}
-use Rattle.interval.specs.Enclosure.{areAngles, Judged·addEnclosure, Judged·subEnclosure, Judged·mulEnclosure, Judged·divEnclosure, Judged·sqrtEnclosure, Judged·sinEnclosure, Judged·cosEnclosure}
-use Rattle.formula.specs.Program.{Binary, sum, difference, product, quotient, Unary, root, sine, cosine, Expr, var, con, binary, unary, Program, _>>=_, give}
+use Rattle.interval.specs.Enclosure.{areAngles, Judged·addEnclosure, Judged·subEnclosure, Judged·mulEnclosure}
+use Rattle.interval.specs.Enclosure.{Judged·divEnclosure, Judged·sqrtEnclosure, Judged·sinEnclosure, Judged·cosEnclosure}
+use Rattle.formula.specs.Program.{Binary, sum, difference, product, quotient, Unary, root, sine}
+use Rattle.formula.specs.Program.{cosine, Expr, var, con, binary, unary, Program, _>>=_, give}
 
 abbrev pub Binary·enclose : Binary → ℕ → Interval → Interval → Judged
 Binary·enclose sum met X Y = Judged·addEnclosure met X Y
@@ -84,4 +87,5 @@ Expr·validAll met σ (e ∷ es) = Expr·valid met σ e && Expr·validAll (Expr�
 abbrev pub Program·valid : Enclosure → Program → Bool
 Program·valid c (give es) = Expr·validAll (c .refusal) (c .intervals) es
 Program·valid c (e >>= k) =
-    Expr·valid (c .refusal) (c .intervals) e && Program·valid (extend (c .intervals) (Expr·enclose (c .refusal) (c .intervals) e)) (k (var (length (c .intervals))))
+    Expr·valid (c .refusal) (c .intervals) e
+    && Program·valid (extend (c .intervals) (Expr·enclose (c .refusal) (c .intervals) e)) (k (var (length (c .intervals))))

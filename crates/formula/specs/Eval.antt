@@ -5,7 +5,8 @@ use lib.ListN.{length, getD}
 use lib.Ieee.{Float, nan, binary32, add, sub, mul, div}
 use Rattle.square_root.specs.SquareRoot
 use Rattle.trig.specs.SinCos
-use Rattle.formula.specs.Program.{Binary, sum, difference, product, quotient, Unary, root, sine, cosine, Expr, var, con, binary, unary, Program, _>>=_, give}
+use Rattle.formula.specs.Program.{Binary, sum, difference, product, quotient, Unary, root, sine}
+use Rattle.formula.specs.Program.{cosine, Expr, var, con, binary, unary, Program, _>>=_, give}
 
 abbrev pub Binary·eval : Binary → Float → Float → Float
 Binary·eval sum x y = add binary32 x y

@@ -20,6 +20,9 @@ length-5-point : Vector2·normalizeEnclosure 0 (record { x = Interval·point (fr
 unfolding computing
 length-5-point = refl
 
-round-origin : Vector2·normalizeEnclosure 0 (record { x = record { low = round binary32 true 1 1; high = fraction 1 1 }; y = record { low = round binary32 true 1 1; high = fraction 1 1 } }) .refusal ≡ 10
+round-origin : Vector2·normalizeEnclosure 0 (record {
+  x = record { low = round binary32 true 1 1; high = fraction 1 1 };
+  y = record { low = round binary32 true 1 1; high = fraction 1 1 };
+}) .refusal ≡ 10
 unfolding computing
 round-origin = refl

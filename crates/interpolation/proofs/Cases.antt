@@ -1,5 +1,6 @@
--- Cases of the definition, by computing: document 01's move A at its times, a turn with a stretch, and the refusals 4, 5 and 6. The numbers of moves that are built here are
--- pbrt-rust's own answers. `inverse-overflows` refuses a time at which the matrix half alone, and so the point query, is answered; `first-product-before-inverse` has 5 met before 4.
+-- Cases of the definition, by computing: document 01's move A at its times, a turn with a stretch, and the refusals 4, 5 and 6.
+-- The numbers of moves that are built here are pbrt-rust's own answers. `inverse-overflows` refuses a time at which the matrix
+-- half alone, and so the point query, is answered; `first-product-before-inverse` has 5 met before 4.
 use mathlib.Core.Path.{_≡_, refl}
 use mathlib.Core.Bool.{true, false}
 use mathlib.Core.List.{[], _∷_}
@@ -42,7 +43,8 @@ along a x y z = affine (row a 0 0 x) (row 0 one 0 y) (row 0 0 one z)
 -- The answer from the move of two matrices at times 0 and t.
 abbrev moved : Matrix4x4 → Matrix4x4 → ℕ → Float → TransformAnswer
 moved m0 m1 t time =
-    AnimatedTransform·interpolate (AnimatedTransform·new false (record { time = bits 0; m = m0; pad = bits 0 }) (record { time = bits t; m = m1; pad = bits 0 }) .value) time
+    AnimatedTransform·interpolate
+    (AnimatedTransform·new false (record { time = bits 0; m = m0; pad = bits 0 }) (record { time = bits t; m = m1; pad = bits 0 }) .value) time
 
 abbrev answer : Matrix4x4 → Matrix4x4 → TransformAnswer
 answer m m⁻¹ = TransformAnswer·accepted (record { m = m; «m_inv» = m⁻¹ })
@@ -68,7 +70,8 @@ unfolding computing
 nan-time = refl
 
 -- ---- a turn about z with a stretch by 1, 2 and 4
-turn-quarter : moved (along one one two 0x40400000) (affine (row 0x3f7fae19 0xbdccb6f5 0 0x40a00000) (row 0x3d4cb6f5 0x3fffae19 0 two) (row 0 0 0x40800000 one)) two (bits 0x3f000000)
+turn-quarter : moved (along one one two 0x40400000)
+    (affine (row 0x3f7fae19 0xbdccb6f5 0 0x40a00000) (row 0x3d4cb6f5 0x3fffae19 0 two) (row 0 0 0x40800000 one)) two (bits 0x3f000000)
     ≡ answer
     (affine (row 0x3f7ffae1 0xbc7ffbb9 0 two) (row 0x3c4cc963 0x3f9ffccd 0 two) (row 0 0 0x3fe00000 0x40200000))
     (affine (row 0x3f7ffae1 0x3c4cc961 0 0xc0019703) (row 0xbc23d44f 0x3f4cc8b4 0 0xbfca3963) (row 0 0 0x3f124925 0xbfb6db6e))
@@ -76,7 +79,8 @@ unfolding computing
 turn-quarter = refl
 
 -- ---- translations near the greatest float
-inverse-overflows : moved (along one 0x7f7e486f 0x7f7e486f 0) (affine (row 0x3f7f8a12 0xbd759cd1 0 0x7f7e486f) (row 0x3d759cd1 0x3f7f8a12 0 0) (row 0 0 one 0)) one (bits 0x3f000000) ≡ TransformAnswer·refused 5
+inverse-overflows : moved (along one 0x7f7e486f 0x7f7e486f 0)
+    (affine (row 0x3f7f8a12 0xbd759cd1 0 0x7f7e486f) (row 0x3d759cd1 0x3f7f8a12 0 0) (row 0 0 one 0)) one (bits 0x3f000000) ≡ TransformAnswer·refused 5
 unfolding computing
 inverse-overflows = refl
 
@@ -109,6 +113,7 @@ singular-scale : AnimatedTransform·interpolate (flattened 0 0 0x3cf5b91f 0x3f7f
 unfolding computing
 singular-scale = refl
 
-first-product-before-inverse : AnimatedTransform·interpolate (flattened 0x7f7e486f 0x7f7e486f 0x3cf5b91f 0x3f7fe283) (bits 0x3f000000) ≡ TransformAnswer·refused 5
+first-product-before-inverse : AnimatedTransform·interpolate
+    (flattened 0x7f7e486f 0x7f7e486f 0x3cf5b91f 0x3f7fe283) (bits 0x3f000000) ≡ TransformAnswer·refused 5
 unfolding computing
 first-product-before-inverse = refl

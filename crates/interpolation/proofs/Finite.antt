@@ -1,5 +1,5 @@
--- What the tests on the way say where the work between the poses is not refused (`composed-accepted`), and that an answer of a built move that is not refused is finite in both halves
--- (`interpolate-finite`).
+-- What the tests on the way say where the work between the poses is not refused (`composed-accepted`),
+-- and that an answer of a built move that is not refused is finite in both halves (`interpolate-finite`).
 use mathlib.Core.Path.{_≡_, refl, _∙_}
 use mathlib.Core.Bool.{Bool, true, false, _&&_, cond}
 use Prim.Native.Nat.{ℕ}
@@ -22,7 +22,8 @@ use Rattle.pose_steps.specs.Composition.{lerpTranslation, lerpScaleBy}
 use Rattle.animated_transform.specs.declared.AnimatedTransform.{AnimatedTransform}
 use Rattle.animated_transform.specs.Built.{Built, StoredPose}
 use Rattle.animated_transform.proofs.Built.{built-judged}
-use Rattle.interpolation.specs.Interpolate.{Transform·isFinite, TransformAnswer·accepted, TransformAnswer·judged, scaled, composed, AnimatedTransform·poseAt, AnimatedTransform·interpolate}
+use Rattle.interpolation.specs.Interpolate.{Transform·isFinite, TransformAnswer·accepted, TransformAnswer·judged}
+use Rattle.interpolation.specs.Interpolate.{scaled, composed, AnimatedTransform·poseAt, AnimatedTransform·interpolate}
 use Rattle.interpolation.proofs.Numbers.{interpolate-cases}
 
 abbrev pub firstProduct : Vector3f → Quaternion → Transform
@@ -60,7 +61,8 @@ not-refused n a = go (eqb n 0) refl
     go true e h = (eqb-true n 0 e, h, refl)
     go false e h = absurd (eqb-false n 0 e h)
 
-passed : (b : Bool) (a : TransformAnswer) → cond b a (TransformAnswer·refused 5) .refusal ≡ 0 → T b × (a .refusal ≡ 0) × (cond b a (TransformAnswer·refused 5) ≡ a)
+passed : (b : Bool) (a : TransformAnswer) → cond b a (TransformAnswer·refused 5) .refusal ≡ 0
+    → T b × (a .refusal ≡ 0) × (cond b a (TransformAnswer·refused 5) ≡ a)
 passed true a h = (tt, h, refl)
 passed false a h = absurd (omega arith)
 
@@ -101,7 +103,8 @@ FiniteAnswer a = a .refusal ≡ 0 → T (Transform·isFinite (a .transform))
 pose-at-finite : (m : AnimatedTransform) (x : Float) → FiniteAnswer (AnimatedTransform·poseAt m x)
 unfolding AnimatedTransform·poseAt
 pose-at-finite m x h =
-    let c = composed-accepted (lerpTranslation (m .t0) (m .t1) x) (Quaternion·slerp (m .r0) (m .r1) x) (lerpScaleBy (m .rigid) (Matrix4x4·toRows (m .s0)) (Matrix4x4·toRows (m .s1)) x) h in
+    let c = composed-accepted (lerpTranslation (m .t0) (m .t1) x) (Quaternion·slerp (m .r0) (m .r1) x)
+    (lerpScaleBy (m .rigid) (Matrix4x4·toRows (m .s0)) (Matrix4x4·toRows (m .s1)) x) h in
     rw (c .value) (c .last-finite)
 
 pub interpolate-finite : {m : AnimatedTransform} → Built m → (time : Float) → AnimatedTransform·interpolate m time .refusal ≡ 0

@@ -22,7 +22,8 @@ use Rattle.unit_interval.specs.Unit.{dt}
 use Rattle.pose_steps.specs.Composition.{lerpTranslation, lerpScaleBy}
 use Rattle.animated_transform.specs.declared.AnimatedTransform.{AnimatedTransform}
 use Rattle.animated_transform.specs.AtTime.{atStart, atEnd}
-use Rattle.interpolation.specs.Interpolate.{Transform·isFinite, TransformAnswer·accepted, TransformAnswer·judged, scaled, composed, AnimatedTransform·poseAt, AnimatedTransform·interpolate}
+use Rattle.interpolation.specs.Interpolate.{Transform·isFinite, TransformAnswer·accepted, TransformAnswer·judged}
+use Rattle.interpolation.specs.Interpolate.{scaled, composed, AnimatedTransform·poseAt, AnimatedTransform·interpolate}
 use Rattle.interpolation.specs.Promise.{InterpolationNumber}
 
 pub interpolate-cases : (P : TransformAnswer → Type 0) (m : AnimatedTransform) (time : Float) → P (TransformAnswer·refused 6)
@@ -55,7 +56,8 @@ scaled-answered : (first : Transform) (scale : Rows) → Answered (scaled first 
 unfolding scaled
 scaled-answered first scale =
     let s = Transform·fromMatrix scale in
-    cond-keeps Answered (eqb (s .refusal) 0) _ _ (judged-answered (Transform·mul first (s .transform))) (refused-answered (s .refusal) (inverse-number (s .refusal) (from-matrix-numbers scale)))
+    cond-keeps Answered (eqb (s .refusal) 0) _ _ (judged-answered (Transform·mul first (s .transform)))
+    (refused-answered (s .refusal) (inverse-number (s .refusal) (from-matrix-numbers scale)))
 
 composed-answered : (trans : Vector3f) (rotate : Quaternion) (scale : Rows) → Answered (composed trans rotate scale)
 unfolding composed
@@ -63,13 +65,15 @@ composed-answered trans rotate scale =
     let translation = Transform·translate trans in
     let rotation = Transform·fromQuaternion rotate in
     let first = Transform·mul translation rotation in
-    cond-keeps Answered (Quaternion·isFinite rotate && Matrix4x4·isFinite scale && Transform·isFinite translation && Transform·isFinite rotation && Transform·isFinite first) _ _
+    cond-keeps Answered (Quaternion·isFinite rotate && Matrix4x4·isFinite scale
+    && Transform·isFinite translation && Transform·isFinite rotation && Transform·isFinite first) _ _
     (scaled-answered first scale)
     (refused-answered 5 (inr (inr (inl refl))))
 
 pose-at-answered : (m : AnimatedTransform) (x : Float) → Answered (AnimatedTransform·poseAt m x)
 unfolding AnimatedTransform·poseAt
-pose-at-answered m x = composed-answered (lerpTranslation (m .t0) (m .t1) x) (Quaternion·slerp (m .r0) (m .r1) x) (lerpScaleBy (m .rigid) (Matrix4x4·toRows (m .s0)) (Matrix4x4·toRows (m .s1)) x)
+pose-at-answered m x = composed-answered (lerpTranslation (m .t0) (m .t1) x) (Quaternion·slerp (m .r0) (m .r1) x)
+    (lerpScaleBy (m .rigid) (Matrix4x4·toRows (m .s0)) (Matrix4x4·toRows (m .s1)) x)
 
 interpolate-answered : (m : AnimatedTransform) (time : Float) → Answered (AnimatedTransform·interpolate m time)
 interpolate-answered m time =

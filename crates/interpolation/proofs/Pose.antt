@@ -1,6 +1,6 @@
--- Between the two poses `interpolate` is pbrt's composition (`interpolate-composition`), and its matrix half is the matrix that the point query works, which is not refused there
--- (`interpolate-pose`); so the transform moves a finite point as the point query does (`interpolate-point`). The tests of `interpolate` are those of `Pose·matrix`, stage by stage on
--- the same bits, and more on the inverse halves (`composed-passed`).
+-- Between the two poses `interpolate` is pbrt's composition (`interpolate-composition`), and its matrix half is the matrix that the point query
+-- works, which is not refused there (`interpolate-pose`); so the transform moves a finite point as the point query does (`interpolate-point`).
+-- The tests of `interpolate` are those of `Pose·matrix`, stage by stage on the same bits, and more on the inverse halves (`composed-passed`).
 use mathlib.Core.Path.{_≡_, refl, sym, ap, subst, _∙_}
 use mathlib.Core.Bool.{Bool, true, false, _&&_}
 use lib.Dec.{T}
@@ -23,10 +23,12 @@ use Rattle.transform.proofs.FromMatrix.{from-matrix-refusal, from-matrix-accept
 use Rattle.rotation.specs.FromQuaternion.{Transform·fromQuaternion}
 use Rattle.unit_interval.specs.Unit.{dt}
 use Rattle.pose_steps.specs.declared.PoseConstants.{PoseConstants}
-use Rattle.pose_steps.specs.Pose.{PoseConstants·new, Pose·translation, Pose·slerp, Pose·scaleBy, Pose·rotation, Pose·mul, allFinite, PoseAnswer·judged, Pose·matrix, Pose·movedPoint}
+use Rattle.pose_steps.specs.Pose.{PoseConstants·new, Pose·translation, Pose·slerp, Pose·scaleBy, Pose·rotation}
+use Rattle.pose_steps.specs.Pose.{Pose·mul, allFinite, PoseAnswer·judged, Pose·matrix, Pose·movedPoint}
 use Rattle.pose_steps.specs.Composition.{lerpTranslation, lerpScaleBy, composition}
 use Rattle.pose_steps.proofs.Rows.{scale-by-bottom, rotation-bottom, mul-bottom}
-use Rattle.pose_steps.proofs.Composition.{translation-same, slerp-same, scale-by-same, rotation-same, product, product-same, matrix-composition, point-composition}
+use Rattle.pose_steps.proofs.Composition.{translation-same, slerp-same, scale-by-same, rotation-same}
+use Rattle.pose_steps.proofs.Composition.{product, product-same, matrix-composition, point-composition}
 use Rattle.animated_transform.specs.declared.AnimatedTransform.{AnimatedTransform}
 use Rattle.interpolation.specs.Interpolate.{Transform·isFinite, AnimatedTransform·poseAt, AnimatedTransform·interpolate}
 use Rattle.interpolation.specs.Promise.{Between}
@@ -159,15 +161,19 @@ module _ (m : AnimatedTransform) (time : Float) (b : Between m time) (z : Animat
   unfolding AnimatedTransform·poseAt
   accepted = composed-accepted (trans m x) (rotate m x) (scale m x) (ap (λ (a : TransformAnswer). a .refusal) (sym (interpolate-between m time b)) ∙ z)
 
-  pub interpolate-composition : AnimatedTransform·interpolate m time .transform ≡ composition (m .t0) (m .t1) (m .r0) (m .r1) (scaleTransform m (dtAt m time)) (dtAt m time)
+  pub interpolate-composition : AnimatedTransform·interpolate m time .transform ≡ composition
+      (m .t0) (m .t1) (m .r0) (m .r1) (scaleTransform m (dtAt m time)) (dtAt m time)
   unfolding AnimatedTransform·poseAt composition
   interpolate-composition = ap (λ (a : TransformAnswer). a .transform) (interpolate-between m time b ∙ accepted .value)
 
   pub interpolate-pose : (Pose·matrix (motion m) (m .s0) (m .s1) (dtAt m time) .refusal ≡ 0)
       × (AnimatedTransform·interpolate m time .transform .m ≡ Pose·matrix (motion m) (m .s0) (m .s1) (dtAt m time) .m)
   interpolate-pose =
-      let p = composed-passed m x accepted in
-      (p, ap (λ (t : Transform). t .m) interpolate-composition ∙ matrix-composition (m .rigid) (m .t0) (m .t1) (m .r0) (m .r1) (m .s0) (m .s1) (scaleTransform m x) x (scale-at m x accepted) p)
+      let p = composed-passed m x accepted in (
+        p,
+        ap (λ (t : Transform). t .m) interpolate-composition
+            ∙ matrix-composition (m .rigid) (m .t0) (m .t1) (m .r0) (m .r1) (m .s0) (m .s1) (scaleTransform m x) x (scale-at m x accepted) p,
+      )
 
   pub interpolate-point : (p : Point3f) → Finite p
       → Transform·transformPoint (AnimatedTransform·interpolate m time .transform) p ≡ Pose·movedPoint (motion m) (m .s0) (m .s1) (dtAt m time) p

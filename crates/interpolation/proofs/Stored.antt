@@ -1,5 +1,5 @@
--- Which answer the time chooses: 6 for a NaN (`interpolate-nan`), the stored transforms at and outside the end times and where the poses are equal (`interpolate-start`,
--- `interpolate-end`, `interpolate-equal`), and the work at dt between them (`interpolate-between`).
+-- Which answer the time chooses: 6 for a NaN (`interpolate-nan`), the stored transforms at and outside the end times and where the poses
+-- are equal (`interpolate-start`, `interpolate-end`, `interpolate-equal`), and the work at dt between them (`interpolate-between`).
 use mathlib.Core.Path.{_≡_, refl, _∙_}
 use mathlib.Core.Bool.{Bool, true, false, not, _||_, cond}
 use lib.Dec.{T}
@@ -29,7 +29,8 @@ module _ (m : AnimatedTransform) (time : Float) where
   unfolding AnimatedTransform·interpolate
   interpolate-start n s = left (isNan time) _ _ n ∙ taken (atStart m time) _ _ s
 
-  pub interpolate-end : T (not (isNan time)) → T (not (atStart m time)) → T (atEnd m time) → AnimatedTransform·interpolate m time ≡ TransformAnswer·accepted (m .«end_transform»)
+  pub interpolate-end : T (not (isNan time)) → T (not (atStart m time)) → T (atEnd m time)
+      → AnimatedTransform·interpolate m time ≡ TransformAnswer·accepted (m .«end_transform»)
   unfolding AnimatedTransform·interpolate
   interpolate-end n s e = left (isNan time) _ _ n ∙ left (atStart m time) _ _ s ∙ taken (atEnd m time) _ _ e
 

@@ -1,6 +1,6 @@
--- pbrt's `AnimatedTransform::interpolate`, both halves, judged: 6 for a NaN time, a stored transform at and outside the end times and where the poses are equal, and between them
--- document 01's 4 or 5, whichever is met first: 5 for the quaternion, the scale, the translation, the rotation and their product, the number of the scale's inverse, 5 for the last product.
--- After a refusal every entry is +0. Definitions only.
+-- pbrt's `AnimatedTransform::interpolate`, both halves, judged: 6 for a NaN time, a stored transform at and outside the end times and where the poses are
+-- equal, and between them document 01's 4 or 5, whichever is met first: 5 for the quaternion, the scale, the translation, the rotation and their product,
+-- the number of the scale's inverse, 5 for the last product. After a refusal every entry is +0. Definitions only.
 use mathlib.Core.Bool.{Bool, _&&_, cond}
 use lib.Dec.{eqb}
 use lib.Ieee.{Float, isNan}

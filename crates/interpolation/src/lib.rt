@@ -9,7 +9,8 @@ use transform::TransformAnswer;
 use vector3::Vector3f;
 ghost use mathlib.Core.Path.{_≡_};
 ghost use Rattle.matrix4x4.specs.Rows.{Matrix4x4·toRows};
-ghost use Rattle.interpolation.specs.Interpolate.{Transform·isFinite, TransformAnswer·judged, scaled, composed, AnimatedTransform·poseAt, AnimatedTransform·interpolate};
+ghost use Rattle.interpolation.specs.Interpolate.{Transform·isFinite, TransformAnswer·judged, scaled, composed};
+ghost use Rattle.interpolation.specs.Interpolate.{AnimatedTransform·poseAt, AnimatedTransform·interpolate};
 
 // Both halves.
 fn is_finite(t: Transform) -> bool

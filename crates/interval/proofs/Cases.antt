@@ -1,5 +1,5 @@
--- Cases of the definitions, by computing: each operation of the cover on small whole numbers, and where it refuses; sine and cosine across the quarters' places,
--- in the cover's rule and in pbrt's.
+-- Cases of the definitions, by computing: each operation of the cover on small whole numbers, and where it refuses;
+-- sine and cosine across the quarters' places, in the cover's rule and in pbrt's.
 use mathlib.Core.Path.{_≡_, refl}
 use Prim.Native.Nat.{ℕ}
 use mathlib.Core.Bool.{true, false}
@@ -7,7 +7,8 @@ use lib.Ieee.{Float, nan, inf, binary32, ofBits, round}
 use Rattle.interval.specs.declared.Interval.{Interval}
 use Rattle.interval.specs.declared.Judged.{Judged}
 use Rattle.interval.specs.Interval.{Interval·hull, Interval·add, Interval·sub, Interval·mul, Interval·sin, Interval·cos, pi}
-use Rattle.interval.specs.Enclosure.{Judged·addEnclosure, Judged·subEnclosure, Judged·mulEnclosure, Judged·divEnclosure, Judged·sqrtEnclosure, Judged·sinEnclosure, Judged·cosEnclosure}
+use Rattle.interval.specs.Enclosure.{Judged·addEnclosure, Judged·subEnclosure, Judged·mulEnclosure, Judged·divEnclosure}
+use Rattle.interval.specs.Enclosure.{Judged·sqrtEnclosure, Judged·sinEnclosure, Judged·cosEnclosure}
 use Rattle.interval.specs.means.Computing.{computing}
 
 abbrev plus : ℕ → Float

@@ -1,6 +1,6 @@
--- What finite intervals contain and what lies in them is finite (`contains-finite`, `subset-finite`); `Subset` is transitive along `Contains` (`contains-subset`) and of
--- itself (`subset-trans`); the hull of two intervals contains what either does (`hull-left`, `hull-right`) and nothing beyond what holds both (`hull-subset`).
--- Rests on the order of `rounding` and on least and greatest of `float32`.
+-- What finite intervals contain and what lies in them is finite (`contains-finite`, `subset-finite`); `Subset` is transitive along
+-- `Contains` (`contains-subset`) and of itself (`subset-trans`); the hull of two intervals contains what either does (`hull-left`,
+-- `hull-right`) and nothing beyond what holds both (`hull-subset`). Rests on the order of `rounding` and on least and greatest of `float32`.
 use lib.Dec.{T}
 use lib.Ieee.{Float}
 use lib.Ieee.Scale.{finite}

@@ -1,5 +1,5 @@
--- A divisor that is a root meets no refusal of its own (`div-after-sqrt`): where the root was not refused, its low end is positive (`root-low-positive`), and where it was,
--- that number stands. So in a formula that divides by roots only, 10 is met at roots only.
+-- A divisor that is a root meets no refusal of its own (`div-after-sqrt`): where the root was not refused, its low end is positive (`root-low-positive`),
+-- and where it was, that number stands. So in a formula that divides by roots only, 10 is met at roots only.
 use mathlib.Core.Path.{_≡_, refl, sym, ap, _∙_}
 use Prim.Native.Nat.{ℕ, zero, suc}
 use native.Mathlib.Omega.{arith}

@@ -1,6 +1,6 @@
 -- Each operation of the cover is an interval extension of the rounded operation: `add-extends`, `sub-extends`, `mul-extends`, `div-extends`.
--- The interval contains each value (`add-contains` and its like), since rounding to nearest keeps the order (`rounding`); that its ends are finite is what was judged.
--- Product and quotient rest on one law, that of the four corners.
+-- The interval contains each value (`add-contains` and its like), since rounding to nearest keeps the order (`rounding`);
+-- that its ends are finite is what was judged. Product and quotient rest on one law, that of the four corners.
 use mathlib.Core.Path.{_≡_}
 use Prim.Native.Nat.{ℕ}
 use mathlib.Core.Logic.{inl, inr}
@@ -19,7 +19,9 @@ use Rattle.float32.specs.Operators.{_⊕_, _⊖_, _⊗_, _⊘_}
 use Rattle.interval.specs.declared.Interval.{Interval}
 use Rattle.interval.specs.Contains.{Contains, Finite, Encloses}
 use Rattle.interval.specs.Interval.{Interval·new, Interval·ofFour}
-use Rattle.interval.specs.Enclosure.{Interval·addEnclosure, Interval·subEnclosure, Interval·mulEnclosure, Interval·divEnclosure, Interval·sqrtEnclosure, Judged·judge, Judged·addEnclosure, Judged·subEnclosure, Judged·mulEnclosure, Judged·divEnclosure, Judged·sqrtEnclosure}
+use Rattle.interval.specs.Enclosure.{Interval·addEnclosure, Interval·subEnclosure, Interval·mulEnclosure}
+use Rattle.interval.specs.Enclosure.{Interval·divEnclosure, Interval·sqrtEnclosure, Judged·judge, Judged·addEnclosure}
+use Rattle.interval.specs.Enclosure.{Judged·subEnclosure, Judged·mulEnclosure, Judged·divEnclosure, Judged·sqrtEnclosure}
 use Rattle.interval.specs.Extension.{Extends₁, Extends₂, Everywhere}
 use Rattle.interval.proofs.Contains.{contains-finite, new-left, new-right, hull-left, hull-right}
 use Rattle.interval.proofs.Refusal.{judge-encloses, judged-positive}
@@ -136,8 +138,10 @@ sqrt-extends = record { extends = λ m d i h. judge-encloses (firstRefusal m _) 
 -- ---- what is rooted, and what is divided by, was positive
 pub divisor-positive : (m : ℕ) {X Y : Interval} {x y : Float} → Encloses X x → Encloses Y y → Judged·divEnclosure m X Y .refusal ≡ 0 → T (positive y)
 unfolding Judged·divEnclosure
-divisor-positive m {X} {Y} i j h = above-positive (judged-positive m (Interval·divEnclosure X Y) (j .finite) h) (contains-finite (j .finite) (j .contains)) (j .contains .low)
+divisor-positive m {X} {Y} i j h =
+    above-positive (judged-positive m (Interval·divEnclosure X Y) (j .finite) h) (contains-finite (j .finite) (j .contains)) (j .contains .low)
 
 pub rooted-positive : (m : ℕ) {X : Interval} {x : Float} → Encloses X x → Judged·sqrtEnclosure m X .refusal ≡ 0 → T (positive x)
 unfolding Judged·sqrtEnclosure
-rooted-positive m {X} i h = above-positive (judged-positive m (Interval·sqrtEnclosure X) (i .finite) h) (contains-finite (i .finite) (i .contains)) (i .contains .low)
+rooted-positive m {X} i h =
+    above-positive (judged-positive m (Interval·sqrtEnclosure X) (i .finite) h) (contains-finite (i .finite) (i .contains)) (i .contains .low)

@@ -1,5 +1,5 @@
--- Intervals whose ends are in order: `new-ordered`, that sorting leaves such ends as they are, and `mul-ordered`, that a number times an interval has the products of the ends
--- where these are in order. Both rest on `min-ordered` and `max-ordered`.
+-- Intervals whose ends are in order: `new-ordered`, that sorting leaves such ends as they are, and `mul-ordered`, that a number
+-- times an interval has the products of the ends where these are in order. Both rest on `min-ordered` and `max-ordered`.
 use mathlib.Core.Path.{_≡_, refl, sym}
 use mathlib.Core.Bool.{Bool, true, false, true≢false}
 use Prim.Native.Nat.{ℕ}

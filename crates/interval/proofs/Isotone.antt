@@ -10,7 +10,8 @@ use Rattle.rounding.proofs.Order.{≼-trans, above-positive}
 use Rattle.interval.specs.declared.Interval.{Interval}
 use Rattle.interval.specs.Contains.{Contains, Subset, Finite, Refines}
 use Rattle.interval.specs.Interval.{Interval·ofFour}
-use Rattle.interval.specs.Enclosure.{Interval·addEnclosure, Interval·subEnclosure, Interval·mulEnclosure, Interval·divEnclosure, Interval·sqrtEnclosure, Judged·addEnclosure, Judged·subEnclosure, Judged·mulEnclosure, Judged·divEnclosure, Judged·sqrtEnclosure}
+use Rattle.interval.specs.Enclosure.{Interval·addEnclosure, Interval·subEnclosure, Interval·mulEnclosure, Interval·divEnclosure, Interval·sqrtEnclosure}
+use Rattle.interval.specs.Enclosure.{Judged·addEnclosure, Judged·subEnclosure, Judged·mulEnclosure, Judged·divEnclosure, Judged·sqrtEnclosure}
 use Rattle.interval.specs.Extension.{Isotone₁, Isotone₂, Everywhere}
 use Rattle.interval.proofs.Contains.{subset-low, subset-high, subset-finite, own-low, new-subset, hull-subset}
 use Rattle.interval.proofs.Refusal.{positive-accepted, judge-narrower, judged-positive}
@@ -81,7 +82,8 @@ unfolding Judged·divEnclosure
 div-isotone = record {
   isotone = λ m m' r q z h.
       let P = judged-positive m' _ (q .finite) h in
-      judge-narrower (firstRefusal m _) (firstRefusal m' _) (div-subset (r .finite) (q .finite) (r .subset) (q .subset) P) (zero-first m _ z (positive-accepted _ (positive-subset q P))) h;
+      judge-narrower (firstRefusal m _) (firstRefusal m' _) (div-subset (r .finite) (q .finite) (r .subset) (q .subset) P)
+      (zero-first m _ z (positive-accepted _ (positive-subset q P))) h;
 }
 
 pub sqrt-isotone : Isotone₁ Everywhere Judged·sqrtEnclosure

@@ -1,5 +1,6 @@
--- Whether a place lies from one angle's u to the other's, as code tests it: without least and greatest (`lies-is`), and with a u that is held at a bound beyond the place.
--- So what an end's u, sine and cosine say is the sine and the cosine of the interval: `sin-range`, `cos-range`. `from-sin-cos` makes an end of what is at hand.
+-- Whether a place lies from one angle's u to the other's, as code tests it: without least and greatest (`lies-is`), and with a u
+-- that is held at a bound beyond the place. So what an end's u, sine and cosine say is the sine and the cosine of the interval:
+-- `sin-range`, `cos-range`. `from-sin-cos` makes an end of what is at hand.
 use mathlib.Core.Path.{_≡_, refl, ap₂, _∙_}
 use mathlib.Core.Bool.{Bool, true, false, not, _&&_, _||_}
 use Prim.Native.Nat.{ℕ, _*_, _^_, _≤_, _<_, min, max}

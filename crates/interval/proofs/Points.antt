@@ -20,7 +20,8 @@ use Rattle.trig.specs.means.Computing.{computing}
 use Rattle.trig_laws.specs.Range.{Angle, fullTurnFloat, lies, sinLow, sinHigh, cosLow, cosHigh}
 use Rattle.trig_laws.proofs.Monotone.{biasedFloat, sin-at, cos-at}
 use Rattle.interval.specs.Interval.{Interval·new, Interval·point, Interval·hull, Interval·ofFour}
-use Rattle.interval.specs.Enclosure.{Interval·addEnclosure, Interval·subEnclosure, Interval·mulEnclosure, Interval·divEnclosure, Interval·sqrtEnclosure, Interval·sinEnclosure, Interval·cosEnclosure}
+use Rattle.interval.specs.Enclosure.{Interval·addEnclosure, Interval·subEnclosure, Interval·mulEnclosure, Interval·divEnclosure}
+use Rattle.interval.specs.Enclosure.{Interval·sqrtEnclosure, Interval·sinEnclosure, Interval·cosEnclosure}
 use Rattle.interval.specs.Extension.{Angles}
 
 -- ---- least and greatest of a number and itself
@@ -124,15 +125,18 @@ module _ {x : Float} (A : Angle x) where
   sin-point =
       let u = angleUnits x in
       ap₂ (λ (l h : Float). record { low = l; high = h })
-      (unless-place (lies (3 * quarterTurn) u u) (neg one) (sin x) (minNum (sin x) (sin x)) (λ e. sin-place (3 * quarterTurn) (neg one) sin-at-three-quarters (lies-same (3 * quarterTurn) u e)) (min-same (sin x)))
-      (unless-place (lies quarterTurn u u) one (sin x) (maxNum (sin x) (sin x)) (λ e. sin-place quarterTurn one sin-at-quarter (lies-same quarterTurn u e)) (max-same (sin x)))
+      (unless-place (lies (3 * quarterTurn) u u) (neg one) (sin x) (minNum (sin x) (sin x))
+      (λ e. sin-place (3 * quarterTurn) (neg one) sin-at-three-quarters (lies-same (3 * quarterTurn) u e)) (min-same (sin x)))
+      (unless-place (lies quarterTurn u u) one (sin x) (maxNum (sin x) (sin x))
+      (λ e. sin-place quarterTurn one sin-at-quarter (lies-same quarterTurn u e)) (max-same (sin x)))
 
   pub cos-point : Interval·cosEnclosure (Interval·point x) ≡ Interval·point (cos x)
   unfolding Interval·cosEnclosure cosLow cosHigh
   cos-point =
       let u = angleUnits x in
       ap₂ (λ (l h : Float). record { low = l; high = h })
-      (unless-place (lies (2 * quarterTurn) u u) (neg one) (cos x) (minNum (cos x) (cos x)) (λ e. cos-place (2 * quarterTurn) (neg one) cos-at-half (lies-same (2 * quarterTurn) u e)) (min-same (cos x)))
+      (unless-place (lies (2 * quarterTurn) u u) (neg one) (cos x) (minNum (cos x) (cos x))
+      (λ e. cos-place (2 * quarterTurn) (neg one) cos-at-half (lies-same (2 * quarterTurn) u e)) (min-same (cos x)))
       (unless-place (lies 0 u u || lies (4 * quarterTurn) u u) one (cos x) (maxNum (cos x) (cos x))
       (λ e. elim (either-same 0 (4 * quarterTurn) u e) [ inl h ↦ cos-place 0 one cos-at-zero h | inr h ↦ cos-place (4 * quarterTurn) one cos-at-full h ])
       (max-same (cos x)))

@@ -1,5 +1,5 @@
--- What a refusal number of 0 says: nothing was refused before (`first-zero`), the ends are finite (`finite-accepted`, `accepted-finite`), the low end is positive
--- (`positive-accepted`, `accepted-positive`). What follows of an interval that is judged: `judge-encloses`, `judge-narrower`.
+-- What a refusal number of 0 says: nothing was refused before (`first-zero`), the ends are finite (`finite-accepted`, `accepted-finite`), the low
+-- end is positive (`positive-accepted`, `accepted-positive`). What follows of an interval that is judged: `judge-encloses`, `judge-narrower`.
 -- Every operation carries its number: `add-carries` and its like.
 use mathlib.Core.Path.{_≡_, refl}
 use mathlib.Core.Logic.{inl, inr}
@@ -19,7 +19,9 @@ use Rattle.refusal.proofs.First.{first-zero, zero-first, first-assoc}
 use Rattle.rounding.proofs.Order.{of-fraction, zeros-equal, above-positive}
 use Rattle.interval.specs.declared.Interval.{Interval}
 use Rattle.interval.specs.Contains.{Contains, Subset, Finite, Encloses}
-use Rattle.interval.specs.Enclosure.{Interval·divEnclosure, Interval·sqrtEnclosure, notFinite, notPositive, Judged·judge, Judged·addEnclosure, Judged·subEnclosure, Judged·mulEnclosure, Judged·divEnclosure, Judged·sqrtEnclosure, Judged·sinEnclosure, Judged·cosEnclosure}
+use Rattle.interval.specs.Enclosure.{Interval·divEnclosure, Interval·sqrtEnclosure, notFinite, notPositive, Judged·judge}
+use Rattle.interval.specs.Enclosure.{Judged·addEnclosure, Judged·subEnclosure, Judged·mulEnclosure, Judged·divEnclosure}
+use Rattle.interval.specs.Enclosure.{Judged·sqrtEnclosure, Judged·sinEnclosure, Judged·cosEnclosure}
 use Rattle.interval.specs.Extension.{Narrower, carry, Carries₁, Carries₂}
 use Rattle.interval.proofs.Contains.{subset-finite}
 

@@ -42,7 +42,8 @@ Interval·sinEnclosure X = record { low = sinLow (X .low) (X .high); high = sinH
 unfoldable pub Interval·cosEnclosure : Interval → Interval
 Interval·cosEnclosure X = record { low = cosLow (X .low) (X .high); high = cosHigh (X .low) (X .high) }
 
--- Angles from 0 to a full turn, where `Interval·sinEnclosure` and `Interval·cosEnclosure` enclose; below zero, and far beyond a full turn, document 01's rule does not.
+-- Angles from 0 to a full turn, where `Interval·sinEnclosure` and `Interval·cosEnclosure` enclose;
+-- below zero, and far beyond a full turn, document 01's rule does not.
 abbrev pub areAngles : Interval → Bool
 areAngles X = le (ofBits binary32 0) (X .low) && le (X .high) fullTurnFloat
 

@@ -6,8 +6,10 @@ use trig::SinCos;
 ghost use mathlib.Core.Path.{_≡_};
 ghost use Rattle.trig.specs.SinCos.{sin, cos};
 ghost use Rattle.trig_laws.specs.Range.{lies};
-ghost use Rattle.interval.specs.Interval.{Interval·new, Interval·point, Interval·hull, Interval·ofFour, Interval·add, Interval·sub, Interval·mul, Interval·straddles, Interval·sinBetween, Interval·sin, Interval·cosBetween, Interval·cos};
-ghost use Rattle.interval.specs.Enclosure.{notFinite, notPositive, Judged·judge, Judged·addEnclosure, Judged·subEnclosure, Judged·mulEnclosure, Judged·divEnclosure, Judged·sqrtEnclosure, Judged·sinEnclosure, Judged·cosEnclosure};
+ghost use Rattle.interval.specs.Interval.{Interval·new, Interval·point, Interval·hull, Interval·ofFour, Interval·add, Interval·sub, Interval·mul};
+ghost use Rattle.interval.specs.Interval.{Interval·straddles, Interval·sinBetween, Interval·sin, Interval·cosBetween, Interval·cos};
+ghost use Rattle.interval.specs.Enclosure.{notFinite, notPositive, Judged·judge, Judged·addEnclosure, Judged·subEnclosure, Judged·mulEnclosure};
+ghost use Rattle.interval.specs.Enclosure.{Judged·divEnclosure, Judged·sqrtEnclosure, Judged·sinEnclosure, Judged·cosEnclosure};
 ghost use Rattle.interval.specs.means.EndAngle.{EndAngle·fromSinCos, EndAngle·new, EndAngle·sinRange, EndAngle·cosRange};
 
 // pbrt's std::f32::consts::PI.

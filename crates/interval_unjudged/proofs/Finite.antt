@@ -1,5 +1,6 @@
--- A product of floats that is finite has finite operands, `mul-finite`, and a quotient a finite dividend, `div-finite`, as sums and differences have (`interval`). Of a product of
--- intervals a factor of one number is finite, `left-point`, `right-point`; and the sum of an interval's ends tells that both are finite, `ends-finite`.
+-- A product of floats that is finite has finite operands, `mul-finite`, and a quotient a finite dividend,
+-- `div-finite`, as sums and differences have (`interval`). Of a product of intervals a factor of one number is finite,
+-- `left-point`, `right-point`; and the sum of an interval's ends tells that both are finite, `ends-finite`.
 use mathlib.Core.Bool.{Bool, true, false, cond}
 use lib.Dec.{T, eqb}
 use lib.Ieee.{Float, nan, inf, fin, mul, div, lt, unlike}

@@ -1,5 +1,5 @@
--- Product and quotient by comparisons of intervals of one number are the interval of one number: `mul-ordered-point`, `div-ordered-point`. One number times an interval has
--- the products of the ends, where these rise: `mul-ordered-rising`.
+-- Product and quotient by comparisons of intervals of one number are the interval of one number: `mul-ordered-point`, `div-ordered-point`.
+-- One number times an interval has the products of the ends, where these rise: `mul-ordered-rising`.
 use mathlib.Core.Path.{_≡_, refl}
 use mathlib.Core.Bool.{Bool, true, false, cond}
 use lib.Ieee.{Float, lt}
@@ -33,7 +33,8 @@ pub div-ordered-point : (x y : Float) → Interval·divOrdered (Interval·point 
 unfolding Interval·divOrdered
 div-ordered-point x y = four-same (x ⊘ y)
 
-pub mul-ordered-rising : (x : Float) (Y : Interval) → lt (x ⊗ Y .low) (x ⊗ Y .high) ≡ true → Interval·mulOrdered (Interval·point x) Y ≡ record { low = x ⊗ Y .low; high = x ⊗ Y .high }
+pub mul-ordered-rising : (x : Float) (Y : Interval) → lt (x ⊗ Y .low) (x ⊗ Y .high) ≡ true
+    → Interval·mulOrdered (Interval·point x) Y ≡ record { low = x ⊗ Y .low; high = x ⊗ Y .high }
 unfolding Interval·mulOrdered Interval·ofFourOrdered
 mul-ordered-rising x Y h =
     let p = x ⊗ Y .low in

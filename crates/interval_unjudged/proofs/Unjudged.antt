@@ -1,5 +1,5 @@
--- Where the inputs and what `Program·tested` lists are finite, and what `Program·divisors` lists is positive, the judged reading of a formula is the unjudged one, and the
--- number met before stands: `program-unjudged`. One induction over the language.
+-- Where the inputs and what `Program·tested` lists are finite, and what `Program·divisors` lists is positive, the judged reading
+-- of a formula is the unjudged one, and the number met before stands: `program-unjudged`. One induction over the language.
 use mathlib.Core.Path.{_≡_, refl, sym, ap, ap₂, _∙_}
 use Prim.Native.Nat.{ℕ, zero, suc, _<_}
 use native.Mathlib.Nat.{le-of-suc-le-suc, not-suc-le-zero}
@@ -12,11 +12,15 @@ use Rattle.refusal.proofs.First.{first-right}
 use Rattle.interval.specs.declared.Interval.{Interval}
 use Rattle.interval.specs.declared.Judged.{Judged}
 use Rattle.interval.specs.Contains.{Finite}
-use Rattle.interval.specs.Enclosure.{notFinite, Judged·judge, Judged·addEnclosure, Judged·subEnclosure, Judged·mulEnclosure, Judged·divEnclosure, Judged·sqrtEnclosure, Judged·sinEnclosure, Judged·cosEnclosure}
+use Rattle.interval.specs.Enclosure.{notFinite, Judged·judge, Judged·addEnclosure, Judged·subEnclosure, Judged·mulEnclosure}
+use Rattle.interval.specs.Enclosure.{Judged·divEnclosure, Judged·sqrtEnclosure, Judged·sinEnclosure, Judged·cosEnclosure}
 use Rattle.interval.proofs.Refusal.{finite-accepted, positive-accepted}
 use Rattle.formula.specs.Program.{Binary, sum, difference, product, quotient, Unary, root, sine, cosine, Expr, var, con, binary, unary, Program, _>>=_, give}
 use Rattle.formula.specs.Enclose.{Binary·enclose, Unary·enclose, unbound, Expr·enclose, Enclosure, enclosure, Expr·encloseAll, extend, Program·enclose}
-use Rattle.interval_unjudged.specs.means.Unjudged.{Binary·unjudged, Unary·unjudged, Expr·unjudged, Expr·unjudgedAll, Program·unjudged, Expr·closed, Expr·closedAll, Program·closed, Expr·result, Binary·operands, Expr·tested, Expr·testedAll, Program·tested, Binary·divisor, Unary·rooted, Expr·divisors, Expr·divisorsAll, Program·divisors, All, Positive}
+use Rattle.interval_unjudged.specs.means.Unjudged.{Binary·unjudged, Unary·unjudged, Expr·unjudged, Expr·unjudgedAll}
+use Rattle.interval_unjudged.specs.means.Unjudged.{Program·unjudged, Expr·closed, Expr·closedAll, Program·closed, Expr·result}
+use Rattle.interval_unjudged.specs.means.Unjudged.{Binary·operands, Expr·tested, Expr·testedAll, Program·tested, Binary·divisor}
+use Rattle.interval_unjudged.specs.means.Unjudged.{Unary·rooted, Expr·divisors, Expr·divisorsAll, Program·divisors, All, Positive}
 use Rattle.interval_unjudged.proofs.Finite.{add-operands, sub-operands}
 use Rattle.interval_unjudged.proofs.Ordered.{mul-ordered, div-ordered}
 
@@ -103,8 +107,10 @@ module _ (σ : List Interval) (s : All Finite σ) where
       let divisors = Expr·divisors σ a ++ Expr·divisors σ b in
       let db = all-right Positive divisor divisors d in
       let g = operands-finite o a b ca cb (all-left Finite operands below t) f in
-      let p = expr-unjudged m a ca (all-left Finite (Expr·tested σ a) (Expr·tested σ b) tb) (all-left Positive (Expr·divisors σ a) (Expr·divisors σ b) db) (g .0) in
-      let q = expr-unjudged m b cb (all-right Finite (Expr·tested σ a) (Expr·tested σ b) tb) (all-right Positive (Expr·divisors σ a) (Expr·divisors σ b) db) (g .1) in
+      let p =
+      expr-unjudged m a ca (all-left Finite (Expr·tested σ a) (Expr·tested σ b) tb) (all-left Positive (Expr·divisors σ a) (Expr·divisors σ b) db) (g .0) in
+      let q = expr-unjudged m b cb (all-right Finite (Expr·tested σ a) (Expr·tested σ b) tb)
+      (all-right Positive (Expr·divisors σ a) (Expr·divisors σ b) db) (g .1) in
       rw (p, q) (binary-unjudged o m A B (g .0) (g .1) (all-left Positive divisor divisors d) f)
   expr-unjudged m (unary o a) c t d f =
       let A = Expr·unjudged σ a in
@@ -123,11 +129,17 @@ module _ (σ : List Interval) (s : All Finite σ) where
       let te = Expr·tested σ e in
       let ts = Expr·testedAll σ es in
       let u = all-right Finite r (te ++ ts) t in
-      let h = expr-unjudged m e ce (all-left Finite te ts u) (all-left Positive (Expr·divisors σ e) (Expr·divisorsAll σ es) d) (result-finite e ce (all-left Finite r (te ++ ts) t)) in
-      rw (h, all-unjudged m es (and-r (Expr·closed σ e) (Expr·closedAll σ es) c) (all-right Finite te ts u) (all-right Positive (Expr·divisors σ e) (Expr·divisorsAll σ es) d))
+      let h = expr-unjudged m e ce (all-left Finite te ts u) (all-left Positive (Expr·divisors σ e) (Expr·divisorsAll σ es) d)
+      (result-finite e ce (all-left Finite r (te ++ ts) t)) in
+      rw (
+        h,
+        all-unjudged m es (and-r (Expr·closed σ e) (Expr·closedAll σ es) c)
+            (all-right Finite te ts u) (all-right Positive (Expr·divisors σ e) (Expr·divisorsAll σ es) d),
+      )
 
 -- ---- programs
-pub program-unjudged : (p : Program) (m : ℕ) (σ : List Interval) → All Finite σ → T (Program·closed σ p) → All Finite (Program·tested σ p) → All Positive (Program·divisors σ p)
+pub program-unjudged : (p : Program) (m : ℕ) (σ : List Interval) → All Finite σ
+    → T (Program·closed σ p) → All Finite (Program·tested σ p) → All Positive (Program·divisors σ p)
     → Program·enclose (enclosure m σ) p ≡ enclosure m (Program·unjudged σ p)
 unfolding Program·enclose Program·unjudged
 program-unjudged (give es) m σ s c t d = all-unjudged σ s m es c t d

@@ -1,5 +1,6 @@
--- A chain that was made of two answers up to the shared time as the first, above it as the second, and its cover is the union of theirs: `join-answers`. Above the shared time is above
--- the end time of every move of the first, since these rise (`ends-later`); the union of the moves' covers may be taken in two parts (`union-all-append`).
+-- A chain that was made of two answers up to the shared time as the first, above it as the second, and its cover is the union of
+-- theirs: `join-answers`. Above the shared time is above the end time of every move of the first, since these rise (`ends-later`);
+-- the union of the moves' covers may be taken in two parts (`union-all-append`).
 use Prim.Native.Nat.{ℕ}
 use mathlib.Core.Path.{_≡_, refl, sym, ap, subst, _∙_}
 use mathlib.Core.Bool.{Bool, true, false, not, cond}
@@ -35,7 +36,8 @@ ends-later : (s : Float) (m : AnimatedTransform) (moves : List AnimatedTransform
 unfolding lastFrom
 ends-later s m [] (e, r, _) = ≼-refl (m .«end_time») (number-right (lt-≼ (m .«start_time») (m .«end_time») r))
 ends-later s m (next ∷ moves) (e, r, (e', r', c)) =
-    ≼-trans (subst (λ (t : Float). t ≼ next .«end_time») e' (lt-≼ (next .«start_time») (next .«end_time») r')) (ends-later (m .«end_time») next moves (e', r', c))
+    ≼-trans (subst (λ (t : Float). t ≼ next .«end_time») e' (lt-≼ (next .«start_time») (next .«end_time») r'))
+    (ends-later (m .«end_time») next moves (e', r', c))
 
 above-earlier : {t s : Float} (time : Float) → T (not (le time s)) → t ≼ s → le time t ≡ false
 above-earlier {t} {s} time h k = go (le time t) (λ e. ≼-trans {x = time} (record { holds = e }) k .holds)

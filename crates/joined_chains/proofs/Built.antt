@@ -1,5 +1,6 @@
--- Two built chains that share a pose are one built chain, whose moves are theirs: `joins`. The pairs of the poses with that pose once are the pairs of the first and then those of the
--- second (`neighbours-append`), so that no check but the count can newly fail (`join-passed`), and the moves of the pairs are those that stand.
+-- Two built chains that share a pose are one built chain, whose moves are theirs: `joins`. The pairs of the poses with that pose once are
+-- the pairs of the first and then those of the second (`neighbours-append`), so that no check but the count can newly fail (`join-passed`),
+-- and the moves of the pairs are those that stand.
 use Prim.Native.Nat.{ℕ, suc, _+_, _≤_}
 use mathlib.Core.Path.{_≡_, refl, sym, ap, subst, _∙_}
 use mathlib.Core.Bool.{Bool, true, false, Bool·beq, _&&_, _||_, cond}
@@ -22,7 +23,8 @@ use Rattle.motion_chain.specs.MoveAt.{lastFrom}
 use Rattle.motion_chain.proofs.Built.{first-none, first-each, checks-passed, new-built}
 use Rattle.built_poses.specs.Poses.{AnimatedTransform·startPose, AnimatedTransform·endPose, Chain·poses, Chain·isRigid}
 use Rattle.built_poses.proofs.Built.{built-poses, built-kind}
-use Rattle.joined_chains.specs.Join.{Pose·sameBits, Chain·lastPose, Chain·firstPose, Chain·joinedPoses, mismatchRefusal, countRefusal, Chain·joinRefusal, Chain·join}
+use Rattle.joined_chains.specs.Join.{Pose·sameBits, Chain·lastPose, Chain·firstPose, Chain·joinedPoses}
+use Rattle.joined_chains.specs.Join.{mismatchRefusal, countRefusal, Chain·joinRefusal, Chain·join}
 use Rattle.joined_chains.specs.Theorem.{Chain·append, Joins}
 
 -- ---- lists
@@ -88,7 +90,13 @@ module _ (rigid : Bool) (p q : Pose) (ps qs : List Pose) (same : lastOf p ps ≡
       let (b1, (b2, (b16, (_, (b12, (b3, (b17, _))))))) = first-each (chainStages rigid (q ∷ qs)) f in
       each-first (chainStages rigid ((p ∷ ps) ++ qs)) (
         pose-stage (Pose·number 1) a1 b1,
-        (pose-stage (Pose·number 2) a2 b2, (pose-stage (Pose·number 16) a16 b16, (count, (pair-stage (Pair·number 12) a12 b12, (pair-stage (Pair·number 3) a3 b3, (kind-stage a17 b17, tt)))))),
+        (
+          pose-stage (Pose·number 2) a2 b2,
+          (
+            pose-stage (Pose·number 16) a16 b16,
+            (count, (pair-stage (Pair·number 12) a12 b12, (pair-stage (Pair·number 3) a3 b3, (kind-stage a17 b17, tt)))),
+          ),
+        ),
       )
     where
       longer : (xs : List Pose) → length xs ≤ length (xs ++ qs)
@@ -174,7 +182,8 @@ module _ (rigid : Bool) (p q : Pose) (ps qs : List Pose) (same : lastOf p ps ≡
         ∙ stage-append number (answers rigid (p ∷ ps)) (answers rigid (q ∷ qs)) (v .none) (w .none);
     moves =
         ap values pairs ∙ map-append (λ a. a .value) (answers rigid (p ∷ ps)) (answers rigid (q ∷ qs))
-        ∙ ap (λ (l : List AnimatedTransform). l ++ values (answers rigid (q ∷ qs))) (v .moves) ∙ ap (λ (l : List AnimatedTransform). Chain·moves c ++ l) (w .moves);
+        ∙ ap (λ (l : List AnimatedTransform). l ++ values (answers rigid (q ∷ qs))) (v .moves)
+        ∙ ap (λ (l : List AnimatedTransform). Chain·moves c ++ l) (w .moves);
   }
     where
       pairs : answers rigid ((p ∷ ps) ++ qs) ≡ answers rigid (p ∷ ps) ++ answers rigid (q ∷ qs)

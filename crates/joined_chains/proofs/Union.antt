@@ -1,5 +1,5 @@
--- Unions are associative to the bit, for all floats: `union-assoc`. So the union of two lists of answers, one behind the other, is the union of the two unions: `union-all-append`.
--- Rests on the least and the greatest of two, each the first of those that no other is strictly beyond: `min-assoc`, `max-assoc`.
+-- Unions are associative to the bit, for all floats: `union-assoc`. So the union of two lists of answers, one behind the other, is the union of the two unions:
+-- `union-all-append`. Rests on the least and the greatest of two, each the first of those that no other is strictly beyond: `min-assoc`, `max-assoc`.
 use Prim.Native.Nat.{ℕ, _+_, _*_, _<_}
 use mathlib.Core.Path.{_≡_, refl, sym, ap, _∙_}
 use mathlib.Core.Bool.{Bool, true, false, not, _||_, _&&_, cond}

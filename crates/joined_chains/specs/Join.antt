@@ -1,5 +1,5 @@
--- Two chains made one, `Chain·join`: where two poses agree in every bit, the poses of the one chain, and the refusals. Quotations are of document 02, "Two chains made one". Definitions only.
--- There is one NaN (lib.Ieee), whose bits are 0x7fc00000; a built chain has none.
+-- Two chains made one, `Chain·join`: where two poses agree in every bit, the poses of the one chain, and the refusals. Quotations are of document 02,
+-- "Two chains made one". Definitions only. There is one NaN (lib.Ieee), whose bits are 0x7fc00000; a built chain has none.
 use Prim.Native.Nat.{ℕ}
 use mathlib.Core.Bool.{Bool, Bool·beq, _&&_, cond}
 use mathlib.Core.List.{List, _++_}

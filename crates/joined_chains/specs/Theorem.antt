@@ -1,5 +1,6 @@
--- What is promised of two built chains made one: it is built, and its moves are the first's and then the second's, `Joins`; "Up to the shared time it answers as the first, above it as the
--- second, and its cover is the union of theirs" (document 02, "Two chains made one"), `JoinAnswers`. The statements of `joins` and `join-answers`.
+-- What is promised of two built chains made one: it is built, and its moves are the first's and then the second's, `Joins`;
+-- "Up to the shared time it answers as the first, above it as the second, and its cover is the union of theirs" (document 02,
+-- "Two chains made one"), `JoinAnswers`. The statements of `joins` and `join-answers`.
 use Prim.Native.Nat.{ℕ}
 use mathlib.Core.Path.{_≡_}
 use mathlib.Core.Bool.{not}
@@ -33,8 +34,8 @@ pub record AnswersAs (e c : Chain) (time : Float) : Type 0 where
 abbrev pub sharedTime : Chain → Float
 sharedTime c = Chain·lastPose c .time
 
--- e is the chain that was made of c and d. A list's times up to the shared time and those above it are answered by the two chains in turn; the first refusal stands, as it does in a
--- union of covers.
+-- e is the chain that was made of c and d. A list's times up to the shared time and those above it are answered by the two chains in turn;
+-- the first refusal stands, as it does in a union of covers.
 pub record JoinAnswers (c d e : Chain) : Type 0 where
   pub up-to : (time : Float) → T (le time (sharedTime c)) → AnswersAs e c time
   pub above : (time : Float) → T (not (le time (sharedTime c))) → AnswersAs e d time

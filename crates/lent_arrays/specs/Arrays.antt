@@ -1,4 +1,5 @@
--- Poses and transforms in arrays of floats, and what each kind of answer leaves in a lent array: `PointAnswer·left`, `BoundsAnswer·left`, `TransformAnswer·left`. Definitions only.
+-- Poses and transforms in arrays of floats, and what each kind of answer leaves in a lent array:
+-- `PointAnswer·left`, `BoundsAnswer·left`, `TransformAnswer·left`. Definitions only.
 use mathlib.Core.Bool.{cond}
 use mathlib.Core.List.{List, [], _∷_, _++_}
 use lib.Dec.{eqb}

@@ -1,5 +1,6 @@
-// Poses, points, boxes and transforms that cross to Rust and C in arrays of floats, and answers put into a lent array: the answer's number is returned, 0 for none,
-// and after a refusal the array is as it was. A box is its least corner and its greatest, a transform the four rows of its matrix and those of its inverse.
+// Poses, points, boxes and transforms that cross to Rust and C in arrays of floats, and answers put into a lent array:
+// the answer's number is returned, 0 for none, and after a refusal the array is as it was. A box is its least corner
+// and its greatest, a transform the four rows of its matrix and those of its inverse.
 use bounds3::Bounds3f;
 use bounds3::Point3f;
 use matrix4x4::Matrix4x4;

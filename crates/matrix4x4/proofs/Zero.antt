@@ -1,5 +1,5 @@
--- Sums and products of zeros of either sign and of ones: `zero-mul`, `mul-zero`, `zero-add-zero`, `one-mul-one`, `zero-add-one`, each the rounded value of a fraction equal
--- to 0/1 or 1/1, and equal fractions round alike (`round-same`). What `==` says of a zero and of one: `eq-zero`, `zero-eq`, `eq-one`.
+-- Sums and products of zeros of either sign and of ones: `zero-mul`, `mul-zero`, `zero-add-zero`, `one-mul-one`, `zero-add-one`, each the rounded value
+-- of a fraction equal to 0/1 or 1/1, and equal fractions round alike (`round-same`). What `==` says of a zero and of one: `eq-zero`, `zero-eq`, `eq-one`.
 use mathlib.Core.Path.{_≡_, refl, sym, _∙_}
 use mathlib.Core.Bool.{Bool, true, false, Bool·beq, _&&_, _||_, cond}
 use Prim.Native.Nat.{ℕ, zero, suc, _+_, _-_, _*_, _<_}

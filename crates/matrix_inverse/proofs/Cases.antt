@@ -13,7 +13,10 @@ bits a b c d = ofBits binary32 a ∷ ofBits binary32 b ∷ ofBits binary32 c ∷
 
 -- (x, y, z) to (2 y + 1, 4 z, x / 2)
 cyclic : Matrix4x4·inverse (bits 0 0x40000000 0 0x3f800000 ∷ bits 0 0 0x40800000 0 ∷ bits 0x3f000000 0 0 0 ∷ bits 0 0 0 0x3f800000 ∷ [])
-    ≡ record { m = Matrix4x4·fromRows (bits 0 0 0x40000000 0 ∷ bits 0x3f000000 0 0 0xbf000000 ∷ bits 0 0x3e800000 0 0 ∷ bits 0 0 0 0x3f800000 ∷ []); refusal = 0 }
+    ≡ record {
+      m = Matrix4x4·fromRows (bits 0 0 0x40000000 0 ∷ bits 0x3f000000 0 0 0xbf000000 ∷ bits 0 0x3e800000 0 0 ∷ bits 0 0 0 0x3f800000 ∷ []);
+      refusal = 0;
+    }
 unfolding computing
 cyclic = refl
 

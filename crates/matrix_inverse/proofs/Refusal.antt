@@ -9,7 +9,8 @@ use Rattle.matrix4x4.specs.IsFinite.{Matrix4x4·isFinite}
 use Rattle.matrix_inverse.specs.declared.InverseAnswer.{InverseAnswer}
 use Rattle.control_flow.specs.Loop.{loop}
 use Rattle.matrix_inverse.specs.RestoreColumns.{restoreColumns}
-use Rattle.matrix_inverse.specs.Inverse.{Elimination, zeroPivot, running, zeros, eliminationRound, refused, InverseAnswer·judged, finish, Matrix4x4·inverse}
+use Rattle.matrix_inverse.specs.Inverse.{Elimination, zeroPivot, running, zeros, eliminationRound}
+use Rattle.matrix_inverse.specs.Inverse.{refused, InverseAnswer·judged, finish, Matrix4x4·inverse}
 
 -- refused with one of the numbers, or finite
 data Answered (r : InverseAnswer) : Type 0 where

@@ -16,7 +16,8 @@ use Rattle.control_flow.specs.Loop.{loop}
 use Rattle.matrix_inverse.specs.Pivot.{Pivot·search}
 use Rattle.matrix_inverse.specs.Eliminate.{swapRows, eliminate}
 use Rattle.matrix_inverse.specs.RestoreColumns.{restoreColumns}
-use Rattle.matrix_inverse.specs.Inverse.{Elimination, zeroPivot, running, zeros, eliminationRound, refused, InverseAnswer·judged, finish, Matrix4x4·inverse, AllBelow}
+use Rattle.matrix_inverse.specs.Inverse.{Elimination, zeroPivot, running, zeros, eliminationRound, refused}
+use Rattle.matrix_inverse.specs.Inverse.{InverseAnswer·judged, finish, Matrix4x4·inverse, AllBelow}
 use Rattle.matrix_inverse.proofs.InRange.{InRange}
 
 -- After i rounds on m₀: the matrix, the counts and the index arrays; the indices are below 4 and the counts at most i.

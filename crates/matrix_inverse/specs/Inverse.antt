@@ -14,7 +14,8 @@ use Rattle.matrix_inverse.specs.Pivot.{Pivot·search}
 use Rattle.matrix_inverse.specs.Eliminate.{swapRows, eliminate}
 use Rattle.matrix_inverse.specs.RestoreColumns.{restoreColumns}
 
--- Where the elimination stands: at a zero pivot, or with pbrt's `minv`, `ipiv` (how many pivots each column has had), `indxr` and `indxc` (each round's pivot row and column).
+-- Where the elimination stands: at a zero pivot, or with pbrt's `minv`, `ipiv` (how many pivots each column has had),
+-- `indxr` and `indxc` (each round's pivot row and column).
 pub data Elimination : Type 0 where
   zeroPivot : Elimination
   running : Rows → List ℕ → List ℕ → List ℕ → Elimination

@@ -1,6 +1,6 @@
--- The rounded midpoint of two values of binary32 lies from one to the other, where their sum is finite: `midpoint-between`. Twice a value of the format is one too, unless it
--- overflows, so that the rounded sum is on the right side of it (`twice-below`); and half of that sum is rounded to the value's own side (`own-below`).
--- Where the sum overflows it is false: of 3e38 and 3e38 the rounded midpoint is infinite.
+-- The rounded midpoint of two values of binary32 lies from one to the other, where their sum is finite: `midpoint-between`. Twice a value
+-- of the format is one too, unless it overflows, so that the rounded sum is on the right side of it (`twice-below`); and half of that sum
+-- is rounded to the value's own side (`own-below`). Where the sum overflows it is false: of 3e38 and 3e38 the rounded midpoint is infinite.
 use mathlib.Core.Path.{_≡_, refl, sym, ap, subst, _∙_}
 use mathlib.Core.Bool.{Bool, true, false, _&&_}
 use mathlib.Core.Logic.{_⊎_, inl, inr}
@@ -26,20 +26,24 @@ use Rattle.float_bits.proofs.Decode.{decode-value, significand-lt}
 use Rattle.own_rounding.proofs.OwnRounding.{own-rounding}
 
 -- ---- a value of the format beside the rounding of a fraction
-own-below : (x z : Float) {p n d : ℕ} → T (finite x) → T (fits binary32 x) → Rounds binary32 z p n d → 0 < d → FractionLe (numPos x) (numNeg x) (den x) p n d → x ≼ z
+own-below : (x z : Float) {p n d : ℕ} → T (finite x) → T (fits binary32 x)
+    → Rounds binary32 z p n d → 0 < d → FractionLe (numPos x) (numNeg x) (den x) p n d → x ≼ z
 own-below nan z f h r D l = absurd f
 own-below (inf s) z f h r D l = absurd f
 own-below (fin s m e) z f h r D l =
     let x = fin s m e in
-    let o : Rounds binary32 (round binary32 s (m * up e) (down e)) (numPos x) (numNeg x) (den x) = record { sign = s; size = m * up e; is = refl; value = refl } in
+    let o : Rounds binary32 (round binary32 s (m * up e) (down e)) (numPos x) (numNeg x) (den x) =
+    record { sign = s; size = m * up e; is = refl; value = refl } in
     ≼-trans (own-rounding x f h o .from) (rounds-mono o r (down-pos e) D l)
 
-own-above : (x z : Float) {p n d : ℕ} → T (finite x) → T (fits binary32 x) → Rounds binary32 z p n d → 0 < d → FractionLe p n d (numPos x) (numNeg x) (den x) → z ≼ x
+own-above : (x z : Float) {p n d : ℕ} → T (finite x) → T (fits binary32 x)
+    → Rounds binary32 z p n d → 0 < d → FractionLe p n d (numPos x) (numNeg x) (den x) → z ≼ x
 own-above nan z f h r D l = absurd f
 own-above (inf s) z f h r D l = absurd f
 own-above (fin s m e) z f h r D l =
     let x = fin s m e in
-    let o : Rounds binary32 (round binary32 s (m * up e) (down e)) (numPos x) (numNeg x) (den x) = record { sign = s; size = m * up e; is = refl; value = refl } in
+    let o : Rounds binary32 (round binary32 s (m * up e) (down e)) (numPos x) (numNeg x) (den x) =
+    record { sign = s; size = m * up e; is = refl; value = refl } in
     ≼-trans (rounds-mono r o D (down-pos e) l) (own-rounding x f h o .to)
 
 -- ---- twice a value
@@ -93,7 +97,8 @@ below-big s zero e h = none (2 ^ 128) (down e) (up e)
   where
     none : (K d u : ℕ) → 0 * u ≤ K * d
     none K d u = omega arith
-below-big s (suc m) e h = go (ltb→lt (suc m * up e) (2 ^ 128 * down e) (and-r (eqb (suc m % 2) 1 && ltb (suc m) (2 ^ 24) && leb (down e) (2 ^ 149)) (ltb (suc m * up e) (2 ^ 128 * down e)) h))
+below-big s (suc m) e h = go (ltb→lt (suc m * up e) (2 ^ 128 * down e)
+    (and-r (eqb (suc m % 2) 1 && ltb (suc m) (2 ^ 24) && leb (down e) (2 ^ 149)) (ltb (suc m * up e) (2 ^ 128 * down e)) h))
   where
     go : {a b : ℕ} → a < b → a ≤ b
     go l = omega (arith, l)
@@ -123,7 +128,8 @@ twice-below (fin s m e) y {p} {n} {d} f h g k r D l = elim (split (q * 2 ^ (j + 
     exact u =
         let z = round binary32 s (2 * (m * up e)) (down e) in
         let (a, b) = parts s (m * up e) in
-        let o : Rounds binary32 z (posPart s (2 * (m * up e))) (negPart s (2 * (m * up e))) (down e) = record { sign = s; size = 2 * (m * up e); is = refl; value = refl } in
+        let o : Rounds binary32 z (posPart s (2 * (m * up e))) (negPart s (2 * (m * up e))) (down e) =
+        record { sign = s; size = 2 * (m * up e); is = refl; value = refl } in
         rw (a, b) (value-between s (2 * (m * up e)) (down e) z y (down-pos e) (twice-value s m e h u) g (rounds-mono o r (down-pos e) D (rw (← a, ← b) l)))
 
     -- 2 ^ 128 is at most twice the size of x.
@@ -138,10 +144,13 @@ twice-below (fin s m e) y {p} {n} {d} f h g k r D l = elim (split (q * 2 ^ (j + 
         cancel : (a L K d N : ℕ) → 0 < L → K * L ≤ N * 2 → a * L ≡ N * d → K * d ≤ 2 * a
         cancel a L K d N P v w = le-of-mul-le-mul-right (omega (arith, mul-le-mul-right d v, w)) P
 
-    over : (t : Bool) → s ≡ t → 2 ^ 277 ≤ q * 2 ^ (j + 1) → FractionLe (2 * posPart s (m * up e)) (2 * negPart s (m * up e)) (down e) (numPos y) (numNeg y) (den y)
-    over true i u = subst (λ (b : Bool). FractionLe (2 * posPart b (m * up e)) (2 * negPart b (m * up e)) (down e) (numPos y) (numNeg y) (den y)) (sym i) (far y g k (size u))
+    over : (t : Bool) → s ≡ t → 2 ^ 277 ≤ q * 2 ^ (j + 1)
+        → FractionLe (2 * posPart s (m * up e)) (2 * negPart s (m * up e)) (down e) (numPos y) (numNeg y) (den y)
+    over true i u = subst (λ (b : Bool). FractionLe (2 * posPart b (m * up e)) (2 * negPart b (m * up e)) (down e) (numPos y) (numNeg y) (den y))
+        (sym i) (far y g k (size u))
       where
-        far : (y : Float) → T (finite y) → T (fits binary32 y) → 2 ^ 128 * down e ≤ 2 * (m * up e) → FractionLe (2 * 0) (2 * (m * up e)) (down e) (numPos y) (numNeg y) (den y)
+        far : (y : Float) → T (finite y) → T (fits binary32 y) → 2 ^ 128 * down e ≤ 2 * (m * up e)
+            → FractionLe (2 * 0) (2 * (m * up e)) (down e) (numPos y) (numNeg y) (den y)
         far nan g k v = absurd g
         far (inf t) g k v = absurd g
         far (fin false a b) g k v = omega arith
@@ -152,7 +161,8 @@ twice-below (fin s m e) y {p} {n} {d} f h g k r D l = elim (split (q * 2 ^ (j + 
     over false i u =
         absurd (big-infinite y g (rounds-mono big-rounds r (zero-lt-suc 0) D
         (fraction-trans (2 ^ 128) 0 1 (2 * posPart s (m * up e)) (2 * negPart s (m * up e)) (down e) p n d (down-pos e)
-        (subst (λ (b : Bool). FractionLe (2 ^ 128) 0 1 (2 * posPart b (m * up e)) (2 * negPart b (m * up e)) (down e)) (sym i) (above (2 ^ 128) (m * up e) (down e) (size u))) l)))
+        (subst (λ (b : Bool). FractionLe (2 ^ 128) 0 1 (2 * posPart b (m * up e)) (2 * negPart b (m * up e)) (down e))
+        (sym i) (above (2 ^ 128) (m * up e) (down e) (size u))) l)))
       where
         above : (K x d : ℕ) → K * d ≤ 2 * x → FractionLe K 0 1 (2 * x) (2 * 0) d
         above K x d v = omega (arith, v)
@@ -177,7 +187,12 @@ neg-rounds : {y : Float} {p n d : ℕ} → Rounds binary32 y p n d → Rounds bi
 neg-rounds {y} {p} {n} {d} r = go (r .sign) (r .is) (r .value)
   where
     go : (s : Bool) → y ≡ round binary32 s (r .size) d → posPart s (r .size) + n ≡ p + negPart s (r .size) → Rounds binary32 (neg y) n p d
-    go true e v = record { sign = false; size = r .size; is = ap neg (e ∙ round-neg binary32 (r .size) d) ∙ neg-neg (round binary32 false (r .size) d); value = omega (arith, v) }
+    go true e v = record {
+      sign = false;
+      size = r .size;
+      is = ap neg (e ∙ round-neg binary32 (r .size) d) ∙ neg-neg (round binary32 false (r .size) d);
+      value = omega (arith, v);
+    }
     go false e v = record { sign = true; size = r .size; is = ap neg e ∙ sym (round-neg binary32 (r .size) d); value = omega (arith, v) }
 
 twice-above : (x y : Float) {p n d : ℕ} → T (finite x) → T (fits binary32 x) → T (finite y) → T (fits binary32 y) → Rounds binary32 y p n d → 0 < d
@@ -194,7 +209,8 @@ twice-above x y {p} {n} {d} f h g k r D l =
     turn p n d q m e l = omega (arith, l)
 
 -- ---- the midpoint
-module _ (lo hi : Float) (f : T (finite lo)) (g : T (finite hi)) (h : T (fits binary32 lo)) (k : T (fits binary32 hi)) (o : lo ≼ hi) (s : T (finite (lo ⊕ hi))) where
+module _ (lo hi : Float) (f : T (finite lo)) (g : T (finite hi)) (h : T (fits binary32 lo))
+    (k : T (fits binary32 hi)) (o : lo ≼ hi) (s : T (finite (lo ⊕ hi))) where
   half-finite : T (finite half)
   unfolding ofBits
   half-finite = tt

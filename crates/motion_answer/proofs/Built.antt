@@ -1,5 +1,5 @@
--- A file's poses, as far as building goes: their times and pads are binary32 (`poses-binary32`), their bottom rows are right (`poses-affine`), and where building's
--- number is 0, a chain is built (`new-none`).
+-- A file's poses, as far as building goes: their times and pads are binary32 (`poses-binary32`), their bottom rows are right (`poses-affine`),
+-- and where building's number is 0, a chain is built (`new-none`).
 use Prim.Native.Nat.{ℕ, _+_}
 use mathlib.Core.Path.{_≡_, refl}
 use mathlib.Core.Bool.{Bool, true, false, cond}

@@ -86,7 +86,9 @@ rows =
     ∷ []
 
 unfoldable computing : Unit {0}
-unfolding ascii split singleSpaced equal allValues fits valuesOf conforms keepsColumns hasPads keepsLayout poseOf MoveFile·read MoveFile·poses digitsOnly number digitValue chain.computing Poses·ofLists line boundsText refusalText digits ofBits toBits ChainAnswer·cover MoveFile·chain MoveFile·cover BoundsAnswer·text answerText
+unfolding ascii split singleSpaced equal allValues fits valuesOf conforms keepsColumns hasPads keepsLayout poseOf MoveFile·read MoveFile·poses digitsOnly number
+    digitValue chain.computing Poses·ofLists line boundsText refusalText digits ofBits toBits ChainAnswer·cover MoveFile·chain MoveFile·cover BoundsAnswer·text
+    answerText
 computing = tt
 
 all-answered : map (λ (row : Row). answerText (ascii (row .bytes))) rows ≡ map (λ (row : Row). ascii (row .text)) rows

@@ -82,7 +82,8 @@ file-contains bytes e =
       chain = r .chain;
       from-file = r .from-file;
       is-built = is-built;
-      contains = λ time p n i. subst (λ (x : BoundsAnswer). MovedInside (BoundsAnswer·bounds x) (Chain·padAt (r .chain) time) (Chain·transformPoint (r .chain) time p)) (sym (r .same))
+      contains = λ time p n i. subst
+          (λ (x : BoundsAnswer). MovedInside (BoundsAnswer·bounds x) (Chain·padAt (r .chain) time) (Chain·transformPoint (r .chain) time p)) (sym (r .same))
           (chain-contains (r .chain) (MoveFile·box bytes) coverDepth time p is-built (rw (r .same) at e) n i);
     }
 

@@ -66,5 +66,6 @@ two-pose-file bytes start end =
     record {
       rising = λ e h. rw (poses-kept bytes start (end ∷ []) e, e) (rising-cover (Pose·ofList start) (Pose·ofList end) (MoveFile·box bytes) h);
       not-rising = λ e f z h. rw (poses-kept bytes start (end ∷ []) e, e)
-          (falling-cover (Pose·ofList start) (Pose·ofList end) (MoveFile·box bytes) (record { finite = f; affine = rw e at (poses-affine bytes); padded = z }) h);
+          (falling-cover (Pose·ofList start) (Pose·ofList end) (MoveFile·box bytes)
+          (record { finite = f; affine = rw e at (poses-affine bytes); padded = z }) h);
     }

@@ -1,9 +1,9 @@
 -- The guarantee for a file: where the text that answers it is a box, the boom stands inside it at every time.
 --
 -- Whatever bytes are read, the printed text is that of a refusal, whose number is not 0, or that of a box such that the file's poses build a chain and, at
--- every time but NaN and for every point of the file's box, the chain's point query answers a moved point inside the printed box, by itself and less and plus the pad at that time. The contract of `answer`
--- says `AnswerContainsMotion` of the bytes that it is given and of the text that it leaves; it is `ChainContainsMotion` of
--- crates/motion_chain/specs/Theorem.antt for the chain and the box that the file holds.
+-- every time but NaN and for every point of the file's box, the chain's point query answers a moved point inside the printed box, by itself and less
+-- and plus the pad at that time. The contract of `answer` says `AnswerContainsMotion` of the bytes that it is given and of the text that it leaves;
+-- it is `ChainContainsMotion` of crates/motion_chain/specs/Theorem.antt for the chain and the box that the file holds.
 use Prim.Native.Nat.{ℕ}
 use mathlib.Core.Path.{_≡_}
 use mathlib.Core.Bool.{not}

@@ -26,4 +26,5 @@ pub record TwoPoseFile (bytes : List ℕ) (start end : List Float) : Type 0 wher
       → MoveFile·cover bytes ≡ moveCover (AnimatedTransform·new false (Pose·ofList start) (Pose·ofList end)) (MoveFile·box bytes)
   -- "times that don't rise strictly are 12", once 1 and 16 are judged; a file's bottom rows are right
   pub not-rising : MoveFile·poses bytes ≡ start ∷ end ∷ [] → T (every Pose·isFinite (Pose·ofList start ∷ Pose·ofList end ∷ []))
-      → T (every Pose·isPadded (Pose·ofList start ∷ Pose·ofList end ∷ [])) → T (not (lt (Pose·ofList start .time) (Pose·ofList end .time))) → MoveFile·cover bytes ≡ Refused 12
+      → T (every Pose·isPadded (Pose·ofList start ∷ Pose·ofList end ∷ []))
+      → T (not (lt (Pose·ofList start .time) (Pose·ofList end .time))) → MoveFile·cover bytes ≡ Refused 12

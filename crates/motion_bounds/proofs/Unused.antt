@@ -1,4 +1,5 @@
--- The places of the zero array after the stored ones are joined as one: `unused-once`. Each is +0, and a point that was just joined changes no box (`moved-again`).
+-- The places of the zero array after the stored ones are joined as one: `unused-once`.
+-- Each is +0, and a point that was just joined changes no box (`moved-again`).
 use mathlib.Core.Path.{_≡_, refl, sym, ap, _∙_}
 use mathlib.Core.Bool.{Bool, true, false, cond}
 use mathlib.Core.List.{List}

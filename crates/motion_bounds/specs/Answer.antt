@@ -1,5 +1,5 @@
--- The answers about a motion box: the box with its counts, or a refusal, which carries none. `AnimatedTransform·boundPointMotion` and `AnimatedTransform·motionBounds`
--- are those of 000. Definitions only.
+-- The answers about a motion box: the box with its counts, or a refusal, which carries none.
+-- `AnimatedTransform·boundPointMotion` and `AnimatedTransform·motionBounds` are those of 000. Definitions only.
 use Prim.Native.Nat.{ℕ}
 use Rattle.bounds3.specs.declared.Point3f.{Point3f}
 use Rattle.bounds3.specs.declared.Bounds3f.{Bounds3f}

@@ -1,6 +1,6 @@
--- How many intervals the zero search of a motion box examines on each axis: `pointExamined`, `boxExamined`. Document 02, Examined intervals, counted: "Each equals
--- exactly the number of intervals that the search's definition examines, roots included". They are counted by the search whose zeros the box joins, `axisSearch`.
--- Definitions only.
+-- How many intervals the zero search of a motion box examines on each axis: `pointExamined`, `boxExamined`. Document 02, Examined intervals, counted:
+-- "Each equals exactly the number of intervals that the search's definition examines, roots included". They are counted by the search whose zeros the
+-- box joins, `axisSearch`. Definitions only.
 use Prim.Native.Nat.{ℕ, _+_, _≤_}
 use mathlib.Core.Bool.{not, _||_, cond}
 use Rattle.bounds3.specs.declared.Point3f.{Point3f}

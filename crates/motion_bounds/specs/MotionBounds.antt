@@ -1,6 +1,7 @@
--- The motion box, pbrt's `bound_point_motion` and `motion_bounds`, judged: each moved point is judged as it is met (5), and the ninth zero of an axis (9) before the points at
--- that axis's zeros. The five terms at a point are not judged, and the time of a zero may be an infinity, which means a stored pose. Definitions only.
--- `places` says how many places of the zero array are joined: all eight in 000, the stored ones in the book Physically Based Rendering, third edition.
+-- The motion box, pbrt's `bound_point_motion` and `motion_bounds`, judged: each moved point is judged as it is met (5), and the ninth zero of an axis (9)
+-- before the points at that axis's zeros. The five terms at a point are not judged, and the time of a zero may be an infinity, which means a stored pose.
+-- Definitions only. `places` says how many places of the zero array are joined: all eight in 000, the stored ones in the book Physically Based Rendering,
+-- third edition.
 use Prim.Native.Nat.{ℕ}
 use mathlib.Core.Bool.{not, cond}
 use mathlib.Core.List.{List}

@@ -14,7 +14,8 @@ use zero_search::Search;
 ghost use mathlib.Core.Path.{_≡_};
 ghost use Prim.Native.Nat.{_+_, _<_};
 ghost use Rattle.zero_search.specs.Stored.{Stored};
-ghost use Rattle.motion_bounds.specs.MotionBounds.{DerivativeTerm·eval, BoundsAnswer·fromEnds, pointAt, unionZero, unionZeros, allPlaces, axisSearch, unionAxis, pointBounds, unionCorners, boxBounds};
+ghost use Rattle.motion_bounds.specs.MotionBounds.{DerivativeTerm·eval, BoundsAnswer·fromEnds, pointAt, unionZero, unionZeros};
+ghost use Rattle.motion_bounds.specs.MotionBounds.{allPlaces, axisSearch, unionAxis, pointBounds, unionCorners, boxBounds};
 ghost use Rattle.motion_bounds.specs.Examined.{Examined·AtMost, Examined·add, pointExamined, cornersExamined, boxExamined};
 ghost use Rattle.motion_bounds.specs.Answer.{BoundsAnswer·counted, AnimatedTransform·boundPointMotion, AnimatedTransform·motionBounds};
 ghost use Rattle.motion_bounds.specs.means.Steps.{axisBounds, unionAxes, axesExamined};
@@ -269,8 +270,8 @@ fn box_bounds(m: AnimatedTransform, b: Bounds3f) -> MotionBoundsAnswer
 }
 
 // pbrt's `bound_point_motion`: the motion box of a point, with at most 511 intervals examined on each axis. Refused with 6 for a coordinate that isn't finite;
-// then with 5 for a moved point that isn't and with 9 for a ninth zero of an axis, whichever is met first: pbrt goes on in the first two cases and panics in the
-// last. Accuracy: heuristic.
+// then with 5 for a moved point that isn't and with 9 for a ninth zero of an axis, whichever is met first:
+// pbrt goes on in the first two cases and panics in the last. Accuracy: heuristic.
 pub fn bound_point_motion(m: AnimatedTransform, p: Point3f) -> MotionBoundsAnswer
     ensures value { λ r. ⌜ r ≡ AnimatedTransform·boundPointMotion m p ⌝ }
 {
@@ -280,8 +281,8 @@ pub fn bound_point_motion(m: AnimatedTransform, p: Point3f) -> MotionBoundsAnswe
     point_bounds(m, motion_point::constants(m), p)
 }
 
-// pbrt's `motion_bounds`: the union of the two poses' boxes without rotation, and with it that of the corners' motion boxes, whose counts are added. Refused with
-// 6 and 7 for a box with a coordinate that isn't finite or with a least corner above its greatest; then as each corner is. Accuracy: heuristic.
+// pbrt's `motion_bounds`: the union of the two poses' boxes without rotation, and with it that of the corners' motion boxes, whose counts are added. Refused
+// with 6 and 7 for a box with a coordinate that isn't finite or with a least corner above its greatest; then as each corner is. Accuracy: heuristic.
 pub fn motion_bounds(m: AnimatedTransform, b: Bounds3f) -> MotionBoundsAnswer
     ensures value { λ r. ⌜ r ≡ AnimatedTransform·motionBounds m b ⌝ }
 {

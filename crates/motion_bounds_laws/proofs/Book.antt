@@ -1,5 +1,6 @@
--- Joining all eight places of the zero array, as pbrt-rust does, gives the book's box: `bound-point-motion-book`, `motion-bounds-book`, for a built move and every point and box.
--- An unused place is +0 (`intervalFindZeros-stored`), which means the start's point (`point-at-start`), and the box holds that from the first.
+-- Joining all eight places of the zero array, as pbrt-rust does, gives the book's box: `bound-point-motion-book`,
+-- `motion-bounds-book`, for a built move and every point and box. An unused place is +0 (`intervalFindZeros-stored`),
+-- which means the start's point (`point-at-start`), and the box holds that from the first.
 use Prim.Native.Nat.{ℕ, zero, suc, _+_, _≤_}
 use mathlib.Core.Path.{_≡_, refl, _∙_}
 use mathlib.Core.Bool.{Bool, true, false, not, cond}
@@ -19,7 +20,8 @@ use Rattle.bounds3.specs.Bounds3f.{Bounds3f·default, Bounds3f·fromPoint, Boun
 use Rattle.bounds3.specs.Finite.{Finite, Point3f·isFinite, Bounds3f·isFinite}
 use Rattle.bounds3.specs.Inside.{Inside, Subset}
 use Rattle.bounds3.proofs.Finite.{test-finite, low-finite, high-finite}
-use Rattle.bounds3.proofs.Union.{subset-inside, union-inside-left, union-least, union-subset-left, union-isotone, from-point-inside, union-point-box, union-point-keeps}
+use Rattle.bounds3.proofs.Union.{subset-inside, union-inside-left, union-least, union-subset-left}
+use Rattle.bounds3.proofs.Union.{union-isotone, from-point-inside, union-point-box, union-point-keeps}
 use Rattle.control_flow.specs.Loop.{loop}
 use Rattle.transform.specs.declared.PointAnswer.{PointAnswer}
 use Rattle.transform.specs.declared.PointAnswer.the-variants as point
@@ -38,7 +40,8 @@ use Rattle.animated_transform.specs.declared.AnimatedTransform.{AnimatedTransfo
 use Rattle.animated_transform.specs.Built.{Built}
 use Rattle.motion_point.specs.TransformPoint.{AnimatedTransform·constants}
 use Rattle.motion_point.proofs.Query.{moved-point-judged}
-use Rattle.motion_bounds.specs.MotionBounds.{BoundsAnswer·fromEnds, axisSearch, pointAt, unionZero, unionZeros, allPlaces, storedPlaces, unionAxis, pointBounds, unionCorner, unionCorners, boxBounds, boundPointMotion, motionBounds}
+use Rattle.motion_bounds.specs.MotionBounds.{BoundsAnswer·fromEnds, axisSearch, pointAt, unionZero, unionZeros, allPlaces, storedPlaces}
+use Rattle.motion_bounds.specs.MotionBounds.{unionAxis, pointBounds, unionCorner, unionCorners, boxBounds, boundPointMotion, motionBounds}
 use Rattle.motion_bounds.specs.declared.Examined.{Examined}
 use Rattle.motion_bounds.specs.Examined.{pointExamined, boxExamined}
 use Rattle.motion_bounds.specs.Answer.{BoundsAnswer·counted, MotionBoundsAnswer·uncounted, AnimatedTransform·boundPointMotion, AnimatedTransform·motionBounds}
@@ -78,9 +81,11 @@ module _ {o : Point3f} where
   same (refusals n) = same-refusal n
 
   -- the same point is joined to both
-  both-joined : {r s : BoundsAnswer} (q : PointAnswer) → PointAnswer·Judged q → Holding o r s → Holding o (BoundsAnswer·unionMoved r q) (BoundsAnswer·unionMoved s q)
+  both-joined : {r s : BoundsAnswer} (q : PointAnswer) → PointAnswer·Judged q
+      → Holding o r s → Holding o (BoundsAnswer·unionMoved r q) (BoundsAnswer·unionMoved s q)
   unfolding BoundsAnswer·unionMoved
-  both-joined (point.Moved q) j (boxes i s t) = let f = test-finite q (j .values) in boxes (union-point-keeps q i) (union-point-isotone q f s) (union-point-isotone q f t)
+  both-joined (point.Moved q) j (boxes i s t) = let f = test-finite q (j .values) in
+      boxes (union-point-keeps q i) (union-point-isotone q f s) (union-point-isotone q f t)
   both-joined (point.Refused n) j (boxes i s t) = refusals n
   both-joined q j (refusals n) = refusals n
 
@@ -88,11 +93,13 @@ module _ {o : Point3f} where
   start-joined : {r s : BoundsAnswer} {q : PointAnswer} → q ≡ point.Moved o → Holding o r s → Holding o (BoundsAnswer·unionMoved r q) s
   unfolding BoundsAnswer·unionMoved
   start-joined e (boxes {x} {y} i s t) =
-      rw (e, union-point-box x o) (boxes (union-inside-left (Bounds3f·fromPoint o) i) (union-least s (inside-subset (subset-inside s i))) (union-subset-left (Bounds3f·fromPoint o) t))
+      rw (e, union-point-box x o)
+      (boxes (union-inside-left (Bounds3f·fromPoint o) i) (union-least s (inside-subset (subset-inside s i))) (union-subset-left (Bounds3f·fromPoint o) t))
   start-joined e (refusals n) = refusals n
 
 -- ---- one axis: the places below the count are joined to both, those after it to ours alone
-module _ {m : AnimatedTransform} (built : Built m) (a : PoseConstants) (p o : Point3f) (start : Transform·transformPoint (m .«start_transform») p ≡ point.Moved o) where
+module _ {m : AnimatedTransform} (built : Built m) (a : PoseConstants) (p o : Point3f)
+    (start : Transform·transformPoint (m .«start_transform») p ≡ point.Moved o) where
   place : List Float → ℕ → BoundsAnswer → BoundsAnswer
   place zeros k = unionZero m a p (getD zeros k nan)
 
@@ -108,10 +115,12 @@ module _ {m : AnimatedTransform} (built : Built m) (a : PoseConstants) (p o : Po
   unused-joined z st (suc n) l u h =
       elim (eq-or-lt-of-le l) [
         | inl e ↦ rw e (stored-joined (z .zeros) (suc n) h)
-        | inr k ↦ start-joined (rw (st .unused n (omega arith) (omega arith)) (point-at-start built a p ∙ start)) (unused-joined z st n (omega arith) (omega arith) h)
+        | inr k ↦
+            start-joined (rw (st .unused n (omega arith) (omega arith)) (point-at-start built a p ∙ start)) (unused-joined z st n (omega arith) (omega arith) h)
       ]
 
-  zeros-same : (z : Zeros) → Stored z → {r s : BoundsAnswer} → Holding o r s → Holding o (unionZeros m a p (z .zeros) 8 r) (unionZeros m a p (z .zeros) (z .count) s)
+  zeros-same : (z : Zeros) → Stored z → {r s : BoundsAnswer} → Holding o r s
+      → Holding o (unionZeros m a p (z .zeros) 8 r) (unionZeros m a p (z .zeros) (z .count) s)
   unfolding unionZeros place
   zeros-same z st h = unused-joined z st 8 (st .count) (omega arith) h
 
@@ -124,7 +133,8 @@ module _ {m : AnimatedTransform} (built : Built m) (a : PoseConstants) (p o : Po
       z = axisSearch a p d .zeros
 
       go : (e : Bool)
-          → Holding o (cond e (unionZeros m a p (z .zeros) 8 (Bounds x)) (Refused (z .refusal))) (cond e (unionZeros m a p (z .zeros) (z .count) (Bounds y)) (Refused (z .refusal)))
+          → Holding o (cond e (unionZeros m a p (z .zeros) 8 (Bounds x)) (Refused (z .refusal)))
+          (cond e (unionZeros m a p (z .zeros) (z .count) (Bounds y)) (Refused (z .refusal)))
       go true = zeros-same z (axis-zeros-stored a p d) (boxes i s t)
       go false = refusals (z .refusal)
 
@@ -149,8 +159,10 @@ module _ {m : AnimatedTransform} (built : Built m) (a : PoseConstants) (p : Poin
       let f = test-finite o (j .values) in
       let c = m .coefficients in
       let ends : Holding o (BoundsAnswer·fromEnds (point.Moved o) end) (BoundsAnswer·fromEnds (point.Moved o) end) =
-      rw (from-ends-union (point.Moved o) end) (both-joined end (transform-point-judged (m .«end_transform») p) (boxes (from-point-inside f) (point-subset f) (point-subset f))) in
-      cond-same (not (m .«actually_animated»)) (same-box (point-subset f) (point-subset f)) (same (axis-same built a p o e (c .z) (axis-same built a p o e (c .y) (axis-same built a p o e (c .x) ends))))
+      rw (from-ends-union (point.Moved o) end)
+      (both-joined end (transform-point-judged (m .«end_transform») p) (boxes (from-point-inside f) (point-subset f) (point-subset f))) in
+      cond-same (not (m .«actually_animated»)) (same-box (point-subset f) (point-subset f))
+      (same (axis-same built a p o e (c .z) (axis-same built a p o e (c .y) (axis-same built a p o e (c .x) ends))))
 
   pub point-bounds-book : BoundsAnswer·Same (pointBounds allPlaces m a p) (pointBounds storedPlaces m a p)
   unfolding pointBounds axes end
@@ -161,7 +173,8 @@ same-refl : (r : BoundsAnswer) → T (Bounds3f·isFinite (BoundsAnswer·bounds r
 same-refl (Bounds b) f = same-box (subset-refl b f) (subset-refl b f)
 same-refl (Refused n) f = same-refusal n
 
-union-same : {r r' s s' : BoundsAnswer} → BoundsAnswer·Same r r' → BoundsAnswer·Same s s' → BoundsAnswer·Same (BoundsAnswer·unionBounds r s) (BoundsAnswer·unionBounds r' s')
+union-same : {r r' s s' : BoundsAnswer} → BoundsAnswer·Same r r' → BoundsAnswer·Same s s'
+    → BoundsAnswer·Same (BoundsAnswer·unionBounds r s) (BoundsAnswer·unionBounds r' s')
 unfolding BoundsAnswer·unionBounds
 union-same (same-box a b) (same-box c d) = same-box (union-isotone a c) (union-isotone b d)
 union-same (same-box a b) (same-refusal n) = same-refusal n
@@ -178,7 +191,8 @@ module _ {m : AnimatedTransform} (built : Built m) (b : Bounds3f) where
   box-bounds-book =
       let start = same-refl _ (transform-bounds-judged (m .«start_transform») b .values) in
       let end = same-refl _ (transform-bounds-judged (m .«end_transform») b .values) in
-      cond-same (not (m .«actually_animated»)) start (cond-same (not (m .«has_rotation»)) (union-same start end) (corners-same (AnimatedTransform·constants m) 8))
+      cond-same (not (m .«actually_animated»)) start
+      (cond-same (not (m .«has_rotation»)) (union-same start end) (corners-same (AnimatedTransform·constants m) 8))
 
 -- ---- the queries
 uncounted : (r : BoundsAnswer) (e : Examined) → MotionBoundsAnswer·uncounted (BoundsAnswer·counted r e) ≡ r

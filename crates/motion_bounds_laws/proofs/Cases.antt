@@ -1,5 +1,5 @@
--- Cases of the definitions, by computing, on document 01's moves A and B: a move without rotation joins the boxes of its two poses, one between equal poses has its
--- start's box alone, and a box is judged before anything is worked out. Only the point of the first is searched for zeros.
+-- Cases of the definitions, by computing, on document 01's moves A and B: a move without rotation joins the boxes of its two poses, one between
+-- equal poses has its start's box alone, and a box is judged before anything is worked out. Only the point of the first is searched for zeros.
 use mathlib.Core.Path.{_≡_, refl}
 use mathlib.Core.Bool.{false}
 use mathlib.Core.List.{[], _∷_}
@@ -44,7 +44,8 @@ along x = AnimatedTransform·new false (record { time = f 0; m = matrix 0; pad =
 abbrev box : Bounds3f
 box = record { «p_min» = at 0x3f800000 0x40000000 0x40400000; «p_max» = at 0x40800000 0x40a00000 0x40c00000 }
 
-translation-joins-ends : AnimatedTransform·motionBounds (along 0x3f800000) box ≡ Bounds (record { «p_min» = box .«p_min»; «p_max» = at 0x40a00000 0x40a00000 0x40c00000 }) Examined·none
+translation-joins-ends : AnimatedTransform·motionBounds (along 0x3f800000) box ≡ Bounds
+    (record { «p_min» = box .«p_min»; «p_max» = at 0x40a00000 0x40a00000 0x40c00000 }) Examined·none
 unfolding computing animated.computing
 translation-joins-ends = refl
 
@@ -74,7 +75,8 @@ least-above-greatest : (m : AnimatedTransform) → AnimatedTransform·motionBoun
 unfolding computing
 least-above-greatest m = refl
 
-nan-before-order : (m : AnimatedTransform) → AnimatedTransform·motionBounds m (record { «p_min» = box .«p_max»; «p_max» = record { x = f 0; y = nan; z = f 0 } }) ≡ Refused 6
+nan-before-order : (m : AnimatedTransform)
+    → AnimatedTransform·motionBounds m (record { «p_min» = box .«p_max»; «p_max» = record { x = f 0; y = nan; z = f 0 } }) ≡ Refused 6
 unfolding computing
 nan-before-order m = refl
 

@@ -1,6 +1,6 @@
--- The numbers that a motion box gives are 5, 6, 7 and 9, those of a point's motion 5, 6 and 9, what isn't refused is finite, and the counts are at most 511 for a point and
--- 4,088 for a box: `motion-bounds-numbers`, `bound-point-motion-numbers`, for all structs and arguments. Rests on `moved-point-judged`, on what a search's refusal can be,
--- `axis-zeros-stored`, and on `point-examined`.
+-- The numbers that a motion box gives are 5, 6, 7 and 9, those of a point's motion 5, 6 and 9, what isn't refused is finite, and the counts
+-- are at most 511 for a point and 4,088 for a box: `motion-bounds-numbers`, `bound-point-motion-numbers`, for all structs and arguments.
+-- Rests on `moved-point-judged`, on what a search's refusal can be, `axis-zeros-stored`, and on `point-examined`.
 use Prim.Native.Nat.{ℕ}
 use mathlib.Core.Path.{_≡_, refl}
 use mathlib.Core.Bool.{not, _||_}
@@ -29,7 +29,8 @@ use Rattle.pose_steps.specs.declared.PoseConstants.{PoseConstants}
 use Rattle.animated_transform.specs.declared.AnimatedTransform.{AnimatedTransform}
 use Rattle.motion_point.specs.TransformPoint.{AnimatedTransform·constants}
 use Rattle.motion_point.proofs.Query.{moved-point-judged}
-use Rattle.motion_bounds.specs.MotionBounds.{axisSearch, pointAt, unionZero, unionZeros, allPlaces, unionAxis, pointBounds, unionCorner, unionCorners, boxBounds, boundPointMotion, motionBounds}
+use Rattle.motion_bounds.specs.MotionBounds.{axisSearch, pointAt, unionZero, unionZeros, allPlaces, unionAxis, pointBounds}
+use Rattle.motion_bounds.specs.MotionBounds.{unionCorner, unionCorners, boxBounds, boundPointMotion, motionBounds}
 use Rattle.motion_bounds.specs.declared.Examined.{Examined}
 use Rattle.motion_bounds.specs.Examined.{Examined·AtMost, pointExamined, boxExamined}
 use Rattle.motion_bounds.specs.Answer.{BoundsAnswer·counted, AnimatedTransform·boundPointMotion, AnimatedTransform·motionBounds}
@@ -80,14 +81,16 @@ module _ (m : AnimatedTransform) (a : PoseConstants) (p : Point3f) where
   zeros-worked : (zeros : List Float) (n : ℕ) (r : BoundsAnswer) → Worked r → Worked (unionZeros m a p zeros n r)
   unfolding unionZeros unionZero pointAt
   zeros-worked zeros n r w =
-      loop-keeps (λ _. Worked) (λ k. unionZero m a p (getD zeros k nan)) n (λ k s _ v. union-moved-worked s (pointAt m a p (getD zeros k nan)) v (moved-point-judged m a _ p)) r w
+      loop-keeps (λ _. Worked) (λ k. unionZero m a p (getD zeros k nan)) n
+      (λ k s _ v. union-moved-worked s (pointAt m a p (getD zeros k nan)) v (moved-point-judged m a _ p)) r w
 
   axis-worked : (d : Derivative) (r : BoundsAnswer) → Worked r → Worked (unionAxis allPlaces m a p d r)
   unfolding unionAxis
   axis-worked d (Refused n) w = w
   axis-worked d (Bounds b) w =
       let z = axisSearch a p d .zeros in
-      cond-keeps Worked (eqb (z .refusal) 0) _ _ (zeros-worked (z .zeros) 8 (Bounds b) w) (refused-answered (z .refusal) (nine (axis-zeros-stored a p d .refusal)))
+      cond-keeps Worked (eqb (z .refusal) 0) _ _ (zeros-worked (z .zeros) 8 (Bounds b) w)
+      (refused-answered (z .refusal) (nine (axis-zeros-stored a p d .refusal)))
     where
       nine : {n k : ℕ} → (n ≡ 0) ⊎ ((n ≡ 9) × (k ≡ 0)) → OneOf n (0 ∷ 5 ∷ 9 ∷ [])
       nine (inl e) = inl e
@@ -126,7 +129,8 @@ point-motion-answered : (m : AnimatedTransform) (p : Point3f) → BoundsAnswer·
 unfolding boundPointMotion
 point-motion-answered m p =
     let w = point-worked m (AnimatedTransform·constants m) p in
-    cond-keeps (BoundsAnswer·Answered (0 ∷ 5 ∷ 6 ∷ 9 ∷ [])) (not (Point3f·isFinite p)) _ _ (refused-answered 6 (inr (inr (inl refl)))) (record { number = widen (w .number); values = w .values })
+    cond-keeps (BoundsAnswer·Answered (0 ∷ 5 ∷ 6 ∷ 9 ∷ [])) (not (Point3f·isFinite p)) _ _
+    (refused-answered 6 (inr (inr (inl refl)))) (record { number = widen (w .number); values = w .values })
   where
     widen : {n : ℕ} → OneOf n (0 ∷ 5 ∷ 9 ∷ []) → OneOf n (0 ∷ 5 ∷ 6 ∷ 9 ∷ [])
     widen (inl e) = inl e
@@ -156,12 +160,15 @@ unfolding BoundsAnswer·counted
 counted-answered (Bounds b) e a l = record { number = a .number; values = a .values; counts = l }
 counted-answered (Refused n) e a l = record { number = a .number; values = a .values; counts = none-examined _ }
 
-pub bound-point-motion-numbers : (m : AnimatedTransform) (p : Point3f) → MotionBoundsAnswer·Answered (0 ∷ 5 ∷ 6 ∷ 9 ∷ []) 511 (AnimatedTransform·boundPointMotion m p)
+pub bound-point-motion-numbers : (m : AnimatedTransform) (p : Point3f)
+    → MotionBoundsAnswer·Answered (0 ∷ 5 ∷ 6 ∷ 9 ∷ []) 511 (AnimatedTransform·boundPointMotion m p)
 bound-point-motion-numbers m p = counted-answered _ _ (point-motion-answered m p) (point-examined m (AnimatedTransform·constants m) p)
 
 box-examined : (m : AnimatedTransform) (b : Bounds3f) → Examined·AtMost 4088 (boxExamined m b)
 unfolding boxExamined
-box-examined m b = cond-keeps (Examined·AtMost 4088) (not (m .«actually_animated») || not (m .«has_rotation»)) _ _ (none-examined 4088) (corners-examined m (AnimatedTransform·constants m) b 8)
+box-examined m b = cond-keeps (Examined·AtMost 4088) (not (m .«actually_animated») || not (m .«has_rotation»)) _ _
+    (none-examined 4088) (corners-examined m (AnimatedTransform·constants m) b 8)
 
-pub motion-bounds-numbers : (m : AnimatedTransform) (b : Bounds3f) → MotionBoundsAnswer·Answered (0 ∷ 5 ∷ 6 ∷ 7 ∷ 9 ∷ []) 4088 (AnimatedTransform·motionBounds m b)
+pub motion-bounds-numbers : (m : AnimatedTransform) (b : Bounds3f)
+    → MotionBoundsAnswer·Answered (0 ∷ 5 ∷ 6 ∷ 7 ∷ 9 ∷ []) 4088 (AnimatedTransform·motionBounds m b)
 motion-bounds-numbers m b = counted-answered _ _ (motion-answered m b) (box-examined m b)

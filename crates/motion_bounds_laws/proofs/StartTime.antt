@@ -1,5 +1,5 @@
--- An unused place of the zero array means the start: the time of the zero +0 is no later than the start time (`lerp-start`), so that the start transform moves the point
--- (`point-at-start`). Rests on `rounds-below` and `rounds-above`: rounding never passes a value of the format.
+-- An unused place of the zero array means the start: the time of the zero +0 is no later than the start time (`lerp-start`), so that the start
+-- transform moves the point (`point-at-start`). Rests on `rounds-below` and `rounds-above`: rounding never passes a value of the format.
 use Prim.Native.Nat.{ℕ, _+_, _*_, _^_, _<_}
 use mathlib.Core.Path.{_≡_, refl, sym, subst}
 use mathlib.Core.Bool.{Bool, true, false, not, _||_}
@@ -49,7 +49,10 @@ equal-value : (s : Bool) (m : ℕ) (e : ℤ) (y : Float) → HasValue y s (m * u
 equal-value s m e nan v = absurd v
 equal-value s m e (inf t) v = absurd v
 equal-value s m e (fin t n d) (p, q) =
-    rw p (of-fraction tt tt (equal-fractions s (n * up d) (down d) (m * up e) (down e) q), of-fraction tt tt (equal-fractions s (m * up e) (down e) (n * up d) (down d) (sym q)))
+    rw p (
+      of-fraction tt tt (equal-fractions s (n * up d) (down d) (m * up e) (down e) q),
+      of-fraction tt tt (equal-fractions s (m * up e) (down e) (n * up d) (down d) (sym q)),
+    )
 
 module _ {z : Float} {p n d : ℕ} (r : Rounds binary32 z p n d) (D : 0 < d) where
   rounds-below : (x : Float) → T (finite x) → T (fits binary32 x) → FractionLe p n d (numPos x) (numNeg x) (den x) → z ≼ x
@@ -89,7 +92,8 @@ module _ (x : Float) (f : T (finite x)) (h : T (fits binary32 x)) where
   add-zero-below : {z : Float} → Zero z → x ⊕ z ≼ x
   add-zero-below (signed s e) =
       let z = fin s 0 e in
-      rounds-below (add-rounds binary32 x z f tt) (nat.mul-pos (den-pos x) (down-pos e)) x f h (same (numPos x) (numNeg x) (den x) (down e) (positive s) (negative s))
+      rounds-below (add-rounds binary32 x z f tt) (nat.mul-pos (den-pos x) (down-pos e)) x f h
+      (same (numPos x) (numNeg x) (den x) (down e) (positive s) (negative s))
     where
       positive : (s : Bool) → posPart s (0 * up e) ≡ 0
       positive true = refl

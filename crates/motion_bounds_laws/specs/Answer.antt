@@ -1,5 +1,5 @@
--- What is promised of every answer about a motion box, `MotionBoundsAnswer·Answered`: the statement of `bound-point-motion-numbers` and `motion-bounds-numbers`; of its box
--- alone, `BoundsAnswer·Answered`. Definitions only.
+-- What is promised of every answer about a motion box, `MotionBoundsAnswer·Answered`: the statement of
+-- `bound-point-motion-numbers` and `motion-bounds-numbers`; of its box alone, `BoundsAnswer·Answered`. Definitions only.
 use Prim.Native.Nat.{ℕ}
 use mathlib.Core.List.{List}
 use lib.Dec.{T}

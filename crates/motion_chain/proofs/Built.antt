@@ -1,5 +1,5 @@
--- Every move of a built chain is built by itself, its times rise, and it starts where the one before it ended: `built-moves`. The poses have passed the whole chain's checks
--- (`checks-passed`), after which each pair is worked (`pairs-worked`), and no pair's number was met (`from-moves-built`).
+-- Every move of a built chain is built by itself, its times rise, and it starts where the one before it ended: `built-moves`. The poses have passed
+-- the whole chain's checks (`checks-passed`), after which each pair is worked (`pairs-worked`), and no pair's number was met (`from-moves-built`).
 use Prim.Native.Nat.{ℕ, suc, _≤_}
 use mathlib.Core.Path.{_≡_, refl, sym, ap, subst}
 use mathlib.Core.Bool.{Bool, true, false, not, _||_, cond}
@@ -21,7 +21,8 @@ use Rattle.animated_transform.specs.New.{AnimatedTransform·fromPoses, Animated
 use Rattle.animated_transform.specs.Built.{Built}
 use Rattle.animated_transform.proofs.Kept.{new-kept}
 use Rattle.bounds_answers.proofs.UnionAll.{each-of}
-use Rattle.motion_chain.specs.Chain.{minPoses, maxPoses, neighbours, every, firstNumber, stage, Pose·number, Pair·number, kindStage, chainStages, chainRefusal}
+use Rattle.motion_chain.specs.Chain.{minPoses, maxPoses, neighbours, every, firstNumber, stage}
+use Rattle.motion_chain.specs.Chain.{Pose·number, Pair·number, kindStage, chainStages, chainRefusal}
 use Rattle.motion_chain.specs.Chain.{Chain, ChainAnswer, built, refused, ChainAnswer·fromMoves, Chain·new}
 use Rattle.motion_chain.specs.Built.{BuiltChain, Each, Contiguous, BuiltMoves, PairsWorked}
 
@@ -141,7 +142,8 @@ pairs-worked rigid poses e =
     each (x ∷ xs) (f, fs) (b, bs) (p, ps) (k, ks) = (record { finite = f; affine = b; padded = p; kind = k }, each xs fs bs ps ks)
 
     go : (xs : List Pose) → Each (PosePassed rigid) xs
-        → Each (λ (p, q). timesRefusal (p .time) (q .time) ≡ 0) (neighbours xs) → Each (λ (p, q). AnimatedTransform·new rigid p q ≡ AnimatedTransform·fromPoses rigid p q) (neighbours xs)
+        → Each (λ (p, q). timesRefusal (p .time) (q .time) ≡ 0) (neighbours xs)
+        → Each (λ (p, q). AnimatedTransform·new rigid p q ≡ AnimatedTransform·fromPoses rigid p q) (neighbours xs)
     go [] hs ts = tt
     go (p ∷ []) hs ts = tt
     go (p ∷ q ∷ xs) (h, (k, hs)) (t, ts) = (pair-worked rigid p q h k t, go (q ∷ xs) (k, hs) ts)
@@ -195,7 +197,8 @@ answers-count rigid p [] = refl
 answers-count rigid p (q ∷ poses) = ap (λ (n : ℕ). suc n) (answers-count rigid q poses)
 
 -- ---- the chain
-pub new-built : (rigid : Bool) (poses : List Pose) (c : Chain) → Chain·new rigid poses ≡ built c → (chainRefusal rigid poses ≡ 0) × (ChainAnswer·fromMoves (answers rigid poses) ≡ built c)
+pub new-built : (rigid : Bool) (poses : List Pose) (c : Chain) → Chain·new rigid poses ≡ built c
+    → (chainRefusal rigid poses ≡ 0) × (ChainAnswer·fromMoves (answers rigid poses) ≡ built c)
 unfolding Chain·new
 new-built rigid poses c e = tested-built (chainRefusal rigid poses) (ChainAnswer·fromMoves (answers rigid poses)) c e
 

@@ -1,5 +1,6 @@
--- Chains built and asked by computing: the identity at 0, the identity with m03 = 1 at 1, the identity at 2. Its inner time belongs to the earlier move, and it meets the guarantee's
--- hypotheses (`hypotheses-met`). Lists of times asked of it, answered and refused. The counts, the times and the order of the checks: 12 after 1 and before 3, and 3 before anything is worked.
+-- Chains built and asked by computing: the identity at 0, the identity with m03 = 1 at 1, the identity at 2. Its inner time belongs
+-- to the earlier move, and it meets the guarantee's hypotheses (`hypotheses-met`). Lists of times asked of it, answered and refused.
+-- The counts, the times and the order of the checks: 12 after 1 and before 3, and 3 before anything is worked.
 use Prim.Native.Nat.{ℕ, zero, suc, _*_, _^_}
 use mathlib.Core.Path.{_≡_, refl, subst}
 use mathlib.Core.Bool.{true, false}

@@ -1,5 +1,6 @@
--- The guarantee for a chain, `chain-contains`, and that its finer cover is never a wider one, `chain-cover-finer`. Each move's cover lies in the accepted cover of the chain
--- (`moves-within`), a time belongs to one of the moves (`each-move-at`), and of each move both are known. So both hold of any built moves, whatever their times, also of one built by itself:
+-- The guarantee for a chain, `chain-contains`, and that its finer cover is never a wider one, `chain-cover-finer`. Each
+-- move's cover lies in the accepted cover of the chain (`moves-within`), a time belongs to one of the moves (`each-move-at`),
+-- and of each move both are known. So both hold of any built moves, whatever their times, also of one built by itself:
 -- `moves-contain`, `moves-finer`.
 use Prim.Native.Nat.{ℕ, _+_, _≤_}
 use mathlib.Core.Path.{_≡_, ap, subst}
@@ -75,7 +76,8 @@ module _ (b : Bounds3f) (d : ℕ) where
   unfolding Chain·cover unionCovers
   chain-cover-nonzero c =
       union-all-nonzero (coverOf b d (c .first)) (map (coverOf b d) (c .rest)) (cover-nonzero (c .first) b d)
-      (each-map {P = λ (m : AnimatedTransform). Unit {0}} BoundsAnswer·NonZero (coverOf b d) (λ m _. cover-nonzero m b d) (c .rest) (each-of (λ m. tt) (c .rest)))
+      (each-map {P = λ (m : AnimatedTransform). Unit {0}} BoundsAnswer·NonZero (coverOf b d)
+      (λ m _. cover-nonzero m b d) (c .rest) (each-of (λ m. tt) (c .rest)))
 
   pub chain-cover-answered : (c : Chain) → BoundsAnswer·refusal (Chain·cover c b d) ≡ 0 → Chain·cover c b d ≡ Bounds (BoundsAnswer·bounds (Chain·cover c b d))
   chain-cover-answered c = nonzero-box (Chain·cover c b d) (chain-cover-nonzero c)
@@ -92,7 +94,8 @@ moves-contain c b d time p built e n i =
     (moves-within b d c built box (chain-cover-answered b d c e)) in
     let a = cover-contains m b d time p (each-move-at Built time c built) (ap BoundsAnswer·refusal (w .accepted)) n i in
     moved-wider (w .subset)
-    (subst (λ (x : Bounds3f). MovedInside x (AnimatedTransform·padAt m time) (AnimatedTransform·transformPoint m time p)) (ap BoundsAnswer·bounds (w .accepted)) a)
+    (subst (λ (x : Bounds3f). MovedInside x (AnimatedTransform·padAt m time) (AnimatedTransform·transformPoint m time p))
+    (ap BoundsAnswer·bounds (w .accepted)) a)
 
 pub chain-contains : (c : Chain) (b : Bounds3f) (d : ℕ) → ChainContainsMotion c b (Chain·cover c b d)
 chain-contains c b d time p built e n i = moves-contain c b d time p (built-moves built .each) e n i

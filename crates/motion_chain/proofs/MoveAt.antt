@@ -1,5 +1,5 @@
--- Which move of a built chain a time belongs to, `move-at`, and that its place does not fall where the time does not, `move-index`. A time that belongs to a later move is above
--- the end time of every earlier one, since the times rise along the chain (`starts-later`).
+-- Which move of a built chain a time belongs to, `move-at`, and that its place does not fall where the time does not, `move-index`. A
+-- time that belongs to a later move is above the end time of every earlier one, since the times rise along the chain (`starts-later`).
 use Prim.Native.Nat.{suc, _≤_}
 use mathlib.Core.Path.{_≡_, refl, subst}
 use mathlib.Core.Bool.{Bool, true, false, not, cond}
@@ -44,14 +44,16 @@ module _ (time : Float) where
   first-move m [] h = refl
   first-move m (next ∷ moves) h = rw (is-true (le time (m .«end_time»)) h)
 
-  pub later-move : (m next : AnimatedTransform) (moves : List AnimatedTransform) → le time (m .«end_time») ≡ false → moveFrom m (next ∷ moves) time ≡ moveFrom next moves time
+  pub later-move : (m next : AnimatedTransform) (moves : List AnimatedTransform)
+      → le time (m .«end_time») ≡ false → moveFrom m (next ∷ moves) time ≡ moveFrom next moves time
   unfolding moveFrom
   later-move m next moves h = rw h
 
   abbrev Belongs : AnimatedTransform → AnimatedTransform → Type 0
   Belongs answer m = T (not (le time (m .«start_time»))) → T (le time (m .«end_time»)) → answer ≡ m
 
-  inner-move : (s : Float) (m : AnimatedTransform) (moves : List AnimatedTransform) → Contiguous s (m ∷ moves) → Each (Belongs (moveFrom m moves time)) (m ∷ moves)
+  inner-move : (s : Float) (m : AnimatedTransform) (moves : List AnimatedTransform)
+      → Contiguous s (m ∷ moves) → Each (Belongs (moveFrom m moves time)) (m ∷ moves)
   inner-move s m [] c = (λ _ h. first-move m [] h, tt)
   inner-move s m (next ∷ moves) (e, r, c) =
       let n = number-right (lt-≼ (m .«start_time») (m .«end_time») r) in
@@ -67,7 +69,8 @@ module _ (time : Float) where
   each-last P m [] (h, _) = h
   each-last P m (next ∷ moves) (h, hs) = each-last P next moves hs
 
-  last-move : (s : Float) (m : AnimatedTransform) (moves : List AnimatedTransform) → Contiguous s (m ∷ moves) → T (not (le time (lastFrom m moves .«start_time»)))
+  last-move : (s : Float) (m : AnimatedTransform) (moves : List AnimatedTransform)
+      → Contiguous s (m ∷ moves) → T (not (le time (lastFrom m moves .«start_time»)))
       → moveFrom m moves time ≡ lastFrom m moves
   unfolding lastFrom moveFrom
   last-move s m [] c h = refl
@@ -96,7 +99,8 @@ index-below m (next ∷ moves) time = go (le time (m .«end_time»)) (index-belo
     go true h = omega arith
     go false h = omega (arith, h)
 
-index-move : (m : AnimatedTransform) (moves : List AnimatedTransform) (time : Float) (d : AnimatedTransform) → moveFrom m moves time ≡ getD (m ∷ moves) (indexFrom m moves time) d
+index-move : (m : AnimatedTransform) (moves : List AnimatedTransform) (time : Float) (d : AnimatedTransform)
+    → moveFrom m moves time ≡ getD (m ∷ moves) (indexFrom m moves time) d
 unfolding indexFrom moveFrom
 index-move m [] time d = refl
 index-move m (next ∷ moves) time d = go (le time (m .«end_time»)) (index-move next moves time d)
@@ -112,7 +116,8 @@ index-rises m [] t u h = omega arith
 index-rises m (next ∷ moves) t u h =
     go (le t (m .«end_time»)) (le u (m .«end_time»)) (λ k. ≼-trans h (record { holds = k }) .holds) (index-rises next moves t u h)
   where
-    go : (b c : Bool) → (T c → T b) → indexFrom next moves t ≤ indexFrom next moves u → cond b 0 (suc (indexFrom next moves t)) ≤ cond c 0 (suc (indexFrom next moves u))
+    go : (b c : Bool) → (T c → T b) → indexFrom next moves t ≤ indexFrom next moves u
+        → cond b 0 (suc (indexFrom next moves t)) ≤ cond c 0 (suc (indexFrom next moves u))
     go true c f h = omega arith
     go false true f h = absurd (f tt)
     go false false f h = omega (arith, h)

@@ -1,5 +1,6 @@
--- A list of times is the stretches of a chain's moves, `stretches`, and the query with the list is each move's query over its own stretch, whose points fill its own part of the lent
--- answers, `stretch-points`. The times of a stretch are up to its move's end time (`front-up-to`), and those behind it are above that (`rest-above`), since the list never falls.
+-- A list of times is the stretches of a chain's moves, `stretches`, and the query with the list is each move's query over its own stretch,
+-- whose points fill its own part of the lent answers, `stretch-points`. The times of a stretch are up to its move's end time (`front-up-to`),
+-- and those behind it are above that (`rest-above`), since the list never falls.
 use Prim.Native.Nat.{ℕ, zero, suc, _*_}
 use mathlib.Core.Path.{_≡_, refl, sym, ap, subst, _∙_}
 use mathlib.Core.Bool.{Bool, true, false, not, _&&_, cond}
@@ -21,8 +22,11 @@ use Rattle.motion_point.specs.TransformPoint.{AnimatedTransform·transformPoint
 use Rattle.motion_chain.specs.Chain.{Chain, Chain·moves, moveFrom, Chain·moveAt, Chain·transformPoint}
 use Rattle.motion_chain.specs.Built.{Each}
 use Rattle.motion_chain.specs.MoveAt.{indexFrom}
-use Rattle.motion_chain.specs.Times.{neverFalls, placesPerTime, listRefusal, PointsAnswer, moved, refused, PointsAnswer·refusal, PointsAnswer·points, PointsAnswer·cons, PointsAnswer·append, pointsAt, AnimatedTransform·transformPoints, Chain·transformPoints, Points·list, PointsAnswer·left, Chain·pointsLeft}
-use Rattle.motion_chain.specs.Stretches.{countUpTo, stretchesFrom, Chain·stretches, pointsByMove, EachFrom, Stretches, MovePart, MoveParts, FilledByMoves, StretchPoints}
+use Rattle.motion_chain.specs.Times.{neverFalls, placesPerTime, listRefusal, PointsAnswer, moved, refused, PointsAnswer·refusal}
+use Rattle.motion_chain.specs.Times.{PointsAnswer·points, PointsAnswer·cons, PointsAnswer·append, pointsAt, AnimatedTransform·transformPoints}
+use Rattle.motion_chain.specs.Times.{Chain·transformPoints, Points·list, PointsAnswer·left, Chain·pointsLeft}
+use Rattle.motion_chain.specs.Stretches.{countUpTo, stretchesFrom, Chain·stretches, pointsByMove, EachFrom}
+use Rattle.motion_chain.specs.Stretches.{Stretches, MovePart, MoveParts, FilledByMoves, StretchPoints}
 use Rattle.motion_chain.proofs.MoveAt.{first-move, later-move}
 use Rattle.motion_chain.proofs.Times.{refused-moved, points-count, floats-count, list-passed, query-accepted, query-moved, times-numbers}
 
@@ -62,7 +66,8 @@ module _ (end : Float) where
   front-up-to [] = tt
   front-up-to (t ∷ times) = go (le t end) (λ h. h) (front-up-to times)
     where
-      go : (b : Bool) → (T b → T (le t end)) → Each UpTo (take (countUpTo end times) times) → Each UpTo (take (cond b (suc (countUpTo end times)) 0) (t ∷ times))
+      go : (b : Bool) → (T b → T (le t end)) → Each UpTo (take (countUpTo end times) times)
+          → Each UpTo (take (cond b (suc (countUpTo end times)) 0) (t ∷ times))
       go true f h = (f tt, h)
       go false f h = tt
 
@@ -70,7 +75,11 @@ module _ (end : Float) where
   all-above : (t : Float) (times : List Float) → Above t → T (neverFalls (t ∷ times)) → Each Above (t ∷ times)
   unfolding neverFalls
   all-above t [] a h = (a, tt)
-  all-above t (u ∷ times) a h = (a, all-above u times (next (le u end) (λ k. ≼-trans {x = t} (record { holds = and-l (le t u) (neverFalls (u ∷ times)) h }) (record { holds = k }) .holds)) (and-r (le t u) (neverFalls (u ∷ times)) h))
+  all-above t (u ∷ times) a h = (
+    a,
+    all-above u times (next (le u end) (λ k. ≼-trans {x = t}
+        (record { holds = and-l (le t u) (neverFalls (u ∷ times)) h }) (record { holds = k }) .holds)) (and-r (le t u) (neverFalls (u ∷ times)) h),
+  )
     where
       next : (b : Bool) → (T b → T (le t end)) → b ≡ false
       next false f = refl
@@ -81,7 +90,8 @@ module _ (end : Float) where
   rest-above [] h = tt
   rest-above (t ∷ times) h = go (le t end) (λ e. all-above t times e h) (rest-above times (rises-later t times h))
     where
-      go : (b : Bool) → (b ≡ false → Each Above (t ∷ times)) → Each Above (drop (countUpTo end times) times) → Each Above (drop (cond b (suc (countUpTo end times)) 0) (t ∷ times))
+      go : (b : Bool) → (b ≡ false → Each Above (t ∷ times)) → Each Above (drop (countUpTo end times) times)
+          → Each Above (drop (cond b (suc (countUpTo end times)) 0) (t ∷ times))
       go true f k = k
       go false f k = f refl
 
@@ -98,7 +108,8 @@ stretches-list m (next ∷ moves) times =
     let n = countUpTo (m .«end_time») times in
     ap (λ (l : List Float). take n times ++ l) (stretches-list next moves (drop n times)) ∙ take-append-drop n times
 
-stretches-each : (P : Float → Type 0) (m : AnimatedTransform) (moves : List AnimatedTransform) (times : List Float) → Each P times → Each (Each P) (stretchesFrom m moves times)
+stretches-each : (P : Float → Type 0) (m : AnimatedTransform) (moves : List AnimatedTransform) (times : List Float)
+    → Each P times → Each (Each P) (stretchesFrom m moves times)
 unfolding stretchesFrom
 stretches-each P m [] times h = (h, tt)
 stretches-each P m (next ∷ moves) times h =
@@ -115,7 +126,8 @@ module _ (m next : AnimatedTransform) (moves : List AnimatedTransform) where
   first-place [] h = tt
   first-place (t ∷ times) (h, hs) = (rw (is-true (le t (m .«end_time»)) h), first-place times hs)
 
-  next-place : (i : ℕ) (times : List Float) → Each (λ t. le t (m .«end_time») ≡ false) times → AtPlace next moves i times → AtPlace m (next ∷ moves) (suc i) times
+  next-place : (i : ℕ) (times : List Float) → Each (λ t. le t (m .«end_time») ≡ false) times
+      → AtPlace next moves i times → AtPlace m (next ∷ moves) (suc i) times
   unfolding indexFrom
   next-place i [] h k = tt
   next-place i (t ∷ times) (h, hs) (k, ks) = (rw h (ap suc k), next-place i times hs ks)
@@ -125,7 +137,8 @@ module _ (m next : AnimatedTransform) (moves : List AnimatedTransform) where
   next-places i [] h k = tt
   next-places i (times ∷ lists) (h, hs) (k, ks) = (next-place i times h k, next-places (suc i) lists hs ks)
 
-stretches-belong : (m : AnimatedTransform) (moves : List AnimatedTransform) (times : List Float) → T (neverFalls times) → EachFrom (AtPlace m moves) 0 (stretchesFrom m moves times)
+stretches-belong : (m : AnimatedTransform) (moves : List AnimatedTransform) (times : List Float)
+    → T (neverFalls times) → EachFrom (AtPlace m moves) 0 (stretchesFrom m moves times)
 unfolding stretchesFrom
 stretches-belong m [] times h = (only times, tt)
   where
@@ -203,7 +216,8 @@ module _ (p : Point3f) where
       let n = countUpTo (m .«end_time») times in
       let q = queryFrom m (next ∷ moves) in
       let parts = ap (pointsAt q) (sym (take-append-drop n times)) ∙ points-append q (take n times) (drop n times) in
-      let front = points-same q (λ t. AnimatedTransform·transformPoint m t p) (take n times) (first-asked m next moves (take n times) (front-up-to (m .«end_time») times)) in
+      let front = points-same q (λ t. AnimatedTransform·transformPoint m t p) (take n times)
+      (first-asked m next moves (take n times) (front-up-to (m .«end_time») times)) in
       let rest = points-same q (queryFrom next moves) (drop n times) (later-asked m next moves (drop n times) (rest-above (m .«end_time») times h))
       ∙ points-by-move next moves (drop n times) (rises-drop n times h) in
       parts ∙ (ap (λ (r : PointsAnswer). PointsAnswer·append r (pointsAt q (drop n times))) (front ∙ own m (take n times))
@@ -236,7 +250,8 @@ record Filled (p : Point3f) (moves : List AnimatedTransform) (lists : List (List
   whole : flatten parts ≡ Points·list qs
   each : MoveParts p moves lists parts
 
-moves-fill : (p : Point3f) (moves : List AnimatedTransform) (lists : List (List Float)) (qs : List Point3f) → length lists ≡ length moves → pointsByMove p moves lists ≡ moved qs
+moves-fill : (p : Point3f) (moves : List AnimatedTransform) (lists : List (List Float)) (qs : List Point3f)
+    → length lists ≡ length moves → pointsByMove p moves lists ≡ moved qs
     → Filled p moves lists qs
 unfolding pointsByMove flatten AnimatedTransform·transformPoints Points·list
 moves-fill p [] [] qs n e = record { parts = []; whole = ap (λ (r : PointsAnswer). Points·list (PointsAnswer·points r)) e; each = tt }

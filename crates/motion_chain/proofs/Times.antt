@@ -31,8 +31,11 @@ use Rattle.formula.specs.Promise.{Pairwise}
 use Rattle.motion_pad.specs.Grow.{PaddedInside}
 use Rattle.motion_chain.specs.Chain.{every, Chain, Chain·moveAt, Chain·transformPoint, Chain·padAt, Chain·cover}
 use Rattle.motion_chain.specs.Built.{BuiltChain}
-use Rattle.motion_chain.specs.Times.{timesAreNumbers, neverFalls, placesPerTime, listRefusal, PointsAnswer, moved, refused, PointsAnswer·refusal, PointsAnswer·points, PointsAnswer·cons, pointsAt, Chain·transformPoints, Points·list, PointsAnswer·left, Chain·pointsLeft}
-use Rattle.motion_chain.specs.TimesAnswer.{EachMoved, FirstRefused, TimesAnswered, PointsAnswer·Numbered, TimesNumbers, TimesLeft, PointsInside, ChainContainsTimes}
+use Rattle.motion_chain.specs.Times.{timesAreNumbers, neverFalls, placesPerTime, listRefusal, PointsAnswer, moved}
+use Rattle.motion_chain.specs.Times.{refused, PointsAnswer·refusal, PointsAnswer·points, PointsAnswer·cons, pointsAt}
+use Rattle.motion_chain.specs.Times.{Chain·transformPoints, Points·list, PointsAnswer·left, Chain·pointsLeft}
+use Rattle.motion_chain.specs.TimesAnswer.{EachMoved, FirstRefused, TimesAnswered, PointsAnswer·Numbered}
+use Rattle.motion_chain.specs.TimesAnswer.{TimesNumbers, TimesLeft, PointsInside, ChainContainsTimes}
 use Rattle.motion_chain.proofs.Cover.{chain-contains}
 
 -- ---- answers
@@ -103,7 +106,8 @@ module _ (c : Chain) (p : Point3f) where
   first-refused [] n e = absurd (refused-moved (sym e))
   first-refused (t ∷ times) n e = go (Chain·transformPoint c t p) (pointsAt (λ t. Chain·transformPoint c t p) times) refl refl e (first-refused times n)
     where
-      go : (a : PointAnswer) (r : PointsAnswer) → Chain·transformPoint c t p ≡ a → pointsAt (λ t. Chain·transformPoint c t p) times ≡ r → PointsAnswer·cons a r ≡ refused n
+      go : (a : PointAnswer) (r : PointsAnswer) → Chain·transformPoint c t p ≡ a
+          → pointsAt (λ t. Chain·transformPoint c t p) times ≡ r → PointsAnswer·cons a r ≡ refused n
           → (pointsAt (λ t. Chain·transformPoint c t p) times ≡ refused n → FirstRefused c p times n) → FirstRefused c p (t ∷ times) n
       go (Moved q) (moved qs) f g e later = absurd (refused-moved (sym e))
       go (Moved q) (refused k) f g e later =
@@ -134,7 +138,8 @@ list-passed times p places =
     go (timesAreNumbers times) (Point3f·isFinite p) (neverFalls times) (eqb places (placesPerTime * length times))
     (λ h. h) (λ h. h) (λ h. h) (eqb-true places (placesPerTime * length times))
   where
-    go : (n f r e : Bool) → (T n → T (timesAreNumbers times)) → (T f → T (Point3f·isFinite p)) → (T r → T (neverFalls times)) → (e ≡ true → places ≡ placesPerTime * length times)
+    go : (n f r e : Bool) → (T n → T (timesAreNumbers times)) → (T f → T (Point3f·isFinite p))
+        → (T r → T (neverFalls times)) → (e ≡ true → places ≡ placesPerTime * length times)
         → _≡_ {A = ℕ} (cond (not n || not f) 6 (cond (not r || not e) 13 0)) 0 → ListPassed times p places
     go true true true true N F R E z = record { numbers = N tt; finite = F tt; rises = R tt; exact = E refl }
     go true true true false N F R E z = absurd (omega arith)
@@ -142,10 +147,12 @@ list-passed times p places =
     go true false r e N F R E z = absurd (omega arith)
     go false f r e N F R E z = absurd (omega arith)
 
-list-accepted : (times : List Float) (p : Point3f) → T (timesAreNumbers times) → T (Point3f·isFinite p) → T (neverFalls times) → listRefusal times p (placesPerTime * length times) ≡ 0
+list-accepted : (times : List Float) (p : Point3f) → T (timesAreNumbers times) → T (Point3f·isFinite p)
+    → T (neverFalls times) → listRefusal times p (placesPerTime * length times) ≡ 0
 unfolding listRefusal
 list-accepted times p n f r =
-    let e : eqb (placesPerTime * length times) (placesPerTime * length times) ≡ true = eq-eqb (placesPerTime * length times) (placesPerTime * length times) refl in
+    let e : eqb (placesPerTime * length times) (placesPerTime * length times) ≡ true =
+    eq-eqb (placesPerTime * length times) (placesPerTime * length times) refl in
     rw (is-true (timesAreNumbers times) n, is-true (Point3f·isFinite p) f, is-true (neverFalls times) r, e)
 
 -- ---- the query
@@ -179,7 +186,8 @@ module _ (c : Chain) (p : Point3f) (finite : T (Point3f·isFinite p)) where
       judged =
           let m = Chain·moveAt c t in
           unfold Chain·transformPoint in
-          rw (transform-point-accepted m t p (is-false (isNan t) n) (is-true (Point3f·isFinite p) finite)) (moved-point-judged m (AnimatedTransform·constants m) t p)
+          rw (transform-point-accepted m t p (is-false (isNan t) n) (is-true (Point3f·isFinite p) finite))
+          (moved-point-judged m (AnimatedTransform·constants m) t p)
 
       go : {k : ℕ} → (k ≡ 0) ⊎ (k ≡ 5) → OneOf k (0 ∷ 5 ∷ [])
       go (inl e) = inl e
@@ -195,7 +203,8 @@ module _ (c : Chain) (p : Point3f) (finite : T (Point3f·isFinite p)) where
 
 list-number : (times : List Float) (p : Point3f) (places : ℕ) → OneOf (listRefusal times p places) (0 ∷ 6 ∷ 13 ∷ [])
 unfolding listRefusal
-list-number times p places = go (not (timesAreNumbers times) || not (Point3f·isFinite p)) (not (neverFalls times) || not (eqb places (placesPerTime * length times)))
+list-number times p places =
+    go (not (timesAreNumbers times) || not (Point3f·isFinite p)) (not (neverFalls times) || not (eqb places (placesPerTime * length times)))
   where
     go : (b d : Bool) → OneOf (cond b 6 (cond d 13 0)) (0 ∷ 6 ∷ 13 ∷ [])
     go true d = inr (inl refl)

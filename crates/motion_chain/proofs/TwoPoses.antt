@@ -1,4 +1,5 @@
--- A chain of two poses is document 01's move, but for times that don't rise strictly: `two-poses`, `single-move`. The checks of the chain are those of the pair (`checks-same`).
+-- A chain of two poses is document 01's move, but for times that don't rise strictly:
+-- `two-poses`, `single-move`. The checks of the chain are those of the pair (`checks-same`).
 use Prim.Native.Nat.{ℕ, _+_, _*_}
 use mathlib.Core.Path.{_≡_, refl, sym, _∙_}
 use mathlib.Core.Bool.{Bool, true, false, not, _&&_, cond}
@@ -26,7 +27,8 @@ use Rattle.pose_pair.specs.Pose.{Pose·isFinite, Pose·isAffine, Pose·isPadded
 use Rattle.animated_transform.specs.declared.AnimatedTransform.{AnimatedTransform}
 use Rattle.animated_transform.specs.declared.AnimatedTransformAnswer.{AnimatedTransformAnswer}
 use Rattle.animated_transform.specs.New.{AnimatedTransformAnswer·refused, AnimatedTransform·fromPoses, buildRefusal, AnimatedTransform·new}
-use Rattle.motion_chain.specs.Chain.{neighbours, every, firstNumber, Pose·number, Pair·number, kindStage, chainRefusal, built, refused, ChainAnswer·fromMoves, Chain·new}
+use Rattle.motion_chain.specs.Chain.{neighbours, every, firstNumber, Pose·number, Pair·number, kindStage}
+use Rattle.motion_chain.specs.Chain.{chainRefusal, built, refused, ChainAnswer·fromMoves, Chain·new}
 use Rattle.motion_chain.specs.Chain.{moveFrom, Chain·moveAt, Chain·transformPoint, unionCovers, Chain·cover}
 use Rattle.motion_chain.specs.TwoPoses.{Chain·single, Checked, TwoPoses, SingleMove}
 use Rattle.motion_chain.proofs.Built.{first-only, PosePassed, pair-worked}
@@ -80,12 +82,14 @@ module _ (a : AnimatedTransformAnswer) where
       go true g = absurd (f (g refl))
       go false g = refl
 
-rising-same : (rigid : Bool) (p q : Pose) → T (lt (p .time) (q .time)) → Chain·new rigid (p ∷ q ∷ []) ≡ ChainAnswer·fromMoves (AnimatedTransform·new rigid p q ∷ [])
+rising-same : (rigid : Bool) (p q : Pose) → T (lt (p .time) (q .time))
+    → Chain·new rigid (p ∷ q ∷ []) ≡ ChainAnswer·fromMoves (AnimatedTransform·new rigid p q ∷ [])
 unfolding Chain·new AnimatedTransform·new neighbours
 rising-same rigid p q l = rw (checks-same rigid p q l) (go (eqb (buildRefusal rigid p q) 0) (eqb-false (buildRefusal rigid p q) 0))
   where
     go : (b : Bool) → (b ≡ false → buildRefusal rigid p q ≡ 0 → ⊥)
-        → cond b (ChainAnswer·fromMoves (cond b (AnimatedTransform·fromPoses rigid p q) (AnimatedTransformAnswer·refused (buildRefusal rigid p q)) ∷ [])) (refused (buildRefusal rigid p q))
+        → cond b (ChainAnswer·fromMoves (cond b (AnimatedTransform·fromPoses rigid p q) (AnimatedTransformAnswer·refused (buildRefusal rigid p q)) ∷ []))
+        (refused (buildRefusal rigid p q))
         ≡ ChainAnswer·fromMoves (cond b (AnimatedTransform·fromPoses rigid p q) (AnimatedTransformAnswer·refused (buildRefusal rigid p q)) ∷ [])
     go true f = refl
     go false f = sym (from-move-refused (AnimatedTransformAnswer·refused (buildRefusal rigid p q)) (f refl))

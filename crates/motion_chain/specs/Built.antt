@@ -1,5 +1,5 @@
--- A built chain, `BuiltChain`, and what holds of its moves, `BuiltMoves`; that after the whole chain's checks each pair is worked, `PairsWorked`. The statements of `built-moves`
--- and `pairs-worked`.
+-- A built chain, `BuiltChain`, and what holds of its moves, `BuiltMoves`; that after the whole chain's checks each pair is worked, `PairsWorked`.
+-- The statements of `built-moves` and `pairs-worked`.
 use Prim.Native.Nat.{_<_}
 use mathlib.Core.Path.{_≡_}
 use mathlib.Core.Bool.{Bool}

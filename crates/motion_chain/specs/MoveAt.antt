@@ -1,4 +1,5 @@
--- Which move of a chain a time belongs to, `MoveAt`, and that its place does not fall where the time does not, `MoveIndex`: the statements of `move-at` and `move-index`.
+-- Which move of a chain a time belongs to, `MoveAt`, and that its place does not fall where the time does not, `MoveIndex`:
+-- the statements of `move-at` and `move-index`.
 use Prim.Native.Nat.{ℕ, suc, _≤_, _<_}
 use mathlib.Core.Path.{_≡_}
 use mathlib.Core.Bool.{not, cond}
@@ -27,8 +28,8 @@ indexFrom m (next ∷ moves) time = cond (le time (m .«end_time»)) 0 (suc (ind
 abbrev pub Chain·indexAt : Chain → Float → ℕ
 Chain·indexAt c time = indexFrom (c .first) (c .rest) time
 
--- Of a built chain, at one time: up to the end time of the first move it is the first; above the start time of any and up to its end time it is that move; above the start time of
--- the last it is the last.
+-- Of a built chain, at one time: up to the end time of the first move it is the first; above the start time of any and up to its end time it is that move;
+-- above the start time of the last it is the last.
 pub record MoveAt (c : Chain) (time : Float) : Type 0 where
   pub first : T (le time (c .first .«end_time»)) → Chain·moveAt c time ≡ c .first
   pub inner : Each (λ m. T (not (le time (m .«start_time»))) → T (le time (m .«end_time»)) → Chain·moveAt c time ≡ m) (Chain·moves c)

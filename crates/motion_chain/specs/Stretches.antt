@@ -1,5 +1,5 @@
--- The stretches of a list of times, each handed to its own move as a part of the list: `Chain·stretches`; and what holds of them, `Stretches` and `StretchPoints`, the statements of
--- `stretches` and `stretch-points`. Quotations are of document 02, "Poses in a chain".
+-- The stretches of a list of times, each handed to its own move as a part of the list: `Chain·stretches`; and what holds of them,
+-- `Stretches` and `StretchPoints`, the statements of `stretches` and `stretch-points`. Quotations are of document 02, "Poses in a chain".
 use Prim.Native.Nat.{ℕ, suc, _*_}
 use mathlib.Core.Path.{_≡_}
 use mathlib.Core.Bool.{cond}
@@ -12,7 +12,8 @@ use Rattle.animated_transform.specs.declared.AnimatedTransform.{AnimatedTransfo
 use Rattle.motion_chain.specs.Chain.{Chain, Chain·moves}
 use Rattle.motion_chain.specs.Built.{Each}
 use Rattle.motion_chain.specs.MoveAt.{Chain·indexAt}
-use Rattle.motion_chain.specs.Times.{neverFalls, placesPerTime, listRefusal, PointsAnswer, moved, PointsAnswer·refusal, PointsAnswer·points, PointsAnswer·append, AnimatedTransform·transformPoints, Chain·transformPoints, Points·list, Chain·pointsLeft}
+use Rattle.motion_chain.specs.Times.{neverFalls, placesPerTime, listRefusal, PointsAnswer, moved, PointsAnswer·refusal, PointsAnswer·points}
+use Rattle.motion_chain.specs.Times.{PointsAnswer·append, AnimatedTransform·transformPoints, Chain·transformPoints, Points·list, Chain·pointsLeft}
 
 -- ---- the parts
 
@@ -45,8 +46,8 @@ abbrev pub EachFrom : {A : Type 0} → (ℕ → A → Type 0) → ℕ → List A
 EachFrom P i [] = Unit {0}
 EachFrom P i (x ∷ xs) = P i x × EachFrom P (suc i) xs
 
--- Of any chain and list: there is a stretch for each move, and the stretches joined give the list back. Where the list never falls, a time of the stretch at a place belongs to the
--- move at that place.
+-- Of any chain and list: there is a stretch for each move, and the stretches joined give the list back.
+-- Where the list never falls, a time of the stretch at a place belongs to the move at that place.
 pub record Stretches (c : Chain) (times : List Float) : Type 0 where
   pub count : length (Chain·stretches c times) ≡ length (Chain·moves c)
   pub list : flatten (Chain·stretches c times) ≡ times
@@ -73,7 +74,8 @@ pub record FilledByMoves (c : Chain) (times : List Float) (p : Point3f) (answers
   pub whole : flatten parts ≡ answers
   pub each : MoveParts p (Chain·moves c) (Chain·stretches c times) parts
 
--- Of any chain, list, point and lent answers that pass the judging: the query is each move's query over its own stretch, joined; and where it answers, each move fills its own part.
+-- Of any chain, list, point and lent answers that pass the judging: the query is each move's query over its own stretch, joined;
+-- and where it answers, each move fills its own part.
 pub record StretchPoints (c : Chain) (times : List Float) (p : Point3f) (old : List Float) : Type 0 where
   pub query : listRefusal times p (length old) ≡ 0 → Chain·transformPoints c times p (length old) ≡ pointsByMove p (Chain·moves c) (Chain·stretches c times)
   pub filled : PointsAnswer·refusal (Chain·transformPoints c times p (length old)) ≡ 0 → FilledByMoves c times p (Chain·pointsLeft c times p old)

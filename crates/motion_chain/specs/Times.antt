@@ -1,7 +1,7 @@
 -- A list of times in one query of a chain: how it is judged, what it answers, and what it leaves in the lent answers. Definitions only.
 -- Quotations are of document 02, "Poses in a chain", unless another document is named.
--- 6 is judged of the point and of every time before 13; then the times are worked in rising order, and the first refusal stands. An empty list does not fall: for a finite point
--- and no places it answers no points.
+-- 6 is judged of the point and of every time before 13; then the times are worked in rising order, and the first refusal stands.
+-- An empty list does not fall: for a finite point and no places it answers no points.
 use Prim.Native.Nat.{ℕ, _*_}
 use mathlib.Core.Bool.{Bool, true, not, _&&_, _||_, cond}
 use mathlib.Core.List.{List, [], _∷_, _++_}
@@ -33,8 +33,8 @@ neverFalls (t ∷ u ∷ times) = le t u && neverFalls (u ∷ times)
 abbrev pub placesPerTime : ℕ
 placesPerTime = 3
 
--- document 01's 6, where "the time is NaN, or a coordinate is not finite", of every time; "a falling list, or answers that aren't exactly three places per time, is 13, judged
--- after 6". 0 is none.
+-- document 01's 6, where "the time is NaN, or a coordinate is not finite", of every time; "a falling list,
+-- or answers that aren't exactly three places per time, is 13, judged after 6". 0 is none.
 unfoldable pub listRefusal : List Float → Point3f → ℕ → ℕ
 listRefusal times p places =
     cond (not (timesAreNumbers times) || not (Point3f·isFinite p)) 6

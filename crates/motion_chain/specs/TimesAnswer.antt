@@ -1,5 +1,6 @@
--- What is promised of a query with a list of times: each time is answered as by a query of its own, `TimesAnswered`; which numbers it can give, `TimesNumbers`; that the lent answers
--- keep their length, `TimesLeft`; and the guarantee, `ChainContainsTimes`. The statements of `times-answered`, `times-numbers`, `times-left` and `chain-contains-times`.
+-- What is promised of a query with a list of times: each time is answered as by a query of its own, `TimesAnswered`;
+-- which numbers it can give, `TimesNumbers`; that the lent answers keep their length, `TimesLeft`; and the guarantee,
+-- `ChainContainsTimes`. The statements of `times-answered`, `times-numbers`, `times-left` and `chain-contains-times`.
 use Prim.Native.Nat.{ℕ, _*_}
 use mathlib.Core.Path.{_≡_}
 use mathlib.Core.List.{List, [], _∷_, _++_}
@@ -15,7 +16,8 @@ use Rattle.formula.specs.Promise.{Pairwise}
 use Rattle.motion_pad.specs.Grow.{PaddedInside}
 use Rattle.motion_chain.specs.Chain.{Chain, Chain·transformPoint, Chain·padAt}
 use Rattle.motion_chain.specs.Built.{BuiltChain}
-use Rattle.motion_chain.specs.Times.{timesAreNumbers, neverFalls, placesPerTime, listRefusal, PointsAnswer, moved, PointsAnswer·refusal, PointsAnswer·points, Chain·transformPoints, Chain·pointsLeft}
+use Rattle.motion_chain.specs.Times.{timesAreNumbers, neverFalls, placesPerTime, listRefusal, PointsAnswer, moved}
+use Rattle.motion_chain.specs.Times.{PointsAnswer·refusal, PointsAnswer·points, Chain·transformPoints, Chain·pointsLeft}
 
 -- ---- each time
 -- The points are what the chain answers at the times, one for each.

@@ -1,4 +1,5 @@
--- A chain of two poses is document 01's move, but for times that don't rise strictly: `TwoPoses` and `SingleMove`, the statements of `two-poses` and `single-move`.
+-- A chain of two poses is document 01's move, but for times that don't rise strictly:
+-- `TwoPoses` and `SingleMove`, the statements of `two-poses` and `single-move`.
 use Prim.Native.Nat.{ℕ}
 use mathlib.Core.Path.{_≡_}
 use mathlib.Core.Bool.{Bool, not}
@@ -35,7 +36,8 @@ pub record TwoPoses (rigid : Bool) (p q : Pose) : Type 0 where
   -- "times that don't rise strictly are 12, judged after 2", where document 01 has 3 for falling times
   pub not-rising : Checked p q → T (not (lt (p .time) (q .time))) → Chain·new rigid (p ∷ q ∷ []) ≡ refused 12
   -- "a move built by itself keeps document 01's rule for its times": between equal times it is worked
-  pub equal-times : Checked p q → Pose·kindNumber rigid p ≡ 0 → Pose·kindNumber rigid q ≡ 0 → p .time ≡ q .time → AnimatedTransform·new rigid p q ≡ AnimatedTransform·fromPoses rigid p q
+  pub equal-times : Checked p q → Pose·kindNumber rigid p ≡ 0 → Pose·kindNumber rigid q ≡ 0
+      → p .time ≡ q .time → AnimatedTransform·new rigid p q ≡ AnimatedTransform·fromPoses rigid p q
 
 -- The queries of a chain of one move are the move's own.
 pub record SingleMove (m : AnimatedTransform) : Type 0 where

@@ -1,7 +1,7 @@
 -- The guarantee, `cover-contains`: an accepted cover of a built move holds every point of the box at every time but NaN.
--- A stored transform over the box holds what that transform moves (`stored-contains`), and a piece of the move what every pose of its dt moves (`piece-contains`), since the
--- interval steps enclose the float steps; grown by no less than the pad, they hold the moved point less and plus the pad too (`grow-holds`). dt lies in some slice, and a
--- union holds what its parts hold.
+-- A stored transform over the box holds what that transform moves (`stored-contains`), and a piece of the move what every pose
+-- of its dt moves (`piece-contains`), since the interval steps enclose the float steps; grown by no less than the pad, they
+-- hold the moved point less and plus the pad too (`grow-holds`). dt lies in some slice, and a union holds what its parts hold.
 use Prim.Native.Nat.{ℕ, zero, suc, _<_, _≤_, _^_}
 use mathlib.Core.Path.{_≡_, refl, sym, ap, subst, _∙_}
 use mathlib.Core.Bool.{Bool, true, false, not, cond}
@@ -57,7 +57,8 @@ use Rattle.animated_transform.proofs.Built.{built-judged}
 use Rattle.motion_point.specs.TransformPoint.{AnimatedTransform·constants, AnimatedTransform·movedPoint, AnimatedTransform·transformPoint}
 use Rattle.motion_point.proofs.Built.{built-valid, built-scales}
 use Rattle.motion_point.proofs.Query.{moved-point-start, moved-point-end, moved-point-between, transform-point-accepted}
-use Rattle.motion_cover.specs.Cover.{BoundsAnswer·fromEnclosure, Transform·encloseBounds, Transform·enclosePadded, AnimatedTransform·encloseBounds, AnimatedTransform·encloseEnds, unionSlices, AnimatedTransform·encloseMotion, AnimatedTransform·cover}
+use Rattle.motion_cover.specs.Cover.{BoundsAnswer·fromEnclosure, Transform·encloseBounds, Transform·enclosePadded, AnimatedTransform·encloseBounds}
+use Rattle.motion_cover.specs.Cover.{AnimatedTransform·encloseEnds, unionSlices, AnimatedTransform·encloseMotion, AnimatedTransform·cover}
 use Rattle.motion_cover.specs.Theorem.{MovedInside, CoverContainsMotion}
 use Rattle.motion_point.specs.PadAt.{AnimatedTransform·padAt}
 use Rattle.motion_point.proofs.PadAt.{pad-at-equal, pad-at-start, pad-at-end, pad-at-between}
@@ -80,7 +81,8 @@ pub record Moves (r : BoundsAnswer) (answer : PointAnswer) : Type 0 where
   pub finite : (box : Bounds3f) → r ≡ Bounds box → T (Bounds3f·isFinite box)
   pub values : (q : Point3f) → answer ≡ Moved q → Binary32 q
 
-moved-inside : {box : Bounds3f} {pad : Float} {answer : PointAnswer} (point : Point3f) → answer ≡ Moved point → PaddedInside box pad point → MovedInside box pad answer
+moved-inside : {box : Bounds3f} {pad : Float} {answer : PointAnswer} (point : Point3f)
+    → answer ≡ Moved point → PaddedInside box pad point → MovedInside box pad answer
 moved-inside {box} {pad} point e i = record { accepted = ap PointAnswer·refusal e; inside = subst (PaddedInside box pad) (sym (ap PointAnswer·point e)) i }
 
 -- A box that holds whatever another holds.
@@ -114,17 +116,20 @@ pub from-enclosure-accepted : (j : JudgedVector) (box : Bounds3f) → BoundsAnsw
 unfolding BoundsAnswer·fromEnclosure
 from-enclosure-accepted j box = go (eqb (j .refusal) 0) (eqb-true (j .refusal) 0)
   where
-    go : (b : Bool) → (b ≡ true → j .refusal ≡ 0) → cond b (Bounds (IntervalVector·bounds (j .vector))) (Refused (j .refusal)) ≡ Bounds box → FromEnclosure j box
+    go : (b : Bool) → (b ≡ true → j .refusal ≡ 0)
+        → cond b (Bounds (IntervalVector·bounds (j .vector))) (Refused (j .refusal)) ≡ Bounds box → FromEnclosure j box
     go true f e = record { accepted = f refl; bounds = bounds-same (IntervalVector·bounds (j .vector)) box e }
     go false f e = absurd (refused-bounds (j .refusal) box e)
 
-encloses-finite : (W : IntervalVector) (p : Point3f) → Pairwise Encloses (IntervalVector·list W) (Point3f·list p) → T (Bounds3f·isFinite (IntervalVector·bounds W))
+encloses-finite : (W : IntervalVector) (p : Point3f) → Pairwise Encloses (IntervalVector·list W) (Point3f·list p)
+    → T (Bounds3f·isFinite (IntervalVector·bounds W))
 encloses-finite W p (x, (y, (z, e))) =
     box-finite (IntervalVector·bounds W)
     (record { x = x .finite .low; y = y .finite .low; z = z .finite .low })
     (record { x = x .finite .high; y = y .finite .high; z = z .finite .high })
 
-enclosure-moves : {answer : PointAnswer} (j : JudgedVector) → (j .refusal ≡ 0 → EnclosesAnswer (j .vector) answer) → ((q : Point3f) → answer ≡ Moved q → Binary32 q)
+enclosure-moves : {answer : PointAnswer} (j : JudgedVector)
+    → (j .refusal ≡ 0 → EnclosesAnswer (j .vector) answer) → ((q : Point3f) → answer ≡ Moved q → Binary32 q)
     → Moves (BoundsAnswer·fromEnclosure j) answer
 enclosure-moves j f v = record {
   point = λ box e. f (from-enclosure-accepted j box e .accepted) .point;
@@ -164,7 +169,8 @@ union-holds-right r s h = record {
 }
 
 -- ---- pieces
-module _ (m : AnimatedTransform) (a : PoseConstants) (v : PoseConstants·Valid a) (f : FiniteScale (m .s0)) (g : FiniteScale (m .s1)) (h : Pad·Judged (m .pad0)) (k : Pad·Judged (m .pad1))
+module _ (m : AnimatedTransform) (a : PoseConstants) (v : PoseConstants·Valid a) (f : FiniteScale (m .s0))
+    (g : FiniteScale (m .s1)) (h : Pad·Judged (m .pad0)) (k : Pad·Judged (m .pad1))
     (b : Bounds3f) (p : Point3f) (fb : T (Bounds3f·isFinite b)) (i : Inside b p) where
   pub piece-contains : (D : Interval) (t : Float) → Subset D unitInterval → Contains D t
       → Holds (AnimatedTransform·encloseBounds m a D b) (Pad·at (m .pad0) (m .pad1) t) (Pose·movedPoint a (m .s0) (m .s1) t p)
@@ -182,7 +188,8 @@ point-finite q (x, (y, (z, e))) = record { x = x; y = y; z = z }
 pub pad-itself : {pad : Float} → Pad·Judged pad → PadWithin pad pad
 pad-itself {pad} h = record { high-finite = h .finite; from-zero = h .at-least-zero; most = ≼-refl pad (finite-number pad (h .finite)) }
 
-module _ {pad : Float} (w : Pad·Judged pad) (t : Transform) (s : StoredPose t) (b : Bounds3f) (p : Point3f) (fb : T (Bounds3f·isFinite b)) (i : Inside b p) where
+module _ {pad : Float} (w : Pad·Judged pad) (t : Transform) (s : StoredPose t)
+    (b : Bounds3f) (p : Point3f) (fb : T (Bounds3f·isFinite b)) (i : Inside b p) where
   pub stored-contains : Holds (Transform·enclosePadded pad t b) pad (Transform·transformPoint t p)
   unfolding Transform·enclosePadded Transform·encloseBounds
   stored-contains =
@@ -237,14 +244,17 @@ pub larger-judged : {x y : Float} → Pad·Judged x → Pad·Judged y → Pad·J
 larger-judged {x} {y} = max-picks Pad·Judged x y
 
 module _ (m : AnimatedTransform) (b : Bounds3f) (d : ℕ) where
-  pub motion-stored : m .«actually_animated» ≡ false → AnimatedTransform·encloseMotion m b d ≡ Transform·enclosePadded (maxNum (m .pad0) (m .pad1)) (m .«start_transform») b
+  pub motion-stored : m .«actually_animated» ≡ false
+      → AnimatedTransform·encloseMotion m b d ≡ Transform·enclosePadded (maxNum (m .pad0) (m .pad1)) (m .«start_transform») b
   unfolding AnimatedTransform·encloseMotion
-  motion-stored e = ap (λ (c : Bool). cond c (unionSlices m (AnimatedTransform·constants m) b d (AnimatedTransform·encloseEnds m b) (2 ^ d)) (Transform·enclosePadded (maxNum (m .pad0) (m .pad1)) (m .«start_transform») b)) e
+  motion-stored e = ap (λ (c : Bool). cond c (unionSlices m (AnimatedTransform·constants m) b d (AnimatedTransform·encloseEnds m b) (2 ^ d))
+      (Transform·enclosePadded (maxNum (m .pad0) (m .pad1)) (m .«start_transform») b)) e
 
   pub motion-slices : m .«actually_animated» ≡ true
       → AnimatedTransform·encloseMotion m b d ≡ unionSlices m (AnimatedTransform·constants m) b d (AnimatedTransform·encloseEnds m b) (2 ^ d)
   unfolding AnimatedTransform·encloseMotion
-  motion-slices e = ap (λ (c : Bool). cond c (unionSlices m (AnimatedTransform·constants m) b d (AnimatedTransform·encloseEnds m b) (2 ^ d)) (Transform·enclosePadded (maxNum (m .pad0) (m .pad1)) (m .«start_transform») b)) e
+  motion-slices e = ap (λ (c : Bool). cond c (unionSlices m (AnimatedTransform·constants m) b d (AnimatedTransform·encloseEnds m b) (2 ^ d))
+      (Transform·enclosePadded (maxNum (m .pad0) (m .pad1)) (m .«start_transform») b)) e
 
 module _ {m : AnimatedTransform} (built : Built m) (b : Bounds3f) (p : Point3f) (fb : T (Bounds3f·isFinite b)) (i : Inside b p) (d : ℕ) where
   before-contains : Holds (AnimatedTransform·encloseEnds m b) (m .pad0) (Transform·transformPoint (m .«start_transform») p)
@@ -272,7 +282,8 @@ module _ {m : AnimatedTransform} (built : Built m) (b : Bounds3f) (p : Point3f) 
       let s = slice-covers d u in
       let (s0, s1) = built-scales built in
       slices-hold m (AnimatedTransform·constants m) b d (AnimatedTransform·encloseEnds m b) (s .index) (2 ^ d) (s .below)
-      (piece-contains m (AnimatedTransform·constants m) (built-valid built) s0 s1 (j .pad0) (j .pad1) b p fb i (slice d (s .index)) (dt (m .«start_time») (m .«end_time») time) (slice-unit d (s .index) (s .below)) (s .contains))
+      (piece-contains m (AnimatedTransform·constants m) (built-valid built) s0 s1 (j .pad0) (j .pad1) b p fb i
+      (slice d (s .index)) (dt (m .«start_time») (m .«end_time») time) (slice-unit d (s .index) (s .below)) (s .contains))
 
   -- The work holds the point that the work of the point query moves.
   motion-contains : (time : Float) → T (not (isNan time))
@@ -280,7 +291,8 @@ module _ {m : AnimatedTransform} (built : Built m) (b : Bounds3f) (p : Point3f) 
   motion-contains time n = go (m .«actually_animated») (le time (m .«start_time»)) (le (m .«end_time») time) refl refl refl
     where
       go : (x y z : Bool) → m .«actually_animated» ≡ x → le time (m .«start_time») ≡ y → le (m .«end_time») time ≡ z
-          → Holds (AnimatedTransform·encloseMotion m b d) (AnimatedTransform·padAt m time) (AnimatedTransform·movedPoint m (AnimatedTransform·constants m) time p)
+          → Holds (AnimatedTransform·encloseMotion m b d) (AnimatedTransform·padAt m time)
+          (AnimatedTransform·movedPoint m (AnimatedTransform·constants m) time p)
       go false y z e f g =
           holds-same (motion-stored m b d e) (pad-at-equal m time e) (moved-point-start m (AnimatedTransform·constants m) time p (rw e))
           (stored-contains (larger-judged (built-judged built .pad0) (built-judged built .pad1)) (m .«start_transform») (built-judged built .start) b p fb i)
@@ -291,7 +303,8 @@ module _ {m : AnimatedTransform} (built : Built m) (b : Bounds3f) (p : Point3f) 
           holds-same (motion-slices m b d e) (pad-at-end m time e f g) (moved-point-end m (AnimatedTransform·constants m) time p (rw (e, f)) g)
           (slices-hold-before m (AnimatedTransform·constants m) b d (AnimatedTransform·encloseEnds m b) after-contains (2 ^ d))
       go true false false e f g =
-          holds-same (motion-slices m b d e) (pad-at-between m time e f g) (moved-point-between m (AnimatedTransform·constants m) time p (rw (e, f)) g) (during-contains time n f g)
+          holds-same (motion-slices m b d e) (pad-at-between m time e f g)
+          (moved-point-between m (AnimatedTransform·constants m) time p (rw (e, f)) g) (during-contains time n f g)
 
 -- ---- the query
 pub record Accepted (m : AnimatedTransform) (b : Bounds3f) (d : ℕ) (box : Bounds3f) : Type 0 where
@@ -302,7 +315,8 @@ pub cover-accepted : (m : AnimatedTransform) (b : Bounds3f) (d : ℕ) (box : Bou
 unfolding AnimatedTransform·cover
 cover-accepted m b d box = go (eqb (coverRefusal b d) 0) (eqb-true (coverRefusal b d) 0)
   where
-    go : (c : Bool) → (c ≡ true → coverRefusal b d ≡ 0) → cond c (AnimatedTransform·encloseMotion m b d) (Refused (coverRefusal b d)) ≡ Bounds box → Accepted m b d box
+    go : (c : Bool) → (c ≡ true → coverRefusal b d ≡ 0)
+        → cond c (AnimatedTransform·encloseMotion m b d) (Refused (coverRefusal b d)) ≡ Bounds box → Accepted m b d box
     go true f e = record { arguments = f refl; motion = e }
     go false f e = absurd (refused-bounds (coverRefusal b d) box e)
 
@@ -342,5 +356,6 @@ cover-contains m b d time p built e n i =
     rw (query-accepted m b d box time p a n i) (motion-contains built b p f i d time n .holds box (c .motion))
 
 -- Both clauses of the query's contract, from the first.
-pub cover-clauses : {r : BoundsAnswer} (m : AnimatedTransform) (b : Bounds3f) (d : ℕ) → r ≡ AnimatedTransform·cover m b d → (r ≡ AnimatedTransform·cover m b d) × CoverContainsMotion m b r
+pub cover-clauses : {r : BoundsAnswer} (m : AnimatedTransform) (b : Bounds3f) (d : ℕ)
+    → r ≡ AnimatedTransform·cover m b d → (r ≡ AnimatedTransform·cover m b d) × CoverContainsMotion m b r
 cover-clauses m b d e = (e, subst (CoverContainsMotion m b) (sym e) (cover-contains m b d))

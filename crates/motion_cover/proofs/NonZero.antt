@@ -26,7 +26,8 @@ use Rattle.motion_point.specs.TransformPoint.{AnimatedTransform·constants}
 use Rattle.motion_pad.specs.Pad.{Pad·enclose, Pad·stored}
 use Rattle.motion_pad.specs.Grow.{BoundsAnswer·grow}
 use Rattle.motion_pad.proofs.Box.{grow-cases}
-use Rattle.motion_cover.specs.Cover.{BoundsAnswer·fromEnclosure, Transform·encloseBounds, Transform·enclosePadded, AnimatedTransform·encloseBounds, AnimatedTransform·encloseEnds, unionSlices, AnimatedTransform·encloseMotion, AnimatedTransform·cover}
+use Rattle.motion_cover.specs.Cover.{BoundsAnswer·fromEnclosure, Transform·encloseBounds, Transform·enclosePadded, AnimatedTransform·encloseBounds}
+use Rattle.motion_cover.specs.Cover.{AnimatedTransform·encloseEnds, unionSlices, AnimatedTransform·encloseMotion, AnimatedTransform·cover}
 use Rattle.motion_cover.specs.Answer.{BoundsAnswer·Numbered}
 
 abbrev pub BoundsAnswer·NonZero : BoundsAnswer → Type 0

@@ -30,7 +30,8 @@ use Rattle.motion_pad.specs.Pad.{Pad·enclose, Pad·stored}
 use Rattle.motion_pad.specs.Grow.{BoundsAnswer·grow}
 use Rattle.motion_pad.proofs.Pad.{PadNumber, pad-number}
 use Rattle.motion_pad.proofs.Box.{grow-cases}
-use Rattle.motion_cover.specs.Cover.{BoundsAnswer·fromEnclosure, Transform·encloseBounds, Transform·enclosePadded, AnimatedTransform·encloseBounds, AnimatedTransform·encloseEnds, unionSlices, AnimatedTransform·encloseMotion, AnimatedTransform·cover}
+use Rattle.motion_cover.specs.Cover.{BoundsAnswer·fromEnclosure, Transform·encloseBounds, Transform·enclosePadded, AnimatedTransform·encloseBounds}
+use Rattle.motion_cover.specs.Cover.{AnimatedTransform·encloseEnds, unionSlices, AnimatedTransform·encloseMotion, AnimatedTransform·cover}
 use Rattle.motion_cover.specs.Answer.{CoverNumber, BoundsAnswer·Numbered}
 use Rattle.motion_cover.proofs.NonZero.{bounds-numbered, cover-nonzero}
 
@@ -42,7 +43,8 @@ enclosure-number j n = go (eqb (j .refusal) 0)
     go true = inl refl
     go false = n
 
-grow-number : (pad : Judged) (r : BoundsAnswer) → PadNumber (pad .refusal) → SliceNumber (BoundsAnswer·refusal r) → SliceNumber (BoundsAnswer·refusal (BoundsAnswer·grow pad r))
+grow-number : (pad : Judged) (r : BoundsAnswer) → PadNumber (pad .refusal)
+    → SliceNumber (BoundsAnswer·refusal r) → SliceNumber (BoundsAnswer·refusal (BoundsAnswer·grow pad r))
 grow-number pad r i n = grow-cases (λ s. SliceNumber (BoundsAnswer·refusal s)) pad r n (λ b. inl refl) (inr (inl refl)) (λ _. widen i)
   where
     widen : {n : ℕ} → PadNumber n → SliceNumber n
@@ -55,13 +57,15 @@ stored-number pad t b =
     grow-number (Pad·stored pad) _ (inl refl)
     (enclosure-number (Transform·enclosePoints t b) (transformPoint-number 0 (IntervalMatrix·point (t .m)) (Bounds3f·intervals b) (inl refl)))
 
-piece-number : (m : AnimatedTransform) (a : PoseConstants) (D : Interval) (b : Bounds3f) → SliceNumber (BoundsAnswer·refusal (AnimatedTransform·encloseBounds m a D b))
+piece-number : (m : AnimatedTransform) (a : PoseConstants) (D : Interval) (b : Bounds3f)
+    → SliceNumber (BoundsAnswer·refusal (AnimatedTransform·encloseBounds m a D b))
 unfolding AnimatedTransform·encloseBounds
 piece-number m a D b =
     grow-number (Pad·enclose (m .pad0) (m .pad1) D) _ (pad-number (m .pad0) (m .pad1) D)
     (enclosure-number (Pose·enclosePoint a (m .s0) (m .s1) D (Bounds3f·intervals b)) (point-number a (m .s0) (m .s1) D (Bounds3f·intervals b)))
 
-union-number : (r s : BoundsAnswer) → SliceNumber (BoundsAnswer·refusal r) → SliceNumber (BoundsAnswer·refusal s) → SliceNumber (BoundsAnswer·refusal (BoundsAnswer·unionBounds r s))
+union-number : (r s : BoundsAnswer) → SliceNumber (BoundsAnswer·refusal r)
+    → SliceNumber (BoundsAnswer·refusal s) → SliceNumber (BoundsAnswer·refusal (BoundsAnswer·unionBounds r s))
 unfolding BoundsAnswer·unionBounds
 union-number (Bounds a) (Bounds b) n k = inl refl
 union-number (Bounds a) (Refused s) n k = k
@@ -78,7 +82,8 @@ pub motion-number : (m : AnimatedTransform) (b : Bounds3f) (d : ℕ) → SliceNu
 unfolding AnimatedTransform·encloseMotion AnimatedTransform·encloseEnds
 motion-number m b d = go (m .«actually_animated»)
   where
-    go : (c : Bool) → SliceNumber (BoundsAnswer·refusal (cond c (unionSlices m (AnimatedTransform·constants m) b d (AnimatedTransform·encloseEnds m b) (2 ^ d)) (Transform·enclosePadded (maxNum (m .pad0) (m .pad1)) (m .«start_transform») b)))
+    go : (c : Bool) → SliceNumber (BoundsAnswer·refusal (cond c (unionSlices m (AnimatedTransform·constants m) b d (AnimatedTransform·encloseEnds m b) (2 ^ d))
+        (Transform·enclosePadded (maxNum (m .pad0) (m .pad1)) (m .«start_transform») b)))
     go true =
         slices-number m (AnimatedTransform·constants m) b d (AnimatedTransform·encloseEnds m b)
         (union-number (Transform·enclosePadded (m .pad0) (m .«start_transform») b) (Transform·enclosePadded (m .pad1) (m .«end_transform») b)

@@ -1,5 +1,5 @@
--- The corners of an accepted cover of a built move are finite and in order on each axis: `cover-proper`. An interval step narrows from its own intervals to themselves, so that
--- what it gives is not empty; a box in order grows to one in order, and a union of such boxes is in order.
+-- The corners of an accepted cover of a built move are finite and in order on each axis: `cover-proper`. An interval step narrows from its own
+-- intervals to themselves, so that what it gives is not empty; a box in order grows to one in order, and a union of such boxes is in order.
 use Prim.Native.Nat.{ℕ, zero, suc, _≤_, _^_}
 use mathlib.Core.Path.{_≡_, refl, sym, ap, subst}
 use mathlib.Core.Bool.{Bool, true, false, cond}
@@ -32,7 +32,8 @@ use Rattle.formula.specs.Promise.{Pairwise}
 use Rattle.pose_steps.specs.declared.IntervalVector.{IntervalVector}
 use Rattle.pose_steps.specs.declared.JudgedVector.{JudgedVector}
 use Rattle.pose_steps.specs.Pose.{entries, allFinite}
-use Rattle.pose_steps.specs.Enclose.{IntervalVector·list, IntervalMatrix·point, Pose·encloseTransformPoint, Pose·enclosePoint, Bounds3f·intervals, IntervalVector·bounds}
+use Rattle.pose_steps.specs.Enclose.{IntervalVector·list, IntervalMatrix·point, Pose·encloseTransformPoint}
+use Rattle.pose_steps.specs.Enclose.{Pose·enclosePoint, Bounds3f·intervals, IntervalVector·bounds}
 use Rattle.pose_steps.specs.Promise.{RefinesMatrix, InOrder}
 use Rattle.pose_steps.proofs.Rows.{points-refine}
 use Rattle.pose_steps.proofs.Finite.{matrix-each}
@@ -47,7 +48,8 @@ use Rattle.motion_pad.specs.Pad.{Pad·enclose, Pad·stored}
 use Rattle.motion_pad.specs.Grow.{Bounds3f·grow, BoundsAnswer·grow}
 use Rattle.motion_pad.proofs.Pad.{pad-high-within}
 use Rattle.motion_pad.proofs.Box.{PadWithin, grow-order}
-use Rattle.motion_cover.specs.Cover.{BoundsAnswer·fromEnclosure, Transform·encloseBounds, Transform·enclosePadded, AnimatedTransform·encloseBounds, AnimatedTransform·encloseEnds, unionSlices, AnimatedTransform·encloseMotion, AnimatedTransform·cover}
+use Rattle.motion_cover.specs.Cover.{BoundsAnswer·fromEnclosure, Transform·encloseBounds, Transform·enclosePadded, AnimatedTransform·encloseBounds}
+use Rattle.motion_cover.specs.Cover.{AnimatedTransform·encloseEnds, unionSlices, AnimatedTransform·encloseMotion, AnimatedTransform·cover}
 use Rattle.motion_cover.specs.Answer.{Proper}
 use Rattle.motion_cover.proofs.Contains.{pad-itself, larger-judged, motion-stored, motion-slices, cover-box}
 
@@ -84,7 +86,8 @@ enclosure-proper j f =
 refused-proper : (n : ℕ) → (n ≡ 0 → ⊥) → Proper (Refused n)
 refused-proper n h = record { finite = λ e. absurd (h e); order = λ e. absurd (h e) }
 
-grow-proper : (pad : Judged) (r : BoundsAnswer) {here : Float} → (pad .refusal ≡ 0 → PadWithin here (pad .interval .high)) → Proper r → Proper (BoundsAnswer·grow pad r)
+grow-proper : (pad : Judged) (r : BoundsAnswer) {here : Float}
+    → (pad .refusal ≡ 0 → PadWithin here (pad .interval .high)) → Proper r → Proper (BoundsAnswer·grow pad r)
 unfolding BoundsAnswer·grow
 grow-proper pad (Refused n) w p = p
 grow-proper pad (Bounds b) w p = go (eqb (pad .refusal) 0) (Bounds3f·isFinite grown) (eqb-true (pad .refusal) 0) (eqb-false (pad .refusal) 0) refl
@@ -170,7 +173,8 @@ module _ {m : AnimatedTransform} (built : Built m) (b : Bounds3f) (r : BoxRefine
   slices-proper d zero l = ends-proper
   slices-proper d (suc n) l =
       let u = slice-unit d n (omega (arith, l)) in
-      union-proper (unionSlices m (AnimatedTransform·constants m) b d (AnimatedTransform·encloseEnds m b) n) (AnimatedTransform·encloseBounds m (AnimatedTransform·constants m) (slice d n) b)
+      union-proper (unionSlices m (AnimatedTransform·constants m) b d (AnimatedTransform·encloseEnds m b) n)
+      (AnimatedTransform·encloseBounds m (AnimatedTransform·constants m) (slice d n) b)
       (slices-proper d n (omega (arith, l))) (piece-proper (slice d n) u (subset-self u))
 
   pub motion-proper : (d : ℕ) → Proper (AnimatedTransform·encloseMotion m b d)

@@ -1,4 +1,5 @@
--- The loop over the slices of a cover. After k of them stand the box of what was joined and the low end of the next slice (`Reached`), and the loop is left in two ways:
+-- The loop over the slices of a cover. After k of them stand the box of what was joined and the low end of the next slice (`Reached`),
+-- and the loop is left in two ways:
 -- all slices are joined (`reached-last`), or one is refused (`slice-refused`), which then is the answer, since a refusal stays (`unionSlices-refused`).
 use Prim.Native.Nat.{ℕ, zero, suc, _+_, _*_, _%_, _^_, _≤_, zero-le}
 use mathlib.Core.Path.{_≡_, refl, sym}

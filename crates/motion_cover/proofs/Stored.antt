@@ -1,5 +1,5 @@
--- The start box and the end box of a cover are `transform_bounds` of the stored transforms: `stored-same`, equal boxes, a zero's sign aside, and `stored-refusal`, the same number.
--- They are stored_box's laws, of answers.
+-- The start box and the end box of a cover are `transform_bounds` of the stored transforms: `stored-same`, equal boxes,
+-- a zero's sign aside, and `stored-refusal`, the same number. They are stored_box's laws, of answers.
 use mathlib.Core.Path.{_≡_, refl, subst, _∙_}
 use mathlib.Core.Bool.{Bool, true, false, cond}
 use lib.Dec.{eqb}
@@ -23,7 +23,8 @@ enclosure-refusal : (j : JudgedVector) → BoundsAnswer·refusal (BoundsAnswer·
 unfolding BoundsAnswer·fromEnclosure
 enclosure-refusal j = go (eqb (j .refusal) 0) (eqb-true (j .refusal) 0)
   where
-    go : (b : Bool) → (b ≡ true → j .refusal ≡ 0) → BoundsAnswer·refusal (cond b (Bounds (IntervalVector·bounds (j .vector))) (Refused (j .refusal))) ≡ j .refusal
+    go : (b : Bool) → (b ≡ true → j .refusal ≡ 0)
+        → BoundsAnswer·refusal (cond b (Bounds (IntervalVector·bounds (j .vector))) (Refused (j .refusal))) ≡ j .refusal
     go true f = rw (f refl)
     go false f = refl
 

@@ -57,7 +57,8 @@ module _ (m : AnimatedTransform) (b : Bounds3f) (d : ℕ) where
   named : (time : Float) (p : Point3f) (answer : PointAnswer) (pad : Float)
       → Built m → BoundsAnswer·refusal (AnimatedTransform·cover m b d) ≡ 0 → T (not (isNan time)) → Inside b p
       → AnimatedTransform·movedPoint m (AnimatedTransform·constants m) time p ≡ answer → AnimatedTransform·padAt m time ≡ pad
-      → AnswersInside (BoundsAnswer·bounds (AnimatedTransform·cover m b d)) (AnimatedTransform·transformPoint m time p) answer (AnimatedTransform·padAt m time) pad
+      → AnswersInside (BoundsAnswer·bounds (AnimatedTransform·cover m b d))
+      (AnimatedTransform·transformPoint m time p) answer (AnimatedTransform·padAt m time) pad
   named time p answer pad built e n i h k =
       let box = BoundsAnswer·bounds (AnimatedTransform·cover m b d) in
       let q : AnimatedTransform·transformPoint m time p ≡ answer = query-accepted m b d box time p (cover-answered m b d e) n i ∙ h in
@@ -65,7 +66,8 @@ module _ (m : AnimatedTransform) (b : Bounds3f) (d : ℕ) where
 
   pub before-inside : BeforeInside m b (AnimatedTransform·cover m b d)
   before-inside time p built e n i s =
-      named time p _ _ built e n i (moved-point-start m (AnimatedTransform·constants m) time p (is-true (atStart m time) s)) (pad-start m time (is-true (atStart m time) s))
+      named time p _ _ built e n i (moved-point-start m (AnimatedTransform·constants m) time p (is-true (atStart m time) s))
+      (pad-start m time (is-true (atStart m time) s))
 
   pub during-inside : DuringInside m b (AnimatedTransform·cover m b d)
   during-inside time p built e n i s f =

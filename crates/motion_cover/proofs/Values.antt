@@ -1,4 +1,5 @@
--- The coordinates of a moved point are values of binary32, since each is a rounded sum or quotient: `pose-values` of a pose at dt, `stored-values` of a stored transform.
+-- The coordinates of a moved point are values of binary32, since each is a rounded sum or quotient:
+-- `pose-values` of a pose at dt, `stored-values` of a stored transform.
 use mathlib.Core.Path.{_≡_, sym, ap, subst}
 use mathlib.Core.Bool.{Bool, true, false, _&&_, cond}
 use native.Mathlib.Omega.{arith}
@@ -48,4 +49,5 @@ moved-values m p = go (eq wp one)
 
 pub stored-values : (t : Transform) (p q : Point3f) → Transform·transformPoint t p ≡ Moved q → Binary32 q
 unfolding Transform·transformPoint PointAnswer·judged
-stored-values t p q e = tested-values (Point3f·isFinite (movedPoint (Matrix4x4·toRows (t .m)) p)) (movedPoint (Matrix4x4·toRows (t .m)) p) q (moved-values (Matrix4x4·toRows (t .m)) p) e
+stored-values t p q e = tested-values (Point3f·isFinite (movedPoint (Matrix4x4·toRows (t .m)) p))
+    (movedPoint (Matrix4x4·toRows (t .m)) p) q (moved-values (Matrix4x4·toRows (t .m)) p) e

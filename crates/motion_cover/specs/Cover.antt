@@ -1,5 +1,5 @@
--- Document 01's 'Cover (added)': an interval enclosure of the motion of a box, from the steps of a pose read in intervals; document 02, "Pads for the spray": "a box
--- grows on every face as soon as it is worked out". Definitions only.
+-- Document 01's 'Cover (added)': an interval enclosure of the motion of a box, from the steps of a pose read in intervals;
+-- document 02, "Pads for the spray": "a box grows on every face as soon as it is worked out". Definitions only.
 -- A query is judged first: 6, 7, 8. Then start box, end box and slices are worked in rising order, and the first number met, 5 or 10, stands.
 use Prim.Native.Nat.{ℕ, zero, suc, _^_}
 use mathlib.Core.Bool.{cond}
@@ -49,8 +49,8 @@ unfoldable pub unionSlices : AnimatedTransform → PoseConstants → Bounds3f �
 unionSlices m a b d r zero = r
 unionSlices m a b d r (suc k) = BoundsAnswer·unionBounds (unionSlices m a b d r k) (AnimatedTransform·encloseBounds m a (slice d k) b)
 
--- The work: "If the poses are equal by 000's own comparison it is the start transform over the box .. Otherwise it is the union"; "the one box of equal poses by the
--- larger" pad
+-- The work: "If the poses are equal by 000's own comparison it is the start transform over the box ..
+-- Otherwise it is the union"; "the one box of equal poses by the larger" pad
 unfoldable pub AnimatedTransform·encloseMotion : AnimatedTransform → Bounds3f → ℕ → BoundsAnswer
 AnimatedTransform·encloseMotion m b d =
     cond (m .«actually_animated»)

@@ -1,8 +1,8 @@
 -- The guarantee: at which moments may the boom stand outside its reserved box? At none.
 --
--- Take any two poses and times from which a move is built, any box, and any depth at which the cover of the box is accepted. Then at every time but NaN, both infinities
--- included, and for every point of the box, the point query answers a moved point, and that point is inside the cover on all three axes, by itself and less and plus
--- the pad at that time, each rounded.
+-- Take any two poses and times from which a move is built, any box, and any depth at which the cover of the box is accepted.
+-- Then at every time but NaN, both infinities included, and for every point of the box, the point query answers a moved point,
+-- and that point is inside the cover on all three axes, by itself and less and plus the pad at that time, each rounded.
 --
 --   Built m                          m is what building gives, unrefused, for two poses whose times are binary32 crates/animated_transform/specs/Built.antt
 --   BoundsAnswer·refusal c ≡ 0       the cover is accepted, and `BoundsAnswer·bounds c` is its box               crates/transform/specs/Answer.antt

@@ -1,5 +1,5 @@
--- The guarantee before, during and after the move: which pose moves the point, which pad holds, and that the point is inside the accepted cover. The statements of `before-inside`,
--- `during-inside` and `after-inside`; together they are `CoverContainsMotion`, since a time that is no NaN is one of the three.
+-- The guarantee before, during and after the move: which pose moves the point, which pad holds, and that the point is inside the accepted cover. The
+-- statements of `before-inside`, `during-inside` and `after-inside`; together they are `CoverContainsMotion`, since a time that is no NaN is one of the three.
 use mathlib.Core.Path.{_≡_}
 use mathlib.Core.Bool.{not, cond}
 use lib.Dec.{T}

@@ -21,7 +21,8 @@ ghost use Rattle.pose_steps.specs.Enclose.{Pose·encloseSlerp, Bounds3f·interv
 ghost use Rattle.pose_slerp.specs.means.Unjudged.{Perpendicular·of};
 ghost use Rattle.motion_point.specs.TransformPoint.{AnimatedTransform·constants};
 ghost use Rattle.bounds_query.specs.Query.{maxDepth};
-ghost use Rattle.motion_cover.specs.Cover.{BoundsAnswer·fromEnclosure, Transform·encloseBounds, Transform·enclosePadded, AnimatedTransform·encloseBounds, AnimatedTransform·encloseEnds, unionSlices, AnimatedTransform·encloseMotion, AnimatedTransform·cover};
+ghost use Rattle.motion_cover.specs.Cover.{BoundsAnswer·fromEnclosure, Transform·encloseBounds, Transform·enclosePadded, AnimatedTransform·encloseBounds};
+ghost use Rattle.motion_cover.specs.Cover.{AnimatedTransform·encloseEnds, unionSlices, AnimatedTransform·encloseMotion, AnimatedTransform·cover};
 ghost use Rattle.motion_cover.specs.means.Border.{Border·at};
 ghost use Rattle.motion_cover.specs.Theorem.{CoverContainsMotion};
 

@@ -4,7 +4,8 @@ use mathlib.Core.Path.{_≡_, refl, sym, ap, _∙_}
 use mathlib.Core.Bool.{Bool, true, false, _&&_, _||_, Bool·beq, true≢false}
 use mathlib.Core.Logic.{_⊎_, inl, inr}
 use Prim.Native.Nat.{ℕ, _*_, _/_, _^_, _≤_, _<_}
-use native.Mathlib.Nat.{le-antisymm, mul-lt-mul-of-pos-right, mul-le-mul-right, lt-of-mul-lt-mul-right, le-of-mul-le-mul-right, eq-zero-or-pos, mul-pos, zero-div}
+use native.Mathlib.Nat.{le-antisymm, mul-lt-mul-of-pos-right, mul-le-mul-right, lt-of-mul-lt-mul-right}
+use native.Mathlib.Nat.{le-of-mul-le-mul-right, eq-zero-or-pos, mul-pos, zero-div}
 use native.Mathlib.Omega.{arith}
 use borrow.Author.Tests.{ltb-true, ltb-false, lt-ltb, le-ltb, eqb-true}
 use lib.Dec.{ltb, eqb}
@@ -93,4 +94,7 @@ cos-equal (fin s m e) nan h = absurd (true≢false (sym h))
 cos-equal (fin s m e) (inf t) h = absurd (true≢false (sym h))
 cos-equal (fin s m e) (fin t n d) h =
     let q = level-value s t (m * up e * down d) (n * up d * down e) h .0 in
-    rw (near-equal (m * up e) (down e) (n * up d) (down d) (down-pos e) (down-pos d) q, units-equal (m * up e) (down e) (n * up d) (down d) (down-pos e) (down-pos d) q)
+    rw (
+      near-equal (m * up e) (down e) (n * up d) (down d) (down-pos e) (down-pos d) q,
+      units-equal (m * up e) (down e) (n * up d) (down d) (down-pos e) (down-pos d) q,
+    )

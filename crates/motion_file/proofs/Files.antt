@@ -15,7 +15,8 @@ use lib.ListN.{length, getD, set, take, drop, replicate, length-replicate, lengt
 use lib.Seq.{take-at, take-append-le, getD-append-add, getD-drop, drop-cons, length-take-le, sets, sets-eq}
 use borrow.Author.Tests.{le-leb, lt-leb, eqb-true, eq-eqb, ne-eqb}
 use Rattle.motion_file.specs.Text.{lineFeed, split}
-use Rattle.motion_file.specs.Layout.{Line, names, values, poseNames, paddedNames, boundsNames, layout, words, valueOf, allValues, areValues, fits, conforms}
+use Rattle.motion_file.specs.Layout.{Line, names, values, poseNames, paddedNames, boundsNames}
+use Rattle.motion_file.specs.Layout.{layout, words, valueOf, allValues, areValues, fits, conforms}
 use Rattle.motion_file.specs.Layout.{maxBytes, maxPoseLines, poseLines, keepsColumns, hasPads, keepsLayout}
 use Rattle.motion_file.specs.Layout.{valuesOf, bottomRow, poseOfValues, poseOf, MoveFile·departs, MoveFile·contents, MoveFile·read, MoveFile·poses}
 use Rattle.motion_file.specs.means.Columns.{MoveFile·readAs, MoveFile·posesAs}
@@ -164,7 +165,8 @@ module _ (text : List ℕ) (columns : ℕ) (least : 13 ≤ columns) (s : List �
 -- ---- poses put one after the other
 
 -- a line that stands has as many values as are asked for
-pub line-length : (columns : ℕ) (s : List ℕ) (at : ℕ) → length s ≤ maxBytes → afterLine (values columns) s at ≤ length s → length (valuesOf (lineAt s at)) ≡ columns
+pub line-length : (columns : ℕ) (s : List ℕ) (at : ℕ) → length s ≤ maxBytes
+    → afterLine (values columns) s at ≤ length s → length (valuesOf (lineAt s at)) ≡ columns
 unfolding afterLine fits valuesOf
 line-length columns s at m h = go (ltb (at + lineLength s at) (length s)) (areValues columns (words (lineAt s at))) refl h
   where
@@ -196,10 +198,12 @@ module _ (columns : ℕ) (least : 13 ≤ columns) (most : columns ≤ 14) where
       pad (inl e) = List·getD-append line rest o 13 (omega (arith, size, e))
       pad (inr l) =
           let place : length line + 0 ≡ 13 = omega (arith, least, size, l) in
-          let behind : getD (line ++ rest) (length line + 0) o ≡ o = getD-append-add line rest 0 o ∙ (getD-drop columns (replicate 14 o) 0 o ∙ zeros 14 (columns + 0)) in
+          let behind : getD (line ++ rest) (length line + 0) o ≡ o =
+          getD-append-add line rest 0 o ∙ (getD-drop columns (replicate 14 o) 0 o ∙ zeros 14 (columns + 0)) in
           rw place at behind ∙ sym (List·getD-eq-default line o {n = 13} (omega (arith, least, size, l)))
 
-  pub read-pose : {line read : List Float} → line ≡ read → length read ≡ columns → poseOfValues (line ++ drop columns (replicate 14 (ofBits binary32 0))) ≡ poseOfValues read
+  pub read-pose : {line read : List Float} → line ≡ read → length read ≡ columns
+      → poseOfValues (line ++ drop columns (replicate 14 (ofBits binary32 0))) ≡ poseOfValues read
   read-pose {line} {read} e size = rw e (line-pose read size)
 
   pub pose-put : (s : List ℕ) (count i at next : ℕ) (places : List (List Float)) {pose : List Float}

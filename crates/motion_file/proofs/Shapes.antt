@@ -1,4 +1,5 @@
--- The poses of a file have 13 values of the file's, the bottom row and a pad, of which time and pad are binary32, and the pad is +0 where the names are the old thirteen: `poses-shaped`.
+-- The poses of a file have 13 values of the file's, the bottom row and a pad, of which time and pad are binary32,
+-- and the pad is +0 where the names are the old thirteen: `poses-shaped`.
 use Prim.Native.Nat.{ℕ, zero, suc, _≤_}
 use native.Mathlib.Omega.{arith}
 use mathlib.Core.Path.{_≡_, refl, sym, _∙_}
@@ -12,7 +13,8 @@ use lib.Seq.{length-take-le}
 use borrow.Author.Tests.{eqb-true}
 use Rattle.hexadecimal.specs.Word.{number}
 use Rattle.motion_file.specs.Text.{lineFeed, split}
-use Rattle.motion_file.specs.Layout.{Line, names, values, poseNames, paddedNames, boundsNames, layout, words, valueOf, allValues, fits, valuesOf, conforms}
+use Rattle.motion_file.specs.Layout.{Line, names, values, poseNames, paddedNames, boundsNames}
+use Rattle.motion_file.specs.Layout.{layout, words, valueOf, allValues, fits, valuesOf, conforms}
 use Rattle.motion_file.specs.Layout.{maxBytes, poseLines, keepsColumns, hasPads, keepsLayout, bottomRow, poseOf, MoveFile·poses}
 
 pub record Shaped (padded : Bool) (pose : List Float) : Type 0 where
@@ -63,7 +65,8 @@ module _ (padded : Bool) (columns : ℕ) (least : 13 ≤ columns) (old : padded 
       let both = and-eq-true-iff (fits (values columns) line) (conforms (replicate n (values columns) ++ kinds) lines) .0 h in
       (line-shaped line (both .0), lines-shaped n kinds lines (both .1))
 
-  layout-shaped : (text : List ℕ) (n : ℕ) (lines : List (List ℕ)) → conforms (layout text columns n) lines ≡ true → AllShaped padded (map poseOf (take n (drop 1 lines)))
+  layout-shaped : (text : List ℕ) (n : ℕ) (lines : List (List ℕ))
+      → conforms (layout text columns n) lines ≡ true → AllShaped padded (map poseOf (take n (drop 1 lines)))
   unfolding conforms
   layout-shaped text n [] h = absurd (false≢true h)
   layout-shaped text n (line ∷ lines) h =

@@ -69,7 +69,8 @@ module _ {fresh : Bool} {answer : Bounds3f → BoundsAnswer} {pose : PaddedPose}
   answerAt b = joined fresh (answer b) (PaddedPose·encloseBounds pose b)
 
   not-above : to .count ≤ from .count
-  not-above = ⊎-elim (λ e. let c : to .count ≡ from .count = ap (λ (f : Front). f .count) e in omega (arith, c)) (λ s. let l = s .0 in omega (arith, l)) (t .stop)
+  not-above =
+      ⊎-elim (λ e. let c : to .count ≡ from .count = ap (λ (f : Front). f .count) e in omega (arith, c)) (λ s. let l = s .0 in omega (arith, l)) (t .stop)
 
   take-stopped : to .count < length boxes → answerAt (boxAt boxes (to .count)) ≡ Refused (to .refusal)
   take-stopped h = ⊎-elim same less (t .stop)

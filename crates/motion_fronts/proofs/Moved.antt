@@ -1,5 +1,5 @@
--- What is answered of a box once its tests, the start transform, the end transform and the slices are joined is its cover: `moved-stored`, `moved-slices`. The steps of
--- the code: `judged-front`, `start-worked`, `end-worked`.
+-- What is answered of a box once its tests, the start transform, the end transform and the slices are joined is its cover:
+-- `moved-stored`, `moved-slices`. The steps of the code: `judged-front`, `start-worked`, `end-worked`.
 use Prim.Native.Nat.{ℕ, _^_, _≤_, _<_}
 use mathlib.Core.Path.{_≡_, refl, ap, subst, _∙_}
 use mathlib.Core.Bool.{Bool, true, false, cond}
@@ -73,7 +73,8 @@ module _ (m : AnimatedTransform) (d : ℕ) (b : Bounds3f) where
 
   pub moved-stored : m .«actually_animated» ≡ false → joined true (tested d b) start ≡ AnimatedTransform·cover m b d
   unfolding AnimatedTransform·cover
-  moved-stored s = rw (motion-stored m b d s, stored-composition (maxNum (m .pad0) (m .pad1)) (m .«start_transform») b, ← start-equal) (go (eqb (coverRefusal b d) 0))
+  moved-stored s =
+      rw (motion-stored m b d s, stored-composition (maxNum (m .pad0) (m .pad1)) (m .«start_transform») b, ← start-equal) (go (eqb (coverRefusal b d) 0))
     where
       start-equal : start ≡ PaddedPose·encloseBounds (PaddedPose·stored (maxNum (m .pad0) (m .pad1)) (m .«start_transform»)) b
       start-equal = rw s

@@ -36,7 +36,8 @@ fn take_slices(
 ) -> Front
     requires { ⌜ d ≤ maxDepth ⌝ }
     requires { ⌜ length (now boxes) ≤ placeCount ⌝ }
-    ensures worked { λ r. ⌜ Continues (λ answer b. unionSlices m (AnimatedTransform·constants m) b d (answer b) (2 ^ d)) (now (boxes .entry)) (now (places .entry)) (now (places .exit)) front r ⌝ }
+    ensures worked { λ r. ⌜ Continues (λ answer b. unionSlices m (AnimatedTransform·constants m) b d (answer b) (2 ^ d))
+        (now (boxes .entry)) (now (places .entry)) (now (places .exit)) front r ⌝ }
 {
     let a = motion_point::constants(m);
     let slices = 1u64 << d;

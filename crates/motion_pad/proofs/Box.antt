@@ -1,6 +1,7 @@
--- Boxes grown by a pad from 0 on. A grown box holds each point of the box, and it less and plus a pad that is no greater (`grow-padded`); it is in order where the
--- box is (`grow-order`), and a box in another, with no greater pad, grows to a box in the other's (`grow-subset`). An answer that is grown was a box, and its pad was
--- not refused (`grow-accepted`), and a part of it is accepted with it and lies in it (`grow-isotone`). A pad of +0 leaves a box as it was, a zero's sign aside (`grow-zero`).
+-- Boxes grown by a pad from 0 on. A grown box holds each point of the box, and it less and plus a pad that is no greater (`grow-padded`);
+-- it is in order where the box is (`grow-order`), and a box in another, with no greater pad, grows to a box in the other's (`grow-subset`).
+-- An answer that is grown was a box, and its pad was not refused (`grow-accepted`), and a part of it is accepted with it and lies in it
+-- (`grow-isotone`). A pad of +0 leaves a box as it was, a zero's sign aside (`grow-zero`).
 use Prim.Native.Nat.{ℕ}
 use mathlib.Core.Path.{_≡_, refl, sym, ap, subst, _∙_}
 use mathlib.Core.Bool.{Bool, true, false, cond}
@@ -101,7 +102,8 @@ grow-order {b} {pad} F z f o =
     apart : {l h : Float} → T (finite l) → T (finite h) → l ≼ h → l ⊖ pad ≼ h ⊕ pad
     apart {l} {h} fl fh i = ≼-trans (sub-mono binary32 fl fh F F i (≼-refl pad (finite-number pad F))) (sub-add h pad fh F z)
 
-pub grow-subset : {b c : Bounds3f} {pad high : Float} → T (finite pad) → T (finite high) → pad ≼ high → T (Bounds3f·isFinite b) → T (Bounds3f·isFinite c) → Subset b c
+pub grow-subset : {b c : Bounds3f} {pad high : Float} → T (finite pad) → T (finite high)
+    → pad ≼ high → T (Bounds3f·isFinite b) → T (Bounds3f·isFinite c) → Subset b c
     → Subset (Bounds3f·grow pad b) (Bounds3f·grow high c)
 unfolding Bounds3f·grow
 grow-subset {b} {c} {pad} {high} F G k f g s =

@@ -1,5 +1,5 @@
--- The pad over an interval of dt: it encloses the pad at every dt of it (`pad-extends`), a part of it gives no more (`pad-isotone`), the pad of two pads from 0 on
--- is from 0 on (`pad-nonnegative`), so that each lies from 0 to the high end (`pad-within`); and it is refused with 5 alone (`pad-number`).
+-- The pad over an interval of dt: it encloses the pad at every dt of it (`pad-extends`), a part of it gives no more (`pad-isotone`), the pad of two pads
+-- from 0 on is from 0 on (`pad-nonnegative`), so that each lies from 0 to the high end (`pad-within`); and it is refused with 5 alone (`pad-number`).
 use mathlib.Core.Path.{_≡_, refl}
 use mathlib.Core.Logic.{_⊎_, inl, inr}
 use mathlib.Core.Bool.{Bool, true, false, _&&_, cond}

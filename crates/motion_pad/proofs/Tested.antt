@@ -8,7 +8,8 @@ use Rattle.bounds3.specs.Finite.{Bounds3f·isFinite}
 use Rattle.transform.specs.declared.BoundsAnswer.the-variants.{Bounds, Refused}
 use Rattle.motion_pad.specs.Grow.{Bounds3f·grow, BoundsAnswer·grow}
 
-module _ (pad : Judged) (b : Bounds3f) {faces : Bounds3f} {t : Bool} (e : pad .refusal ≡ 0) (g : faces ≡ Bounds3f·grow (pad .interval .high) b) (f : t ≡ Bounds3f·isFinite faces) where
+module _ (pad : Judged) (b : Bounds3f) {faces : Bounds3f} {t : Bool} (e : pad .refusal ≡ 0)
+    (g : faces ≡ Bounds3f·grow (pad .interval .high) b) (f : t ≡ Bounds3f·isFinite faces) where
   -- The test of the faces is that of the grown box.
   tested : Bounds3f·isFinite (Bounds3f·grow (pad .interval .high) b) ≡ t
   tested = ap Bounds3f·isFinite (sym g) ∙ sym f

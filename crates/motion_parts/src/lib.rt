@@ -1,5 +1,5 @@
-// The parts of a move that is kept as 45 rows, as test programs print them in an answer line: whether it is animated and whether it rotates, for start and end t, r, S and the
-// inverse, then c1 to c5, each on the axes x y z, each kc kx ky kz.
+// The parts of a move that is kept as 45 rows, as test programs print them in an answer line: whether it is animated and whether it rotates,
+// for start and end t, r, S and the inverse, then c1 to c5, each on the axes x y z, each kc kx ky kz.
 ghost use mathlib.Core.Path.{_≡_};
 ghost use Rattle.question_lines.specs.Pieces.{putAll, behindAll};
 ghost use Rattle.motion_parts.specs.Parts.{partSize, rowPieces, flagPieces, partsPieces};

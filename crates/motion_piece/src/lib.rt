@@ -1,5 +1,5 @@
-// A piece of a cover in two steps: the poses over any interval of dt as one judged matrix with their pad, and the box that they move a box to. Many boxes then share
-// the first step. Nothing is asked of dt or of the constants: what isn't finite is refused.
+// A piece of a cover in two steps: the poses over any interval of dt as one judged matrix with their pad, and the box that they move a box to.
+// Many boxes then share the first step. Nothing is asked of dt or of the constants: what isn't finite is refused.
 use bounds3::Bounds3f;
 use interval::Interval;
 use interval::Judged;
@@ -20,8 +20,8 @@ pub struct PaddedPose {
     pub pad: Judged,
 }
 
-// The rotation over an interval of dt, with m the refusal number met before; refused with 5 or 10. Accuracy: encloses, for an angle from 0 to a quarter turn and
-// dt from 0 to 1.
+// The rotation over an interval of dt, with m the refusal number met before; refused with 5 or 10.
+// Accuracy: encloses, for an angle from 0 to a quarter turn and dt from 0 to 1.
 pub fn slerp_enclosure(m: u8, a: PoseConstants, dt: Interval) -> JudgedQuaternion
     ensures value { λ r. ⌜ r ≡ Pose·encloseSlerp m a dt ⌝ }
 {

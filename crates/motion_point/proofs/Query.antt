@@ -1,6 +1,6 @@
 -- The point query gives no number but 5 and 6, and a finite point where it gives none: `transform-point-answered`, for all structs and arguments.
--- At and outside the end times, and where the poses are equal, a stored transform moves the point (`moved-point-start`, `moved-point-end`); between them the pose at dt
--- does (`moved-point-between`). `transform-point-accepted`: that is what the query answers, once its arguments have passed.
+-- At and outside the end times, and where the poses are equal, a stored transform moves the point (`moved-point-start`, `moved-point-end`); between
+-- them the pose at dt does (`moved-point-between`). `transform-point-accepted`: that is what the query answers, once its arguments have passed.
 use mathlib.Core.Path.{_≡_, refl}
 use mathlib.Core.Bool.{Bool, true, false, not, _||_, cond}
 use mathlib.Core.Logic.{_⊎_, inl, inr}
@@ -27,7 +27,8 @@ pub moved-point-judged : (m : AnimatedTransform) (a : PoseConstants) (time : Flo
 unfolding AnimatedTransform·movedPoint
 moved-point-judged m a time p =
     cond-keeps PointAnswer·Judged (atStart m time) _ _ (transform-point-judged (m .«start_transform») p)
-    (cond-keeps PointAnswer·Judged (atEnd m time) _ _ (transform-point-judged (m .«end_transform») p) (movedPoint-judged a (m .s0) (m .s1) (dt (m .«start_time») (m .«end_time») time) p))
+    (cond-keeps PointAnswer·Judged (atEnd m time) _ _ (transform-point-judged (m .«end_transform») p)
+    (movedPoint-judged a (m .s0) (m .s1) (dt (m .«start_time») (m .«end_time») time) p))
 
 module _ (m : AnimatedTransform) (a : PoseConstants) (time : Float) (p : Point3f) where
   pub moved-point-start : atStart m time ≡ true → AnimatedTransform·movedPoint m a time p ≡ Transform·transformPoint (m .«start_transform») p
@@ -52,7 +53,8 @@ transform-point-accepted m time p e f = rw (e, f)
 judged-answered : {a : PointAnswer} → PointAnswer·Judged a → PointAnswer·Answered a
 judged-answered {a} j = record { number = widen (j .number); values = j .values }
   where
-    widen : (PointAnswer·refusal a ≡ 0) ⊎ (PointAnswer·refusal a ≡ 5) → (PointAnswer·refusal a ≡ 0) ⊎ ((PointAnswer·refusal a ≡ 5) ⊎ (PointAnswer·refusal a ≡ 6))
+    widen : (PointAnswer·refusal a ≡ 0) ⊎ (PointAnswer·refusal a ≡ 5)
+        → (PointAnswer·refusal a ≡ 0) ⊎ ((PointAnswer·refusal a ≡ 5) ⊎ (PointAnswer·refusal a ≡ 6))
     widen (inl e) = inl e
     widen (inr e) = inr (inl e)
 
@@ -63,4 +65,5 @@ refused-answered = record { number = inr (inr refl); values = tt }
 pub transform-point-answered : (m : AnimatedTransform) (time : Float) (p : Point3f) → PointAnswer·Answered (AnimatedTransform·transformPoint m time p)
 unfolding AnimatedTransform·transformPoint
 transform-point-answered m time p =
-    cond-keeps PointAnswer·Answered (isNan time || not (Point3f·isFinite p)) (Refused 6) _ refused-answered (judged-answered (moved-point-judged m (AnimatedTransform·constants m) time p))
+    cond-keeps PointAnswer·Answered (isNan time || not (Point3f·isFinite p)) (Refused 6) _ refused-answered
+    (judged-answered (moved-point-judged m (AnimatedTransform·constants m) time p))

@@ -1,5 +1,6 @@
 -- The point query, pbrt's two-argument `AnimatedTransform::transform_point`. Definitions only.
--- A NaN time or a coordinate that isn't finite is 6. At and outside the end times, and where the poses are equal, the stored transform moves the point; else the pose at dt does.
+-- A NaN time or a coordinate that isn't finite is 6. At and outside the end times, and where the poses are equal, the stored transform moves the point;
+-- else the pose at dt does.
 use mathlib.Core.Bool.{not, _||_, cond}
 use lib.Ieee.{Float, isNan}
 use Rattle.bounds3.specs.declared.Point3f.{Point3f}

@@ -1,4 +1,5 @@
--- What is kept of a move is the whole move: `from-rows-inverse`, and beside it the constants of its poses, `constants-inverse`; so its point query is the move's, `transform-point-kept`.
+-- What is kept of a move is the whole move: `from-rows-inverse`, and beside it the constants of its poses, `constants-inverse`;
+-- so its point query is the move's, `transform-point-kept`.
 use mathlib.Core.Path.{_≡_, refl}
 use mathlib.Core.Bool.{Bool, true, false}
 use lib.Ieee.{Float, eq, ofBits}
@@ -7,7 +8,8 @@ use Rattle.bounds3.specs.declared.Point3f.{Point3f}
 use Rattle.pose_steps.specs.Pose.{PoseConstants·new}
 use Rattle.animated_transform.specs.declared.AnimatedTransform.{AnimatedTransform}
 use Rattle.motion_point.specs.TransformPoint.{AnimatedTransform·constants, AnimatedTransform·transformPoint}
-use Rattle.motion_rows.specs.Rows.{flag, constantsRow, fieldsRows, transformAt, derivativeAt, coefficientsAt, AnimatedTransform·toRows, AnimatedTransform·fromRows, PoseConstants·fromRows}
+use Rattle.motion_rows.specs.Rows.{flag, constantsRow, fieldsRows, transformAt, derivativeAt, coefficientsAt}
+use Rattle.motion_rows.specs.Rows.{AnimatedTransform·toRows, AnimatedTransform·fromRows, PoseConstants·fromRows}
 use Rattle.motion_rows.specs.TransformPoint.{Rows·transformPoint}
 
 flag-eq : (b : Bool) → eq (flag b) one ≡ b
@@ -23,6 +25,7 @@ pub constants-inverse : (m : AnimatedTransform) → PoseConstants·fromRows (Ani
 unfolding AnimatedTransform·toRows fieldsRows constantsRow PoseConstants·fromRows PoseConstants·new
 constants-inverse m = rw (flag-eq (m .rigid))
 
-pub transform-point-kept : (m : AnimatedTransform) (time : Float) (p : Point3f) → Rows·transformPoint (AnimatedTransform·toRows m) time p ≡ AnimatedTransform·transformPoint m time p
+pub transform-point-kept : (m : AnimatedTransform) (time : Float) (p : Point3f)
+    → Rows·transformPoint (AnimatedTransform·toRows m) time p ≡ AnimatedTransform·transformPoint m time p
 unfolding Rows·transformPoint AnimatedTransform·transformPoint
 transform-point-kept m time p = rw (from-rows-inverse m, constants-inverse m)

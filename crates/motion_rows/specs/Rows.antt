@@ -1,7 +1,7 @@
 -- A move as 45 rows of four floats, `AnimatedTransform·toRows`, and the move in 45 rows, `AnimatedTransform·fromRows`, for all rows. Definitions only.
--- The rows in order: the start's matrix and inverse, the end's matrix and inverse (0 to 15); the translations, each with its time (16, 17); the rotations (18, 19); the scale
--- matrices (20 to 27); c1 to c5 of x, of y and of z (28 to 42); the two yes or no, 1 for yes, with the dot product of the rotations and the angle between them (43); the
--- two pads, whether it is rigid, 1 for yes, and +0 (44).
+-- The rows in order: the start's matrix and inverse, the end's matrix and inverse (0 to 15); the translations, each with its time (16,
+-- 17); the rotations (18, 19); the scale matrices (20 to 27); c1 to c5 of x, of y and of z (28 to 42); the two yes or no, 1 for yes,
+-- with the dot product of the rotations and the angle between them (43); the two pads, whether it is rigid, 1 for yes, and +0 (44).
 use Prim.Native.Nat.{ℕ, _+_}
 use mathlib.Core.Bool.{Bool, cond}
 use mathlib.Core.List.{[], _∷_, _++_}

@@ -16,7 +16,9 @@ ghost use Prim.Native.Nat.{_+_, _<_};
 ghost use mathlib.Core.Path.{_≡_};
 ghost use Rattle.motion_point.specs.TransformPoint.{AnimatedTransform·movedPoint};
 ghost use Rattle.motion_rows.specs.TransformPoint.{Rows·transformPoint};
-ghost use Rattle.motion_rows.specs.Rows.{flag, constantsRow, padsRow, fieldsRows, vectorAt, quaternionAt, matrixAt, transformAt, termAt, derivativeAt, coefficientsAt, AnimatedTransform·toRows, AnimatedTransformAnswer·left, AnimatedTransform·fromRows, PoseConstants·fromRows};
+ghost use Rattle.motion_rows.specs.Rows.{flag, constantsRow, padsRow, fieldsRows, vectorAt, quaternionAt, matrixAt};
+ghost use Rattle.motion_rows.specs.Rows.{transformAt, termAt, derivativeAt, coefficientsAt, AnimatedTransform·toRows};
+ghost use Rattle.motion_rows.specs.Rows.{AnimatedTransformAnswer·left, AnimatedTransform·fromRows, PoseConstants·fromRows};
 
 fn flag(b: bool) -> f32
     ensures value { λ r. ⌜ r ≡ flag b ⌝ }
@@ -314,7 +316,8 @@ fn constants_from_rows(rows: &[[f32; 4]; 45]) -> PoseConstants
 // `motion_point::moved_point` of a kept move, which reads the rows that it needs and no others; refused with 5 where a finished value isn't finite.
 // Accuracy: each operation but sine and cosine is correctly rounded.
 pub fn moved_point(rows: &[[f32; 4]; 45], time: f32, p: Point3f) -> PointAnswer
-    ensures value { λ r. ⌜ r ≡ AnimatedTransform·movedPoint (AnimatedTransform·fromRows (now (rows .entry))) (PoseConstants·fromRows (now (rows .entry))) time p ⌝ }
+    ensures value { λ r. ⌜ r ≡ AnimatedTransform·movedPoint (AnimatedTransform·fromRows (now (rows .entry)))
+        (PoseConstants·fromRows (now (rows .entry))) time p ⌝ }
 {
     let start = rows[16];
     let end = rows[17];

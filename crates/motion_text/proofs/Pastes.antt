@@ -1,4 +1,5 @@
--- Texts put into a buffer: `paste-paste`, a text put piece by piece; `front-fits` and `front-short`, a text in the front of a buffer; `front-counts`, its length.
+-- Texts put into a buffer: `paste-paste`, a text put piece by piece; `front-fits` and `front-short`, a text in the front of a buffer;
+-- `front-counts`, its length.
 use Prim.Native.Nat.{ℕ, _+_, _≤_, _<_}
 use native.Mathlib.Nat.{add-assoc, zero-add}
 use native.Mathlib.Omega.{arith}

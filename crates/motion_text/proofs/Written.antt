@@ -1,5 +1,5 @@
--- The line of values as it is written, value by value: `length-values`, `values-word`, `values-separator`, and `values-turn`, what one value with its separator adds to
--- a buffer. Rests on `Pastes.antt`.
+-- The line of values as it is written, value by value: `length-values`, `values-word`, `values-separator`,
+-- and `values-turn`, what one value with its separator adds to a buffer. Rests on `Pastes.antt`.
 use Prim.Native.Nat.{ℕ, zero, suc, _+_, _-_, _*_, _≤_, _<_}
 use native.Mathlib.Nat.{add-assoc, not-suc-le-zero}
 use native.Mathlib.Numerals.{add-one}

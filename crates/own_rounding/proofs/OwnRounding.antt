@@ -124,14 +124,22 @@ module _ (x y : Float) (f : T (finite x)) (g : T (finite y)) (z : positiveZero �
 module _ (x : Float) (f : T (finite x)) (h : T (fits binary32 x)) where
   pub add-zero : Equal (x ⊕ positiveZero) x
   unfolding ofBits
-  add-zero = record { to = ≼-trans (rounds-mono (add-rounds binary32 x positiveZero f tt) (own x f h .rounds) (mul-pos (den-pos x) (den-pos positiveZero)) (den-pos x) (level (numPos x) (numNeg x) (den x))) (own x f h .equal .to); from = add-above x positiveZero f tt zero-refl h }
+  add-zero = record {
+    to = ≼-trans (rounds-mono (add-rounds binary32 x positiveZero f tt) (own x f h .rounds) (mul-pos (den-pos x) (den-pos positiveZero))
+        (den-pos x) (level (numPos x) (numNeg x) (den x))) (own x f h .equal .to);
+    from = add-above x positiveZero f tt zero-refl h;
+  }
     where
       level : (p n d : ℕ) → FractionLe (p * 1 + 0 * d) (n * 1 + 0 * d) (d * 1) p n d
       level p n d = omega arith
 
   pub sub-zero : Equal (x ⊖ positiveZero) x
   unfolding ofBits
-  sub-zero = record { to = sub-below x positiveZero f tt zero-refl h; from = ≼-trans (own x f h .equal .from) (rounds-mono (own x f h .rounds) (sub-rounds binary32 x positiveZero f tt) (den-pos x) (mul-pos (den-pos x) (den-pos positiveZero)) (level (numPos x) (numNeg x) (den x))) }
+  sub-zero = record {
+    to = sub-below x positiveZero f tt zero-refl h;
+    from = ≼-trans (own x f h .equal .from) (rounds-mono (own x f h .rounds)
+        (sub-rounds binary32 x positiveZero f tt) (den-pos x) (mul-pos (den-pos x) (den-pos positiveZero)) (level (numPos x) (numNeg x) (den x)));
+  }
     where
       level : (p n d : ℕ) → FractionLe p n d (p * 1 + 0 * d) (n * 1 + 0 * d) (d * 1)
       level p n d = omega arith

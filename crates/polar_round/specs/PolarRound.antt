@@ -1,4 +1,5 @@
--- What a polar round of pbrt's `decompose` works with: the linear part of a matrix, the mean of two matrices, and the norm of their difference. Definitions only.
+-- What a polar round of pbrt's `decompose` works with: the linear part of a matrix, the mean of two matrices, and the norm of their difference.
+-- Definitions only.
 use Prim.Native.Nat.{ℕ}
 use mathlib.Core.List.{[], _∷_}
 use lib.Ieee.{Float}

@@ -3,7 +3,8 @@
 // Where all ends are finite, and slerp's length above zero, nothing is refused, and the stages' own crates leave the judging out; these are what they fall back
 // on where that test fails.
 ghost use mathlib.Core.Path.{_≡_};
-ghost use Rattle.pose_steps.specs.Enclose.{Pose·encloseTranslation, Pose·encloseSlerpNear, Pose·encloseSlerpFar, Pose·encloseScaleRow, Pose·encloseScale, Pose·encloseRotation, Pose·encloseMulRow, Pose·encloseMul, Pose·encloseTransformPoint};
+ghost use Rattle.pose_steps.specs.Enclose.{Pose·encloseTranslation, Pose·encloseSlerpNear, Pose·encloseSlerpFar, Pose·encloseScaleRow};
+ghost use Rattle.pose_steps.specs.Enclose.{Pose·encloseScale, Pose·encloseRotation, Pose·encloseMulRow, Pose·encloseMul, Pose·encloseTransformPoint};
 use interval::Interval;
 use interval::Judged;
 use pose_steps::IntervalMatrix;

@@ -1,4 +1,5 @@
--- What the building of a move asks of two poses before it works anything: refusals 1, 2, 16 and 3, in this order; and what a rigid one asks of each, 17 and 18. Definitions only.
+-- What the building of a move asks of two poses before it works anything: refusals 1, 2, 16 and 3, in this order;
+-- and what a rigid one asks of each, 17 and 18. Definitions only.
 use Prim.Native.Nat.{ℕ}
 use mathlib.Core.Bool.{Bool, true, false, not, _&&_, _||_, cond}
 use lib.Ieee.{Float, binary32, fits, lt, le}

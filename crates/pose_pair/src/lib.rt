@@ -58,7 +58,8 @@ pub fn times_refusal(start: f32, end: f32) -> u8
     }
 }
 
-// 1 for a time, an entry or a pad that isn't finite, then 2 for a bottom row other than 0 0 0 1, 16 for a pad below zero, 3 for the times, 0 for none. Accuracy: exact.
+// 1 for a time, an entry or a pad that isn't finite, then 2 for a bottom row other than 0 0 0 1, 16 for a pad below zero, 3 for the times, 0 for none.
+// Accuracy: exact.
 pub fn poses_refusal(start: Pose, end: Pose) -> u8
     ensures value { λ r. ⌜ r ≡ posesRefusal start end ⌝ }
 {

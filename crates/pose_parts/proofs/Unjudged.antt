@@ -1,5 +1,5 @@
--- Where dt, one less it, and what comes out without judging are finite, this is the translation, or the scale, and the number met before stands: `translation-unjudged`,
--- `scale-unjudged`. The entries of both poses are finite where what comes out is.
+-- Where dt, one less it, and what comes out without judging are finite, this is the translation, or the scale, and the number met before stands:
+-- `translation-unjudged`, `scale-unjudged`. The entries of both poses are finite where what comes out is.
 use mathlib.Core.Path.{_≡_, sym, ap, _∙_}
 use mathlib.Core.Bool.{Bool, true}
 use Prim.Native.Nat.{ℕ}
@@ -23,7 +23,8 @@ use Rattle.pose_steps.specs.declared.IntervalVector.{IntervalVector}
 use Rattle.pose_steps.specs.declared.IntervalRow.{IntervalRow}
 use Rattle.pose_steps.specs.declared.IntervalMatrix.{IntervalMatrix}
 use Rattle.pose_steps.specs.Stages.{translationStage, scaleRowStage}
-use Rattle.pose_steps.specs.Enclose.{IntervalVector·list, IntervalVector·point, IntervalRow·list, IntervalRow·three, IntervalRow·point, IntervalMatrix·point, JudgedVector·of, JudgedRow·of, Pose·encloseTranslation, Pose·encloseScaleRow, Pose·encloseScale}
+use Rattle.pose_steps.specs.Enclose.{IntervalVector·list, IntervalVector·point, IntervalRow·list, IntervalRow·three, IntervalRow·point}
+use Rattle.pose_steps.specs.Enclose.{IntervalMatrix·point, JudgedVector·of, JudgedRow·of, Pose·encloseTranslation, Pose·encloseScaleRow, Pose·encloseScale}
 use Rattle.pose_ends.specs.means.Ends.{IntervalVector·endsSum, IntervalMatrix·endsSum}
 use Rattle.pose_ends.proofs.Finite.{three-finite, vector-finite, rows-finite}
 use Rattle.pose_parts.specs.means.Unjudged.{Pose·unjudgedTranslation, Pose·unjudgedScaleRow, Pose·unjudgedScale}
@@ -35,13 +36,15 @@ abbrev rest : Interval → Interval
 rest dt = Interval·subEnclosure 𝟏 dt
 
 -- ---- a point of each pose, weighed
-left-points : (a b : Float) (X Y : Interval) → Finite (Interval·addEnclosure (Interval·mulOrdered (Interval·point a) X) (Interval·mulOrdered (Interval·point b) Y))
+left-points : (a b : Float) (X Y : Interval)
+    → Finite (Interval·addEnclosure (Interval·mulOrdered (Interval·point a) X) (Interval·mulOrdered (Interval·point b) Y))
     → Finite (Interval·point a) × Finite (Interval·point b)
 left-points a b X Y f =
     let g = add-operands (Interval·mulOrdered (Interval·point a) X) (Interval·mulOrdered (Interval·point b) Y) f in
     (left-point a X (g .0), left-point b Y (g .1))
 
-right-points : (X Y : Interval) (a b : Float) → Finite (Interval·addEnclosure (Interval·mulOrdered X (Interval·point a)) (Interval·mulOrdered Y (Interval·point b)))
+right-points : (X Y : Interval) (a b : Float)
+    → Finite (Interval·addEnclosure (Interval·mulOrdered X (Interval·point a)) (Interval·mulOrdered Y (Interval·point b)))
     → Finite (Interval·point a) × Finite (Interval·point b)
 right-points X Y a b f =
     let g = add-operands (Interval·mulOrdered X (Interval·point a)) (Interval·mulOrdered Y (Interval·point b)) f in

@@ -2,7 +2,8 @@
 // Where a sum over the ends that come out is finite, judging is left out, which gives the same.
 ghost use mathlib.Core.Path.{_≡_};
 ghost use Rattle.pose_steps.specs.Pose.{Pose·translation, Pose·scaleRow, Pose·scale, Pose·scaleBy};
-ghost use Rattle.pose_steps.specs.Enclose.{IntervalVector·point, IntervalRow·point, IntervalMatrix·point, Pose·encloseTranslation, Pose·encloseScale, encloseScaleBy};
+ghost use Rattle.pose_steps.specs.Enclose.{IntervalVector·point, IntervalRow·point, IntervalMatrix·point};
+ghost use Rattle.pose_steps.specs.Enclose.{Pose·encloseTranslation, Pose·encloseScale, encloseScaleBy};
 ghost use Rattle.pose_parts.specs.means.Unjudged.{Pose·unjudgedTranslation, Pose·unjudgedScaleRow, Pose·unjudgedScale};
 use interval::Interval;
 use matrix4x4::Matrix4x4;

@@ -18,7 +18,8 @@ use Rattle.pose_ends.proofs.Finite.{three-finite, vector-finite, rows-finite, m
 use Rattle.pose_point.specs.means.Unjudged.{Pose·unjudgedTransformPoint}
 
 transform-point-unjudged : (m : ℕ) (a : IntervalMatrix) (p : IntervalVector) → All Finite (IntervalMatrix·list a) → All Finite (IntervalVector·list p)
-    → All Finite (IntervalVector·list (Pose·unjudgedTransformPoint a p)) → record { vector = Pose·unjudgedTransformPoint a p; refusal = m } ≡ Pose·encloseTransformPoint m a p
+    → All Finite (IntervalVector·list (Pose·unjudgedTransformPoint a p))
+    → record { vector = Pose·unjudgedTransformPoint a p; refusal = m } ≡ Pose·encloseTransformPoint m a p
 unfolding Pose·encloseTransformPoint Pose·unjudgedTransformPoint Program·unjudged Expr·unjudgedAll
 transform-point-unjudged m a p fa fp f =
     let σ = IntervalMatrix·list a ++ IntervalVector·list p in

@@ -31,7 +31,8 @@ row-unjudged m a b fa fb f =
     let σ = IntervalRow·list a ++ IntervalMatrix·list b in
     ap JudgedRow·of (program-unjudged mulRowStage m σ (all-append Finite (IntervalRow·list a) (IntervalMatrix·list b) fa fb) tt f tt)
 
-pub mul-unjudged : (m : ℕ) (a b : IntervalMatrix) → T (finite (IntervalMatrix·endsSum a ⊕ IntervalMatrix·endsSum b ⊕ IntervalMatrix·endsSum (Pose·unjudgedMul a b)))
+pub mul-unjudged : (m : ℕ) (a b : IntervalMatrix)
+    → T (finite (IntervalMatrix·endsSum a ⊕ IntervalMatrix·endsSum b ⊕ IntervalMatrix·endsSum (Pose·unjudgedMul a b)))
     → record { matrix = Pose·unjudgedMul a b; refusal = m } ≡ Pose·encloseMul m a b
 unfolding Pose·encloseMul
 mul-unjudged m a b h =

@@ -1,5 +1,5 @@
--- Where the quaternion, its products and the matrix worked without judging are finite, this is the matrix, and the number met before stands: `rotation-unjudged`.
--- A sum of two products is then a number, and finite where twice it is (`doubled-finite`).
+-- Where the quaternion, its products and the matrix worked without judging are finite, this is the matrix, and the number met before stands:
+-- `rotation-unjudged`. A sum of two products is then a number, and finite where twice it is (`doubled-finite`).
 use mathlib.Core.Path.{_≡_, refl, sym, ap, _∙_}
 use mathlib.Core.Bool.{Bool, true}
 use Prim.Native.Nat.{ℕ}
@@ -213,5 +213,6 @@ pub rotation-tested : (m : ℕ) (q : IntervalQuaternion) {p : Products} {M : Int
 rotation-tested m q {p} {M} ep eM ea eb ec et h =
     let N = Pose·unjudgedRotation (Products·of q) in
     let e : M ≡ N = eM ∙ ap Pose·unjudgedRotation ep in
-    let f = three-finite (IntervalQuaternion·endsSum q) (Products·endsSum (Products·of q)) (IntervalMatrix·endsSum N) (rw (← e, ← ep, ← ea, ← eb, ← ec, sym et ∙ h) tt) in
+    let f = three-finite (IntervalQuaternion·endsSum q) (Products·endsSum (Products·of q))
+    (IntervalMatrix·endsSum N) (rw (← e, ← ep, ← ea, ← eb, ← ec, sym et ∙ h) tt) in
     rw e (rotation-unjudged m q (quaternion-finite q (f .0)) (products-finite (Products·of q) (f .1 .0)) (rows-finite N (f .1 .1)))

@@ -1,4 +1,5 @@
--- A combination of two quaternions of one number each is finite only where these are: `combination-points`. A finite length above zero is positive, and so is its square.
+-- A combination of two quaternions of one number each is finite only where these are:
+-- `combination-points`. A finite length above zero is positive, and so is its square.
 use mathlib.Core.Path.{_≡_}
 use mathlib.Core.Bool.{true}
 use mathlib.Core.List.{_++_}
@@ -19,7 +20,8 @@ use Rattle.pose_steps.specs.declared.IntervalQuaternion.{IntervalQuaternion}
 use Rattle.pose_steps.specs.Enclose.{IntervalQuaternion·list, IntervalQuaternion·point}
 use Rattle.pose_slerp.specs.means.Unjudged.{weighed, IntervalQuaternion·combination}
 
-weighed-points : (x y : Float) (a b : Interval) → Finite (weighed (Interval·point x) a (Interval·point y) b) → Finite (Interval·point x) × Finite (Interval·point y)
+weighed-points : (x y : Float) (a b : Interval) → Finite (weighed (Interval·point x) a (Interval·point y) b)
+    → Finite (Interval·point x) × Finite (Interval·point y)
 weighed-points x y a b f =
     let g = add-operands (Interval·mulOrdered (Interval·point x) a) (Interval·mulOrdered (Interval·point y) b) f in
     (left-point x a (g .0), left-point y b (g .1))

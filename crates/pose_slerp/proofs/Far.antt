@@ -1,5 +1,5 @@
--- Where t, the angle, its sine and cosine, the length and the combination are finite, and the length is positive, far slerp worked without judging is far slerp, and the number
--- met before stands: `far-unjudged`. What does not depend on t has equal ends there, so that it is worked in floats.
+-- Where t, the angle, its sine and cosine, the length and the combination are finite, and the length is positive, far slerp worked without judging
+-- is far slerp, and the number met before stands: `far-unjudged`. What does not depend on t has equal ends there, so that it is worked in floats.
 use mathlib.Core.Path.{_≡_, refl, sym, ap, ap₂, _∙_, subst}
 use mathlib.Core.Bool.{Bool, true, _&&_}
 use Prim.Native.Nat.{ℕ}
@@ -78,7 +78,8 @@ module _ (m : ℕ) (q1 q2 : Quaternion) (cosθ θ : Float) (t : Interval) where
   perp = Perpendicular·of q1 q2 cosθ
 
   abbrev turned : IntervalQuaternion
-  turned = IntervalQuaternion·combination (IntervalQuaternion·point q1) (IntervalQuaternion·point (perp .q)) (Interval·cosEnclosure angle) (Interval·sinEnclosure angle)
+  turned = IntervalQuaternion·combination (IntervalQuaternion·point q1)
+      (IntervalQuaternion·point (perp .q)) (Interval·cosEnclosure angle) (Interval·sinEnclosure angle)
 
   far-unjudged : Finite t → Finite angle → Finite (Interval·cosEnclosure angle) → Finite (Interval·sinEnclosure angle) → T (positive (perp .length))
       → All Finite (IntervalQuaternion·list turned)
@@ -148,7 +149,8 @@ module _ (m : ℕ) (q1 q2 : Quaternion) (cosθ θ : Float) (t : Interval) where
         ),
       ) in
       let same : _≡_ {A = IntervalQuaternion}
-      (record { x = Interval·divOrdered X N; y = Interval·divOrdered Y N; z = Interval·divOrdered Z N; w = Interval·divOrdered W N }) (IntervalQuaternion·point (perp .q)) =
+      (record { x = Interval·divOrdered X N; y = Interval·divOrdered Y N; z = Interval·divOrdered Z N; w = Interval·divOrdered W N })
+      (IntervalQuaternion·point (perp .q)) =
       rw (eX', eY', eZ', eW') in
       ap (λ (v : IntervalQuaternion). record { quaternion = IntervalQuaternion·combination (IntervalQuaternion·point q1) v C S; refusal = m }) (sym same)
       ∙ sym
@@ -205,9 +207,11 @@ module _ (m : ℕ) (q1 q2 : Quaternion) (cosθ θ : Float) (t : Interval) where
       (pD, (pN, (pN, (pN, (pN, tt)))))))
 
 -- As code has it that keeps the angles at both ends of t and the perpendicular: r is the test of the sum.
-pub far-tested : (m : ℕ) (q1 q2 : Quaternion) (cosθ θ : Float) (t : Interval) {from to : EndAngle} {p : Perpendicular} {c s : Interval} {v : IntervalQuaternion} {A C D E : Float} {r : Bool}
+pub far-tested : (m : ℕ) (q1 q2 : Quaternion) (cosθ θ : Float) (t : Interval) {from to : EndAngle}
+    {p : Perpendicular} {c s : Interval} {v : IntervalQuaternion} {A C D E : Float} {r : Bool}
     → from ≡ EndAngle·new (θ ⊗ t .low) → to ≡ EndAngle·new (θ ⊗ t .high) → p ≡ Perpendicular·of q1 q2 cosθ
-    → c ≡ EndAngle·cosRange from to → s ≡ EndAngle·sinRange from to → v ≡ IntervalQuaternion·combination (IntervalQuaternion·point q1) (IntervalQuaternion·point (p .q)) c s
+    → c ≡ EndAngle·cosRange from to → s ≡ EndAngle·sinRange from to
+    → v ≡ IntervalQuaternion·combination (IntervalQuaternion·point q1) (IntervalQuaternion·point (p .q)) c s
     → A ≡ Interval·endsSum t → C ≡ Interval·endsSum c → D ≡ Interval·endsSum s → E ≡ IntervalQuaternion·endsSum v
     → r ≡ finite (A ⊕ from .angle ⊕ to .angle ⊕ C ⊕ D ⊕ p .length ⊕ E)
     → (r && lt (ofBits binary32 0) (p .length) && lt (from .angle) (to .angle)) ≡ true

@@ -1,5 +1,5 @@
--- Where t, one less it, the combination, its length and the quotient are finite, and the length is positive, near slerp worked without judging is near slerp, and the number met
--- before stands: `near-unjudged`.
+-- Where t, one less it, the combination, its length and the quotient are finite, and the length is positive,
+-- near slerp worked without judging is near slerp, and the number met before stands: `near-unjudged`.
 use mathlib.Core.Path.{_≡_, sym, ap, _∙_}
 use mathlib.Core.Bool.{Bool, true, _&&_}
 use Prim.Native.Nat.{ℕ}
@@ -40,9 +40,12 @@ module _ (m : ℕ) (q1 q2 : Quaternion) (t : Interval) where
   abbrev norm : Interval
   norm = Interval·sqrtEnclosure (IntervalQuaternion·squared sum)
 
-  near-unjudged : Finite t → Finite rest → All Finite (IntervalQuaternion·list sum) → Positive norm → All Finite (IntervalQuaternion·list (IntervalQuaternion·quotient sum norm))
-      → record { quaternion = IntervalQuaternion·quotient sum norm; refusal = m } ≡ Pose·encloseSlerpNear m (IntervalQuaternion·point q1) (IntervalQuaternion·point q2) t
-  unfolding Pose·encloseSlerpNear Program·unjudged Expr·unjudgedAll Expr·unjudged IntervalQuaternion·combination IntervalQuaternion·squared IntervalQuaternion·quotient ofBits
+  near-unjudged : Finite t → Finite rest → All Finite (IntervalQuaternion·list sum)
+      → Positive norm → All Finite (IntervalQuaternion·list (IntervalQuaternion·quotient sum norm))
+      → record { quaternion = IntervalQuaternion·quotient sum norm; refusal = m }
+      ≡ Pose·encloseSlerpNear m (IntervalQuaternion·point q1) (IntervalQuaternion·point q2) t
+  unfolding Pose·encloseSlerpNear Program·unjudged Expr·unjudgedAll Expr·unjudged IntervalQuaternion·combination IntervalQuaternion·squared
+      IntervalQuaternion·quotient ofBits
   near-unjudged ft fs fq pn f =
       let a = IntervalQuaternion·list (IntervalQuaternion·point q1) in
       let b = IntervalQuaternion·list (IntervalQuaternion·point q2) in
@@ -75,7 +78,8 @@ module _ (m : ℕ) (q1 q2 : Quaternion) (t : Interval) where
       (pd, (pn, (pn, (pn, (pn, tt)))))))
 
 -- As the code has it: r is the test of the sum.
-pub near-tested : (m : ℕ) (q1 q2 : Quaternion) (t : Interval) {s : Interval} {q : IntervalQuaternion} {d n : Interval} {v : IntervalQuaternion} {A B C D E : Float} {r : Bool}
+pub near-tested : (m : ℕ) (q1 q2 : Quaternion) (t : Interval) {s : Interval} {q : IntervalQuaternion}
+    {d n : Interval} {v : IntervalQuaternion} {A B C D E : Float} {r : Bool}
     → s ≡ Interval·subEnclosure 𝟏 t → q ≡ IntervalQuaternion·combination (IntervalQuaternion·point q1) (IntervalQuaternion·point q2) s t
     → d ≡ IntervalQuaternion·squared q → n ≡ Interval·sqrtEnclosure d → v ≡ IntervalQuaternion·quotient q n
     → A ≡ Interval·endsSum t → B ≡ Interval·endsSum s → C ≡ Interval·endsSum n → D ≡ IntervalQuaternion·endsSum q → E ≡ IntervalQuaternion·endsSum v
@@ -87,7 +91,8 @@ near-tested m q1 q2 t {s} {q} {d} {n} {v} {A} {B} {C} {D} {E} {r} es eq ed en ev
     let N = norm m q1 q2 t in
     let eQ : q ≡ Q = eq ∙ ap (λ (x : Interval). IntervalQuaternion·combination (IntervalQuaternion·point q1) (IntervalQuaternion·point q2) x t) es in
     let eN : n ≡ N = en ∙ ap Interval·sqrtEnclosure (ed ∙ ap IntervalQuaternion·squared eQ) in
-    let eV : v ≡ IntervalQuaternion·quotient Q N = ev ∙ ap (λ (x : IntervalQuaternion). IntervalQuaternion·quotient x n) eQ ∙ ap (IntervalQuaternion·quotient Q) eN in
+    let eV : v ≡ IntervalQuaternion·quotient Q N =
+    ev ∙ ap (λ (x : IntervalQuaternion). IntervalQuaternion·quotient x n) eQ ∙ ap (IntervalQuaternion·quotient Q) eN in
     let low = lt (ofBits binary32 0) (n .low) in
     let high = lt (ofBits binary32 0) (n .high) in
     let k : T ((r && low) && high) = rw h tt in

@@ -6,7 +6,8 @@ ghost use mathlib.Core.Path.{_≡_};
 ghost use Rattle.pose_steps.specs.Pose.{PoseConstants·new, Pose·slerpNear, Pose·slerpFar, Pose·slerp};
 ghost use Rattle.pose_steps.specs.Enclose.{IntervalQuaternion·point, Pose·encloseSlerpNear, Pose·encloseSlerpFar, Pose·encloseSlerp};
 ghost use Rattle.interval.specs.Interval.{Interval·point};
-ghost use Rattle.pose_slerp.specs.means.Unjudged.{Perpendicular·of, IntervalQuaternion·combination, IntervalQuaternion·squared, IntervalQuaternion·quotient};
+ghost use Rattle.pose_slerp.specs.means.Unjudged.{Perpendicular·of, IntervalQuaternion·combination};
+ghost use Rattle.pose_slerp.specs.means.Unjudged.{IntervalQuaternion·squared, IntervalQuaternion·quotient};
 use interval::Interval;
 use interval_unjudged::ends_sum;
 use pose_steps::IntervalQuaternion;
@@ -210,7 +211,8 @@ pub fn perpendicular_to(q1: Quaternion, q2: Quaternion, cos_theta: f32) -> Perpe
 // slerp by the angle over an interval of t, with every interval judged, and refused as linear slerp is.
 // Accuracy: encloses, for an angle from 0 to a quarter turn and t from 0 to 1.
 pub fn slerp_far_enclosure(m: u8, a: PoseConstants, t: Interval) -> JudgedQuaternion
-    ensures value { λ r. ⌜ r ≡ Pose·encloseSlerpFar m (IntervalQuaternion·point (a .r0)) (IntervalQuaternion·point (a .r1)) (Interval·point (a .«cos_theta»)) (Interval·point (a .theta)) t ⌝ }
+    ensures value { λ r. ⌜ r ≡ Pose·encloseSlerpFar m (IntervalQuaternion·point (a .r0))
+        (IntervalQuaternion·point (a .r1)) (Interval·point (a .«cos_theta»)) (Interval·point (a .theta)) t ⌝ }
 {
     let p = quaternion_point(a.r0);
     let q = quaternion_point(a.r1);

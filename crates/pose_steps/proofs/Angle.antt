@@ -1,5 +1,6 @@
 -- `theta-angles`: theta times a dt from 0 to 1 is an interval of angles, where theta lies from 0 to a quarter turn.
--- `theta-quarter`: so it does where it is the arc cosine of what is at least 0, and a move of such parts is valid (`new-valid`). Rests on the product's isotonicity and on the arc cosine's range.
+-- `theta-quarter`: so it does where it is the arc cosine of what is at least 0, and a move of such parts is valid (`new-valid`).
+-- Rests on the product's isotonicity and on the arc cosine's range.
 use mathlib.Core.Path.{_≡_, refl, ap, subst}
 use mathlib.Core.Bool.{Bool, true, false, not, cond, _&&_}
 use lib.Dec.{T}
@@ -54,7 +55,8 @@ pub theta-angles : {Θ D : Interval} → Subset Θ quarterInterval → Subset D 
 unfolding Judged·mulEnclosure Judged·judge
 theta-angles {Θ} {D} t d =
     let X = Interval·mulEnclosure Θ D in
-    let s = mul-isotone .isotone 0 0 (record { finite = quarter-finite; subset = t }) (record { finite = unit-finite; subset = d }) refl (ap (λ (j : Judged). j .refusal) products) .refines .subset in
+    let s = mul-isotone .isotone 0 0 (record { finite = quarter-finite; subset = t })
+    (record { finite = unit-finite; subset = d }) refl (ap (λ (j : Judged). j .refusal) products) .refines .subset in
     let r : Subset X quarterInterval = subst (λ (j : Judged). Subset X (j .interval)) products s in
     and-i (le positiveZero (X .low)) (le (X .high) fullTurnFloat) (r .low .holds) (≼-trans (r .high) quarter-full .holds)
 
@@ -67,9 +69,11 @@ not-below l h = let t = ≼-trans l h .holds in unfold le neg ofBits in t
 
 clamped : (c : Float) → T (finite c) → positiveZero ≼ c → (inDomain (clamp c (neg one) one) ≡ true) × (positiveZero ≼ clamp c (neg one) one)
 unfolding clamp
-clamped c f l = go (lt c (neg one)) (lt one c) (λ t. not-below l (lt-≼ c (neg one) t)) (λ t. not-lt-≼ c one (finite-number c f) (finite-number one (unit-finite .high)) t)
+clamped c f l =
+    go (lt c (neg one)) (lt one c) (λ t. not-below l (lt-≼ c (neg one) t)) (λ t. not-lt-≼ c one (finite-number c f) (finite-number one (unit-finite .high)) t)
   where
-    go : (a b : Bool) → (T a → ⊥) → (T (not b) → c ≼ one) → (inDomain (cond a (neg one) (cond b one c)) ≡ true) × (positiveZero ≼ cond a (neg one) (cond b one c))
+    go : (a b : Bool) → (T a → ⊥) → (T (not b) → c ≼ one)
+        → (inDomain (cond a (neg one) (cond b one c)) ≡ true) × (positiveZero ≼ cond a (neg one) (cond b one c))
     go true b never below = absurd (never tt)
     go false true never below = (unfold le neg ofBits in refl, record { holds = unfold le ofBits in tt })
     go false false never below =
@@ -81,7 +85,8 @@ theta-quarter c f l =
     record { below = acos-range (clamp c (neg one) one) d .below; above = acos-quarter (clamp c (neg one) one) d n }
 
 -- A move whose parts are finite and whose rotations have a finite dot product of at least 0 is valid.
-pub new-valid : (k : Bool) (t0 t1 : Vector3f) (r0 r1 : Quaternion) → AllFinite (Vector3f·list t0) → AllFinite (Vector3f·list t1) → AllFinite (Quaternion·list r0) → AllFinite (Quaternion·list r1)
+pub new-valid : (k : Bool) (t0 t1 : Vector3f) (r0 r1 : Quaternion) → AllFinite (Vector3f·list t0)
+    → AllFinite (Vector3f·list t1) → AllFinite (Quaternion·list r0) → AllFinite (Quaternion·list r1)
     → T (finite (Quaternion·dot r0 r1)) → positiveZero ≼ Quaternion·dot r0 r1 → PoseConstants·Valid (PoseConstants·new k t0 t1 r0 r1)
 unfolding PoseConstants·new
 new-valid k t0 t1 r0 r1 a b c d f l =

@@ -1,5 +1,5 @@
--- Boxes as three intervals: a point inside a finite box is enclosed by it (`inside-encloses`), what encloses a point has it inside (`encloses-inside`), and likewise for a box in a
--- box (`subset-refines`, `refines-subset`). `order-refl`: a finite box in order lies in itself.
+-- Boxes as three intervals: a point inside a finite box is enclosed by it (`inside-encloses`), what encloses a point has it inside (`encloses-inside`),
+-- and likewise for a box in a box (`subset-refines`, `refines-subset`). `order-refl`: a finite box in order lies in itself.
 use lib.Dec.{T}
 use lib.Ieee.{Float}
 use lib.Ieee.Scale.{finite}
@@ -22,11 +22,13 @@ use Rattle.pose_steps.specs.Promise.{InOrder}
 between : {l x h : Float} → T (finite l) → T (finite h) → (l ≼ x) × (x ≼ h) → Encloses (record { low = l; high = h }) x
 between f g i = record { finite = record { low = f; high = g }; contains = record { low = i .0; high = i .1 } }
 
-within : {l h l' h' : Float} → T (finite l') → T (finite h') → l ≼ h → (l' ≼ l) × (h ≼ h') → Refines (record { low = l; high = h }) (record { low = l'; high = h' })
+within : {l h l' h' : Float} → T (finite l') → T (finite h') → l ≼ h → (l' ≼ l) × (h ≼ h')
+    → Refines (record { low = l; high = h }) (record { low = l'; high = h' })
 within f g o i = record { finite = record { low = f; high = g }; subset = record { low = i .0; proper = o; high = i .1 } }
 
 -- ---- all three
-pub inside-encloses : (b : Bounds3f) {p : Point3f} → T (Bounds3f·isFinite b) → Inside b p → Pairwise Encloses (IntervalVector·list (Bounds3f·intervals b)) (Point3f·list p)
+pub inside-encloses : (b : Bounds3f) {p : Point3f} → T (Bounds3f·isFinite b) → Inside b p
+    → Pairwise Encloses (IntervalVector·list (Bounds3f·intervals b)) (Point3f·list p)
 inside-encloses b f i =
     let l = low-finite b f in
     let h = high-finite b f in
@@ -47,7 +49,8 @@ subset-refines b {b'} o f s =
     let h = high-finite b' f in
     (within (l .x) (h .x) (o .x) (s .x), (within (l .y) (h .y) (o .y) (s .y), (within (l .z) (h .z) (o .z) (s .z), tt)))
 
-pub refines-subset : (W W' : IntervalVector) → Pairwise Refines (IntervalVector·list W) (IntervalVector·list W') → Subset (IntervalVector·bounds W) (IntervalVector·bounds W')
+pub refines-subset : (W W' : IntervalVector) → Pairwise Refines (IntervalVector·list W) (IntervalVector·list W')
+    → Subset (IntervalVector·bounds W) (IntervalVector·bounds W')
 refines-subset W W' (x, (y, (z, e))) =
     record {
       x = (x .subset .low, x .subset .high);

@@ -1,5 +1,6 @@
--- Cases of the definitions, by computing. A translation by 1 along x: half way it moves the origin by a half; over all of dt near slerp meets a squared length that starts
--- at zero, and over the first half it does not. A swing: a sixth of a turn about z, with a stretch along z and a translation; the numbers are pbrt-rust's own answers.
+-- Cases of the definitions, by computing. A translation by 1 along x: half way it moves the origin by a half; over
+-- all of dt near slerp meets a squared length that starts at zero, and over the first half it does not. A swing: a
+-- sixth of a turn about z, with a stretch along z and a translation; the numbers are pbrt-rust's own answers.
 use mathlib.Core.Path.{_≡_, refl}
 use mathlib.Core.Bool.{false}
 use mathlib.Core.List.{[], _∷_}
@@ -64,7 +65,8 @@ along-whole : Pose·enclosePoint along identity identity unitInterval origin .re
 unfolding computing
 along-whole = refl
 
-along-first-half : Pose·enclosePoint along identity identity (0 to 0x3f000000) origin ≡ judged (box (0 to 0x3f000000) (Interval·point positiveZero) (Interval·point positiveZero)) 0
+along-first-half : Pose·enclosePoint along identity identity (0 to 0x3f000000) origin ≡ judged
+    (box (0 to 0x3f000000) (Interval·point positiveZero) (Interval·point positiveZero)) 0
 unfolding computing
 along-first-half = refl
 
@@ -90,11 +92,13 @@ stretch =
       r3 = bottomRow;
     }
 
-swing-quarter : Pose·movedPoint swing identity stretch (bits 0x3e800000) (point 0x3f800000 0x40000000 0xbf000000) ≡ Moved (point 0x3f72c300 0x401433f3 0xbf500000)
+swing-quarter : Pose·movedPoint swing identity stretch (bits 0x3e800000)
+    (point 0x3f800000 0x40000000 0xbf000000) ≡ Moved (point 0x3f72c300 0x401433f3 0xbf500000)
 unfolding computing
 swing-quarter = refl
 
-swing-seventh-tenth : Pose·movedPoint swing identity stretch (bits 0x3f333333) (point 0x3f800000 0x40000000 0xbf000000) ≡ Moved (point 0x3f4e0ce2 0x402058ce 0xbfb00000)
+swing-seventh-tenth : Pose·movedPoint swing identity stretch (bits 0x3f333333)
+    (point 0x3f800000 0x40000000 0xbf000000) ≡ Moved (point 0x3f4e0ce2 0x402058ce 0xbfb00000)
 unfolding computing
 swing-seventh-tenth = refl
 

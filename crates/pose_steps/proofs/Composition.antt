@@ -1,5 +1,6 @@
--- The float reading of the stages gives the bits of pbrt's own composition: of the matrix (`matrix-composition`), wherever it is not refused, and of a finite point that it
--- moves, wp included (`point-composition`). Stage by stage the two are one term; only the products' bottom rows ask for the arithmetic of zeros (`mul-same`).
+-- The float reading of the stages gives the bits of pbrt's own composition: of the matrix (`matrix-composition`), wherever it
+-- is not refused, and of a finite point that it moves, wp included (`point-composition`). Stage by stage the two are one term;
+-- only the products' bottom rows ask for the arithmetic of zeros (`mul-same`).
 use mathlib.Core.Path.{_≡_, refl, sym, ap, _∙_, subst}
 use mathlib.Core.Bool.{Bool, true, false, _&&_}
 use mathlib.Core.List.{[], _∷_}
@@ -33,7 +34,9 @@ use Rattle.transform.specs.TransformPoint.{PointAnswer·judged, Transform·tran
 use Rattle.transform.proofs.Wp.{moved-affine}
 use Rattle.rotation.specs.FromQuaternion.{inverseRotation, Transform·fromQuaternion}
 use Rattle.pose_steps.specs.declared.PoseConstants.{PoseConstants}
-use Rattle.pose_steps.specs.Pose.{PoseConstants·new, Pose·translation, Pose·slerpNear, Pose·slerpFar, slerpBy, Pose·slerp, Pose·scaleRow, Pose·scale, Pose·scaleBy, Pose·rotation, Pose·mulRow, Pose·mul, Pose·transformPoint, allFinite, PoseAnswer·judged, Pose·matrix, Pose·movedPoint}
+use Rattle.pose_steps.specs.Pose.{PoseConstants·new, Pose·translation, Pose·slerpNear, Pose·slerpFar, slerpBy, Pose·slerp}
+use Rattle.pose_steps.specs.Pose.{Pose·scaleRow, Pose·scale, Pose·scaleBy, Pose·rotation, Pose·mulRow, Pose·mul}
+use Rattle.pose_steps.specs.Pose.{Pose·transformPoint, allFinite, PoseAnswer·judged, Pose·matrix, Pose·movedPoint}
 use Rattle.pose_steps.specs.Composition.{lerpTranslation, lerpScale, lerpScaleBy, composition}
 use Rattle.pose_steps.proofs.Rows.{scale-by-bottom, rotation-bottom, mul-bottom}
 use Rattle.pose_steps.proofs.Finite.{all-each}
@@ -49,7 +52,8 @@ slerp-same k t0 t1 r0 r1 dt = go (lt slerpThreshold (Quaternion·dot r0 r1))
   where
     go : (b : Bool) → slerpBy b (PoseConstants·new k t0 t1 r0 r1) dt ≡ leaf.slerpBy b r0 r1 dt (Quaternion·dot r0 r1)
     go true = unfold slerpBy leaf.slerpBy Pose·slerpNear leaf.slerpNear Quaternion·normalize Quaternion·add Quaternion·mul Quaternion·div Quaternion·dot in refl
-    go false = unfold slerpBy leaf.slerpBy Pose·slerpFar leaf.slerpFar Quaternion·normalize Quaternion·add Quaternion·sub Quaternion·mul Quaternion·div Quaternion·dot in refl
+    go false = unfold slerpBy leaf.slerpBy Pose·slerpFar leaf.slerpFar Quaternion·normalize
+        Quaternion·add Quaternion·sub Quaternion·mul Quaternion·div Quaternion·dot in refl
 
 pub scale-same : (s0 s1 : Matrix4x4) (dt : Float) → Matrix4x4·toRows (Pose·scale s0 s1 dt) ≡ lerpScale (Matrix4x4·toRows s0) (Matrix4x4·toRows s1) dt
 unfolding Pose·scale Pose·scaleRow lerp
@@ -78,7 +82,8 @@ sum-zero false a b c p q h = rw (p, q) (round-zero c h)
 -- A zero of either sign plus +0 is +0.
 zero-plus : {x : Float} → Zero x → x ⊕ positiveZero ≡ positiveZero
 unfolding add ofBits
-zero-plus (signed s e) = sum-zero s (0 * up e * 1) (0 * down e) (down e * 1) (simp nat.zero-mul) (simp nat.zero-mul) (nat.mul-pos (down-pos e) (nat.zero-lt-suc 0))
+zero-plus (signed s e) =
+    sum-zero s (0 * up e * 1) (0 * down e) (down e * 1) (simp nat.zero-mul) (simp nat.zero-mul) (nat.mul-pos (down-pos e) (nat.zero-lt-suc 0))
 
 one-times : one ⊗ positiveZero ≡ positiveZero
 unfolding mul round ofBits
@@ -99,14 +104,20 @@ abbrev affine : Row → Row → Row → Matrix4x4
 affine p q r = record { r0 = p; r1 = q; r2 = r; r3 = bottomRow }
 
 module _ (a b c p q r : Row) where
-  mul-same : T (allFinite (affine p q r)) → Matrix4x4·fromRows (Matrix4x4·mul (Matrix4x4·toRows (affine a b c)) (Matrix4x4·toRows (affine p q r))) ≡ Pose·mul (affine a b c) (affine p q r)
+  mul-same : T (allFinite (affine p q r))
+      → Matrix4x4·fromRows (Matrix4x4·mul (Matrix4x4·toRows (affine a b c)) (Matrix4x4·toRows (affine p q r))) ≡ Pose·mul (affine a b c) (affine p q r)
   unfolding Matrix4x4·mul Pose·mul Pose·mulRow Matrix4x4·isFinite
   mul-same f =
       let (P, Q, R, S) = all-each (λ i. all (λ j. finite (at (Matrix4x4·toRows (affine p q r)) i j))) f in
       let (p0, p1, p2, p3) = all-each (λ j. finite (col p j)) P in
       let (q0, q1, q2, q3) = all-each (λ j. finite (col q j)) Q in
       let (r0, r1, r2, r3) = all-each (λ j. finite (col r j)) R in
-      rw (bottom-zero (col p 0) (col q 0) (col r 0) p0 q0 r0, bottom-zero (col p 1) (col q 1) (col r 1) p1 q1 r1, bottom-zero (col p 2) (col q 2) (col r 2) p2 q2 r2, bottom-one (col p 3) (col q 3) (col r 3) p3 q3 r3)
+      rw (
+        bottom-zero (col p 0) (col q 0) (col r 0) p0 q0 r0,
+        bottom-zero (col p 1) (col q 1) (col r 1) p1 q1 r1,
+        bottom-zero (col p 2) (col q 2) (col r 2) p2 q2 r2,
+        bottom-one (col p 3) (col q 3) (col r 3) p3 q3 r3,
+      )
 
 abbrev pub product : Matrix4x4 → Matrix4x4 → Matrix4x4
 product A B = Matrix4x4·fromRows (Matrix4x4·mul (Matrix4x4·toRows A) (Matrix4x4·toRows B))
@@ -131,7 +142,8 @@ translationOf v = translation (v .x) (v .y) (v .z)
 
 module _ (k : Bool) (t0 t1 : Vector3f) (r0 r1 : Quaternion) (s0 s1 : Matrix4x4) (S : Transform) (dt : Float)
     (e : Matrix4x4·toRows (S .m) ≡ lerpScaleBy k (Matrix4x4·toRows s0) (Matrix4x4·toRows s1) dt) where
-  pub matrix-composition : Pose·matrix (PoseConstants·new k t0 t1 r0 r1) s0 s1 dt .refusal ≡ 0 → composition t0 t1 r0 r1 S dt .m ≡ Pose·matrix (PoseConstants·new k t0 t1 r0 r1) s0 s1 dt .m
+  pub matrix-composition : Pose·matrix (PoseConstants·new k t0 t1 r0 r1) s0 s1 dt .refusal ≡ 0
+      → composition t0 t1 r0 r1 S dt .m ≡ Pose·matrix (PoseConstants·new k t0 t1 r0 r1) s0 s1 dt .m
   unfolding PoseConstants·new Pose·matrix composition Transform·mul
   matrix-composition z =
       let a = PoseConstants·new k t0 t1 r0 r1 in
@@ -154,7 +166,8 @@ module _ (k : Bool) (t0 t1 : Vector3f) (r0 r1 : Quaternion) (s0 s1 : Matrix4x4) 
       let τ : translationOf (lerpTranslation t0 t1 dt) ≡ translate = ap translationOf (sym (translation-same t0 t1 dt)) in
       let ρ : Transform·fromQuaternion (Quaternion·slerp r0 r1 dt) .m ≡ rotation =
       ap (λ (q : Quaternion). Transform·fromQuaternion q .m) (sym (slerp-same k t0 t1 r0 r1 dt)) ∙ rotation-same rotate in
-      ap (λ (s : Rows). Matrix4x4·fromRows (Matrix4x4·mul (Matrix4x4·toRows (product (translationOf (lerpTranslation t0 t1 dt)) (Transform·fromQuaternion (Quaternion·slerp r0 r1 dt) .m))) s)) h
+      ap (λ (s : Rows). Matrix4x4·fromRows
+      (Matrix4x4·mul (Matrix4x4·toRows (product (translationOf (lerpTranslation t0 t1 dt)) (Transform·fromQuaternion (Quaternion·slerp r0 r1 dt) .m))) s)) h
       ∙ ap (λ (m : Matrix4x4). product (product m (Transform·fromQuaternion (Quaternion·slerp r0 r1 dt) .m)) scale) τ
       ∙ ap (λ (m : Matrix4x4). product (product translate m) scale) ρ
       ∙ ap (λ (m : Matrix4x4). product m scale) (product-same translate rotation refl (rotation-bottom rotate) (and-r U (allFinite rotation) tR))
@@ -166,7 +179,8 @@ unfolding Matrix4x4·isAffine eq ofBits
 affine-bottom m h = rw h tt
 
 -- A transform with such a bottom row moves a finite point as the stage does: wp is 1.
-pub point-affine : (t : Transform) (p : Point3f) → T (Matrix4x4·isAffine (Matrix4x4·toRows (t .m))) → Finite p → Transform·transformPoint t p ≡ PointAnswer·judged (Pose·transformPoint (t .m) p)
+pub point-affine : (t : Transform) (p : Point3f) → T (Matrix4x4·isAffine (Matrix4x4·toRows (t .m)))
+    → Finite p → Transform·transformPoint t p ≡ PointAnswer·judged (Pose·transformPoint (t .m) p)
 unfolding Transform·transformPoint Pose·transformPoint
 point-affine t p a f = ap PointAnswer·judged (moved-affine (Matrix4x4·toRows (t .m)) p a f)
 

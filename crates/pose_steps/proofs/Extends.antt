@@ -33,39 +33,56 @@ use Rattle.pose_steps.specs.declared.IntervalQuaternion.{IntervalQuatern
 use Rattle.pose_steps.specs.declared.IntervalRow.{IntervalRow}
 use Rattle.pose_steps.specs.declared.IntervalMatrix.{IntervalMatrix}
 use Rattle.pose_steps.specs.Stages.{translationStage, slerpNearStage, slerpFarStage, scaleRowStage, rotationStage, mulRowStage, transformPointStage}
-use Rattle.pose_steps.specs.Pose.{Vector3f·list, Quaternion·list, Matrix4x4·list, three, entries, Pose·translation, Pose·slerpNear, Pose·slerpFar, slerpBy, isNear, Pose·slerp, Pose·scaleRow, Pose·scale, Pose·scaleBy, Pose·rotation, Pose·mulRow, Pose·mul, Pose·transformPoint, allFinite, PoseAnswer·judged, Pose·matrix, Pose·movedPoint}
-use Rattle.pose_steps.specs.Enclose.{IntervalVector·list, IntervalVector·point, IntervalQuaternion·list, IntervalQuaternion·point, IntervalRow·list, IntervalRow·three, IntervalMatrix·list, IntervalMatrix·point, Pose·encloseTranslation, Pose·encloseSlerpNear, Pose·encloseSlerpFar, encloseSlerpBy, Pose·encloseSlerp, Pose·encloseScaleRow, Pose·encloseScale, encloseScaleBy, Pose·encloseRotation, Pose·encloseMulRow, Pose·encloseMul, Pose·encloseTransformPoint, IntervalMatrix·translation, Pose·encloseMatrix, Pose·enclosePoint}
-use Rattle.pose_steps.specs.Promise.{AllFinite, PoseConstants·Valid, FiniteScale, quarterInterval, EnclosesScale, EnclosesMatrix, EnclosesPose, EnclosesAnswer}
+use Rattle.pose_steps.specs.Pose.{Vector3f·list, Quaternion·list, Matrix4x4·list, three, entries, Pose·translation, Pose·slerpNear}
+use Rattle.pose_steps.specs.Pose.{Pose·slerpFar, slerpBy, isNear, Pose·slerp, Pose·scaleRow, Pose·scale, Pose·scaleBy, Pose·rotation}
+use Rattle.pose_steps.specs.Pose.{Pose·mulRow, Pose·mul, Pose·transformPoint, allFinite, PoseAnswer·judged, Pose·matrix, Pose·movedPoint}
+use Rattle.pose_steps.specs.Enclose.{IntervalVector·list, IntervalVector·point, IntervalQuaternion·list, IntervalQuaternion·point}
+use Rattle.pose_steps.specs.Enclose.{IntervalRow·list, IntervalRow·three, IntervalMatrix·list, IntervalMatrix·point, Pose·encloseTranslation}
+use Rattle.pose_steps.specs.Enclose.{Pose·encloseSlerpNear, Pose·encloseSlerpFar, encloseSlerpBy, Pose·encloseSlerp, Pose·encloseScaleRow}
+use Rattle.pose_steps.specs.Enclose.{Pose·encloseScale, encloseScaleBy, Pose·encloseRotation, Pose·encloseMulRow, Pose·encloseMul}
+use Rattle.pose_steps.specs.Enclose.{Pose·encloseTransformPoint, IntervalMatrix·translation, Pose·encloseMatrix, Pose·enclosePoint}
+use Rattle.pose_steps.specs.Promise.{AllFinite, PoseConstants·Valid, FiniteScale, quarterInterval}
+use Rattle.pose_steps.specs.Promise.{EnclosesScale, EnclosesMatrix, EnclosesPose, EnclosesAnswer}
 use Rattle.pose_steps.proofs.Angle.{unit-finite, theta-angles, theta-finite, theta-subset}
 use Rattle.pose_steps.proofs.Valid.{translation-valid, near-valid, far-valid, scale-valid, rotation-valid, mul-valid, point-valid}
 use Rattle.pose_steps.proofs.Zero.{slerp-zero, scale-row-zero, scale-by-zero, rotation-zero, mul-row-zero, mul-zero, point-zero}
-use Rattle.pose_steps.proofs.Rows.{scale-by-bottom, identity-encloses, rotation-bottom, mul-bottom, points-enclose, scale-encloses, rows-list, encloses-list, list-encloses, enclosed-finite, zero-finite, one-finite, matrix-finite}
+use Rattle.pose_steps.proofs.Rows.{scale-by-bottom, identity-encloses, rotation-bottom, mul-bottom, points-enclose, scale-encloses}
+use Rattle.pose_steps.proofs.Rows.{rows-list, encloses-list, list-encloses, enclosed-finite, zero-finite, one-finite, matrix-finite}
 
 -- ---- the stages that take dt
 module _ (m : ℕ) {D : Interval} {dt : Float} (d : Encloses D dt) where
-  pub translation-extends : (T0 T1 : IntervalVector) (t0 t1 : Vector3f) → Pairwise Encloses (IntervalVector·list T0) (Vector3f·list t0) → Pairwise Encloses (IntervalVector·list T1) (Vector3f·list t1)
-      → Pose·encloseTranslation m T0 T1 D .refusal ≡ 0 → Pairwise Encloses (IntervalVector·list (Pose·encloseTranslation m T0 T1 D .vector)) (Vector3f·list (Pose·translation t0 t1 dt))
+  pub translation-extends : (T0 T1 : IntervalVector) (t0 t1 : Vector3f)
+      → Pairwise Encloses (IntervalVector·list T0) (Vector3f·list t0) → Pairwise Encloses (IntervalVector·list T1) (Vector3f·list t1)
+      → Pose·encloseTranslation m T0 T1 D .refusal ≡ 0
+      → Pairwise Encloses (IntervalVector·list (Pose·encloseTranslation m T0 T1 D .vector)) (Vector3f·list (Pose·translation t0 t1 dt))
   unfolding Pose·translation Pose·encloseTranslation
   translation-extends T0 T1 t0 t1 e f =
-      stage-extends translationStage (enclosure m (IntervalVector·list T0 ++ IntervalVector·list T1 ++ D ∷ [])) (Vector3f·list t0 ++ Vector3f·list t1 ++ dt ∷ []) (translation-valid m D T0 T1)
+      stage-extends translationStage (enclosure m (IntervalVector·list T0 ++ IntervalVector·list T1 ++ D ∷ []))
+      (Vector3f·list t0 ++ Vector3f·list t1 ++ dt ∷ []) (translation-valid m D T0 T1)
       (λ z. rows-list Encloses (IntervalVector·list T0) (IntervalVector·list T1) (D ∷ []) (Vector3f·list t0) (Vector3f·list t1) (dt ∷ []) e f (d, tt))
 
-  module _ (P Q : IntervalQuaternion) (p q : Quaternion) (e : Pairwise Encloses (IntervalQuaternion·list P) (Quaternion·list p)) (f : Pairwise Encloses (IntervalQuaternion·list Q) (Quaternion·list q)) where
-    pub near-extends : Pose·encloseSlerpNear m P Q D .refusal ≡ 0 → Pairwise Encloses (IntervalQuaternion·list (Pose·encloseSlerpNear m P Q D .quaternion)) (Quaternion·list (Pose·slerpNear p q dt))
+  module _ (P Q : IntervalQuaternion) (p q : Quaternion) (e : Pairwise Encloses (IntervalQuaternion·list P) (Quaternion·list p))
+      (f : Pairwise Encloses (IntervalQuaternion·list Q) (Quaternion·list q)) where
+    pub near-extends : Pose·encloseSlerpNear m P Q D .refusal ≡ 0
+        → Pairwise Encloses (IntervalQuaternion·list (Pose·encloseSlerpNear m P Q D .quaternion)) (Quaternion·list (Pose·slerpNear p q dt))
     unfolding Pose·slerpNear Pose·encloseSlerpNear
     near-extends =
-        stage-extends slerpNearStage (enclosure m (IntervalQuaternion·list P ++ IntervalQuaternion·list Q ++ D ∷ [])) (Quaternion·list p ++ Quaternion·list q ++ dt ∷ []) (near-valid m D P Q)
+        stage-extends slerpNearStage (enclosure m (IntervalQuaternion·list P ++ IntervalQuaternion·list Q ++ D ∷ []))
+        (Quaternion·list p ++ Quaternion·list q ++ dt ∷ []) (near-valid m D P Q)
         (λ z. rows-list Encloses (IntervalQuaternion·list P) (IntervalQuaternion·list Q) (D ∷ []) (Quaternion·list p) (Quaternion·list q) (dt ∷ []) e f (d, tt))
 
     -- theta times dt is an angle
-    pub far-extends : {C Θ : Interval} {cosθ θ : Float} → Encloses C cosθ → Encloses Θ θ → Subset Θ quarterInterval → Subset D unitInterval → Pose·encloseSlerpFar m P Q C Θ D .refusal ≡ 0
+    pub far-extends : {C Θ : Interval} {cosθ θ : Float} → Encloses C cosθ → Encloses Θ θ
+        → Subset Θ quarterInterval → Subset D unitInterval → Pose·encloseSlerpFar m P Q C Θ D .refusal ≡ 0
         → Pairwise Encloses (IntervalQuaternion·list (Pose·encloseSlerpFar m P Q C Θ D .quaternion)) (Quaternion·list (Pose·slerpFar p q cosθ θ dt))
     unfolding Pose·slerpFar Pose·encloseSlerpFar
     far-extends {C} {Θ} {cosθ} {θ} c t u v =
-        stage-extends slerpFarStage (enclosure m (IntervalQuaternion·list P ++ IntervalQuaternion·list Q ++ C ∷ Θ ∷ D ∷ [])) (Quaternion·list p ++ Quaternion·list q ++ cosθ ∷ θ ∷ dt ∷ [])
+        stage-extends slerpFarStage (enclosure m (IntervalQuaternion·list P ++ IntervalQuaternion·list Q ++ C ∷ Θ ∷ D ∷ []))
+        (Quaternion·list p ++ Quaternion·list q ++ cosθ ∷ θ ∷ dt ∷ [])
         (far-valid m D P Q C Θ (theta-angles u v))
         (λ z.
-        rows-list Encloses (IntervalQuaternion·list P) (IntervalQuaternion·list Q) (C ∷ Θ ∷ D ∷ []) (Quaternion·list p) (Quaternion·list q) (cosθ ∷ θ ∷ dt ∷ []) e f
+        rows-list Encloses (IntervalQuaternion·list P) (IntervalQuaternion·list Q)
+        (C ∷ Θ ∷ D ∷ []) (Quaternion·list p) (Quaternion·list q) (cosθ ∷ θ ∷ dt ∷ []) e f
         (c, (t, (d, tt))))
 
   pub slerp-extends : (a : PoseConstants) → PoseConstants·Valid a → Subset D unitInterval → Pose·encloseSlerp m a D .refusal ≡ 0
@@ -73,7 +90,8 @@ module _ (m : ℕ) {D : Interval} {dt : Float} (d : Encloses D dt) where
   unfolding Pose·slerp Pose·encloseSlerp slerpBy encloseSlerpBy
   slerp-extends a v u = go (isNear a)
     where
-      go : (b : Bool) → encloseSlerpBy b m a D .refusal ≡ 0 → Pairwise Encloses (IntervalQuaternion·list (encloseSlerpBy b m a D .quaternion)) (Quaternion·list (slerpBy b a dt))
+      go : (b : Bool) → encloseSlerpBy b m a D .refusal ≡ 0
+          → Pairwise Encloses (IntervalQuaternion·list (encloseSlerpBy b m a D .quaternion)) (Quaternion·list (slerpBy b a dt))
       go true =
           near-extends (IntervalQuaternion·point (a .r0)) (IntervalQuaternion·point (a .r1)) (a .r0) (a .r1)
           (points-enclose (Quaternion·list (a .r0)) (v .r0)) (points-enclose (Quaternion·list (a .r1)) (v .r1))
@@ -91,7 +109,8 @@ scale-row-extends m {D} {dt} d R S r s e f =
     stage-extends scaleRowStage (enclosure m (IntervalRow·three R ++ IntervalRow·three S ++ D ∷ [])) (three r ++ three s ++ dt ∷ []) (scale-valid m D R S)
     (λ z. rows-list Encloses (IntervalRow·three R) (IntervalRow·three S) (D ∷ []) (three r) (three s) (dt ∷ []) e f (d, tt))
 
-pub scale-extends : (m : ℕ) {D : Interval} {dt : Float} → Encloses D dt → {A B : IntervalMatrix} {a b : Matrix4x4} → EnclosesScale A a → EnclosesScale B b → Pose·encloseScale m A B D .refusal ≡ 0
+pub scale-extends : (m : ℕ) {D : Interval} {dt : Float} → Encloses D dt → {A B : IntervalMatrix} {a b : Matrix4x4}
+    → EnclosesScale A a → EnclosesScale B b → Pose·encloseScale m A B D .refusal ≡ 0
     → EnclosesMatrix (Pose·encloseScale m A B D .matrix) (Pose·scale a b dt)
 unfolding Pose·scale Pose·encloseScale
 scale-extends m {D} d {A} {B} {a} {b} e f z =
@@ -112,14 +131,16 @@ scale-by-extends true m d f g z = identity-encloses
 scale-by-extends false m d f g z = scale-extends m d (scale-encloses f) (scale-encloses g) z
 
 -- ---- the stages that take what was worked out before
-pub rotation-extends : (m : ℕ) {Q : IntervalQuaternion} (q : Quaternion) → Pairwise Encloses (IntervalQuaternion·list Q) (Quaternion·list q) → Pose·encloseRotation m Q .refusal ≡ 0
+pub rotation-extends : (m : ℕ) {Q : IntervalQuaternion} (q : Quaternion)
+    → Pairwise Encloses (IntervalQuaternion·list Q) (Quaternion·list q) → Pose·encloseRotation m Q .refusal ≡ 0
     → EnclosesMatrix (Pose·encloseRotation m Q .matrix) (Pose·rotation q)
 unfolding Pose·rotation Pose·encloseRotation
 rotation-extends m {Q} q e z =
     list-encloses (Pose·encloseRotation m Q .matrix) (Pose·rotation q)
     (stage-extends rotationStage (enclosure m (IntervalQuaternion·list Q)) (Quaternion·list q) (rotation-valid m Q) (λ y. e) z)
 
-pub mul-row-extends : (m : ℕ) {R : IntervalRow} {M : IntervalMatrix} (r : Row) {b : Matrix4x4} → Pairwise Encloses (IntervalRow·list R) (entries r) → EnclosesMatrix M b
+pub mul-row-extends : (m : ℕ) {R : IntervalRow} {M : IntervalMatrix} (r : Row) {b : Matrix4x4}
+    → Pairwise Encloses (IntervalRow·list R) (entries r) → EnclosesMatrix M b
     → Pose·encloseMulRow m R M .refusal ≡ 0 → Pairwise Encloses (IntervalRow·list (Pose·encloseMulRow m R M .row)) (entries (Pose·mulRow r b))
 unfolding Pose·mulRow Pose·encloseMulRow
 mul-row-extends m {R} {M} r {b} e f =
@@ -134,10 +155,16 @@ mul-extends m {A} {B} {a} {b} e f z =
     let q = Pose·encloseMulRow (p .refusal) (A .r1) B in
     let zq = mul-row-zero (q .refusal) (A .r2) B z in
     let zp = mul-row-zero (p .refusal) (A .r1) B zq in
-    record { r0 = mul-row-extends m (a .r0) (e .r0) f zp; r1 = mul-row-extends (p .refusal) (a .r1) (e .r1) f zq; r2 = mul-row-extends (q .refusal) (a .r2) (e .r2) f z }
+    record {
+      r0 = mul-row-extends m (a .r0) (e .r0) f zp;
+      r1 = mul-row-extends (p .refusal) (a .r1) (e .r1) f zq;
+      r2 = mul-row-extends (q .refusal) (a .r2) (e .r2) f z;
+    }
 
-pub transformPoint-extends : (m : ℕ) {M : IntervalMatrix} {P : IntervalVector} {b : Matrix4x4} {p : Point3f} → EnclosesMatrix M b → Pairwise Encloses (IntervalVector·list P) (Point3f·list p)
-    → Pose·encloseTransformPoint m M P .refusal ≡ 0 → Pairwise Encloses (IntervalVector·list (Pose·encloseTransformPoint m M P .vector)) (Point3f·list (Pose·transformPoint b p))
+pub transformPoint-extends : (m : ℕ) {M : IntervalMatrix} {P : IntervalVector} {b : Matrix4x4} {p : Point3f}
+    → EnclosesMatrix M b → Pairwise Encloses (IntervalVector·list P) (Point3f·list p)
+    → Pose·encloseTransformPoint m M P .refusal ≡ 0
+    → Pairwise Encloses (IntervalVector·list (Pose·encloseTransformPoint m M P .vector)) (Point3f·list (Pose·transformPoint b p))
 unfolding Pose·transformPoint Pose·encloseTransformPoint
 transformPoint-extends m {M} {P} {b} {p} e f =
     stage-extends transformPointStage (enclosure m (IntervalMatrix·list M ++ IntervalVector·list P)) (Matrix4x4·list b ++ Point3f·list p) (point-valid m M P)
@@ -206,7 +233,8 @@ module _ {a : PoseConstants} {s0 s1 : Matrix4x4} (v : PoseConstants·Valid a) (f
       (and-i R (allFinite first)
       (and-i U (allFinite rotation)
       (and-i S (allFinite translate)
-      (and-i Q (allFinite scale) (quaternion-finite rotate (enclosed-finite (IntervalQuaternion·list (J .quaternion)) (Quaternion·list rotate) q)) (matrix-finite scale (scale-by-bottom (a .rigid) s0 s1 dt) k))
+      (and-i Q (allFinite scale) (quaternion-finite rotate (enclosed-finite (IntervalQuaternion·list (J .quaternion)) (Quaternion·list rotate) q))
+      (matrix-finite scale (scale-by-bottom (a .rigid) s0 s1 dt) k))
       (matrix-finite translate refl t))
       (matrix-finite rotation (rotation-bottom rotate) l))
       (matrix-finite first (mul-bottom translate rotation) m))
@@ -223,5 +251,6 @@ module _ {a : PoseConstants} {s0 s1 : Matrix4x4} (v : PoseConstants·Valid a) (f
       let q = Pose·transformPoint (r .m) p in
       let i = transformPoint-extends (M .refusal) (m .encloses) e z in
       let (x, (y, (w, n))) = enclosed-finite (IntervalVector·list (Pose·encloseTransformPoint (M .refusal) (M .matrix) P .vector)) (Point3f·list q) i in
-      let t = is-true (finite (q .x) && finite (q .y) && finite (q .z)) (and-i (finite (q .x) && finite (q .y)) (finite (q .z)) (and-i (finite (q .x)) (finite (q .y)) x y) w) in
+      let t = is-true (finite (q .x) && finite (q .y) && finite (q .z))
+      (and-i (finite (q .x) && finite (q .y)) (finite (q .z)) (and-i (finite (q .x)) (finite (q .y)) x y) w) in
       record { point = q; moved = rw (m .accepted, t); encloses = i }

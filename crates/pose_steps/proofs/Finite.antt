@@ -1,5 +1,5 @@
--- What a test for finite numbers says of each: of a quaternion (`quaternion-each`), of a matrix's upper rows (`matrix-each`), and of the nine entries of S (`scale-each`).
--- So a stored matrix that passed the test encloses itself with equal ends (`stored-encloses`).
+-- What a test for finite numbers says of each: of a quaternion (`quaternion-each`), of a matrix's upper rows (`matrix-each`), and of
+-- the nine entries of S (`scale-each`). So a stored matrix that passed the test encloses itself with equal ends (`stored-encloses`).
 use Prim.Native.Nat.{ℕ}
 use mathlib.Core.Bool.{Bool, _&&_}
 use lib.Dec.{T}

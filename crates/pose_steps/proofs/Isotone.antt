@@ -1,5 +1,5 @@
--- Each stage's interval reading is inclusion isotone, over the structs (`translation-isotone` and its like), and so is the sequence: `matrix-isotone`, `point-isotone`.
--- A narrower interval of dt and a narrower box are not newly refused, and give a narrower box. Rests on `stage-isotone` of formula.
+-- Each stage's interval reading is inclusion isotone, over the structs (`translation-isotone` and its like), and so is the sequence: `matrix-isotone`,
+-- `point-isotone`. A narrower interval of dt and a narrower box are not newly refused, and give a narrower box. Rests on `stage-isotone` of formula.
 use mathlib.Core.Path.{_≡_, refl}
 use Prim.Native.Nat.{ℕ}
 use mathlib.Core.Bool.{Bool, true, false}
@@ -23,8 +23,13 @@ use Rattle.pose_steps.specs.declared.IntervalRow.{IntervalRow}
 use Rattle.pose_steps.specs.declared.IntervalMatrix.{IntervalMatrix}
 use Rattle.pose_steps.specs.Stages.{translationStage, slerpNearStage, slerpFarStage, scaleRowStage, rotationStage, mulRowStage, transformPointStage}
 use Rattle.pose_steps.specs.Pose.{Vector3f·list, Quaternion·list, isNear}
-use Rattle.pose_steps.specs.Enclose.{IntervalVector·list, IntervalVector·point, IntervalQuaternion·list, IntervalQuaternion·point, IntervalRow·list, IntervalRow·three, IntervalMatrix·list, IntervalMatrix·point, Pose·encloseTranslation, Pose·encloseSlerpNear, Pose·encloseSlerpFar, encloseSlerpBy, Pose·encloseSlerp, Pose·encloseScaleRow, Pose·encloseScale, encloseScaleBy, Pose·encloseRotation, Pose·encloseMulRow, Pose·encloseMul, Pose·encloseTransformPoint, IntervalMatrix·translation, Pose·encloseMatrix, Pose·enclosePoint}
-use Rattle.pose_steps.specs.Promise.{PoseConstants·Valid, FiniteScale, quarterInterval, RefinesScale, RefinesMatrix, NarrowerVector, NarrowerQuaternion, NarrowerRow, NarrowerMatrix}
+use Rattle.pose_steps.specs.Enclose.{IntervalVector·list, IntervalVector·point, IntervalQuaternion·list, IntervalQuaternion·point}
+use Rattle.pose_steps.specs.Enclose.{IntervalRow·list, IntervalRow·three, IntervalMatrix·list, IntervalMatrix·point, Pose·encloseTranslation}
+use Rattle.pose_steps.specs.Enclose.{Pose·encloseSlerpNear, Pose·encloseSlerpFar, encloseSlerpBy, Pose·encloseSlerp, Pose·encloseScaleRow}
+use Rattle.pose_steps.specs.Enclose.{Pose·encloseScale, encloseScaleBy, Pose·encloseRotation, Pose·encloseMulRow, Pose·encloseMul}
+use Rattle.pose_steps.specs.Enclose.{Pose·encloseTransformPoint, IntervalMatrix·translation, Pose·encloseMatrix, Pose·enclosePoint}
+use Rattle.pose_steps.specs.Promise.{PoseConstants·Valid, FiniteScale, quarterInterval, RefinesScale, RefinesMatrix}
+use Rattle.pose_steps.specs.Promise.{NarrowerVector, NarrowerQuaternion, NarrowerRow, NarrowerMatrix}
 use Rattle.pose_steps.proofs.Angle.{unit-finite, theta-angles, theta-finite, theta-subset}
 use Rattle.pose_steps.proofs.Valid.{translation-valid, near-valid, far-valid, scale-valid, rotation-valid, mul-valid, point-valid}
 use Rattle.pose_steps.proofs.Zero.{slerp-zero, scale-row-zero, scale-by-zero, rotation-zero, mul-row-zero, mul-zero, point-zero}
@@ -32,21 +37,32 @@ use Rattle.pose_steps.proofs.Rows.{points-refine, scale-refines, identi
 
 -- ---- the stages that take dt; m was met with the narrower intervals, m' with the wider ones
 module _ (m' : ℕ) {m : ℕ} (k : m ≡ 0) {D D' : Interval} (d : Refines D D') where
-  pub translation-isotone : (T0 T0' T1 T1' : IntervalVector) → Pairwise Refines (IntervalVector·list T0) (IntervalVector·list T0') → Pairwise Refines (IntervalVector·list T1) (IntervalVector·list T1')
+  pub translation-isotone : (T0 T0' T1 T1' : IntervalVector) → Pairwise Refines (IntervalVector·list T0) (IntervalVector·list T0')
+      → Pairwise Refines (IntervalVector·list T1) (IntervalVector·list T1')
       → NarrowerVector (Pose·encloseTranslation m T0 T1 D) (Pose·encloseTranslation m' T0' T1' D')
   unfolding Pose·encloseTranslation
   translation-isotone T0 T0' T1 T1' e f =
-      stage-isotone translationStage (enclosure m (IntervalVector·list T0 ++ IntervalVector·list T1 ++ D ∷ [])) (enclosure m' (IntervalVector·list T0' ++ IntervalVector·list T1' ++ D' ∷ []))
+      stage-isotone translationStage (enclosure m (IntervalVector·list T0 ++ IntervalVector·list T1 ++ D ∷ []))
+      (enclosure m' (IntervalVector·list T0' ++ IntervalVector·list T1' ++ D' ∷ []))
       (translation-valid m' D' T0' T1')
-      (λ z. (k, rows-list Refines (IntervalVector·list T0) (IntervalVector·list T1) (D ∷ []) (IntervalVector·list T0') (IntervalVector·list T1') (D' ∷ []) e f (d, tt)))
+      (λ z. (
+        k,
+        rows-list Refines (IntervalVector·list T0) (IntervalVector·list T1) (D ∷ [])
+            (IntervalVector·list T0') (IntervalVector·list T1') (D' ∷ []) e f (d, tt),
+      ))
 
-  module _ (P P' Q Q' : IntervalQuaternion) (e : Pairwise Refines (IntervalQuaternion·list P) (IntervalQuaternion·list P')) (f : Pairwise Refines (IntervalQuaternion·list Q) (IntervalQuaternion·list Q')) where
+  module _ (P P' Q Q' : IntervalQuaternion) (e : Pairwise Refines (IntervalQuaternion·list P) (IntervalQuaternion·list P'))
+      (f : Pairwise Refines (IntervalQuaternion·list Q) (IntervalQuaternion·list Q')) where
     pub near-isotone : NarrowerQuaternion (Pose·encloseSlerpNear m P Q D) (Pose·encloseSlerpNear m' P' Q' D')
     unfolding Pose·encloseSlerpNear
     near-isotone =
         stage-isotone slerpNearStage (enclosure m (IntervalQuaternion·list P ++ IntervalQuaternion·list Q ++ D ∷ []))
         (enclosure m' (IntervalQuaternion·list P' ++ IntervalQuaternion·list Q' ++ D' ∷ [])) (near-valid m' D' P' Q')
-        (λ z. (k, rows-list Refines (IntervalQuaternion·list P) (IntervalQuaternion·list Q) (D ∷ []) (IntervalQuaternion·list P') (IntervalQuaternion·list Q') (D' ∷ []) e f (d, tt)))
+        (λ z. (
+          k,
+          rows-list Refines (IntervalQuaternion·list P) (IntervalQuaternion·list Q) (D ∷ [])
+              (IntervalQuaternion·list P') (IntervalQuaternion·list Q') (D' ∷ []) e f (d, tt),
+        ))
 
     -- theta times dt is an angle
     pub far-isotone : {C C' Θ Θ' : Interval} → Refines C C' → Refines Θ Θ' → Subset Θ' quarterInterval → Subset D' unitInterval
@@ -57,11 +73,13 @@ module _ (m' : ℕ) {m : ℕ} (k : m ≡ 0) {D D' : Interval} (d : Refines D D')
         (enclosure m' (IntervalQuaternion·list P' ++ IntervalQuaternion·list Q' ++ C' ∷ Θ' ∷ D' ∷ [])) (far-valid m' D' P' Q' C' Θ' (theta-angles u v))
         (λ z. (
           k,
-          rows-list Refines (IntervalQuaternion·list P) (IntervalQuaternion·list Q) (C ∷ Θ ∷ D ∷ []) (IntervalQuaternion·list P') (IntervalQuaternion·list Q') (C' ∷ Θ' ∷ D' ∷ []) e f
+          rows-list Refines (IntervalQuaternion·list P) (IntervalQuaternion·list Q) (C ∷ Θ ∷ D ∷ [])
+              (IntervalQuaternion·list P') (IntervalQuaternion·list Q') (C' ∷ Θ' ∷ D' ∷ []) e f
               (c, (t, (d, tt))),
         ))
 
-  pub slerp-isotone : (a : PoseConstants) → PoseConstants·Valid a → Subset D' unitInterval → NarrowerQuaternion (Pose·encloseSlerp m a D) (Pose·encloseSlerp m' a D')
+  pub slerp-isotone : (a : PoseConstants) → PoseConstants·Valid a → Subset D' unitInterval
+      → NarrowerQuaternion (Pose·encloseSlerp m a D) (Pose·encloseSlerp m' a D')
   unfolding Pose·encloseSlerp encloseSlerpBy
   slerp-isotone a v u = go (isNear a)
     where
@@ -77,11 +95,13 @@ module _ (m' : ℕ) {m : ℕ} (k : m ≡ 0) {D D' : Interval} (d : Refines D D')
           (point-refines (a .«cos_theta») (v .cosTheta)) (point-refines (a .theta) (theta-finite (v .theta-from-zero) (v .theta-to-quarter)))
           (theta-subset (v .theta-from-zero) (v .theta-to-quarter)) u
 
-  pub scale-row-isotone : (R R' S S' : IntervalRow) → Pairwise Refines (IntervalRow·three R) (IntervalRow·three R') → Pairwise Refines (IntervalRow·three S) (IntervalRow·three S')
+  pub scale-row-isotone : (R R' S S' : IntervalRow) → Pairwise Refines (IntervalRow·three R) (IntervalRow·three R')
+      → Pairwise Refines (IntervalRow·three S) (IntervalRow·three S')
       → NarrowerRow (Pose·encloseScaleRow m R S D) (Pose·encloseScaleRow m' R' S' D')
   unfolding Pose·encloseScaleRow
   scale-row-isotone R R' S S' e f =
-      stage-isotone scaleRowStage (enclosure m (IntervalRow·three R ++ IntervalRow·three S ++ D ∷ [])) (enclosure m' (IntervalRow·three R' ++ IntervalRow·three S' ++ D' ∷ []))
+      stage-isotone scaleRowStage (enclosure m (IntervalRow·three R ++ IntervalRow·three S ++ D ∷ []))
+      (enclosure m' (IntervalRow·three R' ++ IntervalRow·three S' ++ D' ∷ []))
       (scale-valid m' D' R' S')
       (λ z. (k, rows-list Refines (IntervalRow·three R) (IntervalRow·three S) (D ∷ []) (IntervalRow·three R') (IntervalRow·three S') (D' ∷ []) e f (d, tt)))
 
@@ -110,24 +130,29 @@ module _ (m' : ℕ) {m : ℕ} (k : m ≡ 0) where
       → NarrowerMatrix (Pose·encloseRotation m Q) (Pose·encloseRotation m' Q')
   unfolding Pose·encloseRotation
   rotation-isotone Q Q' e z =
-      let (h, r) = stage-isotone rotationStage (enclosure m (IntervalQuaternion·list Q)) (enclosure m' (IntervalQuaternion·list Q')) (rotation-valid m' Q') (λ y. (k, e)) z in
+      let (h, r) = stage-isotone rotationStage (enclosure m (IntervalQuaternion·list Q))
+      (enclosure m' (IntervalQuaternion·list Q')) (rotation-valid m' Q') (λ y. (k, e)) z in
       (h, list-refines (Pose·encloseRotation m Q .matrix) (Pose·encloseRotation m' Q' .matrix) r)
 
   pub mul-row-isotone : (R R' : IntervalRow) {M M' : IntervalMatrix} → Pairwise Refines (IntervalRow·list R) (IntervalRow·list R') → RefinesMatrix M M'
       → NarrowerRow (Pose·encloseMulRow m R M) (Pose·encloseMulRow m' R' M')
   unfolding Pose·encloseMulRow
   mul-row-isotone R R' {M} {M'} e f =
-      stage-isotone mulRowStage (enclosure m (IntervalRow·list R ++ IntervalMatrix·list M)) (enclosure m' (IntervalRow·list R' ++ IntervalMatrix·list M')) (mul-valid m' R' M')
+      stage-isotone mulRowStage (enclosure m (IntervalRow·list R ++ IntervalMatrix·list M))
+      (enclosure m' (IntervalRow·list R' ++ IntervalMatrix·list M')) (mul-valid m' R' M')
       (λ y. (k, pairwise-append Refines (IntervalRow·list R) (IntervalMatrix·list M) (IntervalRow·list R') (IntervalMatrix·list M') e (refines-list f)))
 
-  pub transformPoint-isotone : {M M' : IntervalMatrix} (P P' : IntervalVector) → RefinesMatrix M M' → Pairwise Refines (IntervalVector·list P) (IntervalVector·list P')
+  pub transformPoint-isotone : {M M' : IntervalMatrix} (P P' : IntervalVector)
+      → RefinesMatrix M M' → Pairwise Refines (IntervalVector·list P) (IntervalVector·list P')
       → NarrowerVector (Pose·encloseTransformPoint m M P) (Pose·encloseTransformPoint m' M' P')
   unfolding Pose·encloseTransformPoint
   transformPoint-isotone {M} {M'} P P' e f =
-      stage-isotone transformPointStage (enclosure m (IntervalMatrix·list M ++ IntervalVector·list P)) (enclosure m' (IntervalMatrix·list M' ++ IntervalVector·list P')) (point-valid m' M' P')
+      stage-isotone transformPointStage (enclosure m (IntervalMatrix·list M ++ IntervalVector·list P))
+      (enclosure m' (IntervalMatrix·list M' ++ IntervalVector·list P')) (point-valid m' M' P')
       (λ y. (k, pairwise-append Refines (IntervalMatrix·list M) (IntervalVector·list P) (IntervalMatrix·list M') (IntervalVector·list P') (refines-list e) f))
 
-pub mul-isotone : (m' : ℕ) {m : ℕ} → m ≡ 0 → {A A' B B' : IntervalMatrix} → RefinesMatrix A A' → RefinesMatrix B B' → NarrowerMatrix (Pose·encloseMul m A B) (Pose·encloseMul m' A' B')
+pub mul-isotone : (m' : ℕ) {m : ℕ} → m ≡ 0 → {A A' B B' : IntervalMatrix} → RefinesMatrix A A'
+    → RefinesMatrix B B' → NarrowerMatrix (Pose·encloseMul m A B) (Pose·encloseMul m' A' B')
 unfolding Pose·encloseMul
 mul-isotone m' k {A} {A'} {B} {B'} e f z =
     let p' = Pose·encloseMulRow m' (A' .r0) B' in
@@ -140,7 +165,8 @@ mul-isotone m' k {A} {A'} {B} {B'} e f z =
     (kr, record { r0 = a; r1 = b; r2 = c })
 
 -- ---- in sequence
-translation-matrix-isotone : (W W' : IntervalVector) → Pairwise Refines (IntervalVector·list W) (IntervalVector·list W') → RefinesMatrix (IntervalMatrix·translation W) (IntervalMatrix·translation W')
+translation-matrix-isotone : (W W' : IntervalVector) → Pairwise Refines (IntervalVector·list W) (IntervalVector·list W')
+    → RefinesMatrix (IntervalMatrix·translation W) (IntervalMatrix·translation W')
 translation-matrix-isotone W W' (x, (y, (z, e))) =
     let i = point-refines positiveZero zero-finite in
     let j = point-refines one one-finite in
@@ -166,14 +192,16 @@ module _ {a : PoseConstants} {s0 s1 : Matrix4x4} (v : PoseConstants·Valid a) (f
       let zK = rotation-zero (K' .refusal) (J' .quaternion) zL in
       let zJ = scale-by-zero (a .rigid) (J' .refusal) s0 s1 D' zK in
       let zI = slerp-zero (I' .refusal) a D' zJ in
-      let (kI, i) = translation-isotone 0 refl e t0 t0 t1 t1 (points-refine (Vector3f·list (a .t0)) (v .t0)) (points-refine (Vector3f·list (a .t1)) (v .t1)) zI in
+      let (kI, i) =
+      translation-isotone 0 refl e t0 t0 t1 t1 (points-refine (Vector3f·list (a .t0)) (v .t0)) (points-refine (Vector3f·list (a .t1)) (v .t1)) zI in
       let (kJ, j) = slerp-isotone (I' .refusal) kI e a v u zJ in
       let (kK, k) = scale-by-isotone (a .rigid) (J' .refusal) kJ e f g zK in
       let (kL, l) = rotation-isotone (K' .refusal) kK (J .quaternion) (J' .quaternion) j zL in
       let (kM, m) = mul-isotone (L' .refusal) kL (translation-matrix-isotone (I .vector) (I' .vector) i) l zM in
       mul-isotone (M' .refusal) kM m k z
 
-  pub point-isotone : (P P' : IntervalVector) → Pairwise Refines (IntervalVector·list P) (IntervalVector·list P') → NarrowerVector (Pose·enclosePoint a s0 s1 D P) (Pose·enclosePoint a s0 s1 D' P')
+  pub point-isotone : (P P' : IntervalVector) → Pairwise Refines (IntervalVector·list P) (IntervalVector·list P')
+      → NarrowerVector (Pose·enclosePoint a s0 s1 D P) (Pose·enclosePoint a s0 s1 D' P')
   unfolding Pose·enclosePoint
   point-isotone P P' p z =
       let M' = Pose·encloseMatrix a s0 s1 D' in

@@ -20,7 +20,10 @@ use Rattle.transform.specs.Answer.{PointAnswer·Judged}
 use Rattle.transform.proofs.Judged.{origin-finite}
 use Rattle.interval.specs.declared.Interval.{Interval}
 use Rattle.interval.specs.Interval.{Interval·point}
-use Rattle.interval.specs.Enclosure.{notFinite, notPositive, Judged·judge, Interval·divEnclosure, Interval·sqrtEnclosure, Judged·addEnclosure, Judged·subEnclosure, Judged·mulEnclosure, Judged·divEnclosure, Judged·sqrtEnclosure, Judged·sinEnclosure, Judged·cosEnclosure, Interval·addEnclosure, Interval·subEnclosure, Interval·mulEnclosure, Interval·sinEnclosure, Interval·cosEnclosure}
+use Rattle.interval.specs.Enclosure.{notFinite, notPositive, Judged·judge, Interval·divEnclosure, Interval·sqrtEnclosure}
+use Rattle.interval.specs.Enclosure.{Judged·addEnclosure, Judged·subEnclosure, Judged·mulEnclosure, Judged·divEnclosure}
+use Rattle.interval.specs.Enclosure.{Judged·sqrtEnclosure, Judged·sinEnclosure, Judged·cosEnclosure, Interval·addEnclosure}
+use Rattle.interval.specs.Enclosure.{Interval·subEnclosure, Interval·mulEnclosure, Interval·sinEnclosure, Interval·cosEnclosure}
 use Rattle.formula.specs.Program.{Binary, sum, difference, product, quotient, Unary, root, sine, cosine, Expr, var, con, binary, unary, Program, _>>=_, give}
 use Rattle.formula.specs.Enclose.{Binary·enclose, Unary·enclose, Expr·enclose, Enclosure, enclosure, Expr·encloseAll, extend, Program·enclose}
 use Rattle.pose_steps.specs.declared.PoseConstants.{PoseConstants}
@@ -29,7 +32,11 @@ use Rattle.pose_steps.specs.declared.IntervalRow.{IntervalRow}
 use Rattle.pose_steps.specs.declared.IntervalMatrix.{IntervalMatrix}
 use Rattle.pose_steps.specs.Stages.{translationStage, slerpNearStage, slerpFarStage, scaleRowStage, rotationStage, mulRowStage, transformPointStage}
 use Rattle.pose_steps.specs.Pose.{isNear, Pose·transformPoint, Pose·matrix, Pose·movedPoint}
-use Rattle.pose_steps.specs.Enclose.{IntervalVector·list, IntervalVector·point, IntervalQuaternion·list, IntervalQuaternion·point, IntervalRow·list, IntervalRow·three, IntervalMatrix·list, IntervalMatrix·point, Pose·encloseTranslation, Pose·encloseSlerpNear, Pose·encloseSlerpFar, encloseSlerpBy, Pose·encloseSlerp, Pose·encloseScaleRow, Pose·encloseScale, encloseScaleBy, Pose·encloseRotation, Pose·encloseMulRow, Pose·encloseMul, Pose·encloseTransformPoint, IntervalMatrix·translation, Pose·encloseMatrix, Pose·enclosePoint}
+use Rattle.pose_steps.specs.Enclose.{IntervalVector·list, IntervalVector·point, IntervalQuaternion·list, IntervalQuaternion·point}
+use Rattle.pose_steps.specs.Enclose.{IntervalRow·list, IntervalRow·three, IntervalMatrix·list, IntervalMatrix·point, Pose·encloseTranslation}
+use Rattle.pose_steps.specs.Enclose.{Pose·encloseSlerpNear, Pose·encloseSlerpFar, encloseSlerpBy, Pose·encloseSlerp, Pose·encloseScaleRow}
+use Rattle.pose_steps.specs.Enclose.{Pose·encloseScale, encloseScaleBy, Pose·encloseRotation, Pose·encloseMulRow, Pose·encloseMul}
+use Rattle.pose_steps.specs.Enclose.{Pose·encloseTransformPoint, IntervalMatrix·translation, Pose·encloseMatrix, Pose·enclosePoint}
 use Rattle.pose_steps.specs.Promise.{SliceNumber}
 
 -- ---- one operation
@@ -102,10 +109,12 @@ unfolding Pose·encloseSlerp encloseSlerpBy Pose·encloseSlerpNear Pose·enclose
 slerp-number m a D n = go (isNear a)
   where
     go : (b : Bool) → SliceNumber (encloseSlerpBy b m a D .refusal)
-    go true = program-number slerpNearStage (enclosure m (IntervalQuaternion·list (IntervalQuaternion·point (a .r0)) ++ IntervalQuaternion·list (IntervalQuaternion·point (a .r1)) ++ D ∷ [])) n
+    go true = program-number slerpNearStage
+        (enclosure m (IntervalQuaternion·list (IntervalQuaternion·point (a .r0)) ++ IntervalQuaternion·list (IntervalQuaternion·point (a .r1)) ++ D ∷ [])) n
     go false =
         program-number slerpFarStage
-        (enclosure m (IntervalQuaternion·list (IntervalQuaternion·point (a .r0)) ++ IntervalQuaternion·list (IntervalQuaternion·point (a .r1)) ++ Interval·point (a .«cos_theta») ∷ Interval·point (a .theta) ∷ D ∷ []))
+        (enclosure m (IntervalQuaternion·list (IntervalQuaternion·point (a .r0)) ++ IntervalQuaternion·list (IntervalQuaternion·point (a .r1))
+        ++ Interval·point (a .«cos_theta») ∷ Interval·point (a .theta) ∷ D ∷ []))
         n
 
 scale-row-number : (m : ℕ) (s0 s1 : IntervalRow) (D : Interval) → SliceNumber m → SliceNumber (Pose·encloseScaleRow m s0 s1 D .refusal)

@@ -1,5 +1,6 @@
--- Constants, rows and matrices: what holds entry by entry of a matrix's rows holds of its list, and back (`encloses-list`, `list-encloses`, `refines-list`, `list-refines`), a number with equal ends encloses itself and lies in itself
--- (`points-enclose`, `points-refine`), and a matrix that is enclosed is finite (`matrix-finite`).
+-- Constants, rows and matrices: what holds entry by entry of a matrix's rows holds of its list, and back (`encloses-list`,
+-- `list-encloses`, `refines-list`, `list-refines`), a number with equal ends encloses itself and lies in itself (`points-enclose`,
+-- `points-refine`), and a matrix that is enclosed is finite (`matrix-finite`).
 use mathlib.Core.Path.{_≡_, refl}
 use Prim.Native.Nat.{ℕ}
 use native.Mathlib.Omega.{arith}
@@ -37,17 +38,20 @@ points-refine [] f = tt
 points-refine (x ∷ l) f = (point-refines x (f .0), points-refine l (f .1))
 
 pub scale-encloses : {s : Matrix4x4} → FiniteScale s → EnclosesScale (IntervalMatrix·point s) s
-scale-encloses {s} f = record { r0 = points-enclose (three (s .r0)) (f .r0); r1 = points-enclose (three (s .r1)) (f .r1); r2 = points-enclose (three (s .r2)) (f .r2) }
+scale-encloses {s} f =
+    record { r0 = points-enclose (three (s .r0)) (f .r0); r1 = points-enclose (three (s .r1)) (f .r1); r2 = points-enclose (three (s .r2)) (f .r2) }
 
 pub scale-refines : {s : Matrix4x4} → FiniteScale s → RefinesScale (IntervalMatrix·point s) (IntervalMatrix·point s)
-scale-refines {s} f = record { r0 = points-refine (three (s .r0)) (f .r0); r1 = points-refine (three (s .r1)) (f .r1); r2 = points-refine (three (s .r2)) (f .r2) }
+scale-refines {s} f =
+    record { r0 = points-refine (three (s .r0)) (f .r0); r1 = points-refine (three (s .r1)) (f .r1); r2 = points-refine (three (s .r2)) (f .r2) }
 
 -- ---- rows
 module _ {A B : Type 0} (R : A → B → Type 0) (p q r : List A) (p' q' r' : List B) where
   pub rows-list : Pairwise R p p' → Pairwise R q q' → Pairwise R r r' → Pairwise R (p ++ q ++ r) (p' ++ q' ++ r')
   rows-list a b c = pairwise-append R (p ++ q) r (p' ++ q') r' (pairwise-append R p q p' q' a b) c
 
-split : {A B : Type 0} (R : A → B → Type 0) (p q : List A) (p' q' : List B) → length p ≡ length p' → Pairwise R (p ++ q) (p' ++ q') → Pairwise R p p' × Pairwise R q q'
+split : {A B : Type 0} (R : A → B → Type 0) (p q : List A) (p' q' : List B)
+    → length p ≡ length p' → Pairwise R (p ++ q) (p' ++ q') → Pairwise R p p' × Pairwise R q q'
 split R [] q [] q' e h = (tt, h)
 split R [] q (y ∷ p') q' e h = absurd (omega arith)
 split R (x ∷ p) q [] q' e h = absurd (omega arith)
@@ -62,20 +66,24 @@ list-rows R p q r p' q' r' e f h =
 
 pub encloses-list : {M : IntervalMatrix} {m : Matrix4x4} → EnclosesMatrix M m → Pairwise Encloses (IntervalMatrix·list M) (Matrix4x4·list m)
 encloses-list {M} {m} e =
-    rows-list Encloses (IntervalRow·list (M .r0)) (IntervalRow·list (M .r1)) (IntervalRow·list (M .r2)) (entries (m .r0)) (entries (m .r1)) (entries (m .r2)) (e .r0) (e .r1) (e .r2)
+    rows-list Encloses (IntervalRow·list (M .r0)) (IntervalRow·list (M .r1)) (IntervalRow·list (M .r2))
+    (entries (m .r0)) (entries (m .r1)) (entries (m .r2)) (e .r0) (e .r1) (e .r2)
 
 pub list-encloses : (M : IntervalMatrix) (m : Matrix4x4) → Pairwise Encloses (IntervalMatrix·list M) (Matrix4x4·list m) → EnclosesMatrix M m
 list-encloses M m e =
-    let (a, b, c) = list-rows Encloses (IntervalRow·list (M .r0)) (IntervalRow·list (M .r1)) (IntervalRow·list (M .r2)) (entries (m .r0)) (entries (m .r1)) (entries (m .r2)) refl refl e in
+    let (a, b, c) = list-rows Encloses (IntervalRow·list (M .r0)) (IntervalRow·list (M .r1))
+    (IntervalRow·list (M .r2)) (entries (m .r0)) (entries (m .r1)) (entries (m .r2)) refl refl e in
     record { r0 = a; r1 = b; r2 = c }
 
 pub refines-list : {M M' : IntervalMatrix} → RefinesMatrix M M' → Pairwise Refines (IntervalMatrix·list M) (IntervalMatrix·list M')
 refines-list {M} {M'} e =
-    rows-list Refines (IntervalRow·list (M .r0)) (IntervalRow·list (M .r1)) (IntervalRow·list (M .r2)) (IntervalRow·list (M' .r0)) (IntervalRow·list (M' .r1)) (IntervalRow·list (M' .r2)) (e .r0) (e .r1) (e .r2)
+    rows-list Refines (IntervalRow·list (M .r0)) (IntervalRow·list (M .r1)) (IntervalRow·list (M .r2))
+    (IntervalRow·list (M' .r0)) (IntervalRow·list (M' .r1)) (IntervalRow·list (M' .r2)) (e .r0) (e .r1) (e .r2)
 
 pub list-refines : (M M' : IntervalMatrix) → Pairwise Refines (IntervalMatrix·list M) (IntervalMatrix·list M') → RefinesMatrix M M'
 list-refines M M' e =
-    let (a, b, c) = list-rows Refines (IntervalRow·list (M .r0)) (IntervalRow·list (M .r1)) (IntervalRow·list (M .r2)) (IntervalRow·list (M' .r0)) (IntervalRow·list (M' .r1)) (IntervalRow·list (M' .r2)) refl refl e in
+    let (a, b, c) = list-rows Refines (IntervalRow·list (M .r0)) (IntervalRow·list (M .r1)) (IntervalRow·list (M .r2))
+    (IntervalRow·list (M' .r0)) (IntervalRow·list (M' .r1)) (IntervalRow·list (M' .r2)) refl refl e in
     record { r0 = a; r1 = b; r2 = c }
 
 -- ---- finite

@@ -1,4 +1,5 @@
--- Every stage names only what is bound and has finite constants, and the sine and the cosine of far slerp are asked of angles: `translation-valid` and its like.
+-- Every stage names only what is bound and has finite constants, and the sine and the cosine of far slerp are asked of angles:
+-- `translation-valid` and its like.
 use Prim.Native.Nat.{ℕ}
 use mathlib.Core.Bool.{true, _&&_}
 use mathlib.Core.List.{[], _∷_, _++_}
@@ -16,11 +17,13 @@ use Rattle.pose_steps.specs.Stages.{translationStage, slerpNearStage, sl
 use Rattle.pose_steps.specs.Enclose.{IntervalVector·list, IntervalQuaternion·list, IntervalRow·list, IntervalRow·three, IntervalMatrix·list}
 
 module _ (m : ℕ) (D : Interval) where
-  pub translation-valid : (T0 T1 : IntervalVector) → T (Program·valid (enclosure m (IntervalVector·list T0 ++ IntervalVector·list T1 ++ D ∷ [])) translationStage)
+  pub translation-valid : (T0 T1 : IntervalVector)
+      → T (Program·valid (enclosure m (IntervalVector·list T0 ++ IntervalVector·list T1 ++ D ∷ [])) translationStage)
   unfolding ofBits
   translation-valid T0 T1 = tt
 
-  pub near-valid : (P Q : IntervalQuaternion) → T (Program·valid (enclosure m (IntervalQuaternion·list P ++ IntervalQuaternion·list Q ++ D ∷ [])) slerpNearStage)
+  pub near-valid : (P Q : IntervalQuaternion)
+      → T (Program·valid (enclosure m (IntervalQuaternion·list P ++ IntervalQuaternion·list Q ++ D ∷ [])) slerpNearStage)
   unfolding ofBits
   near-valid P Q = tt
 
@@ -43,5 +46,6 @@ pub mul-valid : (m : ℕ) (R : IntervalRow) (M : IntervalMatrix) → T (Program�
 unfolding ofBits
 mul-valid m R M = tt
 
-pub point-valid : (m : ℕ) (M : IntervalMatrix) (P : IntervalVector) → T (Program·valid (enclosure m (IntervalMatrix·list M ++ IntervalVector·list P)) transformPointStage)
+pub point-valid : (m : ℕ) (M : IntervalMatrix) (P : IntervalVector)
+    → T (Program·valid (enclosure m (IntervalMatrix·list M ++ IntervalVector·list P)) transformPointStage)
 point-valid m M P = tt

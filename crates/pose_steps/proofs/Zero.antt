@@ -15,7 +15,10 @@ use Rattle.pose_steps.specs.declared.IntervalRow.{IntervalRow}
 use Rattle.pose_steps.specs.declared.IntervalMatrix.{IntervalMatrix}
 use Rattle.pose_steps.specs.Stages.{slerpNearStage, slerpFarStage, scaleRowStage, rotationStage, mulRowStage, transformPointStage}
 use Rattle.pose_steps.specs.Pose.{isNear}
-use Rattle.pose_steps.specs.Enclose.{IntervalVector·list, IntervalQuaternion·list, IntervalQuaternion·point, IntervalRow·list, IntervalRow·three, IntervalMatrix·list, IntervalMatrix·point, Pose·encloseSlerpNear, Pose·encloseSlerpFar, encloseSlerpBy, Pose·encloseSlerp, Pose·encloseScaleRow, Pose·encloseScale, encloseScaleBy, Pose·encloseRotation, Pose·encloseMulRow, Pose·encloseMul, Pose·encloseTransformPoint}
+use Rattle.pose_steps.specs.Enclose.{IntervalVector·list, IntervalQuaternion·list, IntervalQuaternion·point, IntervalRow·list}
+use Rattle.pose_steps.specs.Enclose.{IntervalRow·three, IntervalMatrix·list, IntervalMatrix·point, Pose·encloseSlerpNear}
+use Rattle.pose_steps.specs.Enclose.{Pose·encloseSlerpFar, encloseSlerpBy, Pose·encloseSlerp, Pose·encloseScaleRow, Pose·encloseScale}
+use Rattle.pose_steps.specs.Enclose.{encloseScaleBy, Pose·encloseRotation, Pose·encloseMulRow, Pose·encloseMul, Pose·encloseTransformPoint}
 
 module _ (m : ℕ) where
   pub slerp-zero : (a : PoseConstants) (D : Interval) → Pose·encloseSlerp m a D .refusal ≡ 0 → m ≡ 0
@@ -23,10 +26,12 @@ module _ (m : ℕ) where
   slerp-zero a D = go (isNear a)
     where
       go : (b : Bool) → encloseSlerpBy b m a D .refusal ≡ 0 → m ≡ 0
-      go true z = program-zero (enclosure m (IntervalQuaternion·list (IntervalQuaternion·point (a .r0)) ++ IntervalQuaternion·list (IntervalQuaternion·point (a .r1)) ++ D ∷ [])) slerpNearStage z
+      go true z = program-zero (enclosure m
+          (IntervalQuaternion·list (IntervalQuaternion·point (a .r0)) ++ IntervalQuaternion·list (IntervalQuaternion·point (a .r1)) ++ D ∷ [])) slerpNearStage z
       go false z =
           program-zero
-          (enclosure m (IntervalQuaternion·list (IntervalQuaternion·point (a .r0)) ++ IntervalQuaternion·list (IntervalQuaternion·point (a .r1)) ++ Interval·point (a .«cos_theta») ∷ Interval·point (a .theta) ∷ D ∷ [])) slerpFarStage z
+          (enclosure m (IntervalQuaternion·list (IntervalQuaternion·point (a .r0)) ++ IntervalQuaternion·list (IntervalQuaternion·point (a .r1))
+          ++ Interval·point (a .«cos_theta») ∷ Interval·point (a .theta) ∷ D ∷ [])) slerpFarStage z
 
   pub scale-row-zero : (R S : IntervalRow) (D : Interval) → Pose·encloseScaleRow m R S D .refusal ≡ 0 → m ≡ 0
   unfolding Pose·encloseScaleRow

@@ -1,5 +1,5 @@
--- The last line of pbrt's `interpolate`, Transform::translate(&trans) * rotate.into() * Transform::from_matrix(&scale), as the definitions of vectors, quaternions,
--- matrices and transforms have it. The formulas give its bits (`matrix-composition`, `point-composition`). Definitions only.
+-- The last line of pbrt's `interpolate`, Transform::translate(&trans) * rotate.into() * Transform::from_matrix(&scale), as the definitions of vectors,
+-- quaternions, matrices and transforms have it. The formulas give its bits (`matrix-composition`, `point-composition`). Definitions only.
 use mathlib.Core.Bool.{Bool, true, false, _&&_, cond}
 use lib.Dec.{ltb, eqb}
 use lib.Ieee.{Float}

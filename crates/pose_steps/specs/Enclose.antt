@@ -1,6 +1,6 @@
--- The steps read in intervals: the slice of a move over any interval of dt, `Pose·encloseMatrix`, and of a box of points, `Pose·enclosePoint`. Definitions only.
--- Every interval is judged as it is formed, and the first number met is carried along. A slice works translation, slerp, scale, rotation, product, product, moved point.
--- The move's constants have equal ends (`IntervalVector·point` and its like).
+-- The steps read in intervals: the slice of a move over any interval of dt, `Pose·encloseMatrix`, and of a box of points, `Pose·enclosePoint`.
+-- Definitions only. Every interval is judged as it is formed, and the first number met is carried along. A slice works translation, slerp,
+-- scale, rotation, product, product, moved point. The move's constants have equal ends (`IntervalVector·point` and its like).
 use Prim.Native.Nat.{ℕ}
 use mathlib.Core.Bool.{Bool, true, false}
 use mathlib.Core.List.{List, [], _∷_, _++_}
@@ -82,10 +82,12 @@ IntervalMatrix·point m = record { r0 = IntervalRow·point (m .r0); r1 = Interva
 
 -- ---- the stages, with the names of `Pose·translation` and its like; `met` is the number met before
 unfoldable pub Pose·encloseTranslation : ℕ → IntervalVector → IntervalVector → Interval → JudgedVector
-Pose·encloseTranslation met t0 t1 dt = JudgedVector·of (Program·enclose (enclosure met (IntervalVector·list t0 ++ IntervalVector·list t1 ++ dt ∷ [])) translationStage)
+Pose·encloseTranslation met t0 t1 dt =
+    JudgedVector·of (Program·enclose (enclosure met (IntervalVector·list t0 ++ IntervalVector·list t1 ++ dt ∷ [])) translationStage)
 
 unfoldable pub Pose·encloseSlerpNear : ℕ → IntervalQuaternion → IntervalQuaternion → Interval → JudgedQuaternion
-Pose·encloseSlerpNear met q1 q2 t = JudgedQuaternion·of (Program·enclose (enclosure met (IntervalQuaternion·list q1 ++ IntervalQuaternion·list q2 ++ t ∷ [])) slerpNearStage)
+Pose·encloseSlerpNear met q1 q2 t =
+    JudgedQuaternion·of (Program·enclose (enclosure met (IntervalQuaternion·list q1 ++ IntervalQuaternion·list q2 ++ t ∷ [])) slerpNearStage)
 
 unfoldable pub Pose·encloseSlerpFar : ℕ → IntervalQuaternion → IntervalQuaternion → Interval → Interval → Interval → JudgedQuaternion
 Pose·encloseSlerpFar met q1 q2 cosθ θ t =

@@ -95,7 +95,8 @@ abbrev pub NarrowerVector : JudgedVector → JudgedVector → Type 0
 NarrowerVector j j' = NarrowerAll (enclosure (j .refusal) (IntervalVector·list (j .vector))) (enclosure (j' .refusal) (IntervalVector·list (j' .vector)))
 
 abbrev pub NarrowerQuaternion : JudgedQuaternion → JudgedQuaternion → Type 0
-NarrowerQuaternion j j' = NarrowerAll (enclosure (j .refusal) (IntervalQuaternion·list (j .quaternion))) (enclosure (j' .refusal) (IntervalQuaternion·list (j' .quaternion)))
+NarrowerQuaternion j j' =
+    NarrowerAll (enclosure (j .refusal) (IntervalQuaternion·list (j .quaternion))) (enclosure (j' .refusal) (IntervalQuaternion·list (j' .quaternion)))
 
 abbrev pub NarrowerRow : JudgedRow → JudgedRow → Type 0
 NarrowerRow j j' = NarrowerAll (enclosure (j .refusal) (IntervalRow·list (j .row))) (enclosure (j' .refusal) (IntervalRow·list (j' .row)))

@@ -1,7 +1,8 @@
 // pbrt's Quaternion: a vector and a scalar, which rotates where its length is 1. Nothing is refused here: each function is stated for all arguments, NaN and
 // infinities included, and the functions that build and that answer queries judge what comes out.
 ghost use mathlib.Core.Path.{_≡_};
-ghost use Rattle.quaternion.specs.Quaternion.{Quaternion·dot, Quaternion·normalize, Quaternion·add, Quaternion·sub, Quaternion·neg, Quaternion·mul, Quaternion·div};
+ghost use Rattle.quaternion.specs.Quaternion.{Quaternion·dot, Quaternion·normalize, Quaternion·add};
+ghost use Rattle.quaternion.specs.Quaternion.{Quaternion·sub, Quaternion·neg, Quaternion·mul, Quaternion·div};
 ghost use Rattle.quaternion.specs.IsFinite.{Quaternion·isFinite};
 ghost use Rattle.quaternion.specs.Slerp.{slerpNear, slerpFar, Quaternion·slerp};
 use vector3::Vector3f;

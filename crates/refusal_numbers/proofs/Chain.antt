@@ -86,8 +86,10 @@ kind-number false poses = inl refl
 checks-number : (rigid : Bool) (poses : List Pose) → Number rigid (chainRefusal rigid poses)
 unfolding chainRefusal
 checks-number rigid poses =
-    let pose-stage : (k : ℕ) → eqb k 17 ≡ false → Number rigid (stage (Pose·number k) poses) = λ k e. stage-number rigid (Pose·number k) poses (pose-number rigid k e) in
-    let pair-stage : (k : ℕ) → Number rigid (stage (Pair·number k) (neighbours poses)) = λ k. stage-number rigid (Pair·number k) (neighbours poses) (pair-number rigid k) in
+    let pose-stage : (k : ℕ) → eqb k 17 ≡ false → Number rigid (stage (Pose·number k) poses) =
+    λ k e. stage-number rigid (Pose·number k) poses (pose-number rigid k e) in
+    let pair-stage : (k : ℕ) → Number rigid (stage (Pair·number k) (neighbours poses)) =
+    λ k. stage-number rigid (Pair·number k) (neighbours poses) (pair-number rigid k) in
     let count = chosen (Number rigid) (ltb (length poses) minPoses || ltb maxPoses (length poses)) 12 0 (twelve rigid) (inl refl) in
     first-number rigid (chainStages rigid poses)
     (pose-stage 1 refl, (pose-stage 2 refl, (pose-stage 16 refl, (count, (pair-stage 12, (pair-stage 3, (kind-number rigid poses, tt)))))))

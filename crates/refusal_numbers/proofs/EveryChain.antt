@@ -1,4 +1,5 @@
--- Building a chain and asking it, also as its caller keeps it, give documents 01's and 02's numbers alone, and an accepted cover's corners are finite and in order:
+-- Building a chain and asking it, also as its caller keeps it, give documents 01's and 02's numbers alone,
+-- and an accepted cover's corners are finite and in order:
 -- `every-chain-answer`.
 use Rattle.motion_chain.proofs.Cover.{chain-cover-proper}
 use Rattle.motion_chain.proofs.Numbers.{chain-cover-numbered}

@@ -146,7 +146,8 @@ from-moves-not (a ∷ answers) h = tested-not (stage (λ x. x .refusal) (a ∷ a
 
 pub chain-affine : (poses : List Pose) → T (every Pose·isAffine poses) → Not2 (ChainAnswer·refusal (Chain·new false poses))
 unfolding Chain·new
-chain-affine poses h = let each = affine-each poses h in tested-not (chainRefusal false poses) _ (checks-not poses each) (from-moves-not _ (moves-not poses each))
+chain-affine poses h = let each = affine-each poses h in
+    tested-not (chainRefusal false poses) _ (checks-not poses each) (from-moves-not _ (moves-not poses each))
 
 building-number : {n : ℕ} → OneOf n (0 ∷ 1 ∷ 2 ∷ 3 ∷ 4 ∷ 5 ∷ 12 ∷ 16 ∷ []) → Not2 n → Number n
 building-number (inl e) h = inl e

@@ -106,7 +106,8 @@ module _ (bytes : List ℕ) where
   unfolding ChainAnswer·text
   refused-text n e = rw e
 
-  boxed : (c : Chain) → answer ≡ built c → (Bounds3f·refusal (boxOf bytes) ≡ 0 → ⊥) → ChainAnswer·text answer (boxOf bytes) ≡ refusalText (Bounds3f·refusal (boxOf bytes))
+  boxed : (c : Chain) → answer ≡ built c → (Bounds3f·refusal (boxOf bytes) ≡ 0 → ⊥)
+      → ChainAnswer·text answer (boxOf bytes) ≡ refusalText (Bounds3f·refusal (boxOf bytes))
   unfolding ChainAnswer·text boxedText
   boxed c e h = rw (e, ne-eqb (Bounds3f·refusal (boxOf bytes)) 0 h)
 

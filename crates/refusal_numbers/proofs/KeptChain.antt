@@ -1,4 +1,5 @@
--- The queries of a kept chain, whatever its rows, give the chain's numbers, and 12 where there are no moves: `rows-point-numbered`, `rows-points-numbered`, `rows-cover-numbered`.
+-- The queries of a kept chain, whatever its rows, give the chain's numbers, and 12 where there are no moves:
+-- `rows-point-numbered`, `rows-points-numbered`, `rows-cover-numbered`.
 use Prim.Native.Nat.{ℕ}
 use mathlib.Core.Path.{_≡_, refl}
 use mathlib.Core.Bool.{Bool, true, false, cond}
@@ -50,7 +51,8 @@ points-numbered numbers query z h (t ∷ times) = cons-numbered numbers (query t
 abbrev numbers : List ℕ
 numbers = 0 ∷ 5 ∷ 6 ∷ 12 ∷ 13 ∷ []
 
-pub rows-points-numbered : (rows : List Rows) (times : List Float) (p : Point3f) (places : ℕ) → PointsAnswer·Numbered numbers (Moves·transformPoints rows times p places)
+pub rows-points-numbered : (rows : List Rows) (times : List Float) (p : Point3f) (places : ℕ)
+    → PointsAnswer·Numbered numbers (Moves·transformPoints rows times p places)
 unfolding Moves·transformPoints
 rows-points-numbered rows times p places =
     cond-keeps (PointsAnswer·Numbered numbers) (eqb (length rows) 0) (refused 12) _
@@ -63,7 +65,8 @@ rows-points-numbered rows times p places =
     worked : PointsAnswer·Numbered numbers (pointsAt query times)
     worked =
         points-numbered numbers query (inl refl)
-        (λ t. let h = rows-point-numbered rows t p in record { number = more (PointAnswer·refusal (query t)) (0 ∷ 5 ∷ 6 ∷ 12 ∷ []) (13 ∷ []) (h .number); none = h .none })
+        (λ t. let h = rows-point-numbered rows t p in
+        record { number = more (PointAnswer·refusal (query t)) (0 ∷ 5 ∷ 6 ∷ 12 ∷ []) (13 ∷ []) (h .number); none = h .none })
         times
 
     wider : {n : ℕ} → OneOf n (0 ∷ 6 ∷ 13 ∷ []) → OneOf n numbers

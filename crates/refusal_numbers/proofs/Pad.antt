@@ -1,4 +1,5 @@
--- The numbers of the pad query, of a move, `pad-numbered`, of a chain, `chain-pad-numbered`, and of what is kept of either, whatever the rows: `rows-pad-numbered`, `kept-pad-numbered`.
+-- The numbers of the pad query, of a move, `pad-numbered`, of a chain, `chain-pad-numbered`, and of what is kept of either, whatever the rows:
+-- `rows-pad-numbered`, `kept-pad-numbered`.
 use mathlib.Core.Path.{refl}
 use mathlib.Core.Logic.{inl, inr}
 use mathlib.Core.List.{List, [], _∷_}

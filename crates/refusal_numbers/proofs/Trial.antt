@@ -1,4 +1,5 @@
--- A pose that is tried gives building's numbers, a cover's and 19 alone, of a chain, `trial-numbered`, and of a kept chain, whatever its rows: `rows-trial-numbered`.
+-- A pose that is tried gives building's numbers, a cover's and 19 alone, of a chain, `trial-numbered`, and of a kept chain, whatever its rows:
+-- `rows-trial-numbered`.
 use Prim.Native.Nat.{ℕ, _-_}
 use mathlib.Core.Path.{_≡_, refl, sym, ap}
 use mathlib.Core.Bool.{Bool, true, false, _&&_, _||_, cond, false≢true}
@@ -103,10 +104,14 @@ beside-numbered rigid rows place b depth (built d) h =
     let after = sets rows (place - 1) (Chain·toRows d) in
     let k = rows-cover-numbered after b depth in
     let asked : List ℕ = 0 ∷ 5 ∷ 6 ∷ 7 ∷ 8 ∷ 10 ∷ 12 ∷ [] in
-    record { number = wider (BoundsAnswer·refusal (Moves·cover after b depth)) asked (trialNumbers rigid) (among rigid asked tt tt) (k .number); none = k .none }
+    record {
+      number = wider (BoundsAnswer·refusal (Moves·cover after b depth)) asked (trialNumbers rigid) (among rigid asked tt tt) (k .number);
+      none = k .none;
+    }
 beside-numbered rigid rows place b depth (refused n) h = refused-numbered rigid n h
 
-pub rows-trial-numbered : (rows : List Rows) (place : ℕ) (p : Pose) (b : Bounds3f) (depth : ℕ) → Numbered (Chain·isRigid (Moves·chain rows)) (Moves·try rows place p b depth)
+pub rows-trial-numbered : (rows : List Rows) (place : ℕ) (p : Pose) (b : Bounds3f) (depth : ℕ)
+    → Numbered (Chain·isRigid (Moves·chain rows)) (Moves·try rows place p b depth)
 unfolding Moves·try
 rows-trial-numbered rows place p b depth = go (leb (posesIn rows) place) (ltb maxPoses (posesIn rows))
   where

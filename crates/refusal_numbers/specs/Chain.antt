@@ -1,5 +1,6 @@
--- What is promised of every answer about a chain: which numbers building, the point query, also with a list of times, the pad query and the cover query, also of a set of boxes, of a pose that is tried and of a window, give, joining two kept chains, and the windows of two, 0 being none,
--- and that an accepted cover's corners are finite and in order; and the same of a kept chain, whatever its rows. The statement of `every-chain-answer`.
+-- What is promised of every answer about a chain: which numbers building, the point query, also with a list of times, the pad query and the cover query,
+-- also of a set of boxes, of a pose that is tried and of a window, give, joining two kept chains, and the windows of two, 0 being none, and that an
+-- accepted cover's corners are finite and in order; and the same of a kept chain, whatever its rows. The statement of `every-chain-answer`.
 use Prim.Native.Nat.{ℕ}
 use mathlib.Core.Path.{_≡_}
 use mathlib.Core.Bool.{Bool}
@@ -49,30 +50,38 @@ buildingNumbers rigid = 0 ∷ 1 ∷ 2 ∷ 3 ∷ 4 ∷ 5 ∷ 12 ∷ 16 ∷ kindNu
 abbrev pub trialNumbers : Bool → List ℕ
 trialNumbers rigid = 0 ∷ 1 ∷ 2 ∷ 3 ∷ 4 ∷ 5 ∷ 6 ∷ 7 ∷ 8 ∷ 10 ∷ 12 ∷ 16 ∷ 19 ∷ kindNumbers rigid
 
--- document 01's numbers, and document 02's: 12 and 16 of building, 17 and 18 of building as rigid, 13 of a list of times, 14 of a set and of rows, 19 of a place, 20 of joining, 21 of ticks, 22 of a day
+-- document 01's numbers, and document 02's: 12 and 16 of building, 17 and 18 of building as rigid, 13 of a list of times,
+-- 14 of a set and of rows, 19 of a place, 20 of joining, 21 of ticks, 22 of a day
 pub record EveryChainAnswer : Type 0 where
   pub building : (rigid : Bool) (poses : List Pose) → ChainAnswer·Numbered (buildingNumbers rigid) (Chain·new rigid poses)
   pub point : (c : Chain) (time : Float) (p : Point3f) → PointAnswer·Numbered (0 ∷ 5 ∷ 6 ∷ []) (Chain·transformPoint c time p)
   pub pad : (c : Chain) (time : Float) → PadAnswer·Numbered (0 ∷ 5 ∷ 6 ∷ []) (Chain·pad c time)
-  pub points : (c : Chain) (times : List Float) (p : Point3f) (places : ℕ) → PointsAnswer·Numbered (0 ∷ 5 ∷ 6 ∷ 13 ∷ []) (Chain·transformPoints c times p places)
+  pub points : (c : Chain) (times : List Float) (p : Point3f) (places : ℕ)
+      → PointsAnswer·Numbered (0 ∷ 5 ∷ 6 ∷ 13 ∷ []) (Chain·transformPoints c times p places)
   pub cover : (c : Chain) (b : Bounds3f) (depth : ℕ) → BoundsAnswer·Numbered (0 ∷ 5 ∷ 6 ∷ 7 ∷ 8 ∷ 10 ∷ []) (Chain·cover c b depth)
   pub proper : {c : Chain} → BuiltChain c → (b : Bounds3f) (depth : ℕ) → Proper (Chain·cover c b depth)
   pub set : (c : Chain) (boxes : List Bounds3f) (depth : ℕ) → SetAnswer·Numbered (0 ∷ 5 ∷ 6 ∷ 7 ∷ 8 ∷ 10 ∷ 14 ∷ []) (Chain·covers c boxes depth)
-  pub trial : (c : Chain) (place : ℕ) (p : Pose) (b : Bounds3f) (depth : ℕ) → BoundsAnswer·Numbered (trialNumbers (Chain·isRigid c)) (Chain·try c place p b depth)
+  pub trial : (c : Chain) (place : ℕ) (p : Pose) (b : Bounds3f) (depth : ℕ)
+      → BoundsAnswer·Numbered (trialNumbers (Chain·isRigid c)) (Chain·try c place p b depth)
   -- the shortest refused stretch, whatever the poses
   pub run : (rigid : Bool) (poses : List Pose) → OneOf (shortestRun rigid poses .refusal) (0 ∷ 12 ∷ [])
-  pub window-cover : (c : Chain) (b : Bounds3f) (depth : ℕ) (w : Window) → BoundsAnswer·Numbered (0 ∷ 5 ∷ 6 ∷ 7 ∷ 8 ∷ 10 ∷ 21 ∷ []) (Chain·windowCover c b depth w)
-  pub windows : (c c' : Chain) (b b' : Bounds3f) (depth : ℕ) (ticks : List Float) → WindowsAnswer·Numbered (0 ∷ 5 ∷ 6 ∷ 7 ∷ 8 ∷ 10 ∷ 21 ∷ []) (Chain·windows c c' b b' depth ticks)
+  pub window-cover : (c : Chain) (b : Bounds3f) (depth : ℕ) (w : Window)
+      → BoundsAnswer·Numbered (0 ∷ 5 ∷ 6 ∷ 7 ∷ 8 ∷ 10 ∷ 21 ∷ []) (Chain·windowCover c b depth w)
+  pub windows : (c c' : Chain) (b b' : Bounds3f) (depth : ℕ) (ticks : List Float)
+      → WindowsAnswer·Numbered (0 ∷ 5 ∷ 6 ∷ 7 ∷ 8 ∷ 10 ∷ 21 ∷ []) (Chain·windows c c' b b' depth ticks)
   -- the same queries of a kept chain, whatever its rows: no moves are 12
   pub rows-point : (rows : List Rows) (time : Float) (p : Point3f) → PointAnswer·Numbered (0 ∷ 5 ∷ 6 ∷ 12 ∷ []) (Moves·transformPoint rows time p)
   pub rows-pad : (rows : List Rows) (time : Float) → PadAnswer·Numbered (0 ∷ 5 ∷ 6 ∷ 12 ∷ []) (Moves·pad rows time)
-  pub rows-points : (rows : List Rows) (times : List Float) (p : Point3f) (places : ℕ) → PointsAnswer·Numbered (0 ∷ 5 ∷ 6 ∷ 12 ∷ 13 ∷ []) (Moves·transformPoints rows times p places)
+  pub rows-points : (rows : List Rows) (times : List Float) (p : Point3f) (places : ℕ)
+      → PointsAnswer·Numbered (0 ∷ 5 ∷ 6 ∷ 12 ∷ 13 ∷ []) (Moves·transformPoints rows times p places)
   pub rows-cover : (rows : List Rows) (b : Bounds3f) (depth : ℕ) → BoundsAnswer·Numbered (0 ∷ 5 ∷ 6 ∷ 7 ∷ 8 ∷ 10 ∷ 12 ∷ []) (Moves·cover rows b depth)
   pub rows-set : (rows : List Rows) (boxes : List (List Float)) (depth : ℕ)
       → SetAnswer·Numbered (0 ∷ 5 ∷ 6 ∷ 7 ∷ 8 ∷ 10 ∷ 12 ∷ 14 ∷ []) (Moves·covers rows boxes depth)
-  pub rows-trial : (rows : List Rows) (place : ℕ) (p : Pose) (b : Bounds3f) (depth : ℕ) → BoundsAnswer·Numbered (trialNumbers (Chain·isRigid (Moves·chain rows))) (Moves·try rows place p b depth)
+  pub rows-trial : (rows : List Rows) (place : ℕ) (p : Pose) (b : Bounds3f) (depth : ℕ)
+      → BoundsAnswer·Numbered (trialNumbers (Chain·isRigid (Moves·chain rows))) (Moves·try rows place p b depth)
   pub rows-join : (first second : List Rows) → OneOf (Moves·joinRefusal first second) (0 ∷ 12 ∷ 20 ∷ [])
-  pub rows-window-cover : (rows : List Rows) (b : Bounds3f) (depth : ℕ) (w : Window) → BoundsAnswer·Numbered (0 ∷ 5 ∷ 6 ∷ 7 ∷ 8 ∷ 10 ∷ 12 ∷ 21 ∷ []) (Moves·windowCover rows b depth w)
+  pub rows-window-cover : (rows : List Rows) (b : Bounds3f) (depth : ℕ) (w : Window)
+      → BoundsAnswer·Numbered (0 ∷ 5 ∷ 6 ∷ 7 ∷ 8 ∷ 10 ∷ 12 ∷ 21 ∷ []) (Moves·windowCover rows b depth w)
   pub rows-windows : (rows rows' : List Rows) (b b' : Bounds3f) (depth : ℕ) (ticks : List Float)
       → WindowsAnswer·Numbered (0 ∷ 5 ∷ 6 ∷ 7 ∷ 8 ∷ 10 ∷ 12 ∷ 21 ∷ []) (Moves·windows rows rows' b b' depth ticks)
   -- a day of booms

@@ -1,5 +1,5 @@
--- What is promised of every answer about a move file that is written: which numbers the writer gives, 0 being none, whatever the rows, the box and the buffer, and with which the program
--- `rewrite` refuses a file, whatever its bytes. The statement of `every-file-answer`.
+-- What is promised of every answer about a move file that is written: which numbers the writer gives, 0 being none, whatever the rows,
+-- the box and the buffer, and with which the program `rewrite` refuses a file, whatever its bytes. The statement of `every-file-answer`.
 use Prim.Native.Nat.{ℕ}
 use mathlib.Core.Path.{_≡_}
 use mathlib.Core.List.{List, [], _∷_}

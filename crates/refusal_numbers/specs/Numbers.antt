@@ -1,7 +1,7 @@
--- Any move handed in, of either kind, whatever numbers are in it, is built or refused by one of document 01's numbers, 16, or as rigid 17 or 18, and so are every query and, with document 02's 12,
--- every file: `EveryAnswer`, on one page. 0 is none: no refusal carries it, and after a refusal every other number is +0 and every yes or no is no. The
--- structs, rows and arguments are all structs, rows and arguments; the search of a motion box, the polar rounds and the slices end because their functions
--- are proved to. The statement of `every-answer`.
+-- Any move handed in, of either kind, whatever numbers are in it, is built or refused by one of document 01's numbers, 16, or as rigid 17
+-- or 18, and so are every query and, with document 02's 12, every file: `EveryAnswer`, on one page. 0 is none: no refusal carries it, and
+-- after a refusal every other number is +0 and every yes or no is no. The structs, rows and arguments are all structs, rows and arguments;
+-- the search of a motion box, the polar rounds and the slices end because their functions are proved to. The statement of `every-answer`.
 use Prim.Native.Nat.{ℕ}
 use mathlib.Core.Path.{_≡_}
 use mathlib.Core.Bool.{Bool}
@@ -41,8 +41,8 @@ pub record PadAnswer·Numbered (numbers : List ℕ) (a : PadAnswer) : Type 0 whe
   pub number : OneOf (PadAnswer·refusal a) numbers
   pub none : PadAnswer·refusal a ≡ 0 → (pad : Float) × (a ≡ Pad pad)
 
--- Of a motion box likewise: its number is one of those listed, and where it is 0 there is a box with its counts. (After a refusal the box is +0 and the counts are 0,
--- by `MotionBoundsAnswer·bounds` and `MotionBoundsAnswer·examined`.)
+-- Of a motion box likewise: its number is one of those listed, and where it is 0 there is a box with its counts. (After
+-- a refusal the box is +0 and the counts are 0, by `MotionBoundsAnswer·bounds` and `MotionBoundsAnswer·examined`.)
 pub record MotionBoundsAnswer·Numbered (numbers : List ℕ) (a : MotionBoundsAnswer) : Type 0 where
   pub number : OneOf (MotionBoundsAnswer·refusal a) numbers
   pub none : MotionBoundsAnswer·refusal a ≡ 0 → a ≡ Bounds (MotionBoundsAnswer·bounds a) (MotionBoundsAnswer·examined a)

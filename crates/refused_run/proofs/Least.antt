@@ -1,5 +1,5 @@
--- The least number below a bound that passes a test: none below it passes (`least-below`), it passes itself where it is below the bound (`least-passes`), and any that passes is not below
--- it (`least-first`); it is told by these (`least-is`).
+-- The least number below a bound that passes a test: none below it passes (`least-below`), it passes itself where it is below the bound (`least-passes`),
+-- and any that passes is not below it (`least-first`); it is told by these (`least-is`).
 use Prim.Native.Nat.{ℕ, zero, suc, _≤_, _<_}
 use mathlib.Core.Path.{_≡_, refl, ap}
 use mathlib.Core.Bool.{Bool, true, false, not, cond}

@@ -1,5 +1,5 @@
--- Runs of lent poses as the code goes over them: a run's number, `one-pose` and `other-run`; a search from left to right that has found a place, `found-at`, has missed one more,
--- `missed-next`, or has missed all, `found-none`; runs of one length, then of another, `first-found` and `first-missed`.
+-- Runs of lent poses as the code goes over them: a run's number, `one-pose` and `other-run`; a search from left to right that has found a place,
+-- `found-at`, has missed one more, `missed-next`, or has missed all, `found-none`; runs of one length, then of another, `first-found` and `first-missed`.
 use Prim.Native.Nat.{ℕ, zero, suc, _+_, _-_, _≤_, _<_}
 use mathlib.Core.Path.{_≡_, refl, sym, ap, _∙_}
 use mathlib.Core.Bool.{Bool, true, false, not}
@@ -20,13 +20,15 @@ use Rattle.refused_run.specs.means.Tried.{firstOf}
 use Rattle.refused_run.proofs.Least.{least-is}
 
 -- ---- a run's number
-pub one-pose : (rigid : Bool) (lists : List (List Float)) → length lists ≡ 1 → Move·number rigid (Pose·ofList (getD lists 0 []), Pose·ofList (getD lists 0 [])) ≡ runNumber rigid (Poses·ofLists lists)
+pub one-pose : (rigid : Bool) (lists : List (List Float)) → length lists ≡ 1
+    → Move·number rigid (Pose·ofList (getD lists 0 []), Pose·ofList (getD lists 0 [])) ≡ runNumber rigid (Poses·ofLists lists)
 unfolding runNumber Poses·ofLists
 one-pose rigid [] e = absurd (omega (arith, e))
 one-pose rigid (x ∷ []) e = refl
 one-pose rigid (x ∷ y ∷ lists) e = absurd (omega (arith, e))
 
-pub other-run : (rigid : Bool) (lists : List (List Float)) → (length lists ≡ 1 → ⊥) → Chain·number rigid (Poses·ofLists lists) ≡ runNumber rigid (Poses·ofLists lists)
+pub other-run : (rigid : Bool) (lists : List (List Float)) → (length lists ≡ 1 → ⊥)
+    → Chain·number rigid (Poses·ofLists lists) ≡ runNumber rigid (Poses·ofLists lists)
 unfolding runNumber Poses·ofLists
 other-run rigid [] f = refl
 other-run rigid (x ∷ []) f = absurd (f refl)
@@ -105,5 +107,6 @@ module _ (rigid : Bool) (lists : List (List Float)) (n short long : ℕ) {place 
   first-missed h e =
       let l = poses-length lists in
       let none = not-T (hasRun rigid (Poses·ofLists lists) n short)
-      (λ t. let k = ltb→lt (leftmostPlace rigid (Poses·ofLists lists) n short) (runPlaces (length (Poses·ofLists lists)) short) t in omega (arith, h, k, first, all, l)) in
+      (λ t. let k = ltb→lt (leftmostPlace rigid (Poses·ofLists lists) n short) (runPlaces (length (Poses·ofLists lists)) short) t in
+      omega (arith, h, k, first, all, l)) in
       rw (is-false (hasRun rigid (Poses·ofLists lists) n short) none, e)

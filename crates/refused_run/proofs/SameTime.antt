@@ -1,4 +1,5 @@
--- A move from a pose to itself, at its time, is not refused for its times: `same-time`. A finite time is not below itself (`not-below-itself`), and less itself it is zero (`difference-finite`).
+-- A move from a pose to itself, at its time, is not refused for its times: `same-time`. A finite time is not below itself (`not-below-itself`),
+-- and less itself it is zero (`difference-finite`).
 use Prim.Native.Nat.{ℕ, _+_, _*_}
 use native.Mathlib.Nat.{zero-lt-suc, mul-pos}
 use native.Mathlib.Omega.{arith}

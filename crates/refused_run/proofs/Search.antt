@@ -1,5 +1,6 @@
--- The run that the definition finds in a refused chain is the shortest with its number, and the leftmost among equals: `shortest-with`. It is one of one pose, or else of two: `first-of-two`,
--- so that the code's answer is the definition's, `found-clauses`; what it gives otherwise, `accepted-clauses` and `twelve-clauses`. Whatever the poses, the run lies among them, `run-within`, and its number is 0 or 12, `run-refusal`.
+-- The run that the definition finds in a refused chain is the shortest with its number, and the leftmost among equals: `shortest-with`. It is
+-- one of one pose, or else of two: `first-of-two`, so that the code's answer is the definition's, `found-clauses`; what it gives otherwise,
+-- `accepted-clauses` and `twelve-clauses`. Whatever the poses, the run lies among them, `run-within`, and its number is 0 or 12, `run-refusal`.
 use Prim.Native.Nat.{ℕ, zero, suc, _+_, _≤_, _<_}
 use mathlib.Core.Path.{_≡_, refl, sym, ap, _∙_}
 use mathlib.Core.Bool.{Bool, true, false, not, cond}
@@ -128,7 +129,8 @@ module _ (rigid : Bool) (poses : List Pose) (n : ℕ) where
     unfolding firstOf
     first-of-two = go (has 1) (λ h. h) (λ h. h)
       where
-        go : (b : Bool) → (T b → T (has 1)) → (T (not b) → T (not (has 1))) → cond b (leftmostRun rigid poses n 1) (leftmostRun rigid poses n 2) ≡ leftmostRun rigid poses n best
+        go : (b : Bool) → (T b → T (has 1)) → (T (not b) → T (not (has 1)))
+            → cond b (leftmostRun rigid poses n 1) (leftmostRun rigid poses n 2) ≡ leftmostRun rigid poses n best
         go true h none = ap (leftmostRun rigid poses n) (sym (one (h tt)))
         go false h none = ap (leftmostRun rigid poses n) (sym (two (none tt)))
 
@@ -153,7 +155,8 @@ module _ (rigid : Bool) (poses : List Pose) {n : ℕ} (same : n ≡ Chain·numbe
       let f' : number ≡ 0 → ⊥ = λ z. f (same ∙ z) in
       let g' : number ≡ 12 → ⊥ = λ z. g (same ∙ z) in
       let s = short-run rigid poses f' g' in
-      let first : r ≡ leftmostRun rigid poses number (shortestLength rigid poses number) = e ∙ (ap (λ k. firstOf rigid poses k 1 2) same ∙ first-of-two rigid poses number g' s) in
+      let first : r ≡ leftmostRun rigid poses number (shortestLength rigid poses number) =
+      e ∙ (ap (λ k. firstOf rigid poses k 1 2) same ∙ first-of-two rigid poses number g' s) in
       (first ∙ rw (ne-eqb number 0 f', ne-eqb number 12 g'), λ _ _. rw first (shortest-with rigid poses number g' s))
 
 -- ---- for all poses

@@ -1,5 +1,6 @@
--- Every chain that is refused with a number but 12 has a run of one pose or of two with that number: `short-run`. Where a check refuses a pose by itself, that pose alone has the number
--- (`self-number`); where it refuses two neighbours, or a move is refused, these two have it (`pair-number`), since they pass all that comes before.
+-- Every chain that is refused with a number but 12 has a run of one pose or of two with that number: `short-run`.
+-- Where a check refuses a pose by itself, that pose alone has the number (`self-number`); where it refuses two
+-- neighbours, or a move is refused, these two have it (`pair-number`), since they pass all that comes before.
 use Prim.Native.Nat.{ℕ, suc, _+_, _≤_, _<_}
 use mathlib.Core.Path.{_≡_, refl, sym, ap, _∙_}
 use mathlib.Core.Bool.{Bool, true, false, not, _&&_, _||_, cond}
@@ -67,7 +68,8 @@ own-times : (p : Pose) → Cleared p → timesRefusal (p .time) (p .time) ≡ 0
 unfolding Pose·number Pose·isFinite
 own-times p c =
     let finites = passed (Pose·isFinite p) (c .finite) in
-    same-time (p .time) (and-l (finite (p .time)) (Matrix4x4·isFinite (Matrix4x4·toRows (p .m))) (and-l (finite (p .time) && Matrix4x4·isFinite (Matrix4x4·toRows (p .m))) (finite (p .pad)) finites))
+    same-time (p .time) (and-l (finite (p .time)) (Matrix4x4·isFinite (Matrix4x4·toRows (p .m)))
+    (and-l (finite (p .time) && Matrix4x4·isFinite (Matrix4x4·toRows (p .m))) (finite (p .pad)) finites))
   where
     passed : (b : Bool) → _≡_ {A = ℕ} (cond b 0 1) 0 → T b
     passed true e = tt
@@ -104,7 +106,8 @@ module _ (rigid : Bool) where
         go false = refl
 
     -- 3, then 17 and 18, then what is worked
-    judged : (t k : ℕ) → cond (eqb (firstRefusal t k) 0) worked (AnimatedTransformAnswer·refused (firstRefusal t k)) .refusal ≡ firstRefusal t (firstRefusal k (worked .refusal))
+    judged : (t k : ℕ) → cond (eqb (firstRefusal t k) 0) worked
+        (AnimatedTransformAnswer·refused (firstRefusal t k)) .refusal ≡ firstRefusal t (firstRefusal k (worked .refusal))
     judged t k = go (eqb t 0) refl
       where
         last : (b : Bool) → cond b worked (AnimatedTransformAnswer·refused k) .refusal ≡ cond b (worked .refusal) k
@@ -121,7 +124,8 @@ module _ (rigid : Bool) where
     inOrder f a d k = firstRefusal (cond f 0 1) (firstRefusal (cond a 0 2) (firstRefusal (cond d 0 16) (firstRefusal times (firstRefusal k (worked .refusal)))))
 
     self-number : Move·number rigid (p, p)
-        ≡ firstRefusal (Pose·number 1 p) (firstRefusal (Pose·number 2 p) (firstRefusal (Pose·number 16 p) (firstRefusal times (firstRefusal kind (worked .refusal)))))
+        ≡ firstRefusal (Pose·number 1 p)
+        (firstRefusal (Pose·number 2 p) (firstRefusal (Pose·number 16 p) (firstRefusal times (firstRefusal kind (worked .refusal)))))
     unfolding AnimatedTransform·new posesRefusal Pose·number
     self-number =
         go (firstRefusal kind kind) (Pose·isFinite p) (Pose·isAffine p) (Pose·isPadded p)
@@ -191,7 +195,8 @@ unfolding kindStage Pose·number firstNumber
 pair-kind false p q h k = refl
 pair-kind true p q h k = rw (h, k)
 
-pair-kinds : (rigid : Bool) (poses : List Pose) → Each (λ p. Pose·kindNumber rigid p ≡ 0) poses → Each (λ (p, q). kindStage rigid (p ∷ q ∷ []) ≡ 0) (neighbours poses)
+pair-kinds : (rigid : Bool) (poses : List Pose) → Each (λ p. Pose·kindNumber rigid p ≡ 0) poses
+    → Each (λ (p, q). kindStage rigid (p ∷ q ∷ []) ≡ 0) (neighbours poses)
 unfolding neighbours
 pair-kinds rigid [] hs = tt
 pair-kinds rigid (p ∷ []) hs = tt

@@ -1,5 +1,5 @@
--- The shortest run of neighbouring poses that is refused as its chain is: `shortestRun`. Document 02, "The shortest refused stretch", whose words are quoted. The definition judges runs
--- of every length, "over a definition that builds each run". `rigid` is "the chain's kind". Definitions only.
+-- The shortest run of neighbouring poses that is refused as its chain is: `shortestRun`. Document 02, "The shortest refused stretch", whose words are quoted.
+-- The definition judges runs of every length, "over a definition that builds each run". `rigid` is "the chain's kind". Definitions only.
 use Prim.Native.Nat.{ℕ, zero, suc, _-_}
 use mathlib.Core.Bool.{Bool, cond}
 use mathlib.Core.List.{List, [], _∷_}
@@ -48,8 +48,8 @@ shortestLength rigid poses number = least (hasRun rigid poses number) (suc (leng
 unfoldable pub leftmostRun : Bool → List Pose → ℕ → ℕ → Run
 leftmostRun rigid poses number count = record { place = leftmostPlace rigid poses number count; length = count; refusal = 0 }
 
--- "For a chain refused with 1, 2, 3, 4, 5, 16, 17 or 18, give the shortest run of neighbouring poses, leftmost among equals, that is still refused with that number"; "an accepted chain
--- gives place and length 0, and one refused with 12 gives 12"
+-- "For a chain refused with 1, 2, 3, 4, 5, 16, 17 or 18, give the shortest run of neighbouring poses, leftmost among equals,
+-- that is still refused with that number"; "an accepted chain gives place and length 0, and one refused with 12 gives 12"
 unfoldable pub shortestRun : Bool → List Pose → Run
 shortestRun rigid poses =
     let number = Chain·number rigid poses in

@@ -1,5 +1,5 @@
--- What is promised of the run that a refused chain is answered: `ShortestRefused`. "No shorter run and no equal one further left has that refusal" (document 02, "The shortest refused
--- stretch"). Definitions only.
+-- What is promised of the run that a refused chain is answered: `ShortestRefused`. "No shorter run and no
+-- equal one further left has that refusal" (document 02, "The shortest refused stretch"). Definitions only.
 use Prim.Native.Nat.{ℕ, _+_, _≤_, _<_}
 use mathlib.Core.Path.{_≡_}
 use mathlib.Core.Bool.{Bool}

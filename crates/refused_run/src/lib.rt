@@ -73,8 +73,8 @@ fn first_of(rigid: bool, number: u8, short: usize, long: usize, poses: &[[f32; 1
     }
 }
 
-// The shortest run of neighbouring poses that is refused with the number of their chain, the leftmost among equals: its first place, from 0, and its length. Place and
-// length are 0 where the chain is accepted; refused with 12 where the chain is. Accuracy: exact.
+// The shortest run of neighbouring poses that is refused with the number of their chain, the leftmost among equals: its first place, from 0, and its length.
+// Place and length are 0 where the chain is accepted; refused with 12 where the chain is. Accuracy: exact.
 pub fn shortest_run(rigid: bool, poses: &[[f32; 18]]) -> Run
     ensures value { λ r. ⌜ r ≡ shortestRun rigid (Poses·ofLists (now (poses .entry))) ⌝ }
     ensures shortest { λ r. ⌜ ShortestRefused rigid (Poses·ofLists (now (poses .entry))) r ⌝ }

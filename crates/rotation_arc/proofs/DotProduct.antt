@@ -1,4 +1,5 @@
--- After the flip the dot product of two quaternions is at least 0 (`dot-after-flip`): negating the second changes the sign of the product, up to that of a zero (`dot-neg`).
+-- After the flip the dot product of two quaternions is at least 0 (`dot-after-flip`):
+-- negating the second changes the sign of the product, up to that of a zero (`dot-neg`).
 use mathlib.Core.Bool.{Bool, true, false, not, Bool·beq, cond}
 use lib.Dec.{T}
 use lib.IntN.{pos}
@@ -39,7 +40,8 @@ products-neg : (a b c d a' b' c' d' : Float)
 products-neg a b c d a' b' c' d' =
     rw (mul-neg a a', mul-neg b b', mul-neg c c', mul-neg d d') (sums (a ⊗ a') (b ⊗ b') (c ⊗ c') (d ⊗ d'))
   where
-    sums : (x y z w : Float) → T (finite (x ⊕ y ⊕ z ⊕ w)) → T (finite (neg x ⊕ neg y ⊕ neg z ⊕ neg w)) → Opposite (x ⊕ y ⊕ z ⊕ w) (neg x ⊕ neg y ⊕ neg z ⊕ neg w)
+    sums : (x y z w : Float) → T (finite (x ⊕ y ⊕ z ⊕ w)) → T (finite (neg x ⊕ neg y ⊕ neg z ⊕ neg w))
+        → Opposite (x ⊕ y ⊕ z ⊕ w) (neg x ⊕ neg y ⊕ neg z ⊕ neg w)
     sums x y z w f g =
         let f4 = add-terms (x ⊕ y ⊕ z) w f in
         let f3 = add-terms (x ⊕ y) z (f4 .left) in

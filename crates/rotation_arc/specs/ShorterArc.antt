@@ -1,4 +1,5 @@
--- The shorter arc between the rotations of two poses: a quaternion and its negative are one rotation, and the one nearer to the start's is taken. Definitions only.
+-- The shorter arc between the rotations of two poses: a quaternion and its negative are one rotation, and the one nearer to the start's is taken.
+-- Definitions only.
 use Prim.Native.Nat.{ℕ}
 use mathlib.Core.Bool.{_&&_, cond}
 use lib.Ieee.{Float, lt}

@@ -28,13 +28,15 @@ hull-of-four a b c p q r s = bounds-between c (bounds-between a p q) (bounds-bet
 
 -- x from a to b, y from c to d.
 module _ (f : Format) {a x b c y d l h : Float} (A : T (finite a)) (B : T (finite b)) (i : a ≼ x) (j : x ≼ b) (k : c ≼ y) (m : y ≼ d) where
-  pub mul-corners : T (finite c) → T (finite d) → Bounds l h (mul f a c) → Bounds l h (mul f a d) → Bounds l h (mul f b c) → Bounds l h (mul f b d) → Bounds l h (mul f x y)
+  pub mul-corners : T (finite c) → T (finite d) → Bounds l h (mul f a c) → Bounds l h (mul f a d)
+      → Bounds l h (mul f b c) → Bounds l h (mul f b d) → Bounds l h (mul f x y)
   mul-corners C D =
       let X = between-finite A B i j in
       let Y = between-finite C D k m in
       hull-of-four (mul-between-right f a A C Y D k m) (mul-between-right f b B C Y D k m) (mul-between-left f y A X B Y i j)
 
-  pub div-corners : T (positive c) → T (finite d) → Bounds l h (div f a c) → Bounds l h (div f a d) → Bounds l h (div f b c) → Bounds l h (div f b d) → Bounds l h (div f x y)
+  pub div-corners : T (positive c) → T (finite d) → Bounds l h (div f a c) → Bounds l h (div f a d)
+      → Bounds l h (div f b c) → Bounds l h (div f b d) → Bounds l h (div f x y)
   div-corners C D =
       let X = between-finite A B i j in
       let Y = above-positive C (between-finite (positive-finite c C) D k m) k in

@@ -3,7 +3,8 @@
 use mathlib.Core.Path.{_≡_, sym, ap, _∙_, subst}
 use mathlib.Core.Logic.{inl, inr}
 use Prim.Native.Nat.{ℕ, suc, _+_, _-_, _*_, _/_, _≤_, _<_, _^_}
-use native.Mathlib.Nat.{le-of-eq, lt-of-lt-of-le, lt-of-le-of-lt, lt-of-not-le, lt-irrefl, eq-or-lt-of-le, mul-le-mul, mul-le-mul-right, mul-lt-mul-of-pos-right, mul-pos, mul-div-cancel, zero-lt-suc, zero-add}
+use native.Mathlib.Nat.{le-of-eq, lt-of-lt-of-le, lt-of-le-of-lt, lt-of-not-le, lt-irrefl, eq-or-lt-of-le, mul-le-mul}
+use native.Mathlib.Nat.{mul-le-mul-right, mul-lt-mul-of-pos-right, mul-pos, mul-div-cancel, zero-lt-suc, zero-add}
 use native.Mathlib.Omega.{arith}
 use mathlib.Core.Bool.{true, false, true≢false}
 use lib.Dec.{lit<}
@@ -42,7 +43,8 @@ units-bits q k lo hi K =
 
     plain : q < 2 ^ 24 → (size (q * 2 ^ k) - 24) * 8388608 + q * 2 ^ k / 2 ^ (size (q * 2 ^ k) - 24) ≡ k * 8388608 + q
     plain l =
-        let z : size (q * 2 ^ k) ≡ 24 + k = size-exact 23 (q * 2 ^ k) k (rw (pow-add 2 23 k) (mul-le-mul-right (2 ^ k) lo)) (subst (λ (x : ℕ). q * 2 ^ k < x) (sym (pow-add 2 24 k)) (mul-lt-mul-of-pos-right l (pow-pos k))) in
+        let z : size (q * 2 ^ k) ≡ 24 + k = size-exact 23 (q * 2 ^ k) k (rw (pow-add 2 23 k) (mul-le-mul-right (2 ^ k) lo))
+        (subst (λ (x : ℕ). q * 2 ^ k < x) (sym (pow-add 2 24 k)) (mul-lt-mul-of-pos-right l (pow-pos k))) in
         ap (λ (x : ℕ). x * 8388608 + q * 2 ^ k / 2 ^ x) (ap (λ (x : ℕ). x - 24) z ∙ dropped k)
         ∙ ap (λ (x : ℕ). k * 8388608 + x) (mul-div-cancel q (pow-pos k))
       where
@@ -52,7 +54,8 @@ units-bits q k lo hi K =
     carried : q ≡ 2 ^ 24 → (size (q * 2 ^ k) - 24) * 8388608 + q * 2 ^ k / 2 ^ (size (q * 2 ^ k) - 24) ≡ k * 8388608 + q
     carried e =
         ap (λ (q : ℕ). (size (q * 2 ^ k) - 24) * 8388608 + q * 2 ^ k / 2 ^ (size (q * 2 ^ k) - 24)) e
-        ∙ (let z : size (2 ^ 24 * 2 ^ k) ≡ 25 + k = size-exact 24 (2 ^ 24 * 2 ^ k) k (le-of-eq (pow-add 2 24 k)) (subst (λ (x : ℕ). 2 ^ 24 * 2 ^ k < x) (sym (pow-add 2 25 k)) (mul-lt-mul-of-pos-right (lit< tt) (pow-pos k))) in
+        ∙ (let z : size (2 ^ 24 * 2 ^ k) ≡ 25 + k = size-exact 24 (2 ^ 24 * 2 ^ k) k (le-of-eq (pow-add 2 24 k))
+        (subst (λ (x : ℕ). 2 ^ 24 * 2 ^ k < x) (sym (pow-add 2 25 k)) (mul-lt-mul-of-pos-right (lit< tt) (pow-pos k))) in
         ap (λ (x : ℕ). x * 8388608 + 2 ^ 24 * 2 ^ k / 2 ^ x) (ap (λ (x : ℕ). x - 24) z ∙ dropped k)
         ∙ ap (λ (x : ℕ). (k + 1) * 8388608 + x) (ap (λ (x : ℕ). 2 ^ 24 * 2 ^ k / x) (pow-add 2 k 1) ∙ halved (2 ^ k) (pow-pos k))
         ∙ carry k ∙ ap (λ (x : ℕ). k * 8388608 + x) (sym e))

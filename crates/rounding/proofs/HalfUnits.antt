@@ -2,7 +2,8 @@
 -- apart, `SameHalves`: `round-same-halves`. It is what an integer algorithm needs whose last digit says only 'and something more' (a sticky digit).
 use mathlib.Core.Path.{_≡_, refl, sym, ap, ap₂, _∙_, subst}
 use Prim.Native.Nat.{ℕ, zero, suc, _+_, _-_, _*_, _/_, _%_, _≤_, _<_, _^_, compare, Ordering, Ordering·lt, Ordering·eq, Ordering·gt, zero-le}
-use native.Mathlib.Nat.{le-trans, le-of-eq, le-antisymm, lt-of-lt-of-le, lt-of-not-le, not-le-of-lt, mul-assoc, mul-comm, mul-pos, le-div-iff-mul-le, div-mul-le-self, div-add-mod', pow-suc}
+use native.Mathlib.Nat.{le-trans, le-of-eq, le-antisymm, lt-of-lt-of-le, lt-of-not-le, not-le-of-lt, mul-assoc}
+use native.Mathlib.Nat.{mul-comm, mul-pos, le-div-iff-mul-le, div-mul-le-self, div-add-mod', pow-suc}
 use native.Mathlib.Omega.{arith}
 use mathlib.Core.Bool.{Bool, not}
 use lib.Dec.{T, isLe, isEq, leb→le, nleb→lt, eqb→eq, eqb-refl, eqb}

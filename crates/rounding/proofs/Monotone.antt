@@ -56,7 +56,8 @@ both-zero : (a b c d : ℕ) → 0 < d → a * d + b * c ≤ 0 → a ≡ 0
 both-zero a b c d D h = elim (eq-zero-or-pos a) [ inl e ↦ e | inr p ↦ absurd (let q : 0 < a * d = mul-pos p D in omega arith) ]
 
 -- ±a / c ≤ ±b / d, so the rounded values are in that order too.
-pub round-mono : (f : Format) (s t : Bool) (a b c d : ℕ) → 0 < c → 0 < d → FractionLe (posPart s a) (negPart s a) c (posPart t b) (negPart t b) d → round f s a c ≼ round f t b d
+pub round-mono : (f : Format) (s t : Bool) (a b c d : ℕ) → 0 < c → 0 < d
+    → FractionLe (posPart s a) (negPart s a) c (posPart t b) (negPart t b) d → round f s a c ≼ round f t b d
 round-mono f false false a b c d C D h = rises f a c b d C D (omega arith)
 round-mono f true true a b c d C D h = falls f a c b d C D (omega arith)
 round-mono f true false a b c d C D h = ≼-trans (falls f a c 0 1 C one-pos (omega arith)) (≼-trans (minus-zero f) (rises f 0 1 b d one-pos D (omega arith)))

@@ -6,7 +6,8 @@ use mathlib.Core.Path.{_≡_, refl, sym, ap, _∙_, subst}
 use mathlib.Core.Logic.{_⊎_, inl, inr}
 use mathlib.Core.Bool.{false, _&&_}
 use Prim.Native.Nat.{ℕ, zero, suc, _+_, _-_, _*_, _/_, _%_, _≤_, _<_, _^_, compare, Ordering, Ordering·lt, Ordering·eq, Ordering·gt}
-use native.Mathlib.Nat.{le-trans, le-of-eq, le-of-lt, lt-of-le-of-lt, lt-of-lt-of-le, lt-irrefl, eq-zero-or-pos, mul-assoc, mul-comm, mul-le-mul-right, mul-lt-mul-of-pos-right, lt-of-mul-lt-mul-right, mod-lt, mul-pos, mul-div-cancel, le-div-iff-mul-le, div-add-mod'}
+use native.Mathlib.Nat.{le-trans, le-of-eq, le-of-lt, lt-of-le-of-lt, lt-of-lt-of-le, lt-irrefl, eq-zero-or-pos, mul-assoc, mul-comm, mul-le-mul-right}
+use native.Mathlib.Nat.{mul-lt-mul-of-pos-right, lt-of-mul-lt-mul-right, mod-lt, mul-pos, mul-div-cancel, le-div-iff-mul-le, div-add-mod'}
 use native.Mathlib.Omega.{arith}
 use lib.IntN.{pos, negsuc}
 use lib.Dec.{T, eqb, ltb, leb, ltb→lt, leb→le}
@@ -49,8 +50,10 @@ value-units f (fin s zero e) Y t v = record { digits = 0; exponent = 0; is = can
 value-units f (fin s (suc m) (pos k)) Y t v = record {
   digits = suc m;
   exponent = k + low f;
-  is = (let w = v .1 in let z : Y ≡ suc m * 2 ^ k * 2 ^ low f = omega arith in z) ∙ mul-assoc (suc m) (2 ^ k) (2 ^ low f) ∙ ap (λ (x : ℕ). suc m * x) (sym (pow-add 2 k (low f)));
-  few = ltb→lt (suc m) (2 ^ prec f) (and-r (eqb (suc m % 2) 1) (ltb (suc m) (2 ^ prec f)) (and-l (eqb (suc m % 2) 1 && ltb (suc m) (2 ^ prec f)) (leb 1 (2 ^ low f)) (and-l (eqb (suc m % 2) 1 && ltb (suc m) (2 ^ prec f) && leb 1 (2 ^ low f)) (ltb (suc m * 2 ^ k) (2 ^ suc (emax f) * 1)) t)));
+  is = (let w = v .1 in let z : Y ≡ suc m * 2 ^ k * 2 ^ low f = omega arith in z)
+      ∙ mul-assoc (suc m) (2 ^ k) (2 ^ low f) ∙ ap (λ (x : ℕ). suc m * x) (sym (pow-add 2 k (low f)));
+  few = ltb→lt (suc m) (2 ^ prec f) (and-r (eqb (suc m % 2) 1) (ltb (suc m) (2 ^ prec f)) (and-l (eqb (suc m % 2) 1 && ltb (suc m) (2 ^ prec f))
+      (leb 1 (2 ^ low f)) (and-l (eqb (suc m % 2) 1 && ltb (suc m) (2 ^ prec f) && leb 1 (2 ^ low f)) (ltb (suc m * 2 ^ k) (2 ^ suc (emax f) * 1)) t)));
 }
 value-units f (fin s (suc m) (negsuc k)) Y t v =
     let t₁ = and-l (eqb (suc m % 2) 1 && ltb (suc m) (2 ^ prec f) && leb (2 ^ suc k) (2 ^ low f)) (ltb (suc m * 1) (2 ^ suc (emax f) * 2 ^ suc k)) t in
@@ -60,12 +63,15 @@ value-units f (fin s (suc m) (negsuc k)) Y t v =
     record {
       digits = suc m;
       exponent = low f - suc k;
-      is = mul-cancel Y (suc m * 2 ^ (low f - suc k)) (2 ^ suc k) (pow-pos (suc k)) (sym (v .1) ∙ ap (λ (x : ℕ). suc m * 1 * x) e ∙ regroup (suc m) (2 ^ (low f - suc k)) (2 ^ suc k));
-      few = ltb→lt (suc m) (2 ^ prec f) (and-r (eqb (suc m % 2) 1) (ltb (suc m) (2 ^ prec f)) (and-l (eqb (suc m % 2) 1 && ltb (suc m) (2 ^ prec f)) (leb (2 ^ suc k) (2 ^ low f)) t₁));
+      is = mul-cancel Y (suc m * 2 ^ (low f - suc k)) (2 ^ suc k) (pow-pos (suc k))
+          (sym (v .1) ∙ ap (λ (x : ℕ). suc m * 1 * x) e ∙ regroup (suc m) (2 ^ (low f - suc k)) (2 ^ suc k));
+      few = ltb→lt (suc m) (2 ^ prec f)
+          (and-r (eqb (suc m % 2) 1) (ltb (suc m) (2 ^ prec f)) (and-l (eqb (suc m % 2) 1 && ltb (suc m) (2 ^ prec f)) (leb (2 ^ suc k) (2 ^ low f)) t₁));
     }
   where
     pow-le-cancel : (i p : ℕ) → 2 ^ i ≤ 2 ^ p → i ≤ p
-    pow-le-cancel i p h = let l : i < p + 1 = pow-lt-cancel i (p + 1) (lt-of-le-of-lt h (subst (λ (x : ℕ). 2 ^ p < x) (sym (pow-add 2 p 1)) (let q = pow-pos p in omega arith))) in omega arith
+    pow-le-cancel i p h = let l : i < p + 1 =
+        pow-lt-cancel i (p + 1) (lt-of-le-of-lt h (subst (λ (x : ℕ). 2 ^ p < x) (sym (pow-add 2 p 1)) (let q = pow-pos p in omega arith))) in omega arith
 
     back : (i p : ℕ) → i ≤ p → p ≡ p - i + i
     back i p h = omega arith
@@ -80,7 +86,8 @@ no-value-between p k q m j P full M lo hi = elim (eq-zero-or-pos (k - j)) [ inl 
     -- m * 2 ^ j is itself such a multiple
     coarse : k ≤ j → ⊥
     coarse h =
-        let e : m * 2 ^ j ≡ m * 2 ^ (j - k) * 2 ^ k = ap (λ (x : ℕ). m * x) (ap (λ (x : ℕ). 2 ^ x) (split k j h) ∙ pow-add 2 (j - k) k) ∙ sym (mul-assoc m (2 ^ (j - k)) (2 ^ k)) in
+        let e : m * 2 ^ j ≡ m * 2 ^ (j - k) * 2 ^ k =
+        ap (λ (x : ℕ). m * x) (ap (λ (x : ℕ). 2 ^ x) (split k j h) ∙ pow-add 2 (j - k) k) ∙ sym (mul-assoc m (2 ^ (j - k)) (2 ^ k)) in
         let a : q < m * 2 ^ (j - k) = lt-of-mul-lt-mul-right (2 ^ k) (subst (λ (x : ℕ). q * 2 ^ k < x) e lo) in
         let b : m * 2 ^ (j - k) < suc q = lt-of-mul-lt-mul-right (2 ^ k) (subst (λ (x : ℕ). x < suc q * 2 ^ k) e hi) in
         omega arith
@@ -93,7 +100,8 @@ no-value-between p k q m j P full M lo hi = elim (eq-zero-or-pos (k - j)) [ inl 
     fine h =
         let all : 2 ^ (p - 1) ≤ q = full (omega arith) in
         let a : 2 ^ (p - 1) * 2 ^ k ≤ q * 2 ^ k = mul-le-mul-right (2 ^ k) all in
-        let b : 2 ^ p * 2 ^ j ≤ 2 ^ (p - 1) * 2 ^ k = le-trans (le-of-eq (sym (pow-add 2 p j))) (le-trans (pow-mono {i = p + j} {j = p - 1 + k} (omega arith)) (le-of-eq (pow-add 2 (p - 1) k))) in
+        let b : 2 ^ p * 2 ^ j ≤ 2 ^ (p - 1) * 2 ^ k =
+        le-trans (le-of-eq (sym (pow-add 2 p j))) (le-trans (pow-mono {i = p + j} {j = p - 1 + k} (omega arith)) (le-of-eq (pow-add 2 (p - 1) k))) in
         let c : m * 2 ^ j ≤ 2 ^ p * 2 ^ j = mul-le-mul-right (2 ^ j) (le-of-lt M) in
         lt-irrefl (m * 2 ^ j) (lt-of-le-of-lt (le-trans c (le-trans b a)) lo)
 
@@ -172,10 +180,12 @@ module _ (n d k q r : ℕ) (D : 0 < d) (e : q * (d * 2 ^ k) + r ≡ n) (small : 
   closest-nearest Ordering·eq c = go (q % 2) refl
     where
       go : (b : ℕ) → q % 2 ≡ b → Nearest n d k ((q + b) * 2 ^ k) Y
-      go zero z = subst (λ (x : ℕ). Nearest n d k (x * 2 ^ k) Y) (let s : q ≡ q + 0 = omega arith in s) (down-nearest (le-of-eq c) (λ (w : r * 2 ≡ d * 2 ^ k). z))
+      go zero z =
+          subst (λ (x : ℕ). Nearest n d k (x * 2 ^ k) Y) (let s : q ≡ q + 0 = omega arith in s) (down-nearest (le-of-eq c) (λ (w : r * 2 ≡ d * 2 ^ k). z))
       go (suc b) z =
           let one : b ≡ 0 = omega arith in
-          subst (λ (x : ℕ). Nearest n d k (x * 2 ^ k) Y) (let s : suc q ≡ q + suc b = omega arith in s) (up-nearest (le-of-eq (sym c)) (λ (w : r * 2 ≡ d * 2 ^ k). let s : suc q % 2 ≡ 0 = omega arith in s))
+          subst (λ (x : ℕ). Nearest n d k (x * 2 ^ k) Y) (let s : suc q ≡ q + suc b = omega arith in s)
+          (up-nearest (le-of-eq (sym c)) (λ (w : r * 2 ≡ d * 2 ^ k). let s : suc q % 2 ≡ 0 = omega arith in s))
 
 grid-nearest : (f : Format) (num den Y : ℕ) → 0 < den → Units f Y → Nearest (num * 2 ^ low f) den (drop (prec f) (num * 2 ^ low f) den) (grid f num den) Y
 grid-nearest f num den Y D u =
@@ -186,7 +196,8 @@ grid-nearest f num den Y D u =
     let q = n / w in
     closest-nearest n den k q (n % w) D (div-add-mod' n w) (mod-lt n (mul-pos D (pow-pos k))) Y
     (λ (a : q * 2 ^ k < Y) (b : Y < suc q * 2 ^ k).
-    no-value-between p k q (u .digits) (u .exponent) (positive-prec f) (all-digits n den p (positive-prec f) D) (u .few) (subst (λ (x : ℕ). q * 2 ^ k < x) (u .is) a) (subst (λ (x : ℕ). x < suc q * 2 ^ k) (u .is) b))
+    no-value-between p k q (u .digits) (u .exponent) (positive-prec f) (all-digits n den p (positive-prec f) D)
+    (u .few) (subst (λ (x : ℕ). q * 2 ^ k < x) (u .is) a) (subst (λ (x : ℕ). x < suc q * 2 ^ k) (u .is) b))
     (compare (n % w * 2) w) (compares (n % w * 2) w)
   where
     positive-prec : (f : Format) → 0 < prec f

@@ -146,7 +146,8 @@ Le-trans (fin s m e) (inf false) (fin u l g) h k = absurd k
 Le-trans (fin s m e) (fin t n d) nan h k = absurd k
 Le-trans (fin s m e) (fin t n d) (inf u) h k = k
 Le-trans (fin s m e) (fin t n d) (fin u l g) h k =
-    fraction-trans (posPart s (m * up e)) (negPart s (m * up e)) (down e) (posPart t (n * up d)) (negPart t (n * up d)) (down d) (posPart u (l * up g)) (negPart u (l * up g)) (down g) (down-pos d) h k
+    fraction-trans (posPart s (m * up e)) (negPart s (m * up e)) (down e) (posPart t (n * up d))
+    (negPart t (n * up d)) (down d) (posPart u (l * up g)) (negPart u (l * up g)) (down g) (down-pos d) h k
 
 pub ≼-trans : {x y z : Float} → x ≼ y → y ≼ z → x ≼ z
 ≼-trans {x} {y} {z} h k = of-Le (Le-trans x y z (to-Le h) (to-Le k))

@@ -1,5 +1,6 @@
--- Days by computing. One of three booms is accepted, so that what is promised of an accepted day is promised of one (`three-keep`): the second touches the first, waits for it and starts in the tick in
--- which that one is over; the third meets neither and starts at once. A boom that was started in the same tick runs, and list order decides. The order of the numbers.
+-- Days by computing. One of three booms is accepted, so that what is promised of an accepted day is promised of one (`three-keep`):
+-- the second touches the first, waits for it and starts in the tick in which that one is over; the third meets neither and starts
+-- at once. A boom that was started in the same tick runs, and list order decides. The order of the numbers.
 use Prim.Native.Nat.{ℕ}
 use mathlib.Core.Path.{_≡_, refl, subst}
 use mathlib.Core.Bool.{false}
@@ -15,7 +16,8 @@ use Rattle.run_schedule.proofs.Keeps.{day-keeps}
 use Rattle.run_schedule.proofs.Accepted.{day-accepted}
 
 unfoldable computing : Unit {0}
-unfolding le lt bounds3.computing Bounds3f·meets Bounds3f·isOrdered Bounds3f·refusal someBelow sumBelow taken takenBelow before startTicks firstBoxRefusal dayRefusal
+unfolding le lt bounds3.computing Bounds3f·meets Bounds3f·isOrdered Bounds3f·refusal someBelow sumBelow taken takenBelow before startTicks firstBoxRefusal
+    dayRefusal
 computing = tt
 
 abbrev whole : ℕ → Float

@@ -1,5 +1,5 @@
--- `angles-in-range`: with a theta from 0 to a quarter turn, the angles of every interval that the search examines are as the assertions ask: 2 theta lies from 0 to a half
--- turn, and so does its product with what lies in 0 to 1. Rests on `examined-unit` and on the product's four corners.
+-- `angles-in-range`: with a theta from 0 to a quarter turn, the angles of every interval that the search examines are as the assertions ask: 2
+-- theta lies from 0 to a half turn, and so does its product with what lies in 0 to 1. Rests on `examined-unit` and on the product's four corners.
 use mathlib.Core.Path.{_≡_, refl, subst}
 use lib.Dec.{T}
 use lib.Ieee.{Float, ofBits, mul, round, le, lt, isNan}
@@ -49,7 +49,8 @@ scaled = refl
 pub scale-half-turn : {a t : Float} → Contains halfTurn a → Contains unitInterval t → Contains halfTurn (a ⊗ t)
 scale-half-turn {a} {t} h u = subst (λ (X : Interval). Contains X (a ⊗ t)) scaled (mul-contains half-turn-finite unit-finite h u)
 
-pub angles-subset : (f : MotionDerivative) {j : Interval} → Contains quarterInterval (f .theta) → Subset j unitInterval → Subset (MotionDerivative·angles f j) halfTurn
+pub angles-subset : (f : MotionDerivative) {j : Interval} → Contains quarterInterval (f .theta)
+    → Subset j unitInterval → Subset (MotionDerivative·angles f j) halfTurn
 unfolding Interval·mul
 angles-subset f q s =
     let a = double-half-turn q in

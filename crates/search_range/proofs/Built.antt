@@ -1,5 +1,5 @@
--- The range assertions never fire for a built move: `built-asserted`. Building has turned the second rotation to the first's side, so that their dot product is at least 0 and
--- theta at most a quarter turn; the rest is `angles-in-range`.
+-- The range assertions never fire for a built move: `built-asserted`. Building has turned the second rotation to the first's side,
+-- so that their dot product is at least 0 and theta at most a quarter turn; the rest is `angles-in-range`.
 use mathlib.Core.Path.{sym, subst}
 use lib.Ieee.{Float}
 use Rattle.rounding.specs.Order.{_≼_}

@@ -1,5 +1,5 @@
--- Cases of the definitions, by computing: the limit's bits; for t - 1/2, the intervals of a search at depth 1, and those of the whole search for a constant; angles at which the
--- assertions hold, and at which each fails; a run that meets a far angle and doesn't end in NaN, since its theta doesn't double.
+-- Cases of the definitions, by computing: the limit's bits; for t - 1/2, the intervals of a search at depth 1, and those of the whole search for a constant;
+-- angles at which the assertions hold, and at which each fails; a run that meets a far angle and doesn't end in NaN, since its theta doesn't double.
 use mathlib.Core.Path.{_≡_, refl}
 use mathlib.Core.Bool.{true, false}
 use mathlib.Core.List.{[], _∷_}
@@ -24,7 +24,8 @@ limit-bits = refl
 abbrev line : Float → Float → Float → MotionDerivative
 line a b theta = record { c1 = a; c2 = positiveZero; c3 = b; c4 = positiveZero; c5 = positiveZero; theta = theta }
 
-halves-examined : searchIntervals 1 false (line (neg half) one positiveZero) searchedInterval (Zeros·empty 0) ≡ searchedInterval ∷ Interval·new positiveZero half ∷ Interval·new half one ∷ []
+halves-examined : searchIntervals 1 false (line (neg half) one positiveZero) searchedInterval
+    (Zeros·empty 0) ≡ searchedInterval ∷ Interval·new positiveZero half ∷ Interval·new half one ∷ []
 unfolding computing searchIntervals
 halves-examined = refl
 

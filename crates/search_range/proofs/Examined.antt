@@ -1,5 +1,5 @@
--- Every interval that a zero search examines lies in 0 to 1, its ends in order: `examined-unit`. The midpoint of such an interval lies in 0 to 1, since rounding keeps
--- the order, so that its halves are again such. There are as many as zero_search counts: `searchIntervals-count`, `examinedIntervals-count`.
+-- Every interval that a zero search examines lies in 0 to 1, its ends in order: `examined-unit`. The midpoint of such an interval lies in 0 to 1, since
+-- rounding keeps the order, so that its halves are again such. There are as many as zero_search counts: `searchIntervals-count`, `examinedIntervals-count`.
 use mathlib.Core.Path.{_≡_, refl, sym, subst}
 use mathlib.Core.Bool.{Bool, true, false, cond}
 use mathlib.Core.Logic.{inl, inr}

@@ -1,5 +1,5 @@
--- What far angles do to the zero search: a run of Newton's steps that meets one stores no zero, whatever the coefficients (`stores-none`), and with a built move's
--- theta it ends in NaN (`built-ends-in-nan`). No angle of a built move's poses or covers is far (`built-angles-near`).
+-- What far angles do to the zero search: a run of Newton's steps that meets one stores no zero, whatever the coefficients (`stores-none`), and
+-- with a built move's theta it ends in NaN (`built-ends-in-nan`). No angle of a built move's poses or covers is far (`built-angles-near`).
 -- A theta of 2^127 or more in size makes both angles of the first step far, since a midpoint is at least 2^-9; with a smaller one a run ends in NaN, or where
 -- it is, at a t of 2^127 or more in size, which lies outside the search's intervals.
 use mathlib.Core.Path.{_≡_, refl, sym, ap, subst, _∙_}
@@ -146,7 +146,8 @@ unfolding mul ofBits
 large-value nan t h = nan-far
 large-value (inf s) t h = infinite-times (unlike false s) t
 large-value (fin s m e) t h =
-    rw (round-over (unlike false s) (1 * 2 * (m * up e)) (1 * down e) (one-pos (down e) (down-pos e)) (double (2 ^ 127) (m * up e) (down e) (large-size s m e h)))
+    rw (round-over (unlike false s) (1 * 2 * (m * up e)) (1 * down e)
+    (one-pos (down e) (down-pos e)) (double (2 ^ 127) (m * up e) (down e) (large-size s m e h)))
     (infinite-times (unlike false s) t)
   where
     one-pos : (d : ℕ) → 0 < d → 0 < 1 * d

@@ -115,4 +115,5 @@ pub examined-midpoint : (f : MotionDerivative) (j : Interval) → Examined f j �
 unfolding examinedIntervals
 examined-midpoint f j m =
     midpoint-high 8 (omega arith) (examined-unit f j m)
-    (search-high searchDepth 0 refl (MotionDerivative·excludesZero f search.searchedInterval) f search.searchedInterval (Zeros·empty 0) whole-unit whole-high j m)
+    (search-high searchDepth 0 refl (MotionDerivative·excludesZero f search.searchedInterval) f search.searchedInterval
+    (Zeros·empty 0) whole-unit whole-high j m)

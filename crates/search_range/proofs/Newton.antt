@@ -12,7 +12,8 @@ use Rattle.float32.specs.Operators.{_⊕_, _⊖_, _⊗_, _⊘_, positiveZero, t
 use Rattle.trig.specs.SinCos.{cos}
 use Rattle.trig_laws.proofs.Monotone.{sin-far}
 use Rattle.motion_derivative.specs.declared.MotionDerivative.{MotionDerivative}
-use Rattle.motion_derivative.specs.Derivative.{MotionDerivative·valueAt, MotionDerivative·value, MotionDerivative·slopeAt, MotionDerivative·slope, MotionDerivative·newton}
+use Rattle.motion_derivative.specs.Derivative.{MotionDerivative·valueAt, MotionDerivative·value}
+use Rattle.motion_derivative.specs.Derivative.{MotionDerivative·slopeAt, MotionDerivative·slope, MotionDerivative·newton}
 use Rattle.search_range.specs.Far.{Far, valueAngle, slopeAngle, MeetsFar, Doubles, EndsInNan}
 use Rattle.search_range.proofs.Double.{angles-same}
 

@@ -23,4 +23,5 @@ Interval·asserted X = le positiveZero (X .low) && le (X .high) rangeLimit
 
 -- The assertions hold for the angles of every interval that a search with the move's theta examines, whatever c1 to c5 are: so for every point, on each axis.
 abbrev pub AssertionsHold : AnimatedTransform → Type 0
-AssertionsHold m = (f : MotionDerivative) (j : Interval) → f .theta ≡ AnimatedTransform·constants m .theta → Examined f j → T (Interval·asserted (MotionDerivative·angles f j))
+AssertionsHold m = (f : MotionDerivative) (j : Interval) → f .theta ≡ AnimatedTransform·constants m .theta
+    → Examined f j → T (Interval·asserted (MotionDerivative·angles f j))

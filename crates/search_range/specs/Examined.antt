@@ -12,7 +12,8 @@ use Rattle.zero_list.specs.declared.Zeros.{Zeros}
 use Rattle.zero_search.specs.Search.{lowerHalf, upperHalf, findZeros, searchDepth, searchedInterval}
 use Rattle.zero_list.specs.Zeros.{Zeros·empty}
 
--- The search's own interval; then, unless the range test leaves it out or the depth is 0, those of its lower half, and those of its upper half unless 9 was met.
+-- The search's own interval; then, unless the range test leaves it out or the depth is 0,
+-- those of its lower half, and those of its upper half unless 9 was met.
 unfoldable pub searchIntervals : ℕ → Bool → MotionDerivative → Interval → Zeros → List Interval
 searchIntervals zero true f i z = i ∷ []
 searchIntervals (suc d) true f i z = i ∷ []

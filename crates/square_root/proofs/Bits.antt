@@ -3,7 +3,8 @@
 use mathlib.Core.Path.{_≡_, refl, sym, ap, _∙_}
 use mathlib.Core.Logic.{inl, inr}
 use Prim.Native.Nat.{ℕ, zero, suc, _+_, _-_, _*_, _/_, _%_, _≤_, _<_, _^_, compare}
-use native.Mathlib.Nat.{le-trans, le-of-eq, lt-of-lt-of-le, lt-of-le-of-lt, lt-of-not-le, mul-le-mul, mul-le-mul-right, mul-lt-mul-of-pos-right, mul-pos, eq-zero-or-pos, le-div-iff-mul-le, div-lt-iff-lt-mul, zero-lt-suc, mod-eq-of-lt}
+use native.Mathlib.Nat.{le-trans, le-of-eq, lt-of-lt-of-le, lt-of-le-of-lt, lt-of-not-le, mul-le-mul, mul-le-mul-right}
+use native.Mathlib.Nat.{mul-lt-mul-of-pos-right, mul-pos, eq-zero-or-pos, le-div-iff-mul-le, div-lt-iff-lt-mul, zero-lt-suc, mod-eq-of-lt}
 use native.Mathlib.Omega.{arith}
 use mathlib.Core.Bool.{false}
 use lib.Dec.{lit≤}
@@ -38,7 +39,8 @@ pub leading-ge : (m : ℕ) → 0 < m → m < 2 ^ 24 → 40 ≤ leadingZeros 64 m
 leading-ge m M h = let t = leading m M h .1 in omega (arith, t .zeros, t .few)
 
 leading-normal : (m : ℕ) → 2 ^ 23 ≤ m → m < 2 ^ 24 → leadingZeros 64 m ≡ 40
-leading-normal m l h = let t = leading m (lt-of-lt-of-le (pow-pos 23) l) h in let k = pow-lt-cancel 23 (suc (t .0)) (lt-of-le-of-lt l (t .1 .most)) in omega (arith, t .1 .zeros, t .1 .few)
+leading-normal m l h = let t = leading m (lt-of-lt-of-le (pow-pos 23) l) h in
+    let k = pow-lt-cancel 23 (suc (t .0)) (lt-of-le-of-lt l (t .1 .most)) in omega (arith, t .1 .zeros, t .1 .few)
 
 -- The digits of m and the shift, which is 17 less than the zeros, or 16 less where their sum with e is odd.
 pub widened : (m e i : ℕ) → 0 < m → m < 2 ^ 24 → i + 17 ≡ leadingZeros 64 m + (leadingZeros 64 m + e) % 2 → Widened m e i
@@ -51,7 +53,8 @@ widened m e i M h I = go (leading m M h .0) (leadingZeros 64 m) (leading m M h .
         record {
           shift = omega arith;
           least = le-trans (pow-mono {i = 46} {j = y + i} (omega arith)) (le-trans (le-of-eq (pow-add 2 y i)) (mul-le-mul-right (2 ^ i) (l .least)));
-          most = lt-of-lt-of-le (mul-lt-mul-of-pos-right (l .most) (pow-pos i)) (le-trans (le-of-eq (sym (pow-add 2 (suc y) i))) (pow-mono {i = suc y + i} {j = 48} (omega arith)));
+          most = lt-of-lt-of-le (mul-lt-mul-of-pos-right (l .most) (pow-pos i))
+              (le-trans (le-of-eq (sym (pow-add 2 (suc y) i))) (pow-mono {i = suc y + i} {j = 48} (omega arith)));
           even = omega arith;
         }
 
@@ -107,7 +110,8 @@ below-nearest a r t near e = let h = rw e at (near .above) in omega arith
 module _ (a r s : ℕ) (lo : 2 ^ 46 ≤ a) (hi : a < 2 ^ 48) (near : NearestWhole a r) (side : SameSide (4 * a) 1 s) where
   nearest-least : 2 ^ 23 ≤ r
   nearest-least =
-      let l : 2 ^ 23 < r + 1 = lt-of-not-le (λ (h : r + 1 ≤ 2 ^ 23). let k : (r + 1) * (r + 1) ≤ 2 ^ 23 * 2 ^ 23 = mul-le-mul h h in omega (arith, near .below)) in
+      let l : 2 ^ 23 < r + 1 =
+      lt-of-not-le (λ (h : r + 1 ≤ 2 ^ 23). let k : (r + 1) * (r + 1) ≤ 2 ^ 23 * 2 ^ 23 = mul-le-mul h h in omega (arith, near .below)) in
       omega arith
 
   nearest-most : r ≤ 2 ^ 24
@@ -151,7 +155,8 @@ sqrt-bits m e i r b E w near B = rw B (go ((149 + e - i) / 2) (half-exponent e i
 
     in-units : (half : ℕ) → e + 149 ≡ i + (half + half) → m * 2 ^ e * 4 ^ 149 ≡ m * 2 ^ i * 4 ^ half * 2 ^ 149
     in-units half h =
-        let k : 2 ^ e * 2 ^ 149 ≡ 2 ^ i * (2 ^ half * 2 ^ half) = sym (pow-add 2 e 149) ∙ ap (λ (x : ℕ). 2 ^ x) h ∙ pow-add 2 i (half + half) ∙ ap (λ (x : ℕ). 2 ^ i * x) (pow-add 2 half half) in
+        let k : 2 ^ e * 2 ^ 149 ≡ 2 ^ i * (2 ^ half * 2 ^ half) =
+        sym (pow-add 2 e 149) ∙ ap (λ (x : ℕ). 2 ^ x) h ∙ pow-add 2 i (half + half) ∙ ap (λ (x : ℕ). 2 ^ i * x) (pow-add 2 half half) in
         rw (pow-four half) (regroup m (2 ^ e) (2 ^ i) (2 ^ half) (2 ^ 149) k)
 
     go : (half : ℕ) → (half ≤ 201) × (e + 149 ≡ i + (half + half)) → SqrtBits m e (half * hid binary32 + r)

@@ -1,8 +1,9 @@
--- `isqrt n` is the whole part of √n (`isqrt-is`), and no other number is (`isqrt-unique`). The nearest whole number follows from it (`nearest-down`, `nearest-up`), or from a test of
--- any number (`nearest-checked`).
+-- `isqrt n` is the whole part of √n (`isqrt-is`), and no other number is (`isqrt-unique`). The nearest whole number follows from it (`nearest-down`,
+-- `nearest-up`), or from a test of any number (`nearest-checked`).
 use mathlib.Core.Path.{_≡_}
 use Prim.Native.Nat.{ℕ, zero, suc, _+_, _*_, _/_, _≤_, _<_, _^_}
-use native.Mathlib.Nat.{lt-of-lt-of-le, lt-of-le-of-lt, lt-of-not-le, not-le-of-lt, le-antisymm, mul-le-mul, div-lt-iff-lt-mul, pow-suc, pow-le-pow-left, zero-lt-suc}
+use native.Mathlib.Nat.{lt-of-lt-of-le, lt-of-le-of-lt, lt-of-not-le, not-le-of-lt, le-antisymm}
+use native.Mathlib.Nat.{mul-le-mul, div-lt-iff-lt-mul, pow-suc, pow-le-pow-left, zero-lt-suc}
 use native.Mathlib.Omega.{arith}
 use mathlib.Core.Bool.{Bool, true, false, not, _&&_, cond, and-eq-true-iff}
 use lib.Dec.{T, leb, ltb, leb→le, nleb→lt}
@@ -68,4 +69,5 @@ nearest-up n q r e h E = let l : n < (q + 1) * (q + 1) = rw e (isqrt-is n .above
 
 -- ---- to the nearest whole number, by a test of any number
 pub nearest-checked : (n r : ℕ) → (ltb (r * r) (n + r) && leb n (r * r + r)) ≡ true → NearestWhole n r
-nearest-checked n r h = let t = and-eq-true-iff (ltb (r * r) (n + r)) (leb n (r * r + r)) .0 h in record { above = ltb-true (r * r) (n + r) (t .0); below = leb-true n (r * r + r) (t .1) }
+nearest-checked n r h = let t = and-eq-true-iff (ltb (r * r) (n + r)) (leb n (r * r + r)) .0 h in
+    record { above = ltb-true (r * r) (n + r) (t .0); below = leb-true n (r * r + r) (t .1) }

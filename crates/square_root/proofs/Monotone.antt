@@ -28,7 +28,8 @@ sqrt-is f (fin false (suc m) e) p = refl
 
 -- ---- the order
 positive-mono : (f : Format) {x y : Float} → T (positive x) → T (positive y) → x ≼ y → sqrt f x ≼ sqrt f y
-positive-mono f {x} {y} p q h = rw (sqrt-is f x p, sqrt-is f y q) (roundSqrt-mono f (num x) (den x) (num y) (den y) (den-pos x) (den-pos y) (le→cross x y p q (h .holds)))
+positive-mono f {x} {y} p q h =
+    rw (sqrt-is f x p, sqrt-is f y q) (roundSqrt-mono f (num x) (den x) (num y) (den y) (den-pos x) (den-pos y) (le→cross x y p q (h .holds)))
 
 below-infinity : (x : Float) → Number x → x ≼ inf false
 below-infinity nan n = absurd (unfold isNan in n)
@@ -75,7 +76,8 @@ sqrt-mono f {x} {y} z h = go x y z h
     go (fin s zero e) (fin false (suc n) d) z h = unfold sqrt in zero-below f s e (suc n * up d) (down d) (down-pos d)
     go (fin false (suc m) e) nan z h = absurd (no-nan h)
     go (fin false (suc m) e) (inf true) z h = absurd (no-minus-infinity false (suc m) e h)
-    go (fin false (suc m) e) (inf false) z h = unfold sqrt in below-infinity (roundSqrt f (suc m * up e) (down e)) (roundSqrt-number f (suc m * up e) (down e) (down-pos e))
+    go (fin false (suc m) e) (inf false) z h = unfold sqrt in
+        below-infinity (roundSqrt f (suc m * up e) (down e)) (roundSqrt-number f (suc m * up e) (down e) (down-pos e))
     go (fin false (suc m) e) (fin t n d) z h = let p = lt→ltb 0 (suc m) (zero-lt-suc m) in positive-mono f p (above-positive p tt h) h
 
 pub positive-above-zero : (x : Float) → T (positive x) → +0 ≼ x
@@ -105,8 +107,10 @@ fits-range f (fin false zero e) p h = absurd p
 fits-range f (fin false (suc m) e) p h =
     let digits = eqb (suc m % 2) 1 && ltb (suc m) (2 ^ prec f) in
     let high = ltb (suc m * up e) (2 ^ suc (emax f) * down e) in (
-      mul-le-mul (mul-pos (zero-lt-suc m) (up-pos e)) (leb→le (down e) (2 ^ low f) (and-r digits (leb (down e) (2 ^ low f)) (and-l (digits && leb (down e) (2 ^ low f)) high h))),
-      le-trans (le-of-eq (mul-one (suc m * up e))) (le-of-lt (ltb→lt (suc m * up e) (2 ^ suc (emax f) * down e) (and-r (digits && leb (down e) (2 ^ low f)) high h))),
+      mul-le-mul (mul-pos (zero-lt-suc m) (up-pos e))
+          (leb→le (down e) (2 ^ low f) (and-r digits (leb (down e) (2 ^ low f)) (and-l (digits && leb (down e) (2 ^ low f)) high h))),
+      le-trans (le-of-eq (mul-one (suc m * up e)))
+          (le-of-lt (ltb→lt (suc m * up e) (2 ^ suc (emax f) * down e) (and-r (digits && leb (down e) (2 ^ low f)) high h))),
     )
 
 pub sqrt-positive : (f : Format) (x : Float) → T (positive x) → T (fits f x) → T (positive (sqrt f x))

@@ -68,9 +68,12 @@ roundSqrt-nearest f num den P h =
       units = grid f S D;
       value = value;
       nearest = λ (y : Float) (Y : ℕ) (t : T (fits f y)) (v : HasValue y false Y L).
-          subst (λ (q : ℕ). NearestSqrt (num * 4 ^ low f) den (size q - prec f) (grid f S D) Y) (whole-part (num * 4 ^ low f) N den S L D P (pow-pos (low f)) E F i)
-          (nearest-sqrt (num * 4 ^ low f) N den S L D P (pow-pos (low f)) E F i (drop (prec f) (S * L) D) (grid f S D) Y (round-nearest f S D (pow-pos (low f + 2)) (grid f S D) value y Y t v));
+          subst (λ (q : ℕ). NearestSqrt (num * 4 ^ low f) den (size q - prec f) (grid f S D) Y)
+          (whole-part (num * 4 ^ low f) N den S L D P (pow-pos (low f)) E F i)
+          (nearest-sqrt (num * 4 ^ low f) N den S L D P (pow-pos (low f)) E F i (drop (prec f) (S * L) D)
+          (grid f S D) Y (round-nearest f S D (pow-pos (low f + 2)) (grid f S D) value y Y t v));
     }
 
 pub sqrt-nearest : (f : Format) (x : Float) → T (positive x) → T (fits f x) → CorrectlyRoundedSqrt f (num x) (den x) (sqrt f x)
-sqrt-nearest f x p h = rw (sqrt-is f x p) (roundSqrt-nearest f (num x) (den x) (den-pos x) (rw (sqrt-is f x p) at (positive-finite (sqrt f x) (sqrt-positive f x p h))))
+sqrt-nearest f x p h =
+    rw (sqrt-is f x p) (roundSqrt-nearest f (num x) (den x) (den-pos x) (rw (sqrt-is f x p) at (positive-finite (sqrt f x) (sqrt-positive f x p h))))

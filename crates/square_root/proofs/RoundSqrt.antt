@@ -29,7 +29,8 @@ roundSqrt-mono f num den num′ den′ D D′ h =
     let P = pow-pos (low f + 2) in
     let S = roundSqrt-sticky f num den num′ den′ D D′ h in
     record {
-      holds = lib.Ieee.Order.round-mono f (stickySqrt (num * 4 ^ (low f + 1)) den) (2 ^ (low f + 2)) (stickySqrt (num′ * 4 ^ (low f + 1)) den′) (2 ^ (low f + 2)) P P (mul-le-mul-right (2 ^ (low f + 2)) S);
+      holds = lib.Ieee.Order.round-mono f (stickySqrt (num * 4 ^ (low f + 1)) den) (2 ^ (low f + 2))
+          (stickySqrt (num′ * 4 ^ (low f + 1)) den′) (2 ^ (low f + 2)) P P (mul-le-mul-right (2 ^ (low f + 2)) S);
     }
 
 pub roundSqrt-same : (f : Format) (num den num′ den′ : ℕ) → 0 < den → 0 < den′ → num * den′ ≡ num′ * den → roundSqrt f num den ≡ roundSqrt f num′ den′
@@ -101,10 +102,14 @@ root-nearest f num den a k s C e i K =
     let N : n ≡ 4 * a * (P * P * den) = in-halves (low f) e in
     round-same-halves f false (s * P) D S D k (pow-pos (low f + 2)) (pow-pos (low f + 2)) K
     (record {
-      ge = λ (h : ℕ) (x : h * P * D ≤ 2 * (s * P * L)). to-halves (h * P) S L D E (coarse-ge a n den s S P PC (pow-pos k) N i j h (of-halves (h * P) (s * P) L D E p x));
-      ge′ = λ (h : ℕ) (x : h * P * D ≤ 2 * (S * L)). to-halves (h * P) (s * P) L D E (coarse-ge′ a n den s S P PC (pow-pos k) N i j h (of-halves (h * P) S L D E p x));
-      le = λ (h : ℕ) (x : 2 * (s * P * L) ≤ h * P * D). to-halves′ (h * P) S L D E (coarse-le a n den s S P PC (pow-pos k) N i j h (of-halves′ (h * P) (s * P) L D E p x));
-      le′ = λ (h : ℕ) (x : 2 * (S * L) ≤ h * P * D). to-halves′ (h * P) (s * P) L D E (coarse-le′ a n den s S P PC (pow-pos k) N i j h (of-halves′ (h * P) S L D E p x));
+      ge = λ (h : ℕ) (x : h * P * D ≤ 2 * (s * P * L)). to-halves (h * P) S L D E
+          (coarse-ge a n den s S P PC (pow-pos k) N i j h (of-halves (h * P) (s * P) L D E p x));
+      ge′ = λ (h : ℕ) (x : h * P * D ≤ 2 * (S * L)). to-halves (h * P) (s * P) L D E
+          (coarse-ge′ a n den s S P PC (pow-pos k) N i j h (of-halves (h * P) S L D E p x));
+      le = λ (h : ℕ) (x : 2 * (s * P * L) ≤ h * P * D). to-halves′ (h * P) S L D E
+          (coarse-le a n den s S P PC (pow-pos k) N i j h (of-halves′ (h * P) (s * P) L D E p x));
+      le′ = λ (h : ℕ) (x : 2 * (S * L) ≤ h * P * D). to-halves′ (h * P) (s * P) L D E
+          (coarse-le′ a n den s S P PC (pow-pos k) N i j h (of-halves′ (h * P) S L D E p x));
     })
   where
     in-halves : (l : ℕ) → num * 4 ^ l ≡ a * 4 ^ k * den → num * 4 ^ (l + 1) ≡ 4 * a * (2 ^ k * 2 ^ k * den)

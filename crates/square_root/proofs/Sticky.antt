@@ -2,7 +2,8 @@
 use mathlib.Core.Path.{_≡_, sym}
 use mathlib.Core.Logic.{inl, inr}
 use Prim.Native.Nat.{ℕ, _+_, _*_, _/_, _%_, _≤_, _<_}
-use native.Mathlib.Nat.{add-zero, eq-zero-or-pos, le-trans, le-of-eq, le-of-lt, lt-of-lt-of-le, lt-of-not-le, not-le-of-lt, lt-of-mul-lt-mul-right, eq-or-lt-of-le, mul-le-mul, mul-le-mul-right, mul-lt-mul-of-pos-right, le-of-mul-le-mul-right, le-div-iff-mul-le, div-lt-iff-lt-mul}
+use native.Mathlib.Nat.{add-zero, eq-zero-or-pos, le-trans, le-of-eq, le-of-lt, lt-of-lt-of-le, lt-of-not-le, not-le-of-lt, lt-of-mul-lt-mul-right}
+use native.Mathlib.Nat.{eq-or-lt-of-le, mul-le-mul, mul-le-mul-right, mul-lt-mul-of-pos-right, le-of-mul-le-mul-right, le-div-iff-mul-le, div-lt-iff-lt-mul}
 use native.Mathlib.Omega.{arith}
 use mathlib.Core.Bool.{Bool, true, false, cond}
 use lib.Dec.{T, eqb, eqb→eq}
@@ -60,7 +61,8 @@ pub side-mono : {n c s n′ c′ s′ : ℕ} → 0 < c → 0 < c′ → SameSide
 side-mono {n} {c} {s} {n′} {c′} {s′} C C′ i i′ g = elim (eq-zero-or-pos (s′ % 2)) [
   | inl e ↦ le-trans (i .le (s′ / 2) (at-most (s′ / 2) (i′ .le′ (s′ / 2) (omega arith)))) (omega arith)
   | inr l ↦
-      let b : n < (s′ / 2 + 1) * (s′ / 2 + 1) * c = below (s′ / 2 + 1) (lt-of-not-le (λ (k : (s′ / 2 + 1) * (s′ / 2 + 1) * c′ ≤ n′). let z = i′ .ge (s′ / 2 + 1) k in omega arith)) in
+      let b : n < (s′ / 2 + 1) * (s′ / 2 + 1) * c =
+      below (s′ / 2 + 1) (lt-of-not-le (λ (k : (s′ / 2 + 1) * (s′ / 2 + 1) * c′ ≤ n′). let z = i′ .ge (s′ / 2 + 1) k in omega arith)) in
       let u : s < 2 * (s′ / 2 + 1) = lt-of-not-le (λ (k : 2 * (s′ / 2 + 1) ≤ s). not-le-of-lt b (i .ge′ (s′ / 2 + 1) k)) in
       omega arith
 ]

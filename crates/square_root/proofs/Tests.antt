@@ -1,5 +1,5 @@
--- What the code's tests say of a float: `positive-tests`, above zero and below +infinity, so no NaN (`positive-number`); `sqrt-infinity`, above zero and no less than it;
--- `sqrt-zero`, equal to zero; `sqrt-nan`, none of these. And a positive float through its significand and exponent (`decoded-sqrt`).
+-- What the code's tests say of a float: `positive-tests`, above zero and below +infinity, so no NaN (`positive-number`); `sqrt-infinity`, above zero and
+-- no less than it; `sqrt-zero`, equal to zero; `sqrt-nan`, none of these. And a positive float through its significand and exponent (`decoded-sqrt`).
 use mathlib.Core.Path.{_≡_, refl, sym, _∙_}
 use mathlib.Core.Bool.{Bool, true, false, not, _&&_, _||_, Bool·beq, true≢false}
 use Prim.Native.Nat.{ℕ, zero, suc, _+_, _*_, _%_, _^_, _<_}
@@ -55,7 +55,10 @@ sqrt-zero f (inf s) h = absurd (true≢false (sym h))
 sqrt-zero f (fin s zero e) h = refl
 sqrt-zero f (fin s (suc m) e) h =
     let p : 0 < suc m * up e = mul-pos (zero-lt-suc m) (up-pos e) in
-    absurd (omega (arith, eqb-true (suc m * up e * 1) (0 * 1 * down e) (and-true (eqb (suc m * up e * 1) (0 * 1 * down e)) (Bool·beq s false || eqb (suc m * up e * 1) 0) h)))
+    absurd (omega (
+      arith,
+      eqb-true (suc m * up e * 1) (0 * 1 * down e) (and-true (eqb (suc m * up e * 1) (0 * 1 * down e)) (Bool·beq s false || eqb (suc m * up e * 1) 0) h),
+    ))
 
 pub sqrt-nan : (f : Format) (x : Float) → lt +0 x ≡ false → eq x +0 ≡ false → nan ≡ sqrt f x
 unfolding lt eq sqrt
@@ -77,12 +80,14 @@ value-cross (fin t m e) s a c h = h .1
 
 module _ (x : Float) (f : T (fits binary32 x)) (p : T (positive x)) where
   decoded : num x * 2 ^ 149 ≡ integerDecode x .significand * 2 ^ integerDecode x .exponent * den x
-  decoded = value-cross x (integerDecode x .negative) (integerDecode x .significand * 2 ^ integerDecode x .exponent) (2 ^ 149) (decode-value x f (positive-finite x p))
+  decoded = value-cross x (integerDecode x .negative) (integerDecode x .significand * 2 ^ integerDecode x .exponent)
+      (2 ^ 149) (decode-value x f (positive-finite x p))
 
   pub significand-pos : 0 < integerDecode x .significand
   significand-pos =
       first-pos (integerDecode x .significand) (2 ^ integerDecode x .exponent)
-      (first-pos (integerDecode x .significand * 2 ^ integerDecode x .exponent) (den x) (rw decoded at (mul-pos (value-pos x (num x) (den x) p (den-pos x) (own-value x p)) (pow-pos 149))))
+      (first-pos (integerDecode x .significand * 2 ^ integerDecode x .exponent) (den x)
+      (rw decoded at (mul-pos (value-pos x (num x) (den x) p (den-pos x) (own-value x p)) (pow-pos 149))))
 
   pub decoded-sqrt : (r : ℕ) → SqrtBits (integerDecode x .significand) (integerDecode x .exponent) r → ofBits binary32 r ≡ sqrt binary32 x
   decoded-sqrt r b =
@@ -92,4 +97,5 @@ module _ (x : Float) (f : T (fits binary32 x)) (p : T (positive x)) where
 
 -- ---- a pattern below that of +infinity is no NaN's
 pub bits-number : (r : ℕ) → r < ones binary32 * hid binary32 → T (not (nanBits binary32 r))
-bits-number r h = rw (nanBits-above binary32 r) (not-T (ltb (ones binary32 * hid binary32) (r % top binary32)) (λ (t : T (ltb (ones binary32 * hid binary32) (r % top binary32))). let l = ltb→lt (ones binary32 * hid binary32) (r % top binary32) t in omega arith))
+bits-number r h = rw (nanBits-above binary32 r) (not-T (ltb (ones binary32 * hid binary32) (r % top binary32))
+    (λ (t : T (ltb (ones binary32 * hid binary32) (r % top binary32))). let l = ltb→lt (ones binary32 * hid binary32) (r % top binary32) t in omega arith))

@@ -1,5 +1,5 @@
--- Cases by computing, in which all is met that the laws ask for. A shear takes the box from 1 2 3 to 4 5 6 to the box from -2 -6 0 to 7 9 6, both ways; a stretch by 2^127 along x
--- is refused with 5, both ways.
+-- Cases by computing, in which all is met that the laws ask for. A shear takes the box from 1 2 3 to 4 5 6 to the box from -2 -6 0 to 7 9 6, both ways;
+-- a stretch by 2^127 along x is refused with 5, both ways.
 use mathlib.Core.Path.{_≡_, refl}
 use mathlib.Core.Bool.{false}
 use mathlib.Core.List.{[], _∷_}
@@ -48,7 +48,8 @@ box = record { «p_min» = record { x = whole 1; y = whole 2; z = whole 3 }; «p
 abbrev sheared : Bounds3f
 sheared = record { «p_min» = record { x = neg (whole 2); y = neg (whole 6); z = whole 0 }; «p_max» = record { x = whole 7; y = whole 9; z = whole 6 } }
 
-shear-same : Subset (IntervalVector·bounds (Transform·enclosePoints shear box .vector)) sheared × Subset sheared (IntervalVector·bounds (Transform·enclosePoints shear box .vector))
+shear-same : Subset (IntervalVector·bounds (Transform·enclosePoints shear box .vector)) sheared
+    × Subset sheared (IntervalVector·bounds (Transform·enclosePoints shear box .vector))
 unfolding transform.computing query.computing pose.computing Matrix4x4·isAffine
 shear-same = stored-box-same shear box tt tt refl sheared refl refl
 

@@ -1,5 +1,5 @@
--- pbrt's `transform_bounds` of an affine transform and a finite box: the smallest box round the eight moved corners, refused with 5 where one of them is not finite (`corners-span`).
--- Rests on the unions of `bounds3`, and on wp being 1 (`point-affine`).
+-- pbrt's `transform_bounds` of an affine transform and a finite box: the smallest box round the eight moved corners, refused
+-- with 5 where one of them is not finite (`corners-span`). Rests on the unions of `bounds3`, and on wp being 1 (`point-affine`).
 use mathlib.Core.Path.{_≡_, refl}
 use mathlib.Core.Bool.{Bool, true, false, cond}
 use mathlib.Core.List.{List, [], _∷_}
@@ -70,7 +70,8 @@ unfolding PointAnswer·judged BoundsAnswer·unionMoved
 union-spans q qs (bounds.Refused n) e s = (s .0, λ a. s .1 (a .1))
 union-spans q qs (bounds.Bounds c) e s = rw e (go (Point3f·isFinite q) (test-finite q) finite-test)
   where
-    go : (b : Bool) → (T b → Finite q) → (Finite q → T b) → Spans (q ∷ qs) (BoundsAnswer·unionMoved (bounds.Bounds c) (cond b (point.Moved q) (point.Refused 5)))
+    go : (b : Bool) → (T b → Finite q) → (Finite q → T b)
+        → Spans (q ∷ qs) (BoundsAnswer·unionMoved (bounds.Bounds c) (cond b (point.Moved q) (point.Refused 5)))
     go true f g = ((f tt, s .0), union-hull c qs (f tt) (s .1))
     go false f g = (refl, λ a. g (a .0))
 
@@ -85,11 +86,17 @@ module _ (t : Transform) (b : Bounds3f) where
   movedCorners =
       let l = false in
       let h = true in
-      movedCorner h h h ∷ movedCorner h l h ∷ movedCorner h h l ∷ movedCorner l h h ∷ movedCorner l l h ∷ movedCorner l h l ∷ movedCorner h l l ∷ movedCorner l l l ∷ []
+      movedCorner h h h ∷ movedCorner h l h ∷ movedCorner h h l ∷ movedCorner l h h
+      ∷ movedCorner l l h ∷ movedCorner l h l ∷ movedCorner h l l ∷ movedCorner l l l ∷ []
 
   pub corners-all : (P : Point3f → Type 0) → ((i j k : Bool) → P (movedCorner i j k)) → All P movedCorners
-  corners-all P f =
-      (f true true true, (f true false true, (f true true false, (f false true true, (f false false true, (f false true false, (f true false false, (f false false false, tt))))))))
+  corners-all P f = (
+    f true true true,
+    (
+      f true false true,
+      (f true true false, (f false true true, (f false false true, (f false true false, (f true false false, (f false false false, tt)))))),
+    ),
+  )
 
   pub corners-each : (P : Point3f → Type 0) → All P movedCorners → (i j k : Bool) → P (movedCorner i j k)
   corners-each P a true true true = a .0
@@ -121,4 +128,5 @@ module _ (t : Transform) (b : Bounds3f) where
         (union-spans _ _ _ (corner-moved true true false)
         (union-spans _ _ _ (corner-moved false true true)
         (union-spans _ _ _ (corner-moved false false true)
-        (union-spans _ _ _ (corner-moved false true false) (union-spans _ _ _ (corner-moved true false false) (first-spans _ (corner-moved false false false))))))))
+        (union-spans _ _ _ (corner-moved false true false)
+        (union-spans _ _ _ (corner-moved true false false) (first-spans _ (corner-moved false false false))))))))

@@ -1,7 +1,7 @@
--- A stored matrix over a box of points, by interval steps, a row at a time. Each end of a row's interval is the coordinate that some corner of the box is moved to (`row-picks`),
--- since a product with a constant is least and greatest at the ends. So the intervals lie in every box that holds the moved corners (`rows-subset`), and nothing is refused
--- where these are finite (`rows-accepted`), since a finite sum has finite terms (`add-operands` of `interval`). The number is 0 or 5 (`rows-number`).
--- Rests on `min-picks` and `max-picks` of `float32`.
+-- A stored matrix over a box of points, by interval steps, a row at a time. Each end of a row's interval is the coordinate that some corner
+-- of the box is moved to (`row-picks`), since a product with a constant is least and greatest at the ends. So the intervals lie in every
+-- box that holds the moved corners (`rows-subset`), and nothing is refused where these are finite (`rows-accepted`), since a finite sum has
+-- finite terms (`add-operands` of `interval`). The number is 0 or 5 (`rows-number`). Rests on `min-picks` and `max-picks` of `float32`.
 use mathlib.Core.Path.{_≡_, refl, sym, subst}
 use mathlib.Core.Logic.{inl, inr}
 use mathlib.Core.Bool.{Bool, true, false, cond, _&&_}
@@ -33,7 +33,8 @@ use Rattle.pose_steps.specs.declared.IntervalVector.{IntervalVector}
 use Rattle.pose_steps.specs.declared.JudgedVector.{JudgedVector}
 use Rattle.pose_steps.specs.Stages.{row, vector, moved}
 use Rattle.pose_steps.specs.Pose.{Pose·transformPoint}
-use Rattle.pose_steps.specs.Enclose.{IntervalRow·list, IntervalRow·point, IntervalVector·list, IntervalVector·bounds, IntervalMatrix·point, Pose·encloseTransformPoint}
+use Rattle.pose_steps.specs.Enclose.{IntervalRow·list, IntervalRow·point, IntervalVector·list}
+use Rattle.pose_steps.specs.Enclose.{IntervalVector·bounds, IntervalMatrix·point, Pose·encloseTransformPoint}
 use Rattle.stored_box.specs.EnclosePoints.{StoredNumber}
 
 -- The high end where e is true.
@@ -64,7 +65,8 @@ scaled-picks P X c h false = let p = min-picks P (X .low ⊗ c) (X .high ⊗ c) 
 scaled-picks P X c h true = let p = max-picks P (X .low ⊗ c) (X .high ⊗ c) (h false) (h true) in max-picks P _ _ p p
 
 module _ (n : ℕ) (r : Row) (B : IntervalVector) where
-  row-end : (e : Bool) → end e (encloseRow n r B .interval) ≡ end e (scaled (B .x) (col r 0)) ⊕ end e (scaled (B .y) (col r 1)) ⊕ end e (scaled (B .z) (col r 2)) ⊕ col r 3
+  row-end : (e : Bool)
+      → end e (encloseRow n r B .interval) ≡ end e (scaled (B .x) (col r 0)) ⊕ end e (scaled (B .y) (col r 1)) ⊕ end e (scaled (B .z) (col r 2)) ⊕ col r 3
   unfolding Expr·enclose Judged·addEnclosure Judged·mulEnclosure Judged·judge Interval·addEnclosure
   row-end true = refl
   row-end false = refl
@@ -149,7 +151,8 @@ module _ (n : ℕ) (m : Matrix4x4) (B : IntervalVector) where
         z = row-between (q .refusal) (m .r2) B (λ i j k. h i j k .z);
       })
 
-  pub rows-accepted : n ≡ 0 → ((i j k : Bool) → point.Finite (Pose·transformPoint m (corner B i j k))) → Pose·encloseTransformPoint n (IntervalMatrix·point m) B .refusal ≡ 0
+  pub rows-accepted : n ≡ 0 → ((i j k : Bool) → point.Finite (Pose·transformPoint m (corner B i j k)))
+      → Pose·encloseTransformPoint n (IntervalMatrix·point m) B .refusal ≡ 0
   unfolding Pose·transformPoint
   rows-accepted z h =
       let p = encloseRow n (m .r0) B in

@@ -73,7 +73,8 @@ module _ (t : Transform) (b : Bounds3f) (affine : T (Matrix4x4·isAffine (Matrix
 
   corner-enclosed : Transform·enclosePoints t b .refusal ≡ 0 → (i j k : Bool)
       → Pairwise Encloses (IntervalVector·list (Transform·enclosePoints t b .vector)) (Point3f·list (movedCorner t b i j k))
-  corner-enclosed z i j k = transformPoint-extends 0 (stored-encloses (t .m) stored) (inside-encloses b (refusal-accepted b accepted .0) (corner-inside i j k)) z
+  corner-enclosed z i j k =
+      transformPoint-extends 0 (stored-encloses (t .m) stored) (inside-encloses b (refusal-accepted b accepted .0) (corner-inside i j k)) z
 
   corner-finite : Transform·enclosePoints t b .refusal ≡ 0 → (i j k : Bool) → Finite (movedCorner t b i j k)
   corner-finite z i j k =

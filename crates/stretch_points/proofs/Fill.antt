@@ -1,5 +1,5 @@
--- Points put one after the other are the floats of all: `filled-floats`; one more of them, `filled-next`; none, `filled-end`. The floats of a list of times: of its parts,
--- `floats-append`; how many, `floats-length`; of equal answers, `floats-same`.
+-- Points put one after the other are the floats of all: `filled-floats`; one more of them, `filled-next`; none, `filled-end`.
+-- The floats of a list of times: of its parts, `floats-append`; how many, `floats-length`; of equal answers, `floats-same`.
 use Prim.Native.Nat.{ℕ, suc, _+_, _*_, _≤_, _<_}
 use mathlib.Core.Path.{_≡_, refl, ap, _∙_}
 use mathlib.Core.List.{List, [], _∷_, _++_, append-assoc}

@@ -1,4 +1,5 @@
--- A stretch of times asked of one kept move, whatever its rows: what it answers, `Rows·transformPoints`, and what putting the points leaves, `Rows·pointsPut`. Definitions only.
+-- A stretch of times asked of one kept move, whatever its rows: what it answers, `Rows·transformPoints`, and what putting the points leaves, `Rows·pointsPut`.
+-- Definitions only.
 use Prim.Native.Nat.{_*_}
 use mathlib.Core.Bool.{cond}
 use mathlib.Core.List.{List, map}
@@ -20,7 +21,7 @@ Rows·transformPoints rows times p = pointsAt (λ t. Rows·transformPoint rows t
 unfoldable pub floatsAt : (Float → PointAnswer) → List Float → List Float
 floatsAt query times = Points·list (map (λ t. PointAnswer·point (query t)) times)
 
--- document 02, "Poses in a chain": "That move's points go straight into its own part of the lent answers, three places a time". `old` is what stood in them, and stands in them
--- where they aren't three places a time.
+-- document 02, "Poses in a chain": "That move's points go straight into its own part of the lent answers, three places a time".
+-- `old` is what stood in them, and stands in them where they aren't three places a time.
 unfoldable pub Rows·pointsPut : Rows → List Float → Point3f → List Float → List Float
 Rows·pointsPut rows times p old = cond (eqb (length old) (placesPerTime * length times)) (floatsAt (λ t. Rows·transformPoint rows t p) times) old

@@ -1,4 +1,5 @@
-// A stretch of times asked of its own move, which is kept as 45 rows: one pass for the first refusal, and one that puts the points into the stretch's part of the answers.
+// A stretch of times asked of its own move, which is kept as 45 rows: one pass for the first refusal,
+// and one that puts the points into the stretch's part of the answers.
 use bounds3::Point3f;
 use transform::PointAnswer;
 ghost use Prim.Native.Nat.{_+_, _*_, _<_};
@@ -68,7 +69,8 @@ fn fill_stretch(motion: &[[f32; 4]; 45], times: &[f32], p: Point3f, answers: &mu
     }
 }
 
-// Where a point stands at each time of a kept move, put into answers of three places a time, the origin where a time is refused. Other answers stay as they came.
+// Where a point stands at each time of a kept move, put into answers of three places a time, the origin where a time is refused.
+// Other answers stay as they came.
 // Accuracy: each operation but sine and cosine is correctly rounded.
 pub fn put_points(motion: &[[f32; 4]; 45], times: &[f32], p: Point3f, answers: &mut [f32])
     ensures left { λ _. ⌜ now (answers .exit) ≡ Rows·pointsPut (now (motion .entry)) (now (times .entry)) p (now (answers .entry)) ⌝ }

@@ -10,7 +10,8 @@ use lib.Ieee.{Float, nan, lt}
 use Rattle.tick_list.specs.Ticks.{minTicks, maxTicks, Ticks·rise, Ticks·refusal}
 
 -- i is the place of the later tick
-rises-at : (ticks : List Float) (i : ℕ) → suc i < length ticks → Ticks·rise (drop i ticks) ≡ (lt (getD ticks i nan) (getD ticks (suc i) nan) && Ticks·rise (drop (suc i) ticks))
+rises-at : (ticks : List Float) (i : ℕ) → suc i < length ticks
+    → Ticks·rise (drop i ticks) ≡ (lt (getD ticks i nan) (getD ticks (suc i) nan) && Ticks·rise (drop (suc i) ticks))
 unfolding Ticks·rise
 rises-at [] i h = absurd (omega (arith, h))
 rises-at (t ∷ []) i h = absurd (omega (arith, h))
@@ -31,7 +32,8 @@ module _ (ticks : List Float) (i : ℕ) (l : 1 ≤ i) where
   pub falls-here : i < length ticks → lt (getD ticks (i - 1) nan) (getD ticks i nan) ≡ false → Ticks·rise (drop (i - 1) ticks) ≡ false
   falls-here h e = let f : suc (i - 1) ≡ i = omega (arith, l) in rw (rises-at ticks (i - 1) (omega (arith, l, h)), f, e)
 
-  pub rises-next : i < length ticks → lt (getD ticks (i - 1) nan) (getD ticks i nan) ≡ true → Ticks·rise (drop (i + 1 - 1) ticks) ≡ Ticks·rise (drop (i - 1) ticks)
+  pub rises-next : i < length ticks → lt (getD ticks (i - 1) nan) (getD ticks i nan) ≡ true
+      → Ticks·rise (drop (i + 1 - 1) ticks) ≡ Ticks·rise (drop (i - 1) ticks)
   rises-next h e =
       let f : suc (i - 1) ≡ i = omega (arith, l) in
       let g : i + 1 - 1 ≡ i = omega arith in

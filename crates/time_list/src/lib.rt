@@ -1,5 +1,5 @@
-// What a query asks of a list of times, its point and the lent answers: 6 for a NaN time or a coordinate that isn't finite, then 13 for a list that falls or answers that aren't
-// exactly three places per time.
+// What a query asks of a list of times, its point and the lent answers: 6 for a NaN time or a coordinate that isn't finite,
+// then 13 for a list that falls or answers that aren't exactly three places per time.
 use bounds3::Point3f;
 ghost use mathlib.Core.Path.{_≡_};
 ghost use Rattle.motion_chain.specs.Times.{timesAreNumbers, neverFalls, listRefusal};

@@ -1,5 +1,5 @@
--- Cases of the definitions, by computing, for a translation by (1, 2, 3): it moves a point and a box, leaves a vector's length, and followed by itself is one by (2, 4, 6).
--- A point is divided by its fourth coordinate, and is refused where that is zero.
+-- Cases of the definitions, by computing, for a translation by (1, 2, 3): it moves a point and a box, leaves a vector's length,
+-- and followed by itself is one by (2, 4, 6). A point is divided by its fourth coordinate, and is refused where that is zero.
 use mathlib.Core.Path.{_≡_, refl}
 use mathlib.Core.Bool.{false}
 use mathlib.Core.List.{[], _∷_}
@@ -32,7 +32,8 @@ translate-point : Transform·transformPoint (by 1 2 3) (at 1 1 1) ≡ point.Move
 unfolding computing
 translate-point = refl
 
-translate-bounds : Transform·transformBounds (by 1 2 3) (record { «p_min» = at 0 0 0; «p_max» = at 1 1 1 }) ≡ bounds.Bounds (record { «p_min» = at 1 2 3; «p_max» = at 2 3 4 })
+translate-bounds : Transform·transformBounds (by 1 2 3)
+    (record { «p_min» = at 0 0 0; «p_max» = at 1 1 1 }) ≡ bounds.Bounds (record { «p_min» = at 1 2 3; «p_max» = at 2 3 4 })
 unfolding computing
 translate-bounds = refl
 

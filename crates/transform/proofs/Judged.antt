@@ -75,8 +75,10 @@ transform-bounds-judged t b =
     (j _)
 
 -- ---- both clauses of a contract, from the first
-pub point-clauses : {r : PointAnswer} (t : Transform) (p : Point3f) → r ≡ Transform·transformPoint t p → (r ≡ Transform·transformPoint t p) × PointAnswer·Judged r
+pub point-clauses : {r : PointAnswer} (t : Transform) (p : Point3f)
+    → r ≡ Transform·transformPoint t p → (r ≡ Transform·transformPoint t p) × PointAnswer·Judged r
 point-clauses t p e = (e, rw e (transform-point-judged t p))
 
-pub bounds-clauses : {r : BoundsAnswer} (t : Transform) (b : Bounds3f) → r ≡ Transform·transformBounds t b → (r ≡ Transform·transformBounds t b) × BoundsAnswer·Judged r
+pub bounds-clauses : {r : BoundsAnswer} (t : Transform) (b : Bounds3f)
+    → r ≡ Transform·transformBounds t b → (r ≡ Transform·transformBounds t b) × BoundsAnswer·Judged r
 bounds-clauses t b e = (e, rw e (transform-bounds-judged t b))

@@ -1,5 +1,6 @@
 -- The homogeneous coordinate wp of a moved point. `wp-one`: under an affine matrix it is 1 for a finite point, so that nothing is divided (`moved-affine`).
--- `wp-zero`: where it is zero, the answer is the refusal 5, since a quotient by a zero is never finite (`div-zero`). Rests on the arithmetic of zeros in `matrix4x4`.
+-- `wp-zero`: where it is zero, the answer is the refusal 5, since a quotient by a zero is never finite (`div-zero`).
+-- Rests on the arithmetic of zeros in `matrix4x4`.
 use mathlib.Core.Path.{_≡_, refl}
 use mathlib.Core.Bool.{Bool, true, false, _&&_, cond}
 use Prim.Native.Nat.{_*_}

@@ -3,7 +3,8 @@
 // 4 or 5. All others refuse nothing. Neither a matrix nor a point is asked to be finite here: that is for the functions that build and that answer queries.
 ghost use mathlib.Core.Path.{_≡_};
 ghost use Rattle.matrix4x4.specs.Rows.{Matrix4x4·toRows};
-ghost use Rattle.transform.specs.Transform.{TransformAnswer·refused, Transform·fromMatrices, Transform·fromMatrix, Transform·mul, Transform·translate, Transform·eq};
+ghost use Rattle.transform.specs.Transform.{TransformAnswer·refused, Transform·fromMatrices, Transform·fromMatrix};
+ghost use Rattle.transform.specs.Transform.{Transform·mul, Transform·translate, Transform·eq};
 ghost use Rattle.transform.specs.Answer.{PointAnswer·Judged, BoundsAnswer·Judged};
 ghost use Rattle.transform.specs.TransformPoint.{mulPoint, movedPoint, Transform·transformPoint};
 ghost use Rattle.transform.specs.TransformVector.{mulVector, movedVector, Transform·transformVector};

@@ -1,4 +1,5 @@
--- Blocks of rows: the kept moves copied block by block, `copy-next`; one new move put among them, `put-one`, or two, `put-two`, and that only the front blocks change: `changed-front`. What a test tells of a place: `between`, `test-passed`, `test-failed`.
+-- Blocks of rows: the kept moves copied block by block, `copy-next`; one new move put among them, `put-one`, or two, `put-two`,
+-- and that only the front blocks change: `changed-front`. What a test tells of a place: `between`, `test-passed`, `test-failed`.
 use Prim.Native.Nat.{ℕ, suc, _+_, _-_, _≤_, _<_}
 use mathlib.Core.Path.{_≡_, refl, sym, ap, _∙_}
 use mathlib.Core.Bool.{Bool, true, false, _&&_, _||_, cond, false≢true}
@@ -85,7 +86,8 @@ beside-fits n place some h = go (ltb 0 place) (ltb-true 0 place) (ltb place n) (
     go true f false g = omega (arith, some, h)
     go false f t g = omega (arith, some, h)
 
-pub changed-front : (rows copied beside : List Rows) (place : ℕ) {left : List Rows} → 0 < length rows → place ≤ length rows → length beside ≡ 31 → length copied ≡ 31
+pub changed-front : (rows copied beside : List Rows) (place : ℕ) {left : List Rows}
+    → 0 < length rows → place ≤ length rows → length beside ≡ 31 → length copied ≡ 31
     → take (length rows) copied ≡ rows
     → left ≡ sets copied (place - 1) (take (besideCount (length rows) place) beside)
     → (take (length rows) left ≡ sets rows (place - 1) (take (besideCount (length rows) place) beside)) × (length left ≡ 31)
@@ -93,8 +95,10 @@ changed-front rows copied beside place some h l k front e =
     let n = length rows in
     let xs = take (besideCount n place) beside in
     let size = length-take-le (besideCount n place) beside (fewer n place) in
-    let room = beside-fits n place some h in
-    (rw e (take-sets n copied (place - 1) xs (rw size room) ∙ ap (λ (r : List Rows). sets r (place - 1) xs) front), rw e (length-sets copied (place - 1) xs ∙ k))
+    let room = beside-fits n place some h in (
+      rw e (take-sets n copied (place - 1) xs (rw size room) ∙ ap (λ (r : List Rows). sets r (place - 1) xs) front),
+      rw e (length-sets copied (place - 1) xs ∙ k),
+    )
   where
     fewer : (n place : ℕ) → besideCount n place ≤ length beside
     fewer n place = go (ltb 0 place && ltb place n)

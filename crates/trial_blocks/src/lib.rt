@@ -1,5 +1,5 @@
-// A pose that is tried in a kept chain: the number of its place, the order of the numbers, and the blocks of the kept moves, 45 rows each, with the new moves beside
-// the place among them.
+// A pose that is tried in a kept chain: the number of its place, the order of the numbers, and the blocks of the kept moves,
+// 45 rows each, with the new moves beside the place among them.
 ghost use Prim.Native.Nat.{_-_, _<_, _≤_};
 ghost use mathlib.Core.Path.{_≡_};
 ghost use mathlib.Core.Bool.{cond};
@@ -31,7 +31,8 @@ pub fn trial_refusal(changed: u8, asked: u8) -> u8
 // The kept moves, copied into the front of the blocks.
 fn copy_moves(moves: &[[[f32; 4]; 45]], blocks: &mut [[[f32; 4]; 45]; 31])
     requires { ⌜ length (now moves) ≤ 31 ⌝ }
-    ensures front { λ _. ⌜ (length (now (blocks .entry)) ≡ 31 → (length (now (blocks .exit)) ≡ 31) × (take (length (now (moves .entry))) (now (blocks .exit)) ≡ now (moves .entry))) ⌝ }
+    ensures front { λ _. ⌜ (length (now (blocks .entry)) ≡ 31
+        → (length (now (blocks .exit)) ≡ 31) × (take (length (now (moves .entry))) (now (blocks .exit)) ≡ now (moves .entry))) ⌝ }
 {
     let n = moves.len();
     let mut i = 0;
@@ -58,7 +59,8 @@ fn put_beside(
     requires { ⌜ 0 < n ⌝ }
     requires { ⌜ n ≤ 31 ⌝ }
     requires { ⌜ place ≤ n ⌝ }
-    ensures left { λ _. ⌜ (length (now (beside .entry)) ≡ 31 → now (blocks .exit) ≡ sets (now (blocks .entry)) (place - 1) (take (besideCount n place) (now (beside .entry)))) ⌝ }
+    ensures left { λ _. ⌜ (length (now (beside .entry)) ≡ 31
+        → now (blocks .exit) ≡ sets (now (blocks .entry)) (place - 1) (take (besideCount n place) (now (beside .entry)))) ⌝ }
 {
     let first = first_beside(place);
     blocks[first] = beside[0];
@@ -67,15 +69,17 @@ fn put_beside(
     }
 }
 
-// The kept moves in the front of the blocks, with the new ones in place of those beside the pose's place. Nothing is put where the moves are none or more than 31, or
-// have no such place. Accuracy: exact.
+// The kept moves in the front of the blocks, with the new ones in place of those beside the pose's place.
+// Nothing is put where the moves are none or more than 31, or have no such place. Accuracy: exact.
 pub fn put_changed(
     moves: &[[[f32; 4]; 45]],
     place: usize,
     beside: &[[[f32; 4]; 45]; 31],
     blocks: &mut [[[f32; 4]; 45]; 31],
 )
-    ensures changed { λ _. ⌜ (length (now (blocks .entry)) ≡ 31 → length (now (beside .entry)) ≡ 31 → 0 < length (now (moves .entry)) → length (now (moves .entry)) ≤ 31 → place ≤ length (now (moves .entry)) → (take (length (now (moves .entry))) (now (blocks .exit)) ≡ sets (now (moves .entry)) (place - 1) (take (besideCount (length (now (moves .entry))) place) (now (beside .entry)))) × (length (now (blocks .exit)) ≡ 31)) ⌝ }
+    ensures changed { λ _. ⌜ (length (now (blocks .entry)) ≡ 31 → length (now (beside .entry)) ≡ 31 → 0 < length (now (moves .entry)) → length
+        (now (moves .entry)) ≤ 31 → place ≤ length (now (moves .entry)) → (take (length (now (moves .entry))) (now (blocks .exit)) ≡ sets (now (moves .entry))
+        (place - 1) (take (besideCount (length (now (moves .entry))) place) (now (beside .entry)))) × (length (now (blocks .exit)) ≡ 31)) ⌝ }
 {
     let n = moves.len();
     if (n == 0) | (n > 31) | (place > n) {

@@ -1,11 +1,12 @@
--- Floats as whole numbers of units, by the parts that `integer_decode` gives: |x| * 2 ^ d rounded down is one shift (`fixed-decode`), so that u of an angle is one
--- (`angle-near`, and `angle-far` from 2 ^ 24 on).
+-- Floats as whole numbers of units, by the parts that `integer_decode` gives: |x| * 2 ^ d rounded down is one shift (`fixed-decode`),
+-- so that u of an angle is one (`angle-near`, and `angle-far` from 2 ^ 24 on).
 -- Back to floats: with the sign, `float-negated`, and without, `float-kept`.
 use mathlib.Core.Path.{_≡_, refl, sym, ap, subst, _∙_}
 use mathlib.Core.Logic.{inl, inr}
 use mathlib.Core.Bool.{Bool, true, false, true≢false, _&&_}
 use Prim.Native.Nat.{ℕ, zero, suc, _+_, _*_, _/_, _%_, _^_, _≤_, _<_, min}
-use native.Mathlib.Nat.{not-suc-le-zero, le-trans, le-of-eq, mul-le-mul, mul-lt-mul-of-pos-right, div-lt-iff-lt-mul, lt-of-lt-of-le, div-le-of-le-mul, mul-le-mul-left, mul-comm}
+use native.Mathlib.Nat.{not-suc-le-zero, le-trans, le-of-eq, mul-le-mul, mul-lt-mul-of-pos-right}
+use native.Mathlib.Nat.{div-lt-iff-lt-mul, lt-of-lt-of-le, div-le-of-le-mul, mul-le-mul-left, mul-comm}
 use native.Mathlib.Nat.{mod-eq-of-lt, zero-div, le-div-iff-mul-le}
 use native.Mathlib.Omega.{arith}
 use borrow.Author.Tests.{ltb-true, ltb-false}
@@ -33,7 +34,8 @@ pub fixed-value : (x : Float) (s : Bool) (d m E : ℕ) → HasValue x s (m * E) 
 unfolding fixed
 fixed-value nan s d m E h = absurd h
 fixed-value (inf t) s d m E h = absurd h
-fixed-value (fin t n e) s d m E h = sym (div-same (n * up e * 2 ^ d) (down e) (m * 2 ^ d * E) (2 ^ 149) (down-pos e) (pow-pos 149) (regroup (n * up e) (2 ^ d) (2 ^ 149) m E (down e) (h .1)))
+fixed-value (fin t n e) s d m E h =
+    sym (div-same (n * up e * 2 ^ d) (down e) (m * 2 ^ d * E) (2 ^ 149) (down-pos e) (pow-pos 149) (regroup (n * up e) (2 ^ d) (2 ^ 149) m E (down e) (h .1)))
   where
     regroup : (a P L m E D : ℕ) → a * L ≡ m * E * D → a * P * L ≡ m * P * E * D
     regroup a P L m E D h = let k : a * L * P ≡ m * E * D * P = ap (λ (n : ℕ). n * P) h in omega (arith, k)
@@ -41,7 +43,8 @@ fixed-value (fin t n e) s d m E h = sym (div-same (n * up e * 2 ^ d) (down e) (m
 -- The code's shift of a significand by d places, which does not wrap.
 pub shl-exact : (m d : ℕ) → m < 2 ^ 24 → d ≤ 30 → m * 2 ^ d % 2 ^ 64 ≡ m * 2 ^ d
 shl-exact m d h k =
-    mod-eq-of-lt (lt-of-lt-of-le (mul-lt-mul-of-pos-right h (pow-pos d)) (le-trans (le-of-eq (sym (pow-add 2 24 d))) (pow-mono {i = 24 + d} {j = 64} (omega arith))))
+    mod-eq-of-lt
+    (lt-of-lt-of-le (mul-lt-mul-of-pos-right h (pow-pos d)) (le-trans (le-of-eq (sym (pow-add 2 24 d))) (pow-mono {i = 24 + d} {j = 64} (omega arith))))
 
 -- ---- u of an angle
 
@@ -49,7 +52,8 @@ fixed-decode : (x : Float) → T (fits binary32 x) → (d : ℕ) → integerDeco
 fixed-decode nan f d = unfold integerDecode magnitude exponent size fixed in none (2 ^ d) (2 ^ 149)
 fixed-decode (inf s) f d = unfold integerDecode magnitude exponent size fixed in none (2 ^ d) (2 ^ 149)
 fixed-decode (fin s m e) f d =
-    fixed-value (fin s m e) (integerDecode (fin s m e) .negative) d (integerDecode (fin s m e) .significand) (2 ^ integerDecode (fin s m e) .exponent) (decode-value (fin s m e) f tt)
+    fixed-value (fin s m e) (integerDecode (fin s m e) .negative) d (integerDecode (fin s m e) .significand)
+    (2 ^ integerDecode (fin s m e) .exponent) (decode-value (fin s m e) f tt)
 
 module _ (x : Float) (f : fits binary32 x ≡ true) (d : Decoded) (D : d ≡ integerDecode x) where
   digits : d .significand < 2 ^ 24
@@ -63,8 +67,10 @@ module _ (x : Float) (f : fits binary32 x ≡ true) (d : Decoded) (D : d ≡ int
 
   pub angle-near : d .exponent ≤ 149 → (u : ℕ) → u ≡ d .significand * 2 ^ 28 % 2 ^ 64 * 2 ^ d .exponent / 2 ^ 149 → u ≡ min (angleUnits x) (2 ^ 52)
   angle-near h u U =
-      let e : u ≡ d .significand * 2 ^ 28 * 2 ^ d .exponent / 2 ^ 149 = U ∙ ap (λ (y : ℕ). y * 2 ^ d .exponent / 2 ^ 149) (shl-exact (d .significand) 28 digits (lit≤ tt)) in
-      least u (angleUnits x) (e ∙ units) (rw e (le-trans (shrinks (d .significand * 2 ^ 28) (2 ^ d .exponent) (2 ^ 149) (pow-mono {i = d .exponent} {j = 149} h)) (let l = digits in omega (arith, l))))
+      let e : u ≡ d .significand * 2 ^ 28 * 2 ^ d .exponent / 2 ^ 149 =
+      U ∙ ap (λ (y : ℕ). y * 2 ^ d .exponent / 2 ^ 149) (shl-exact (d .significand) 28 digits (lit≤ tt)) in
+      least u (angleUnits x) (e ∙ units) (rw e (le-trans
+      (shrinks (d .significand * 2 ^ 28) (2 ^ d .exponent) (2 ^ 149) (pow-mono {i = d .exponent} {j = 149} h)) (let l = digits in omega (arith, l))))
     where
       shrinks : (a b c : ℕ) → b ≤ c → a * b / c ≤ a
       shrinks a b c h = div-le-of-le-mul c (le-trans (mul-le-mul-left a h) (le-of-eq (mul-comm a c)))
@@ -73,10 +79,12 @@ module _ (x : Float) (f : fits binary32 x ≡ true) (d : Decoded) (D : d ≡ int
       least u v e h = omega arith
 
   pub angle-far : 149 < d .exponent → 2 ^ 52 ≡ min (angleUnits x) (2 ^ 52)
-  angle-far h = greatest (angleUnits x) (rw (← units) (le-div-iff-mul-le (pow-pos 149) .1 (grows (d .significand) (2 ^ d .exponent) normal (pow-mono {i = 150} {j = d .exponent} h))))
+  angle-far h = greatest (angleUnits x)
+      (rw (← units) (le-div-iff-mul-le (pow-pos 149) .1 (grows (d .significand) (2 ^ d .exponent) normal (pow-mono {i = 150} {j = d .exponent} h))))
     where
       normal : 2 ^ 23 ≤ d .significand
-      normal = rw D (elim (significand-normal x) [ inl e ↦ absurd (let l : 149 < integerDecode x .exponent = subst (λ (p : Decoded). 149 < p .exponent) D h in omega (arith, l, e)) | inr l ↦ l ])
+      normal = rw D (elim (significand-normal x)
+          [ inl e ↦ absurd (let l : 149 < integerDecode x .exponent = subst (λ (p : Decoded). 149 < p .exponent) D h in omega (arith, l, e)) | inr l ↦ l ])
 
       grows : (m E : ℕ) → 2 ^ 23 ≤ m → 2 ^ 150 ≤ E → 2 ^ 52 * 2 ^ 149 ≤ m * 2 ^ 28 * E
       grows m E h k = mul-le-mul (let l : 2 ^ 51 ≤ m * 2 ^ 28 = omega arith in l) k

@@ -100,8 +100,10 @@ sin-first u h = elim (eq-or-lt-of-le h) [
 
 sin-second : (u : ℕ) → quarterTurn ≤ u → u ≤ 2 * quarterTurn → biasedSin u ≡ 2 ^ 30 + quarterSine (2 * quarterTurn - u)
 sin-second u g h = elim (eq-or-lt-of-le h) [
-  | inl e ↦ sin-quarter u 2 0 (omega (arith, e)) (omega (arith, e)) ∙ flat (quarterSine 0) quarterSine-zero ∙ ap (λ (x : ℕ). 2 ^ 30 + quarterSine x) (let z : 0 ≡ 2 * quarterTurn - u = omega (arith, e) in z)
-  | inr l ↦ sin-quarter u 1 (u - quarterTurn) (omega (arith, g, l)) (omega (arith, g, l)) ∙ ap (λ (x : ℕ). 2 ^ 30 + quarterSine x) (let z : quarterTurn - (u - quarterTurn) ≡ 2 * quarterTurn - u = omega (arith, g, l) in z)
+  | inl e ↦ sin-quarter u 2 0 (omega (arith, e)) (omega (arith, e)) ∙ flat (quarterSine 0) quarterSine-zero
+      ∙ ap (λ (x : ℕ). 2 ^ 30 + quarterSine x) (let z : 0 ≡ 2 * quarterTurn - u = omega (arith, e) in z)
+  | inr l ↦ sin-quarter u 1 (u - quarterTurn) (omega (arith, g, l)) (omega (arith, g, l))
+      ∙ ap (λ (x : ℕ). 2 ^ 30 + quarterSine x) (let z : quarterTurn - (u - quarterTurn) ≡ 2 * quarterTurn - u = omega (arith, g, l) in z)
 ]
   where
     flat : (z : ℕ) → z ≡ 0 → 2 ^ 30 - z ≡ 2 ^ 30 + z
@@ -109,14 +111,17 @@ sin-second u g h = elim (eq-or-lt-of-le h) [
 
 sin-third : (u : ℕ) → 2 * quarterTurn ≤ u → u ≤ 3 * quarterTurn → biasedSin u ≡ 2 ^ 30 - quarterSine (u - 2 * quarterTurn)
 sin-third u g h = elim (eq-or-lt-of-le h) [
-  | inl e ↦ sin-quarter u 3 0 (omega (arith, e)) (omega (arith, e)) ∙ ap (λ (x : ℕ). 2 ^ 30 - quarterSine x) (let z : quarterTurn - 0 ≡ u - 2 * quarterTurn = omega (arith, e) in z)
+  | inl e ↦ sin-quarter u 3 0 (omega (arith, e)) (omega (arith, e))
+      ∙ ap (λ (x : ℕ). 2 ^ 30 - quarterSine x) (let z : quarterTurn - 0 ≡ u - 2 * quarterTurn = omega (arith, e) in z)
   | inr l ↦ sin-quarter u 2 (u - 2 * quarterTurn) (omega (arith, g, l)) (omega (arith, g, l))
 ]
 
 sin-fourth : (u : ℕ) → 3 * quarterTurn ≤ u → u ≤ 4 * quarterTurn → biasedSin u ≡ 2 ^ 30 - quarterSine (4 * quarterTurn - u)
 sin-fourth u g h = elim (eq-or-lt-of-le h) [
-  | inl e ↦ sin-quarter u 0 0 (omega (arith, e)) (omega (arith, e)) ∙ flat (quarterSine 0) quarterSine-zero ∙ ap (λ (x : ℕ). 2 ^ 30 - quarterSine x) (let z : 0 ≡ 4 * quarterTurn - u = omega (arith, e) in z)
-  | inr l ↦ sin-quarter u 3 (u - 3 * quarterTurn) (omega (arith, g, l)) (omega (arith, g, l)) ∙ ap (λ (x : ℕ). 2 ^ 30 - quarterSine x) (let z : quarterTurn - (u - 3 * quarterTurn) ≡ 4 * quarterTurn - u = omega (arith, g, l) in z)
+  | inl e ↦ sin-quarter u 0 0 (omega (arith, e)) (omega (arith, e)) ∙ flat (quarterSine 0) quarterSine-zero
+      ∙ ap (λ (x : ℕ). 2 ^ 30 - quarterSine x) (let z : 0 ≡ 4 * quarterTurn - u = omega (arith, e) in z)
+  | inr l ↦ sin-quarter u 3 (u - 3 * quarterTurn) (omega (arith, g, l)) (omega (arith, g, l))
+      ∙ ap (λ (x : ℕ). 2 ^ 30 - quarterSine x) (let z : quarterTurn - (u - 3 * quarterTurn) ≡ 4 * quarterTurn - u = omega (arith, g, l) in z)
 ]
   where
     flat : (z : ℕ) → z ≡ 0 → 2 ^ 30 + z ≡ 2 ^ 30 - z
@@ -124,7 +129,8 @@ sin-fourth u g h = elim (eq-or-lt-of-le h) [
 
 sin-fifth : (u : ℕ) → 4 * quarterTurn ≤ u → u ≤ 5 * quarterTurn → biasedSin u ≡ 2 ^ 30 + quarterSine (u - 4 * quarterTurn)
 sin-fifth u g h = elim (eq-or-lt-of-le h) [
-  | inl e ↦ sin-quarter u 1 0 (omega (arith, e)) (omega (arith, e)) ∙ ap (λ (x : ℕ). 2 ^ 30 + quarterSine x) (let z : quarterTurn - 0 ≡ u - 4 * quarterTurn = omega (arith, e) in z)
+  | inl e ↦ sin-quarter u 1 0 (omega (arith, e)) (omega (arith, e))
+      ∙ ap (λ (x : ℕ). 2 ^ 30 + quarterSine x) (let z : quarterTurn - 0 ≡ u - 4 * quarterTurn = omega (arith, e) in z)
   | inr l ↦ sin-quarter u 0 (u - 4 * quarterTurn) (omega (arith, g, l)) (omega (arith, g, l))
 ]
 
@@ -146,28 +152,38 @@ pub sin-falls : (a b : ℕ) → quarterTurn ≤ a → a ≤ b → b ≤ 3 * quar
 sin-falls a b g h k = go (decLt a (2 * quarterTurn)) (decLt b (2 * quarterTurn))
   where
     go : Dec (a < 2 * quarterTurn) → Dec (b < 2 * quarterTurn) → biasedSin b ≤ biasedSin a
-    go (yes p) (yes q) = rw (sin-second a g (omega arith), sin-second b (omega arith) (omega arith)) (above (quarterSine (2 * quarterTurn - b)) (quarterSine (2 * quarterTurn - a)) (quarterSine-mono (2 * quarterTurn - b) (2 * quarterTurn - a) (omega arith) (omega arith)))
-    go (yes p) (no q) = rw (sin-second a g (omega arith), sin-third b (omega arith) k) (across (quarterSine (b - 2 * quarterTurn)) (quarterSine (2 * quarterTurn - a)))
+    go (yes p) (yes q) = rw (sin-second a g (omega arith), sin-second b (omega arith) (omega arith)) (above (quarterSine (2 * quarterTurn - b))
+        (quarterSine (2 * quarterTurn - a)) (quarterSine-mono (2 * quarterTurn - b) (2 * quarterTurn - a) (omega arith) (omega arith)))
+    go (yes p) (no q) =
+        rw (sin-second a g (omega arith), sin-third b (omega arith) k) (across (quarterSine (b - 2 * quarterTurn)) (quarterSine (2 * quarterTurn - a)))
     go (no p) (yes q) = absurd (omega arith)
-    go (no p) (no q) = rw (sin-third a (omega arith) (omega arith), sin-third b (omega arith) k) (below (quarterSine (a - 2 * quarterTurn)) (quarterSine (b - 2 * quarterTurn)) (quarterSine-mono (a - 2 * quarterTurn) (b - 2 * quarterTurn) (omega arith) (omega arith)))
+    go (no p) (no q) = rw (sin-third a (omega arith) (omega arith), sin-third b (omega arith) k) (below (quarterSine (a - 2 * quarterTurn))
+        (quarterSine (b - 2 * quarterTurn)) (quarterSine-mono (a - 2 * quarterTurn) (b - 2 * quarterTurn) (omega arith) (omega arith)))
 
 pub sin-rises-last : (a b : ℕ) → 3 * quarterTurn ≤ a → a ≤ b → b ≤ 5 * quarterTurn → biasedSin a ≤ biasedSin b
 sin-rises-last a b g h k = go (decLt a (4 * quarterTurn)) (decLt b (4 * quarterTurn))
   where
     go : Dec (a < 4 * quarterTurn) → Dec (b < 4 * quarterTurn) → biasedSin a ≤ biasedSin b
-    go (yes p) (yes q) = rw (sin-fourth a g (omega arith), sin-fourth b (omega arith) (omega arith)) (below (quarterSine (4 * quarterTurn - b)) (quarterSine (4 * quarterTurn - a)) (quarterSine-mono (4 * quarterTurn - b) (4 * quarterTurn - a) (omega arith) (omega arith)))
-    go (yes p) (no q) = rw (sin-fourth a g (omega arith), sin-fifth b (omega arith) k) (across (quarterSine (4 * quarterTurn - a)) (quarterSine (b - 4 * quarterTurn)))
+    go (yes p) (yes q) = rw (sin-fourth a g (omega arith), sin-fourth b (omega arith) (omega arith)) (below (quarterSine (4 * quarterTurn - b))
+        (quarterSine (4 * quarterTurn - a)) (quarterSine-mono (4 * quarterTurn - b) (4 * quarterTurn - a) (omega arith) (omega arith)))
+    go (yes p) (no q) =
+        rw (sin-fourth a g (omega arith), sin-fifth b (omega arith) k) (across (quarterSine (4 * quarterTurn - a)) (quarterSine (b - 4 * quarterTurn)))
     go (no p) (yes q) = absurd (omega arith)
-    go (no p) (no q) = rw (sin-fifth a (omega arith) (omega arith), sin-fifth b (omega arith) k) (above (quarterSine (a - 4 * quarterTurn)) (quarterSine (b - 4 * quarterTurn)) (quarterSine-mono (a - 4 * quarterTurn) (b - 4 * quarterTurn) (omega arith) (omega arith)))
+    go (no p) (no q) = rw (sin-fifth a (omega arith) (omega arith), sin-fifth b (omega arith) k) (above (quarterSine (a - 4 * quarterTurn))
+        (quarterSine (b - 4 * quarterTurn)) (quarterSine-mono (a - 4 * quarterTurn) (b - 4 * quarterTurn) (omega arith) (omega arith)))
 
 -- ---- between two ends
 
-pub sin-below-end : (a u b : ℕ) → a ≤ u → u ≤ b → b ≤ 5 * quarterTurn → (b < quarterTurn) ⊎ (quarterTurn < a) → (biasedSin u ≤ biasedSin a) ⊎ (biasedSin u ≤ biasedSin b)
+pub sin-below-end : (a u b : ℕ) → a ≤ u → u ≤ b → b ≤ 5 * quarterTurn
+    → (b < quarterTurn) ⊎ (quarterTurn < a) → (biasedSin u ≤ biasedSin a) ⊎ (biasedSin u ≤ biasedSin b)
 sin-below-end a u b h k l (inl p) = inr (sin-rises-first u b k (omega arith))
-sin-below-end a u b h k l (inr p) = elim (decLt u (3 * quarterTurn)) [ yes q ↦ inl (sin-falls a u (omega arith) h (omega arith)) | no q ↦ inr (sin-rises-last u b (omega arith) k l) ]
+sin-below-end a u b h k l (inr p) =
+    elim (decLt u (3 * quarterTurn)) [ yes q ↦ inl (sin-falls a u (omega arith) h (omega arith)) | no q ↦ inr (sin-rises-last u b (omega arith) k l) ]
 
-pub sin-above-end : (a u b : ℕ) → a ≤ u → u ≤ b → b ≤ 5 * quarterTurn → (b < 3 * quarterTurn) ⊎ (3 * quarterTurn < a) → (biasedSin a ≤ biasedSin u) ⊎ (biasedSin b ≤ biasedSin u)
-sin-above-end a u b h k l (inl p) = elim (decLt u quarterTurn) [ yes q ↦ inl (sin-rises-first a u h (omega arith)) | no q ↦ inr (sin-falls u b (omega arith) k (omega arith)) ]
+pub sin-above-end : (a u b : ℕ) → a ≤ u → u ≤ b → b ≤ 5 * quarterTurn
+    → (b < 3 * quarterTurn) ⊎ (3 * quarterTurn < a) → (biasedSin a ≤ biasedSin u) ⊎ (biasedSin b ≤ biasedSin u)
+sin-above-end a u b h k l (inl p) =
+    elim (decLt u quarterTurn) [ yes q ↦ inl (sin-rises-first a u h (omega arith)) | no q ↦ inr (sin-falls u b (omega arith) k (omega arith)) ]
 sin-above-end a u b h k l (inr p) = inl (sin-rises-last a u (omega arith) h (omega arith))
 
 -- ---- the cosine
@@ -179,11 +195,13 @@ cos-unbiased u = sin-unbiased (u + quarterTurn)
 -- By its two quarters in a half turn.
 pub cos-first : (u : ℕ) → u ≤ quarterTurn → biased (cosUnits u) ≡ 2 ^ 30 + quarterSine (quarterTurn - u)
 unfolding cosUnits
-cos-first u h = sin-second (u + quarterTurn) (omega arith) (omega arith) ∙ ap (λ (x : ℕ). 2 ^ 30 + quarterSine x) (let e : 2 * quarterTurn - (u + quarterTurn) ≡ quarterTurn - u = omega arith in e)
+cos-first u h = sin-second (u + quarterTurn) (omega arith) (omega arith)
+    ∙ ap (λ (x : ℕ). 2 ^ 30 + quarterSine x) (let e : 2 * quarterTurn - (u + quarterTurn) ≡ quarterTurn - u = omega arith in e)
 
 pub cos-second : (u : ℕ) → quarterTurn ≤ u → u ≤ 2 * quarterTurn → biased (cosUnits u) ≡ 2 ^ 30 - quarterSine (u - quarterTurn)
 unfolding cosUnits
-cos-second u g h = sin-third (u + quarterTurn) (omega arith) (omega arith) ∙ ap (λ (x : ℕ). 2 ^ 30 - quarterSine x) (let e : u + quarterTurn - 2 * quarterTurn ≡ u - quarterTurn = omega arith in e)
+cos-second u g h = sin-third (u + quarterTurn) (omega arith) (omega arith)
+    ∙ ap (λ (x : ℕ). 2 ^ 30 - quarterSine x) (let e : u + quarterTurn - 2 * quarterTurn ≡ u - quarterTurn = omega arith in e)
 
 pub cos-zero : biased (cosUnits 0) ≡ 2 ^ 31
 unfolding computing
@@ -203,22 +221,26 @@ cos-rises a b g h k = sin-rises-last (a + quarterTurn) (b + quarterTurn) (omega 
 
 -- Four quarter turns on it is the same.
 sin-period : (u : ℕ) → biasedSin (u + 4 * quarterTurn) ≡ biasedSin u
-sin-period u = sin-quarter (u + 4 * quarterTurn) (u / quarterTurn % 4) (u % quarterTurn) (omega arith) (omega arith) ∙ sym (sin-quarter u (u / quarterTurn % 4) (u % quarterTurn) refl refl)
+sin-period u = sin-quarter (u + 4 * quarterTurn) (u / quarterTurn % 4) (u % quarterTurn) (omega arith) (omega arith)
+    ∙ sym (sin-quarter u (u / quarterTurn % 4) (u % quarterTurn) refl refl)
 
 pub cos-falls-again : (a b : ℕ) → 4 * quarterTurn ≤ a → a ≤ b → b ≤ 5 * quarterTurn → biased (cosUnits b) ≤ biased (cosUnits a)
 unfolding cosUnits
 cos-falls-again a b g h k =
-    subst₂ (λ (x y : ℕ). x ≤ y) (back b (omega arith)) (back a g) (sin-falls (a - 3 * quarterTurn) (b - 3 * quarterTurn) (omega arith) (omega arith) (omega arith))
+    subst₂ (λ (x y : ℕ). x ≤ y) (back b (omega arith)) (back a g)
+    (sin-falls (a - 3 * quarterTurn) (b - 3 * quarterTurn) (omega arith) (omega arith) (omega arith))
   where
     back : (a : ℕ) → 4 * quarterTurn ≤ a → biasedSin (a - 3 * quarterTurn) ≡ biasedSin (a + quarterTurn)
     back a g = sym (sin-period (a - 3 * quarterTurn)) ∙ ap biasedSin (let e : a - 3 * quarterTurn + 4 * quarterTurn ≡ a + quarterTurn = omega arith in e)
 
 pub cos-below-end : (a u b : ℕ) → a ≤ u → u ≤ b → b ≤ 5 * quarterTurn → 0 < a → (b < 4 * quarterTurn) ⊎ (4 * quarterTurn < a)
     → (biased (cosUnits u) ≤ biased (cosUnits a)) ⊎ (biased (cosUnits u) ≤ biased (cosUnits b))
-cos-below-end a u b h k l z (inl p) = elim (decLt u (2 * quarterTurn)) [ yes q ↦ inl (cos-falls a u h (omega arith)) | no q ↦ inr (cos-rises u b (omega arith) k (omega arith)) ]
+cos-below-end a u b h k l z (inl p) =
+    elim (decLt u (2 * quarterTurn)) [ yes q ↦ inl (cos-falls a u h (omega arith)) | no q ↦ inr (cos-rises u b (omega arith) k (omega arith)) ]
 cos-below-end a u b h k l z (inr p) = inl (cos-falls-again a u (omega arith) h (omega arith))
 
 pub cos-above-end : (a u b : ℕ) → a ≤ u → u ≤ b → b ≤ 5 * quarterTurn → (b < 2 * quarterTurn) ⊎ (2 * quarterTurn < a)
     → (biased (cosUnits a) ≤ biased (cosUnits u)) ⊎ (biased (cosUnits b) ≤ biased (cosUnits u))
 cos-above-end a u b h k l (inl p) = inr (cos-falls u b k (omega arith))
-cos-above-end a u b h k l (inr p) = elim (decLt u (4 * quarterTurn)) [ yes q ↦ inl (cos-rises a u (omega arith) h (omega arith)) | no q ↦ inr (cos-falls-again u b (omega arith) k l) ]
+cos-above-end a u b h k l (inr p) =
+    elim (decLt u (4 * quarterTurn)) [ yes q ↦ inl (cos-rises a u (omega arith) h (omega arith)) | no q ↦ inr (cos-falls-again u b (omega arith) k l) ]

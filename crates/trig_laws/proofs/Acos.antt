@@ -64,7 +64,8 @@ unfolding floorUnits
 floor-nonnegative nan h = refl
 floor-nonnegative (inf s) h = refl
 floor-nonnegative (fin false m e) h = le-leb 0 (m * up e * 2 ^ 30 / down e) (omega arith)
-floor-nonnegative (fin true m e) h = subst (λ (x : ℕ). leZ (pos 0) (shrZ (negℤ (pos (x * 2 ^ 30))) (down e)) ≡ true) (sym h) (le-leb 0 (0 / down e) (omega arith))
+floor-nonnegative (fin true m e) h =
+    subst (λ (x : ℕ). leZ (pos 0) (shrZ (negℤ (pos (x * 2 ^ 30))) (down e)) ≡ true) (sym h) (le-leb 0 (0 / down e) (omega arith))
 
 cos-quarter : cosUnits quarterTurn ≡ pos 0
 unfolding computing

@@ -1,5 +1,6 @@
--- What the layers above know of sine and cosine as floats: u is monotone from zero on (`angleUnits-mono`), the float nearest to units is monotone (`nearest-mono`),
--- at an angle, 0 to a full turn, sine and cosine are the floats nearest to the rule's units (`sin-at`, `cos-at`), and at every angle that is not far they lie in
+-- What the layers above know of sine and cosine as floats: u is monotone from zero on (`angleUnits-mono`),
+-- the float nearest to units is monotone (`nearest-mono`), at an angle, 0 to a full turn, sine and cosine are
+-- the floats nearest to the rule's units (`sin-at`, `cos-at`), and at every angle that is not far they lie in
 -- -1 to 1 (`sin-unit`, `cos-unit`).
 -- Rests on round-mono, and on the units' own rise and fall in trig.
 use mathlib.Core.Path.{_≡_, refl, sym, ap, subst, _∙_}
@@ -40,10 +41,12 @@ use Rattle.trig_laws.specs.Range.{Angle, fullTurnFloat}
 
 pub nearest-mono : (y z : ℤ) → leZ y z ≡ true → nearestFloat y ≼ nearestFloat z
 unfolding nearestFloat
-nearest-mono (pos a) (pos b) h = round-mono binary32 false false a b (2 ^ 30) (2 ^ 30) (pow-pos 30) (pow-pos 30) (let l = leb→le a b (subst T (sym h) tt) in omega (arith, l))
+nearest-mono (pos a) (pos b) h =
+    round-mono binary32 false false a b (2 ^ 30) (2 ^ 30) (pow-pos 30) (pow-pos 30) (let l = leb→le a b (subst T (sym h) tt) in omega (arith, l))
 nearest-mono (pos a) (negsuc b) h = absurd (true≢false (sym h))
 nearest-mono (negsuc a) (pos b) h = round-mono binary32 true false (suc a) b (2 ^ 30) (2 ^ 30) (pow-pos 30) (pow-pos 30) (omega arith)
-nearest-mono (negsuc a) (negsuc b) h = round-mono binary32 true true (suc a) (suc b) (2 ^ 30) (2 ^ 30) (pow-pos 30) (pow-pos 30) (let l = leb→le b a (subst T (sym h) tt) in omega (arith, l))
+nearest-mono (negsuc a) (negsuc b) h =
+    round-mono binary32 true true (suc a) (suc b) (2 ^ 30) (2 ^ 30) (pow-pos 30) (pow-pos 30) (let l = leb→le b a (subst T (sym h) tt) in omega (arith, l))
 
 -- The same of biased units, 0 for -1 and 2 ^ 31 for 1.
 abbrev pub biasedFloat : ℕ → Float
@@ -92,7 +95,8 @@ angleUnits-mono {x} {y} f z h =
     let a = numNeg-none x g z in
     let b = numNeg-none y f (≼-trans z h) in
     rw (angleUnits-is x a, angleUnits-is y b)
-    (div-mono (numPos x * 2 ^ 28) (den x) (numPos y * 2 ^ 28) (den y) (den-pos x) (den-pos y) (clear (numPos x) (numNeg x) (den x) (numPos y) (numNeg y) (den y) a b (to-fraction g f h)))
+    (div-mono (numPos x * 2 ^ 28) (den x) (numPos y * 2 ^ 28) (den y) (den-pos x) (den-pos y)
+    (clear (numPos x) (numNeg x) (den x) (numPos y) (numNeg y) (den y) a b (to-fraction g f h)))
   where
     zero-finite : T (finite (ofBits binary32 0))
     zero-finite = unfold ofBits in tt
@@ -115,7 +119,8 @@ angle-finite a = between-finite (let z : T (finite (ofBits binary32 0)) = unfold
 
 -- A little beyond four quarter turns, and so within five.
 pub angle-units-le : {x : Float} → Angle x → angleUnits x ≤ 5 * quarterTurn
-angle-units-le {x} a = le-trans (subst (λ (n : ℕ). angleUnits x ≤ n) full-turn-units (angleUnits-mono full-turn-finite (a .from-zero) (a .to-full-turn))) (lit≤ tt)
+angle-units-le {x} a =
+    le-trans (subst (λ (n : ℕ). angleUnits x ≤ n) full-turn-units (angleUnits-mono full-turn-finite (a .from-zero) (a .to-full-turn))) (lit≤ tt)
 
 near-of-units : (x : Float) → T (finite x) → angleUnits x < 2 ^ 52 → near x ≡ true
 unfolding lt abs ofBits fixed

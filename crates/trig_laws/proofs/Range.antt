@@ -1,6 +1,6 @@
--- Document 01's range of the sine, and of the cosine, between two angles: it holds the value at every float between them (`sin-extends`, `cos-extends`), a narrower pair
--- gives a narrower range (`sin-isotone`, `cos-isotone`), and it lies in -1 to 1 (`sin-range-unit`, `cos-range-unit`). Both functions are one law, over a rule in biased
--- units with a test for either end, `Rule`: between two angles that pass no test the rule is not beyond both.
+-- Document 01's range of the sine, and of the cosine, between two angles: it holds the value at every float between them (`sin-extends`, `cos-extends`),
+-- a narrower pair gives a narrower range (`sin-isotone`, `cos-isotone`), and it lies in -1 to 1 (`sin-range-unit`, `cos-range-unit`). Both functions are
+-- one law, over a rule in biased units with a test for either end, `Rule`: between two angles that pass no test the rule is not beyond both.
 use mathlib.Core.Path.{_≡_, refl, sym, _∙_}
 use mathlib.Core.Logic.{_⊎_, inl, inr}
 use mathlib.Core.Bool.{Bool, true, false, _&&_, _||_, true≢false}
@@ -22,7 +22,8 @@ use Rattle.trig.specs.SinCos.{sin, cos}
 use Rattle.trig.specs.Biased.{biased, biasedSin}
 use Rattle.trig.proofs.Units.{sin-below-end, sin-above-end, cos-below-end, cos-above-end}
 use Rattle.trig_laws.specs.Range.{Angle, lies, rangeLow, rangeHigh, sinLow, sinHigh, cosLow, cosHigh}
-use Rattle.trig_laws.proofs.Monotone.{biasedFloat, biased-mono, angleUnits-mono, angle-finite, angle-units-le, angle-near, sin-at, cos-at, sin-unit, cos-unit}
+use Rattle.trig_laws.proofs.Monotone.{biasedFloat, biased-mono, angleUnits-mono, angle-finite}
+use Rattle.trig_laws.proofs.Monotone.{angle-units-le, angle-near, sin-at, cos-at, sin-unit, cos-unit}
 
 -- ---- w lies from u to v
 
@@ -61,7 +62,8 @@ lies-wider w u v u' v' h k l e = lies-yes w u' v' (le-trans h (lies-from w u v k
 -- ---- the range of two values
 
 module _ (s t : Bool) (p q : Float) (P : Bounds (neg one) one p) (Q : Bounds (neg one) one q) where
-  range-holds : (z : Float) → Bounds (neg one) one z → (s ≡ false → (p ≼ z) ⊎ (q ≼ z)) → (t ≡ false → (z ≼ p) ⊎ (z ≼ q)) → Bounds (rangeLow s p q) (rangeHigh t p q) z
+  range-holds : (z : Float) → Bounds (neg one) one z → (s ≡ false → (p ≼ z) ⊎ (q ≼ z))
+      → (t ≡ false → (z ≼ p) ⊎ (z ≼ q)) → Bounds (rangeLow s p q) (rangeHigh t p q) z
   range-holds z Z f g = record { below = low s f; above = high t g }
     where
       low : (s : Bool) → (s ≡ false → (p ≼ z) ⊎ (q ≼ z)) → rangeLow s p q ≼ z
@@ -126,14 +128,17 @@ module _ {f : Float → Float} {g : ℕ → ℕ} {low high : ℕ → ℕ → Boo
     between : {x : Float} → a ≼ x → x ≼ b → Angle x
     between h k = record { from-zero = ≼-trans (A .from-zero) h; to-full-turn = ≼-trans k (B .to-full-turn) }
 
-    rule-extends : {x : Float} → a ≼ x → x ≼ b → Bounds (rangeLow (low (angleUnits a) (angleUnits b)) (f a) (f b)) (rangeHigh (high (angleUnits a) (angleUnits b)) (f a) (f b)) (f x)
+    rule-extends : {x : Float} → a ≼ x → x ≼ b
+        → Bounds (rangeLow (low (angleUnits a) (angleUnits b)) (f a) (f b)) (rangeHigh (high (angleUnits a) (angleUnits b)) (f a) (f b)) (f x)
     rule-extends {x} h k =
         let X = between h k in
         let u = angleUnits-mono (angle-finite X) (A .from-zero) h in
         let v = angleUnits-mono (angle-finite B) (X .from-zero) k in
         range-holds (low (angleUnits a) (angleUnits b)) (high (angleUnits a) (angleUnits b)) (f a) (f b) (R .unit A) (R .unit B) (f x) (R .unit X)
-        (λ (e : low (angleUnits a) (angleUnits b) ≡ false). elim (R .above-end (angleUnits a) (angleUnits x) (angleUnits b) u v (angle-units-le B) e) [ inl l ↦ inl (ordered A X l) | inr l ↦ inr (ordered B X l) ])
-        (λ (e : high (angleUnits a) (angleUnits b) ≡ false). elim (R .below-end (angleUnits a) (angleUnits x) (angleUnits b) u v (angle-units-le B) e) [ inl l ↦ inl (ordered X A l) | inr l ↦ inr (ordered X B l) ])
+        (λ (e : low (angleUnits a) (angleUnits b) ≡ false). elim (R .above-end (angleUnits a) (angleUnits x) (angleUnits b) u v (angle-units-le B) e)
+        [ inl l ↦ inl (ordered A X l) | inr l ↦ inr (ordered B X l) ])
+        (λ (e : high (angleUnits a) (angleUnits b) ≡ false). elim (R .below-end (angleUnits a) (angleUnits x) (angleUnits b) u v (angle-units-le B) e)
+        [ inl l ↦ inl (ordered X A l) | inr l ↦ inr (ordered X B l) ])
 
   rule-isotone : {a' a b b' : Float} → Angle a' → Angle b' → a' ≼ a → a ≼ b → b ≼ b'
       → (rangeLow (low (angleUnits a') (angleUnits b')) (f a') (f b') ≼ rangeLow (low (angleUnits a) (angleUnits b)) (f a) (f b))
@@ -174,10 +179,12 @@ cos-rule =
       above-end = λ u w v h k l e. cos-above-end u w v h k l (lies-no (2 * quarterTurn) u v e);
       below-end = λ u w v h k l e. below u w v h k l (lies 0 u v) (lies (4 * quarterTurn) u v) (lies-no 0 u v) (lies-no (4 * quarterTurn) u v) e;
       low-wider = lies-wider (2 * quarterTurn);
-      high-wider = λ u v u' v' h k l. either (lies 0 u v) (lies (4 * quarterTurn) u v) (lies 0 u' v') (lies (4 * quarterTurn) u' v') (lies-wider 0 u v u' v' h k l) (lies-wider (4 * quarterTurn) u v u' v' h k l);
+      high-wider = λ u v u' v' h k l. either (lies 0 u v) (lies (4 * quarterTurn) u v) (lies 0 u' v')
+          (lies (4 * quarterTurn) u' v') (lies-wider 0 u v u' v' h k l) (lies-wider (4 * quarterTurn) u v u' v' h k l);
     }
   where
-    below : (u w v : ℕ) → u ≤ w → w ≤ v → v ≤ 5 * quarterTurn → (s t : Bool) → (s ≡ false → (v < 0) ⊎ (0 < u)) → (t ≡ false → (v < 4 * quarterTurn) ⊎ (4 * quarterTurn < u))
+    below : (u w v : ℕ) → u ≤ w → w ≤ v → v ≤ 5 * quarterTurn → (s t : Bool)
+        → (s ≡ false → (v < 0) ⊎ (0 < u)) → (t ≡ false → (v < 4 * quarterTurn) ⊎ (4 * quarterTurn < u))
         → (s || t) ≡ false → (biased (cosUnits w) ≤ biased (cosUnits u)) ⊎ (biased (cosUnits w) ≤ biased (cosUnits v))
     below u w v h k l true t f g e = absurd (true≢false e)
     below u w v h k l false t f g e = cos-below-end u w v h k l (elim (f refl) [ inl z ↦ absurd (omega arith) | inr z ↦ z ]) (g e)

@@ -1,5 +1,5 @@
--- The parameter dt of a time between the two end times is a float from 0 to 1: `dt-unit`. The difference of two floats is not zero unless they are equal, since the
--- least positive float divides every float (`sub-positive`); the rest is monotone rounding (`div-unit`).
+-- The parameter dt of a time between the two end times is a float from 0 to 1: `dt-unit`. The difference of two floats is not zero unless they are equal,
+-- since the least positive float divides every float (`sub-positive`); the rest is monotone rounding (`div-unit`).
 use mathlib.Core.Path.{_≡_, refl, sym, ap}
 use mathlib.Core.Bool.{Bool, true, false, not}
 use Prim.Native.Nat.{ℕ, _+_, _*_, _^_, _≤_, _<_}
@@ -44,8 +44,10 @@ div-unit {x} {y} f p z h =
     let g = positive-finite y p in
     let P = numPos-pos y p in
     record {
-      low = rounds-mono zero-rounds (div-rounds binary32 x y f p) (zero-lt-suc 0) (mul-pos P (den-pos x)) (above (numPos x) (numNeg x) (numPos y * den x) (den y) (numNeg-none x f z));
-      high = ≼-trans (div-mono binary32 y f g p h) (rounds-mono (div-rounds binary32 y y g p) one-rounds (mul-pos P (den-pos y)) (zero-lt-suc 0) (below (numPos y) (numNeg y) (den y)));
+      low = rounds-mono zero-rounds (div-rounds binary32 x y f p) (zero-lt-suc 0) (mul-pos P (den-pos x))
+          (above (numPos x) (numNeg x) (numPos y * den x) (den y) (numNeg-none x f z));
+      high = ≼-trans (div-mono binary32 y f g p h)
+          (rounds-mono (div-rounds binary32 y y g p) one-rounds (mul-pos P (den-pos y)) (zero-lt-suc 0) (below (numPos y) (numNeg y) (den y)));
     }
   where
     above : (p n d e : ℕ) → n ≡ 0 → FractionLe 0 0 1 (p * e) (n * e) d

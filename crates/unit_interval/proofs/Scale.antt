@@ -39,7 +39,10 @@ own-rounding (fin false m e) f h z =
     let r : HasValue (round binary32 false (m * up e) (down e)) false (m * up e) (down e) =
     round-exact binary32 false (m * up e) (down e) (integerDecode x .significand) (integerDecode x .exponent) (down-pos e) (significand-lt x)
     (subst (λ (k : ℕ). k < 2 ^ 277) (sym (decode-exact x h)) (magnitude-lt x h)) (v .1) in
-    record { holds = le-of-values (round binary32 false (m * up e) (down e)) x (m * up e) (down e) (m * up e) (down e) (down-pos e) (down-pos e) r (refl, refl) (le-refl (m * up e * down e)) }
+    record {
+      holds = le-of-values (round binary32 false (m * up e) (down e)) x (m * up e) (down e)
+          (m * up e) (down e) (down-pos e) (down-pos e) r (refl, refl) (le-refl (m * up e * down e));
+    }
 
 module _ (x t : Float) (f : T (finite x)) (h : T (fits binary32 x)) (z : +0 ≼ x) (u : Contains unitInterval t) where
   one-finite : T (finite one)
@@ -64,7 +67,8 @@ module _ (x t : Float) (f : T (finite x)) (h : T (fits binary32 x)) (z : +0 ≼ 
       let m = numNeg-none t factor-finite (u .low) in
       record {
         low = rounds-mono zero-rounds r (zero-lt-suc 0) D (above (numPos x) (numNeg x) (numPos t) (numNeg t) (den x * den t) n m);
-        high = ≼-trans (rounds-mono r (rounding-rounds (numPos x) (den x)) D (den-pos x) (below (numPos x) (numNeg x) (den x) (numPos t) (numNeg t) (den t) n m factor-le)) (own-rounding x f h z);
+        high = ≼-trans (rounds-mono r (rounding-rounds (numPos x) (den x)) D (den-pos x)
+            (below (numPos x) (numNeg x) (den x) (numPos t) (numNeg t) (den t) n m factor-le)) (own-rounding x f h z);
       }
     where
       above : (p n q m d : ℕ) → n ≡ 0 → m ≡ 0 → FractionLe 0 0 1 (p * q + n * m) (p * m + n * q) d

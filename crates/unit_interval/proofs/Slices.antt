@@ -1,11 +1,12 @@
--- The slices of the unit interval. They rise (`sliceEnd-mono`), from 0 (`sliceEnd-first`) to 1 (`sliceEnd-last`), each within the unit interval (`slice-unit`); one that
--- is cut finer lies in the one it was cut from (`slice-finer`); every float from 0 to 1 lies in one (`slice-covers`). Ends are
--- exact (`sliceEnd-exact`). All rests on monotone rounding.
+-- The slices of the unit interval. They rise (`sliceEnd-mono`), from 0 (`sliceEnd-first`) to 1 (`sliceEnd-last`), each within the unit interval
+-- (`slice-unit`); one that is cut finer lies in the one it was cut from (`slice-finer`); every float from 0 to 1 lies in one (`slice-covers`).
+-- Ends are exact (`sliceEnd-exact`). All rests on monotone rounding.
 use mathlib.Core.Path.{_≡_, refl, sym, ap, _∙_, subst}
 use mathlib.Core.Logic.{inl, inr}
 use mathlib.Core.Bool.{false}
 use Prim.Native.Nat.{ℕ, zero, suc, _+_, _-_, _*_, _/_, _^_, _≤_, _<_}
-use native.Mathlib.Nat.{le-refl, le-step, le-of-eq, lt-irrefl, le-trans, lt-of-le-of-lt, mul-assoc, mul-le-mul-left, mul-le-mul-right, div-mul-le-self, lt-div-mul-add, div-lt-iff-lt-mul, zero-lt-suc}
+use native.Mathlib.Nat.{le-refl, le-step, le-of-eq, lt-irrefl, le-trans, lt-of-le-of-lt, mul-assoc, mul-le-mul-left}
+use native.Mathlib.Nat.{mul-le-mul-right, div-mul-le-self, lt-div-mul-add, div-lt-iff-lt-mul, zero-lt-suc}
 use native.Mathlib.Numerals.{add-one}
 use native.Mathlib.Omega.{arith}
 use lib.Dec.{lit<}
@@ -40,7 +41,8 @@ sliceEnd-exact d k h l =
     let J : 2 ^ (149 - d) ≤ 2 ^ 149 = pow-mono {i = 149 - d} {j = 149} (omega arith) in
     let E : 2 ^ 149 ≡ 2 ^ (149 - d) * 2 ^ d = ap (λ (n : ℕ). 2 ^ n) (whole d h) ∙ pow-add 2 (149 - d) d in
     round-exact binary32 false k (2 ^ d) k (149 - d) (pow-pos d) (lt-of-le-of-lt K (lit< tt))
-    (lt-of-le-of-lt (le-trans (mul-le-mul-right (2 ^ (149 - d)) K) (mul-le-mul-left (2 ^ 12) J)) (lit< tt)) (ap (λ (n : ℕ). k * n) E ∙ sym (mul-assoc k (2 ^ (149 - d)) (2 ^ d)))
+    (lt-of-le-of-lt (le-trans (mul-le-mul-right (2 ^ (149 - d)) K) (mul-le-mul-left (2 ^ 12) J)) (lit< tt))
+    (ap (λ (n : ℕ). k * n) E ∙ sym (mul-assoc k (2 ^ (149 - d)) (2 ^ d)))
   where
     whole : (d : ℕ) → d ≤ 12 → 149 ≡ 149 - d + d
     whole d h = omega arith

@@ -1,4 +1,5 @@
--- With pads of +0 a chain's cover, a set's and a file's are those without pads, a zero's sign aside: `chain-unpadded`, `set-same`, `file-unpadded`; and points leave pads aside:
+-- With pads of +0 a chain's cover, a set's and a file's are those without pads, a zero's sign aside:
+-- `chain-unpadded`, `set-same`, `file-unpadded`; and points leave pads aside:
 -- `points-unpadded`. A built chain's moves have its poses' pads (`moves-unpadded`), and a union of the same boxes is the same (`union-all-same`).
 use Prim.Native.Nat.{ℕ}
 use mathlib.Core.Path.{_≡_, refl, sym, ap, subst, _∙_}
@@ -41,7 +42,8 @@ use Rattle.motion_file.specs.declared.MoveFile.{MoveFile}
 use Rattle.motion_file.specs.Layout.{MoveFile·read, MoveFile·poses}
 use Rattle.motion_answer.specs.Answer.{coverDepth, ChainAnswer·cover, MoveFile·chain, MoveFile·box, MoveFile·cover}
 use Rattle.motion_answer.proofs.Built.{poses-binary32}
-use Rattle.unpadded_chain.specs.Unpadded.{Chain·coverUnpadded, ChainAnswer·coverUnpadded, MoveFile·coverUnpadded, Unpadded, ZeroAccepted, ChainUnpadded, FileUnpadded}
+use Rattle.unpadded_chain.specs.Unpadded.{Chain·coverUnpadded, ChainAnswer·coverUnpadded, MoveFile·coverUnpadded}
+use Rattle.unpadded_chain.specs.Unpadded.{Unpadded, ZeroAccepted, ChainUnpadded, FileUnpadded}
 use Rattle.unpadded_chain.specs.Unpadded.{SetAnswer·Same, SetSame, AnimatedTransform·withoutPads, Chain·withoutPads, PointsUnpadded}
 
 -- ---- a list of answers
@@ -149,7 +151,8 @@ set-same cover unpadded (b ∷ boxes) same = go (ltb maxBoxes (length (b ∷ box
         (same b, es) (union-all-same (cover b) (unpadded b) answers answers' (same b) es)
 
 -- ---- files
-answer-same : (a : ChainAnswer) (b : Bounds3f) → ((c : Chain) → a ≡ built c → BoundsAnswer·Same (Chain·cover c b coverDepth) (Chain·coverUnpadded c b coverDepth))
+answer-same : (a : ChainAnswer) (b : Bounds3f)
+    → ((c : Chain) → a ≡ built c → BoundsAnswer·Same (Chain·cover c b coverDepth) (Chain·coverUnpadded c b coverDepth))
     → BoundsAnswer·Same (ChainAnswer·cover a b) (ChainAnswer·coverUnpadded a b)
 unfolding ChainAnswer·cover
 answer-same (built c) b h = h c refl
@@ -177,7 +180,8 @@ move-unpadded m [] time = refl
 move-unpadded m (next ∷ moves) time = go (le time (m .«end_time»)) (move-unpadded next moves time)
   where
     go : (here : Bool)
-        → moveFrom (AnimatedTransform·withoutPads next) (map AnimatedTransform·withoutPads moves) time ≡ AnimatedTransform·withoutPads (moveFrom next moves time)
+        → moveFrom (AnimatedTransform·withoutPads next) (map AnimatedTransform·withoutPads moves) time
+        ≡ AnimatedTransform·withoutPads (moveFrom next moves time)
         → cond here (AnimatedTransform·withoutPads m) (moveFrom (AnimatedTransform·withoutPads next) (map AnimatedTransform·withoutPads moves) time)
         ≡ AnimatedTransform·withoutPads (cond here m (moveFrom next moves time))
     go true e = refl

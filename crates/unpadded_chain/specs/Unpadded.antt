@@ -1,6 +1,6 @@
--- The cover of a chain and of a file as they were without pads, `Chain·coverUnpadded` and `MoveFile·coverUnpadded`; that where every pose's pad is +0 a chain's cover, a set's and a
--- file's are the same, bit for bit but a zero's sign, and that points leave pads aside. The statements of `chain-unpadded`, `set-same`, `file-unpadded`, `thirteen-unpadded`,
--- `zero-accepted` and `points-unpadded`.
+-- The cover of a chain and of a file as they were without pads, `Chain·coverUnpadded` and `MoveFile·coverUnpadded`; that where every
+-- pose's pad is +0 a chain's cover, a set's and a file's are the same, bit for bit but a zero's sign, and that points leave pads aside.
+-- The statements of `chain-unpadded`, `set-same`, `file-unpadded`, `thirteen-unpadded`, `zero-accepted` and `points-unpadded`.
 use Prim.Native.Nat.{ℕ}
 use mathlib.Core.Path.{_≡_}
 use mathlib.Core.Bool.{Bool, not, cond}
@@ -68,14 +68,16 @@ ThirteenUnpadded bytes = T (not (hasPads bytes)) → Unpadded (Poses·ofLists (M
 
 -- the same number, or as many covers, each the same, and the same union
 abbrev pub SetAnswer·Same : SetAnswer → SetAnswer → Type 0
-SetAnswer·Same (set.covered cs u) (set.covered cs' u') = Pairwise (λ b b'. BoundsAnswer·Same (Bounds b) (Bounds b')) cs cs' × BoundsAnswer·Same (Bounds u) (Bounds u')
+SetAnswer·Same (set.covered cs u) (set.covered cs' u') =
+    Pairwise (λ b b'. BoundsAnswer·Same (Bounds b) (Bounds b')) cs cs' × BoundsAnswer·Same (Bounds u) (Bounds u')
 SetAnswer·Same (set.covered cs u) (set.refused n) = ⊥
 SetAnswer·Same (set.refused n) (set.covered cs u) = ⊥
 SetAnswer·Same (set.refused n) (set.refused k) = n ≡ k
 
 -- of a move's covers as of a chain's: where each box's is the same, so is the set's
 abbrev pub SetSame : (Bounds3f → BoundsAnswer) → (Bounds3f → BoundsAnswer) → List Bounds3f → Type 0
-SetSame cover unpadded boxes = ((b : Bounds3f) → BoundsAnswer·Same (cover b) (unpadded b)) → SetAnswer·Same (Boxes·covers cover boxes) (Boxes·covers unpadded boxes)
+SetSame cover unpadded boxes = ((b : Bounds3f) → BoundsAnswer·Same (cover b) (unpadded b))
+    → SetAnswer·Same (Boxes·covers cover boxes) (Boxes·covers unpadded boxes)
 
 -- ---- points
 

@@ -1,5 +1,5 @@
--- A cover with pads of +0 is document 01's, a zero's sign aside: `cover-unpadded`. The pad interval of every slice is then zero (`pad-zero`), a box whose corners are values of
--- binary32 grows by zero to itself (`grow-same`), and a union of the same boxes is the same (`union-same`).
+-- A cover with pads of +0 is document 01's, a zero's sign aside: `cover-unpadded`. The pad interval of every slice is then zero (`pad-zero`),
+-- a box whose corners are values of binary32 grows by zero to itself (`grow-same`), and a union of the same boxes is the same (`union-same`).
 use Prim.Native.Nat.{ℕ, zero, suc, _≤_, _^_}
 use mathlib.Core.Path.{_≡_, refl, sym, ap, subst}
 use mathlib.Core.Bool.{Bool, true, false, cond}
@@ -38,7 +38,8 @@ use Rattle.pose_steps.specs.declared.IntervalVector.{IntervalVector}
 use Rattle.pose_steps.specs.declared.IntervalMatrix.{IntervalMatrix}
 use Rattle.pose_steps.specs.declared.JudgedVector.{JudgedVector}
 use Rattle.pose_steps.specs.Pose.{entries, allFinite}
-use Rattle.pose_steps.specs.Enclose.{IntervalVector·list, IntervalMatrix·point, Pose·encloseTransformPoint, Pose·encloseMatrix, Pose·enclosePoint, Bounds3f·intervals, IntervalVector·bounds}
+use Rattle.pose_steps.specs.Enclose.{IntervalVector·list, IntervalMatrix·point, Pose·encloseTransformPoint}
+use Rattle.pose_steps.specs.Enclose.{Pose·encloseMatrix, Pose·enclosePoint, Bounds3f·intervals, IntervalVector·bounds}
 use Rattle.pose_steps.specs.Promise.{RefinesMatrix}
 use Rattle.pose_steps.proofs.Rows.{points-refine}
 use Rattle.pose_steps.proofs.Finite.{matrix-each}
@@ -53,7 +54,8 @@ use Rattle.motion_pad.specs.Grow.{Bounds3f·grow, BoundsAnswer·grow}
 use Rattle.motion_pad.specs.means.Computing as pad
 use Rattle.motion_pad.proofs.Pad.{pad-high-within}
 use Rattle.motion_pad.proofs.Box.{Binary32, PadWithin, pad-within-finite, grow-subset, grow-box, grow-refused, grow-zero}
-use Rattle.motion_cover.specs.Cover.{BoundsAnswer·fromEnclosure, Transform·encloseBounds, Transform·enclosePadded, AnimatedTransform·encloseBounds, AnimatedTransform·encloseEnds, unionSlices, AnimatedTransform·encloseMotion, AnimatedTransform·cover}
+use Rattle.motion_cover.specs.Cover.{BoundsAnswer·fromEnclosure, Transform·encloseBounds, Transform·enclosePadded, AnimatedTransform·encloseBounds}
+use Rattle.motion_cover.specs.Cover.{AnimatedTransform·encloseEnds, unionSlices, AnimatedTransform·encloseMotion, AnimatedTransform·cover}
 use Rattle.motion_cover.proofs.Contains.{from-enclosure-accepted, motion-stored, motion-slices, cover-box}
 use Rattle.motion_cover.proofs.Proper.{subset-self, BoxRefines, box-refines}
 use Rattle.unpadded_cover.specs.Unpadded.{unionUnpadded, AnimatedTransform·coverUnpadded, BoundsAnswer·Same, CoverUnpadded}
@@ -103,10 +105,19 @@ equal-finite {b} {c} f s t =
     let l = low-finite b f in
     let h = high-finite b f in
     box-finite c
-    (record { x = between-finite (l .x) (l .x) (s .x .0) (t .x .0); y = between-finite (l .y) (l .y) (s .y .0) (t .y .0); z = between-finite (l .z) (l .z) (s .z .0) (t .z .0) })
-    (record { x = between-finite (h .x) (h .x) (t .x .1) (s .x .1); y = between-finite (h .y) (h .y) (t .y .1) (s .y .1); z = between-finite (h .z) (h .z) (t .z .1) (s .z .1) })
+    (record {
+      x = between-finite (l .x) (l .x) (s .x .0) (t .x .0);
+      y = between-finite (l .y) (l .y) (s .y .0) (t .y .0);
+      z = between-finite (l .z) (l .z) (s .z .0) (t .z .0);
+    })
+    (record {
+      x = between-finite (h .x) (h .x) (t .x .1) (s .x .1);
+      y = between-finite (h .y) (h .y) (t .y .1) (s .y .1);
+      z = between-finite (h .z) (h .z) (t .z .1) (s .z .1);
+    })
 
-grow-same : (pad : Judged) (r : BoundsAnswer) → pad .refusal ≡ 0 → PadWithin (pad .interval .high) positiveZero → Plain r → BoundsAnswer·Same (BoundsAnswer·grow pad r) r
+grow-same : (pad : Judged) (r : BoundsAnswer) → pad .refusal ≡ 0
+    → PadWithin (pad .interval .high) positiveZero → Plain r → BoundsAnswer·Same (BoundsAnswer·grow pad r) r
 grow-same pad (Refused n) e w p = rw (grow-refused pad n) refl
 grow-same pad (Bounds b) e w p =
     let f = p .finite b refl in
@@ -118,7 +129,8 @@ grow-same pad (Bounds b) e w p =
 
 -- ---- boxes of intervals
 enclosed-values : (n : ℕ) (M : IntervalMatrix) (P : IntervalVector)
-    → Binary32 (IntervalVector·bounds (Pose·encloseTransformPoint n M P .vector) .«p_min») × Binary32 (IntervalVector·bounds (Pose·encloseTransformPoint n M P .vector) .«p_max»)
+    → Binary32 (IntervalVector·bounds (Pose·encloseTransformPoint n M P .vector) .«p_min»)
+    × Binary32 (IntervalVector·bounds (Pose·encloseTransformPoint n M P .vector) .«p_max»)
 unfolding Pose·encloseTransformPoint Program·enclose Expr·encloseAll Expr·enclose Judged·addEnclosure Judged·judge Interval·addEnclosure
 enclosed-values n M P = (
   record { x = add-fits binary32 _ _; y = add-fits binary32 _ _; z = add-fits binary32 _ _ },
@@ -139,13 +151,15 @@ enclosure-plain n M P f =
     let j = Pose·encloseTransformPoint n M P in
     let (l, h) = enclosed-values n M P in
     record {
-      finite = λ b e. let g = from-enclosure-accepted j b e in subst (λ (x : Bounds3f). T (Bounds3f·isFinite x)) (g .bounds) (refines-finite (j .vector) (f (g .accepted)));
+      finite = λ b e. let g = from-enclosure-accepted j b e in
+          subst (λ (x : Bounds3f). T (Bounds3f·isFinite x)) (g .bounds) (refines-finite (j .vector) (f (g .accepted)));
       low = λ b e. subst (λ (x : Bounds3f). Binary32 (x .«p_min»)) (from-enclosure-accepted j b e .bounds) l;
       high = λ b e. subst (λ (x : Bounds3f). Binary32 (x .«p_max»)) (from-enclosure-accepted j b e .bounds) h;
     }
 
 -- ---- unions
-pub union-same : (r s r' s' : BoundsAnswer) → BoundsAnswer·Same r r' → BoundsAnswer·Same s s' → BoundsAnswer·Same (BoundsAnswer·unionBounds r s) (BoundsAnswer·unionBounds r' s')
+pub union-same : (r s r' s' : BoundsAnswer) → BoundsAnswer·Same r r' → BoundsAnswer·Same s s'
+    → BoundsAnswer·Same (BoundsAnswer·unionBounds r s) (BoundsAnswer·unionBounds r' s')
 unfolding BoundsAnswer·unionBounds
 union-same (Bounds a) (Bounds b) (Bounds a') (Bounds b') (i, o) (i', o') =
     (union-least (union-subset-left b' i) (union-subset-right a' i'), union-least (union-subset-left b o) (union-subset-right a o'))
@@ -163,7 +177,8 @@ stored-refines m h =
     let (p, q, r) = matrix-each m h in
     record { r0 = points-refine (entries (m .r0)) p; r1 = points-refine (entries (m .r1)) q; r2 = points-refine (entries (m .r2)) r }
 
-stored-same : (t : Transform) → StoredPose t → (b : Bounds3f) → BoxRefines b → BoundsAnswer·Same (Transform·enclosePadded positiveZero t b) (Transform·encloseBounds t b)
+stored-same : (t : Transform) → StoredPose t → (b : Bounds3f) → BoxRefines b
+    → BoundsAnswer·Same (Transform·enclosePadded positiveZero t b) (Transform·encloseBounds t b)
 unfolding Transform·enclosePadded Transform·encloseBounds
 stored-same t s b r =
     let B = Bounds3f·intervals b in
@@ -223,7 +238,8 @@ cover-unpadded m b d built e0 e1 = go (eqb (coverRefusal b d) 0) (m .«actually_
     larger = rw (e0, e1, larger-zero)
 
     go : (s t : Bool) → (s ≡ true → coverRefusal b d ≡ 0) → m .«actually_animated» ≡ t
-        → BoundsAnswer·Same (cond s (AnimatedTransform·encloseMotion m b d) (Refused (coverRefusal b d))) (cond s (cond t slices start) (Refused (coverRefusal b d)))
+        → BoundsAnswer·Same (cond s (AnimatedTransform·encloseMotion m b d) (Refused (coverRefusal b d)))
+        (cond s (cond t slices start) (Refused (coverRefusal b d)))
     go true true f g = rw (motion-slices m b d g) (slices-same built e0 e1 b (box-refines b (cover-box b d (f refl))) d (2 ^ d) (omega arith))
     go true false f g = rw (motion-stored m b d g, larger) (start-same built e0 e1 b (box-refines b (cover-box b d (f refl))))
     go false t f g = refl

@@ -1,5 +1,5 @@
--- Document 01's cover as it was without pads, `AnimatedTransform·coverUnpadded`, and that a cover with pads of +0 is the same, bit for bit but a zero's sign: `CoverUnpadded`,
--- the statement of `cover-unpadded`.
+-- Document 01's cover as it was without pads, `AnimatedTransform·coverUnpadded`, and that a cover with pads of +0 is the same, bit for bit but a zero's sign:
+-- `CoverUnpadded`, the statement of `cover-unpadded`.
 use Prim.Native.Nat.{ℕ, zero, suc, _^_}
 use mathlib.Core.Path.{_≡_}
 use mathlib.Core.Bool.{cond}
@@ -41,4 +41,5 @@ BoundsAnswer·Same (Refused n) (Bounds b) = ⊥
 BoundsAnswer·Same (Refused n) (Refused k) = n ≡ k
 
 abbrev pub CoverUnpadded : AnimatedTransform → Bounds3f → ℕ → Type 0
-CoverUnpadded m b d = Built m → m .pad0 ≡ positiveZero → m .pad1 ≡ positiveZero → BoundsAnswer·Same (AnimatedTransform·cover m b d) (AnimatedTransform·coverUnpadded m b d)
+CoverUnpadded m b d = Built m → m .pad0 ≡ positiveZero → m .pad1 ≡ positiveZero
+    → BoundsAnswer·Same (AnimatedTransform·cover m b d) (AnimatedTransform·coverUnpadded m b d)

@@ -1,5 +1,6 @@
--- What is kept of a chain is asked for a window's cover as the chain is, `kept-window`; so the guarantee holds of the rows, `kept-window-contains`, and a finer cover is no wider,
--- `kept-window-finer`. It gives a window's numbers and 12 alone, `kept-window-numbered`. The clauses of the query, from its value: `window-clauses`.
+-- What is kept of a chain is asked for a window's cover as the chain is, `kept-window`; so the guarantee holds of the rows,
+-- `kept-window-contains`, and a finer cover is no wider, `kept-window-finer`. It gives a window's numbers and 12 alone, `kept-window-numbered`.
+-- The clauses of the query, from its value: `window-clauses`.
 use Prim.Native.Nat.{ℕ, _+_, _-_}
 use mathlib.Core.Path.{_≡_, refl, sym, ap, subst, _∙_}
 use mathlib.Core.Logic.{inl, inr}
@@ -32,7 +33,8 @@ use Rattle.window_cover.specs.Kept.{Moves·windowCover, KeptWindowContai
 not-empty : (c : Chain) → eqb (length (Chain·toRows c)) 0 ≡ false
 not-empty c = ne-eqb (length (Chain·toRows c)) 0 (λ e. absurd (omega (arith, e)))
 
-pub kept-window : (rows : List Rows) (c : Chain) (b : Bounds3f) (depth : ℕ) (w : Window) → rows ≡ Chain·toRows c → Moves·windowCover rows b depth w ≡ Chain·windowCover c b depth w
+pub kept-window : (rows : List Rows) (c : Chain) (b : Bounds3f) (depth : ℕ) (w : Window)
+    → rows ≡ Chain·toRows c → Moves·windowCover rows b depth w ≡ Chain·windowCover c b depth w
 unfolding Moves·windowCover
 kept-window rows c b depth w e = rw (e, not-empty c, chain-inverse c)
 
@@ -40,7 +42,8 @@ pub kept-window-contains : (rows : List Rows) (b : Bounds3f) (depth : ℕ) (w : 
     → KeptWindowContainsMotion rows b w (BoundsAnswer·bounds (Moves·windowCover rows b depth w))
 kept-window-contains rows b depth w none c time p h t inside =
     let same = kept-window rows c b depth w (h .same) in
-    rw (kept-point rows c time p (h .same), kept-chain rows c (h .same), same) (window-contains c b depth w time p (h .built) (ap BoundsAnswer·refusal (sym same) ∙ none) t inside)
+    rw (kept-point rows c time p (h .same), kept-chain rows c (h .same), same)
+    (window-contains c b depth w time p (h .built) (ap BoundsAnswer·refusal (sym same) ∙ none) t inside)
 
 pub kept-window-finer : (rows : List Rows) (b : Bounds3f) (depth : ℕ) (w : Window) → BoundsAnswer·refusal (Moves·windowCover rows b depth w) ≡ 0
     → KeptWindowFiner rows b depth w (BoundsAnswer·bounds (Moves·windowCover rows b depth w))
@@ -50,7 +53,8 @@ kept-window-finer rows b depth w none c finer h l most =
     let own = kept-window rows c b depth w (h .same) in
     let deeper : Within (Chain·windowCover c b (depth + n) w) (BoundsAnswer·bounds (Chain·windowCover c b depth w)) =
     window-finer c b w depth n (h .built) (omega (arith, same, most)) (ap BoundsAnswer·refusal (sym own) ∙ none) in
-    rw (own, kept-window rows c b finer w (h .same)) (subst (λ (d : ℕ). Within (Chain·windowCover c b d w) (BoundsAnswer·bounds (Chain·windowCover c b depth w))) same deeper)
+    rw (own, kept-window rows c b finer w (h .same))
+    (subst (λ (d : ℕ). Within (Chain·windowCover c b d w) (BoundsAnswer·bounds (Chain·windowCover c b depth w))) same deeper)
 
 -- A window's numbers, and 12 where there are no moves.
 pub kept-window-numbered : (rows : List Rows) (b : Bounds3f) (depth : ℕ) (w : Window)
@@ -58,7 +62,8 @@ pub kept-window-numbered : (rows : List Rows) (b : Bounds3f) (depth : ℕ) (w : 
 unfolding Moves·windowCover
 kept-window-numbered rows b depth w =
     let own = window-numbered (Moves·chain rows) b depth w in
-    cond-keeps (BoundsAnswer·Numbered (0 ∷ 5 ∷ 6 ∷ 7 ∷ 8 ∷ 10 ∷ 12 ∷ 21 ∷ [])) (eqb (length rows) 0) (Refused 12) (Chain·windowCover (Moves·chain rows) b depth w)
+    cond-keeps (BoundsAnswer·Numbered (0 ∷ 5 ∷ 6 ∷ 7 ∷ 8 ∷ 10 ∷ 12 ∷ 21 ∷ []))
+    (eqb (length rows) 0) (Refused 12) (Chain·windowCover (Moves·chain rows) b depth w)
     (record { number = inr (inr (inr (inr (inr (inr (inl refl)))))); none = λ e. absurd (omega (arith, e)) })
     (record { number = wider (own .number); none = own .none })
   where
@@ -89,6 +94,7 @@ module _ (rows : List Rows) (b : Bounds3f) (depth : ℕ) (w : Window) (some : le
   unfolding Moves·windowCover Chain·windowCover
   arguments-refused {n} k e h = rw (ne-eqb (length rows) 0 some, k, e, ne-eqb (coverRefusal b depth) 0 (λ j. h (e ∙ j)))
 
-  pub window-worked : {r : BoundsAnswer} → Window·refusal w ≡ 0 → coverRefusal b depth ≡ 0 → r ≡ Chain·encloseWindow (Moves·chain rows) b depth w → r ≡ Moves·windowCover rows b depth w
+  pub window-worked : {r : BoundsAnswer} → Window·refusal w ≡ 0 → coverRefusal b depth ≡ 0
+      → r ≡ Chain·encloseWindow (Moves·chain rows) b depth w → r ≡ Moves·windowCover rows b depth w
   unfolding Moves·windowCover Chain·windowCover
   window-worked k e h = rw (ne-eqb (length rows) 0 some, k, e) h

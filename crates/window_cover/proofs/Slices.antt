@@ -18,7 +18,8 @@ use Rattle.chain_window.specs.Cover.{movesIn, shareIn, sliceBoxes}
 
 module _ (m : AnimatedTransform) (b : Bounds3f) (d : ℕ) (w : Window) (r : BoundsAnswer) where
   pub slices-pieces : movesIn w m ≡ true
-      → unionPieces (pieceBox (AnimatedTransform·constants m) (m .s0) (m .s1) (m .pad0) (m .pad1) b) r d (shareIn w m) ≡ BoundsAnswer·unionAll r (sliceBoxes b d w m)
+      → unionPieces (pieceBox (AnimatedTransform·constants m) (m .s0) (m .s1) (m .pad0) (m .pad1) b) r d (shareIn w m)
+      ≡ BoundsAnswer·unionAll r (sliceBoxes b d w m)
   unfolding sliceBoxes unionPieces pieceBox
   slices-pieces e =
       let a = AnimatedTransform·constants m in

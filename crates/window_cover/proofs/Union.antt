@@ -94,7 +94,8 @@ module _ (rows : List Rows) (b : Bounds3f) (d : ℕ) (w : Window) where
       let E = boxesFrom (λ first last m. endPoseBoxes b w last m) true ms in
       let Q = boxesFrom (equalPoseBoxes b w) true ms in
       let start = Bounds Bounds3f·default in
-      let joined : BoundsAnswer·unionAll start (S ++ F ++ E ++ Q) ≡ BoundsAnswer·unionAll (BoundsAnswer·unionAll (BoundsAnswer·unionAll (BoundsAnswer·unionAll start S) F) E) Q =
+      let joined : BoundsAnswer·unionAll start (S ++ F ++ E ++ Q)
+      ≡ BoundsAnswer·unionAll (BoundsAnswer·unionAll (BoundsAnswer·unionAll (BoundsAnswer·unionAll start S) F) E) Q =
       union-append start (S ++ F ++ E) Q ∙ ap (λ (x : BoundsAnswer). BoundsAnswer·unionAll x Q) (union-append start (S ++ F) E)
       ∙ ap (λ (x : BoundsAnswer). BoundsAnswer·unionAll (BoundsAnswer·unionAll x E) Q) (union-append start S F) in
       let taken : r ≡ BoundsAnswer·unionAll (BoundsAnswer·unionAll (BoundsAnswer·unionAll (BoundsAnswer·unionAll start S) F) E) Q = rw (er, ep, ef, es) in

@@ -1,5 +1,5 @@
--- The cover of a window of a chain as its caller keeps it, `Moves·windowCover`; in the words of who keeps it its guarantee, `KeptWindowContainsMotion`, and that a finer one is never a
--- wider one, `KeptWindowFiner`. Definitions only.
+-- The cover of a window of a chain as its caller keeps it, `Moves·windowCover`; in the words of who keeps it its guarantee,
+-- `KeptWindowContainsMotion`, and that a finer one is never a wider one, `KeptWindowFiner`. Definitions only.
 use Prim.Native.Nat.{ℕ, _≤_}
 use mathlib.Core.Bool.{cond}
 use mathlib.Core.List.{List}
@@ -26,8 +26,8 @@ use Rattle.chain_window.specs.Theorem.{InWindow}
 unfoldable pub Moves·windowCover : List Rows → Bounds3f → ℕ → Window → BoundsAnswer
 Moves·windowCover rows b depth w = cond (eqb (length rows) 0) (Refused 12) (Chain·windowCover (Moves·chain rows) b depth w)
 
--- Where the rows hold a built chain: every point of the box b, asked of the same rows at any time of the window, ticks included, is answered and is inside the box `cover`, by itself and less
--- and plus the pad at that time.
+-- Where the rows hold a built chain: every point of the box b, asked of the same rows at any time of the window,
+-- ticks included, is answered and is inside the box `cover`, by itself and less and plus the pad at that time.
 abbrev pub KeptWindowContainsMotion : List Rows → Bounds3f → Window → Bounds3f → Type 0
 KeptWindowContainsMotion rows b w cover =
     (c : Chain) (time : Float) (p : Point3f)

@@ -1,5 +1,5 @@
-// The cover of one window of a kept chain's times: slices of all moves, then poses, then moves with equal poses, joined in that order, of which the first refusal
-// stands.
+// The cover of one window of a kept chain's times: slices of all moves, then poses,
+// then moves with equal poses, joined in that order, of which the first refusal stands.
 use animated_transform::AnimatedTransform;
 use bounds3::Bounds3f;
 use transform::BoundsAnswer;
@@ -64,7 +64,8 @@ fn union_move(
     w: Window,
 ) -> BoundsAnswer
     requires { ⌜ i < length (now moves) ⌝ }
-    ensures value { λ u. ⌜ u ≡ BoundsAnswer·unionAll r (stageBoxes b depth w stage (eqb i 0) (eqb (i + 1) (length (now (moves .entry)))) (AnimatedTransform·fromRows (getD (now (moves .entry)) i []))) ⌝ }
+    ensures value { λ u. ⌜ u ≡ BoundsAnswer·unionAll r
+        (stageBoxes b depth w stage (eqb i 0) (eqb (i + 1) (length (now (moves .entry)))) (AnimatedTransform·fromRows (getD (now (moves .entry)) i []))) ⌝ }
 {
     let first = i == 0;
     let last = i + 1 == moves.len();
@@ -90,7 +91,8 @@ fn union_moves(
     depth: u32,
     w: Window,
 ) -> BoundsAnswer
-    ensures value { λ u. ⌜ u ≡ BoundsAnswer·unionAll start (boxesFrom (stageBoxes b depth w stage) true (map AnimatedTransform·fromRows (now (moves .entry)))) ⌝ }
+    ensures value { λ u. ⌜ u ≡ BoundsAnswer·unionAll start
+        (boxesFrom (stageBoxes b depth w stage) true (map AnimatedTransform·fromRows (now (moves .entry)))) ⌝ }
 {
     let mut r = start;
     let mut i = 0;
@@ -103,8 +105,8 @@ fn union_moves(
     r
 }
 
-// A box that holds the box b at every time of a window of a kept chain. Refused with 21 for ticks that don't rise, then 6, 7 or 8, then 5 or 10, and with 12 where
-// there are no moves. Accuracy: encloses.
+// A box that holds the box b at every time of a window of a kept chain. Refused with 21 for ticks that don't rise,
+// then 6, 7 or 8, then 5 or 10, and with 12 where there are no moves. Accuracy: encloses.
 pub fn cover(moves: &[[[f32; 4]; 45]], b: Bounds3f, depth: u32, w: Window) -> BoundsAnswer
     ensures value { λ r. ⌜ r ≡ Moves·windowCover (now (moves .entry)) b depth w ⌝ }
     ensures kept { λ r. ⌜ ((c : Chain) → now (moves .entry) ≡ Chain·toRows c → r ≡ Chain·windowCover c b depth w) ⌝ }

@@ -1,5 +1,5 @@
--- In a window left off an accepted list no point is one that both booms may be at: `windows-apart`. Each boom's points are inside its window's cover, pads and all, and the two covers don't
--- meet.
+-- In a window left off an accepted list no point is one that both booms may be at: `windows-apart`.
+-- Each boom's points are inside its window's cover, pads and all, and the two covers don't meet.
 use Prim.Native.Nat.{ℕ, _+_}
 use mathlib.Core.Path.{_≡_, refl, sym, subst, _∙_}
 use mathlib.Core.Bool.{Bool, true, false, cond}
@@ -19,7 +19,8 @@ use Rattle.motion_cover.specs.Theorem.{MovedInside}
 use Rattle.motion_chain.specs.Chain.{Chain, Chain·transformPoint, Chain·padAt}
 use Rattle.chain_window.specs.Cover.{Chain·windowCover}
 use Rattle.chain_window.proofs.Contains.{window-contains}
-use Rattle.window_meetings.specs.Windows.{windowsOf, windowsRefusal, WindowsAnswer, listed, refused, WindowsAnswer·refusal, WindowsAnswer·windows, windowsFrom, Chain·windows}
+use Rattle.window_meetings.specs.Windows.{windowsOf, windowsRefusal, WindowsAnswer, listed, refused}
+use Rattle.window_meetings.specs.Windows.{WindowsAnswer·refusal, WindowsAnswer·windows, windowsFrom, Chain·windows}
 use Rattle.window_meetings.specs.Theorem.{reached, Apart, tickWindow, WindowsApart}
 use Rattle.window_meetings.proofs.Listed.{window-listed}
 use Rattle.window_meetings.proofs.Numbers.{windows-numbered}
@@ -27,9 +28,11 @@ use Rattle.window_meetings.proofs.Numbers.{windows-numbered}
 -- ---- an accepted query
 pub record Accepted (c c' : Chain) (b b' : Bounds3f) (d : ℕ) (ticks : List Float) : Type 0 where
   pub arguments : windowsRefusal b b' d ticks ≡ 0
-  pub work : windowsFrom (Chain·windowCover c b d) (Chain·windowCover c' b' d) 0 (windowsOf ticks) ≡ listed (WindowsAnswer·windows (Chain·windows c c' b b' d ticks))
+  pub work : windowsFrom (Chain·windowCover c b d) (Chain·windowCover c' b' d) 0
+      (windowsOf ticks) ≡ listed (WindowsAnswer·windows (Chain·windows c c' b b' d ticks))
 
-pub windows-accepted : (c c' : Chain) (b b' : Bounds3f) (d : ℕ) (ticks : List Float) → WindowsAnswer·refusal (Chain·windows c c' b b' d ticks) ≡ 0 → Accepted c c' b b' d ticks
+pub windows-accepted : (c c' : Chain) (b b' : Bounds3f) (d : ℕ) (ticks : List Float)
+    → WindowsAnswer·refusal (Chain·windows c c' b b' d ticks) ≡ 0 → Accepted c c' b b' d ticks
 windows-accepted c c' b b' d ticks = go (eqb n 0) (eqb-true n 0) (eqb-false n 0) refl
   where
     n : ℕ
@@ -41,12 +44,14 @@ windows-accepted c c' b b' d ticks = go (eqb n 0) (eqb-true n 0) (eqb-false n 0)
     same : (t : Bool) → eqb n 0 ≡ t → Chain·windows c c' b b' d ticks ≡ cond t work (refused n)
     same t e = unfold Chain·windows in rw e
 
-    go : (t : Bool) → (t ≡ true → n ≡ 0) → (t ≡ false → n ≡ 0 → ⊥) → eqb n 0 ≡ t → WindowsAnswer·refusal (Chain·windows c c' b b' d ticks) ≡ 0 → Accepted c c' b b' d ticks
+    go : (t : Bool) → (t ≡ true → n ≡ 0) → (t ≡ false → n ≡ 0 → ⊥) → eqb n 0 ≡ t
+        → WindowsAnswer·refusal (Chain·windows c c' b b' d ticks) ≡ 0 → Accepted c c' b b' d ticks
     go true f g e h = record { arguments = f refl; work = sym (same true e) ∙ windows-numbered c c' b b' d ticks .none h }
     go false f g e h = absurd (g refl (rw (same false e) at h))
 
 -- ---- where a boom's point may be
-moved-reached : (c : Chain) (time : Float) (p : Point3f) {box : Bounds3f} → MovedInside box (Chain·padAt c time) (Chain·transformPoint c time p) → Subset (reached c time p) box
+moved-reached : (c : Chain) (time : Float) (p : Point3f) {box : Bounds3f}
+    → MovedInside box (Chain·padAt c time) (Chain·transformPoint c time p) → Subset (reached c time p) box
 moved-reached c time p m =
     let low = m .inside .less in
     let high = m .inside .plus in

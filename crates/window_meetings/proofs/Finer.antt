@@ -1,5 +1,5 @@
--- No greater depth adds a window: `windows-finer`. Each window's cover is accepted at the greater depth and lies in the one at the lesser (chain_window's `window-finer`), and smaller boxes
--- that meet do so within larger ones.
+-- No greater depth adds a window: `windows-finer`. Each window's cover is accepted at the greater depth and lies
+-- in the one at the lesser (chain_window's `window-finer`), and smaller boxes that meet do so within larger ones.
 use Prim.Native.Nat.{ℕ, suc, _+_, _≤_}
 use mathlib.Core.Logic.{inl, inr}
 use mathlib.Core.Path.{_≡_, refl, sym, ap, subst, _∙_}
@@ -22,7 +22,8 @@ use Rattle.tick_list.specs.Ticks.{Ticks·refusal}
 use Rattle.window_times.specs.declared.Window.{Window}
 use Rattle.chain_window.specs.Cover.{Chain·windowCover}
 use Rattle.chain_window.proofs.Finer.{window-finer}
-use Rattle.window_meetings.specs.Windows.{windowsOf, windowsRefusal, WindowsAnswer, listed, WindowsAnswer·refusal, WindowsAnswer·windows, windowsFrom, Chain·windows}
+use Rattle.window_meetings.specs.Windows.{windowsOf, windowsRefusal, WindowsAnswer, listed, WindowsAnswer·refusal}
+use Rattle.window_meetings.specs.Windows.{WindowsAnswer·windows, windowsFrom, Chain·windows}
 use Rattle.window_meetings.specs.Theorem.{NoneAdded, WindowsFiner}
 use Rattle.window_meetings.proofs.Meets.{meets-mono}
 use Rattle.window_meetings.proofs.Listed.{cons-listed, first-taken}
@@ -54,7 +55,8 @@ module _ (cover cover' fine fine' : Window → BoundsAnswer)
         fewer = λ j o. subst (OneOf j) (sym (a .whole)) (kept j met met' mono (later .places) (a .rest) (later .fewer j) o);
       }
     where
-      kept : (j : ℕ) (s t : Bool) → (s ≡ true → t ≡ true) → (xs ys : List ℕ) → (OneOf j xs → OneOf j ys) → OneOf j (cond s (k ∷ xs) xs) → OneOf j (cond t (k ∷ ys) ys)
+      kept : (j : ℕ) (s t : Bool) → (s ≡ true → t ≡ true) → (xs ys : List ℕ)
+          → (OneOf j xs → OneOf j ys) → OneOf j (cond s (k ∷ xs) xs) → OneOf j (cond t (k ∷ ys) ys)
       kept j true true h xs ys f (inl e) = inl e
       kept j true true h xs ys f (inr o) = inr (f o)
       kept j true false h xs ys f o = absurd (true≢false (sym (h refl)))
@@ -74,7 +76,8 @@ pub windows-finer : (c c' : Chain) (b b' : Bounds3f) (ticks : List Float) → Wi
 windows-finer c c' b b' ticks d n built built' l e =
     let a = windows-accepted c c' b b' d ticks e in
     let f = none-added (Chain·windowCover c b d) (Chain·windowCover c' b' d) (Chain·windowCover c b (d + n)) (Chain·windowCover c' b' (d + n))
-    (λ w h. window-finer c b w d n built l h) (λ w h. window-finer c' b' w d n built' l h) 0 (windowsOf ticks) (WindowsAnswer·windows (Chain·windows c c' b b' d ticks)) (a .work) in
+    (λ w h. window-finer c b w d n built l h) (λ w h. window-finer c' b' w d n built' l h) 0
+    (windowsOf ticks) (WindowsAnswer·windows (Chain·windows c c' b b' d ticks)) (a .work) in
     let same = work (arguments-finer b b' d (d + n) ticks l (a .arguments)) ∙ f .accepted in
     record {
       accepted = ap WindowsAnswer·refusal same;

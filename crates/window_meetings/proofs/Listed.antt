@@ -57,7 +57,8 @@ module _ (cover cover' : Window → BoundsAnswer) where
       m : Bool
       m = Bounds3f·meets (BoundsAnswer·bounds (cover w)) (BoundsAnswer·bounds (cover' w))
 
-      go : (t : Bool) → (t ≡ true → n ≡ 0) → (r : WindowsAnswer) → windowsFrom cover cover' (suc k) ws ≡ r → cond t (WindowsAnswer·cons m k r) (refused n) ≡ listed ks
+      go : (t : Bool) → (t ≡ true → n ≡ 0) → (r : WindowsAnswer) → windowsFrom cover cover' (suc k) ws ≡ r
+          → cond t (WindowsAnswer·cons m k r) (refused n) ≡ listed ks
           → Taken cover cover' k w ws ks
       go true f (listed rest) e h =
           let (a, a') = first-zero (BoundsAnswer·refusal (cover w)) (BoundsAnswer·refusal (cover' w)) (f refl) in
@@ -88,7 +89,8 @@ module _ (cover cover' : Window → BoundsAnswer) where
         accepted = b .accepted;
         accepted' = b .accepted';
         meeting = λ m. subst (OneOf (j + suc i)) (sym (a .whole)) (later (j + suc i) j (a .rest)
-            (Bounds3f·meets (BoundsAnswer·bounds (cover (record { earlier = t; later = u }))) (BoundsAnswer·bounds (cover' (record { earlier = t; later = u })))) (subst (λ (k : ℕ). OneOf k (a .rest)) same (b .meeting m)));
+            (Bounds3f·meets (BoundsAnswer·bounds (cover (record { earlier = t; later = u })))
+            (BoundsAnswer·bounds (cover' (record { earlier = t; later = u })))) (subst (λ (k : ℕ). OneOf k (a .rest)) same (b .meeting m)));
       }
     where
       later : (x k : ℕ) (rest : List ℕ) (m : Bool) → OneOf x rest → OneOf x (cond m (k ∷ rest) rest)

@@ -26,4 +26,5 @@ meets-mono {a} {a'} {b} {b'} s t m =
     let Y = rangesMeet (b .«p_min» .y) (b .«p_max» .y) (b' .«p_min» .y) (b' .«p_max» .y) in
     let Z = rangesMeet (b .«p_min» .z) (b .«p_max» .z) (b' .«p_min» .z) (b' .«p_max» .z) in
     let xy = and-l (x && y) z m in
-    and-i (X && Y) Z (and-i X Y (axis-mono (s .x) (t .x) (and-l x y xy)) (axis-mono (s .y) (t .y) (and-r x y xy))) (axis-mono (s .z) (t .z) (and-r (x && y) z m))
+    and-i (X && Y) Z (and-i X Y (axis-mono (s .x) (t .x) (and-l x y xy)) (axis-mono (s .y) (t .y) (and-r x y xy)))
+    (axis-mono (s .z) (t .z) (and-r (x && y) z m))

@@ -64,10 +64,12 @@ arguments-number : (b b' : Bounds3f) (d : ℕ) (ticks : List Float) → Number (
 unfolding windowsRefusal firstNumber
 arguments-number b b' d ticks =
     first-number (Ticks·refusal ticks) _ (ticks-number ticks)
-    (first-number (Bounds3f·refusal b) _ (box-number b) (first-number (Bounds3f·refusal b') _ (box-number b') (first-number (cond (ltb maxDepth d) 8 0) 0 (depth-number d) (inl refl))))
+    (first-number (Bounds3f·refusal b) _ (box-number b)
+    (first-number (Bounds3f·refusal b') _ (box-number b') (first-number (cond (ltb maxDepth d) 8 0) 0 (depth-number d) (inl refl))))
 
 -- ---- the work
-module _ (cover cover' : Window → BoundsAnswer) (own : (w : Window) → Number (BoundsAnswer·refusal (cover w))) (own' : (w : Window) → Number (BoundsAnswer·refusal (cover' w))) where
+module _ (cover cover' : Window → BoundsAnswer) (own : (w : Window) → Number (BoundsAnswer·refusal (cover w)))
+    (own' : (w : Window) → Number (BoundsAnswer·refusal (cover' w))) where
   pub from-numbered : (k : ℕ) (ws : List Window) → WindowsAnswer·Numbered numbers (windowsFrom cover cover' k ws)
   unfolding windowsFrom Meeting·of
   from-numbered k [] = record { number = inl refl; none = λ _. refl }
@@ -79,10 +81,12 @@ module _ (cover cover' : Window → BoundsAnswer) (own : (w : Window) → Number
       m : Bool
       m = Bounds3f·meets (BoundsAnswer·bounds (cover w)) (BoundsAnswer·bounds (cover' w))
 
-      go : (t : Bool) → (t ≡ false → n ≡ 0 → ⊥) → (r : WindowsAnswer) → WindowsAnswer·Numbered numbers r → WindowsAnswer·Numbered numbers (cond t (WindowsAnswer·cons m k r) (refused n))
+      go : (t : Bool) → (t ≡ false → n ≡ 0 → ⊥) → (r : WindowsAnswer) → WindowsAnswer·Numbered numbers r
+          → WindowsAnswer·Numbered numbers (cond t (WindowsAnswer·cons m k r) (refused n))
       go true f (listed ks) h = unfold WindowsAnswer·cons in record { number = inl refl; none = λ _. refl }
       go true f (refused x) h = unfold WindowsAnswer·cons in h
-      go false f r h = record { number = first-number (BoundsAnswer·refusal (cover w)) (BoundsAnswer·refusal (cover' w)) (own w) (own' w); none = λ e. absurd (f refl e) }
+      go false f r h =
+          record { number = first-number (BoundsAnswer·refusal (cover w)) (BoundsAnswer·refusal (cover' w)) (own w) (own' w); none = λ e. absurd (f refl e) }
 
 pub windows-numbered : (c c' : Chain) (b b' : Bounds3f) (d : ℕ) (ticks : List Float)
     → WindowsAnswer·Numbered (0 ∷ 5 ∷ 6 ∷ 7 ∷ 8 ∷ 10 ∷ 21 ∷ []) (Chain·windows c c' b b' d ticks)
@@ -97,5 +101,6 @@ windows-numbered c c' b b' d ticks = go (eqb n 0) (eqb-false n 0)
 
     go : (t : Bool) → (t ≡ false → n ≡ 0 → ⊥) → WindowsAnswer·Numbered numbers (cond t work (refused n))
     go true f =
-        from-numbered (Chain·windowCover c b d) (Chain·windowCover c' b' d) (λ w. window-numbered c b d w .number) (λ w. window-numbered c' b' d w .number) 0 (windowsOf ticks)
+        from-numbered (Chain·windowCover c b d) (Chain·windowCover c' b' d)
+        (λ w. window-numbered c b d w .number) (λ w. window-numbered c' b' d w .number) 0 (windowsOf ticks)
     go false f = record { number = arguments-number b b' d ticks; none = λ e. absurd (f refl e) }

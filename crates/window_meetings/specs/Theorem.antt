@@ -1,5 +1,5 @@
--- Two booms over one bay: in a window left off the list there is no time at which a padded point of one boom and a padded point of the other coincide, `WindowsApart`; and no greater
--- depth adds a window, `WindowsFiner`. The statements of `windows-apart` and `windows-finer`.
+-- Two booms over one bay: in a window left off the list there is no time at which a padded point of one boom and a padded point of the other coincide,
+-- `WindowsApart`; and no greater depth adds a window, `WindowsFiner`. The statements of `windows-apart` and `windows-finer`.
 --
 --   BuiltChain c            c is what building gives, unrefused, for poses of binary32 times and pads          crates/motion_chain/specs/Built.antt
 --   Chain·windows           the query: the windows in which the two covers meet                               crates/window_meetings/specs/Windows.antt
@@ -31,7 +31,8 @@ padded pad answer = record { «p_min» = Point3f·less (PointAnswer·point answe
 abbrev pub reached : Chain → Float → Point3f → Bounds3f
 reached c time p = padded (Chain·padAt c time) (Chain·transformPoint c time p)
 
--- Both points are answered, and no point is one that both may be at: "there is no time at which a padded point of one boom and a padded point of the other coincide".
+-- Both points are answered, and no point is one that both may be at: "there is no
+-- time at which a padded point of one boom and a padded point of the other coincide".
 pub record Apart (c c' : Chain) (time : Float) (p p' : Point3f) : Type 0 where
   pub answered : PointAnswer·refusal (Chain·transformPoint c time p) ≡ 0
   pub answered' : PointAnswer·refusal (Chain·transformPoint c' time p') ≡ 0
@@ -41,8 +42,8 @@ pub record Apart (c c' : Chain) (time : Float) (p p' : Point3f) : Type 0 where
 abbrev pub tickWindow : List Float → ℕ → Window
 tickWindow ticks k = record { earlier = getD ticks k nan; later = getD ticks (suc k) nan }
 
--- c and c' are the chains, b and b' their boxes of points: "In a window left off the list, ticks included, there is no time at which a padded point of one boom and a padded
--- point of the other coincide".
+-- c and c' are the chains, b and b' their boxes of points: "In a window left off the list, ticks included,
+-- there is no time at which a padded point of one boom and a padded point of the other coincide".
 abbrev pub WindowsApart : Chain → Chain → Bounds3f → Bounds3f → ℕ → List Float → Type 0
 WindowsApart c c' b b' d ticks =
     let a = Chain·windows c c' b b' d ticks in

@@ -1,6 +1,6 @@
 -- The windows between neighbouring ticks in which the covers of two chains meet. Definitions only. Quotations are of document 02, "Two booms over one bay".
--- 21 of the ticks, then 6 and 7 of the first box, 6 and 7 of the second, 8 of the depth, are judged before any work; then the first refusal met stands, "the earlier window first, then
--- the first chain". Windows count from 0.
+-- 21 of the ticks, then 6 and 7 of the first box, 6 and 7 of the second, 8 of the depth, are judged before any work;
+-- then the first refusal met stands, "the earlier window first, then the first chain". Windows count from 0.
 use Prim.Native.Nat.{ℕ, suc, _-_}
 use mathlib.Core.Bool.{Bool, cond}
 use mathlib.Core.List.{List, [], _∷_, _++_}

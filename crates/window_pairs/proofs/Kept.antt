@@ -1,5 +1,5 @@
--- The query of two kept chains as the code makes it, and its clauses (`windows-clauses`). Where the rows hold built chains it is the chains' own (`kept-windows`), so that no points coincide in
--- a window left off the list (`kept-apart`), and no greater depth adds one (`kept-finer`).
+-- The query of two kept chains as the code makes it, and its clauses (`windows-clauses`). Where the rows hold built chains it is the chains'
+-- own (`kept-windows`), so that no points coincide in a window left off the list (`kept-apart`), and no greater depth adds one (`kept-finer`).
 use Prim.Native.Nat.{ℕ, _+_, _-_, _≤_}
 use mathlib.Core.Logic.{inl, inr}
 use mathlib.Core.Path.{_≡_, refl, sym, ap, subst, _∙_}
@@ -26,7 +26,8 @@ use Rattle.chain_rows.proofs.Kept.{chain-inverse, kept-chain, kept-point}
 use Rattle.window_times.specs.declared.Window.{Window}
 use Rattle.chain_window.specs.Cover.{Chain·windowCover}
 use Rattle.window_cover.specs.Kept.{Moves·windowCover}
-use Rattle.window_meetings.specs.Windows.{windowsOf, windowsRefusal, WindowsAnswer, listed, refused, WindowsAnswer·refusal, WindowsAnswer·windows, windowsFrom, Chain·windows, placeCount, WindowsAnswer·left}
+use Rattle.window_meetings.specs.Windows.{windowsOf, windowsRefusal, WindowsAnswer, listed, refused, WindowsAnswer·refusal}
+use Rattle.window_meetings.specs.Windows.{WindowsAnswer·windows, windowsFrom, Chain·windows, placeCount, WindowsAnswer·left}
 use Rattle.window_meetings.specs.Theorem.{reached, NoneAdded}
 use Rattle.window_meetings.specs.Numbers.{WindowsAnswer·Numbered}
 use Rattle.window_meetings.proofs.Numbers.{windows-numbered}
@@ -62,7 +63,8 @@ few-ticks ticks = go (ltb (length ticks) minTicks) (ltb maxTicks (length ticks))
 
 pub accepted-ticks : (b b' : Bounds3f) (d : ℕ) (ticks : List Float) → windowsRefusal b b' d ticks ≡ 0 → length ticks ≤ maxTicks
 unfolding windowsRefusal
-accepted-ticks b b' d ticks e = few-ticks ticks (first-none (Ticks·refusal ticks) (Bounds3f·refusal b ∷ Bounds3f·refusal b' ∷ cond (ltb maxDepth d) 8 0 ∷ []) e .0)
+accepted-ticks b b' d ticks e =
+    few-ticks ticks (first-none (Ticks·refusal ticks) (Bounds3f·refusal b ∷ Bounds3f·refusal b' ∷ cond (ltb maxDepth d) 8 0 ∷ []) e .0)
 
 -- ---- the answer
 module _ (rows rows' : List Rows) (b b' : Bounds3f) (d : ℕ) (ticks : List Float) where

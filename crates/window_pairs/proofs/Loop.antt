@@ -1,4 +1,5 @@
--- The list of windows as a loop finds it. The invariant, `Loop`: the windows found so far, with those that are left, are all of them: `loop-first`, `loop-next`, `loop-refused`, `loop-last`.
+-- The list of windows as a loop finds it. The invariant, `Loop`: the windows found so far, with those that are left, are all of them:
+-- `loop-first`, `loop-next`, `loop-refused`, `loop-last`.
 use Prim.Native.Nat.{ℕ, zero, suc, _+_, _-_, _≤_, _<_}
 use mathlib.Core.Path.{_≡_, refl, sym, ap, subst, _∙_}
 use mathlib.Core.Bool.{Bool, true, false, cond}
@@ -33,7 +34,8 @@ set-at (x ∷ ks) z k zs = rw (set-at ks z k zs)
 pub holds-none : Found·Holds [] (Found·none 0)
 holds-none = record { places = refl; count = refl; refusal = refl }
 
-add-places : (ks : List ℕ) (k : ℕ) → length ks < placeCount → set (ks ++ replicate (placeCount - length ks) 0) (length ks) k ≡ ks ++ (k ∷ []) ++ replicate (placeCount - length (ks ++ (k ∷ []))) 0
+add-places : (ks : List ℕ) (k : ℕ) → length ks < placeCount
+    → set (ks ++ replicate (placeCount - length ks) 0) (length ks) k ≡ ks ++ (k ∷ []) ++ replicate (placeCount - length (ks ++ (k ∷ []))) 0
 add-places ks k h =
     let m = placeCount - length ks - 1 in
     let e : placeCount - length ks ≡ suc m = omega (arith, h) in
@@ -41,7 +43,8 @@ add-places ks k h =
     let f : placeCount - length (ks ++ (k ∷ [])) ≡ m = omega (arith, n) in
     rw (e, f) (set-at ks 0 k (replicate m 0))
 
-pub holds-add : {ks : List ℕ} {f : Found} (meets : Bool) (k : ℕ) → Found·Holds ks f → length ks < placeCount → Found·Holds (cond meets (ks ++ (k ∷ [])) ks) (Found·add f meets k)
+pub holds-add : {ks : List ℕ} {f : Found} (meets : Bool) (k : ℕ) → Found·Holds ks f
+    → length ks < placeCount → Found·Holds (cond meets (ks ++ (k ∷ [])) ks) (Found·add f meets k)
 unfolding Found·add
 holds-add {ks} {f} true k h l =
     let n = length-append ks (k ∷ []) in
@@ -112,7 +115,8 @@ module _ (cover cover' : Window → BoundsAnswer) (ticks : List Float) where
       let g : i ≡ suc k = omega (arith, p) in
       rw (e, g) (windows-at ticks k (omega (arith, p, h)))
 
-  refused-step : (k : ℕ) (w : Window) (ws : List Window) (m : Meeting) → m ≡ Meeting·of (cover w) (cover' w) → (m .refusal ≡ 0 → ⊥) → windowsFrom cover cover' k (w ∷ ws) ≡ refused (m .refusal)
+  refused-step : (k : ℕ) (w : Window) (ws : List Window) (m : Meeting) → m ≡ Meeting·of (cover w) (cover' w)
+      → (m .refusal ≡ 0 → ⊥) → windowsFrom cover cover' k (w ∷ ws) ≡ refused (m .refusal)
   unfolding windowsFrom
   refused-step k w ws m e h = rw (← e, ne-eqb (m .refusal) 0 h)
 
@@ -125,7 +129,8 @@ module _ (cover cover' : Window → BoundsAnswer) (ticks : List Float) where
     pub loop-few : i < length ticks → length ticks ≤ maxTicks → f .count < placeCount
     loop-few h t = let c = l .holds .count in let n = l .few in let p = l .place in omega (arith, c, n, p, h, t)
 
-    pub loop-next : {g : Found} (m : Meeting) → i < length ticks → length ticks ≤ maxTicks → m ≡ Meeting·of (cover (windowAt ticks i)) (cover' (windowAt ticks i)) → m .refusal ≡ 0
+    pub loop-next : {g : Found} (m : Meeting) → i < length ticks → length ticks ≤ maxTicks
+        → m ≡ Meeting·of (cover (windowAt ticks i)) (cover' (windowAt ticks i)) → m .refusal ≡ 0
         → g ≡ Found·add f (m .meets) k → Loop (k + 1) (i + 1) g
     loop-next {g} m h t e z a =
         let n = l .few in
@@ -145,7 +150,8 @@ module _ (cover cover' : Window → BoundsAnswer) (ticks : List Float) where
         grown ks true h = let e = length-append ks (k ∷ []) in omega (arith, e, h)
         grown ks false h = omega (arith, h)
 
-    pub loop-refused : {g : Found} (m : Meeting) → i < length ticks → m ≡ Meeting·of (cover (windowAt ticks i)) (cover' (windowAt ticks i)) → (m .refusal ≡ 0 → ⊥)
+    pub loop-refused : {g : Found} (m : Meeting) → i < length ticks
+        → m ≡ Meeting·of (cover (windowAt ticks i)) (cover' (windowAt ticks i)) → (m .refusal ≡ 0 → ⊥)
         → g ≡ Found·none (m .refusal) → Found·Is all g
     loop-refused {g} m h e z a =
         let w = refused-step k (windowAt ticks i) (windowsOf (drop (suc k) ticks)) m e z in

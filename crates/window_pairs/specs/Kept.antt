@@ -1,5 +1,5 @@
--- The windows in which the covers of two chains meet, as their callers keep the chains, `Moves·windows`; in their words that in any other no points coincide, `KeptWindowsApart`, and
--- that no greater depth adds one, `KeptWindowsFiner`. Definitions only.
+-- The windows in which the covers of two chains meet, as their callers keep the chains, `Moves·windows`; in their words that in any other no points coincide,
+-- `KeptWindowsApart`, and that no greater depth adds one, `KeptWindowsFiner`. Definitions only.
 use Prim.Native.Nat.{ℕ, _+_, _≤_, _<_}
 use mathlib.Core.Path.{_≡_}
 use mathlib.Core.Bool.{_||_, cond}
@@ -34,8 +34,8 @@ pub record Moves·Apart (rows rows' : List Rows) (time : Float) (p p' : Point3f)
   pub answered' : PointAnswer·refusal (Moves·transformPoint rows' time p') ≡ 0
   pub apart : (q : Point3f) → Inside (Moves·reached rows time p) q → Inside (Moves·reached rows' time p') q → ⊥
 
--- Where the rows hold built chains: in a window that isn't among ks, at any time of it, ticks included, every point of b and every point of b', asked of the rows, is answered, and no
--- point is one that both may be at.
+-- Where the rows hold built chains: in a window that isn't among ks, at any time of it, ticks included, every point of b and every point of b',
+-- asked of the rows, is answered, and no point is one that both may be at.
 abbrev pub KeptWindowsApart : List Rows → List Rows → Bounds3f → Bounds3f → List Float → List ℕ → Type 0
 KeptWindowsApart rows rows' b b' ticks ks =
     (c c' : Chain) (k : ℕ) (time : Float) (p p' : Point3f)

@@ -8,7 +8,8 @@ ghost use lib.ListN.{length, take};
 ghost use Rattle.bounds_meeting.specs.Meeting.{Meeting·of};
 ghost use Rattle.tick_list.specs.Ticks.{maxTicks};
 ghost use Rattle.window_cover.specs.Kept.{Moves·windowCover};
-ghost use Rattle.window_meetings.specs.Windows.{windowsOf, windowsRefusal, WindowsAnswer·refusal, WindowsAnswer·windows, windowsFrom, placeCount, WindowsAnswer·left};
+ghost use Rattle.window_meetings.specs.Windows.{windowsOf, windowsRefusal, WindowsAnswer·refusal};
+ghost use Rattle.window_meetings.specs.Windows.{WindowsAnswer·windows, windowsFrom, placeCount, WindowsAnswer·left};
 ghost use Rattle.window_pairs.specs.means.Found.{windowAt, Found·none, Found·add, Found·Is};
 ghost use Rattle.window_pairs.specs.Kept.{Moves·windows, KeptWindowsApart, KeptWindowsFiner};
 
@@ -67,7 +68,8 @@ fn meeting_at(
 ) -> Meeting
     requires { ⌜ 1 ≤ i ⌝ }
     requires { ⌜ i < length (now ticks) ⌝ }
-    ensures value { λ m. ⌜ m ≡ Meeting·of (Moves·windowCover (now (moves .entry)) b depth (windowAt (now (ticks .entry)) i)) (Moves·windowCover (now (others .entry)) other depth (windowAt (now (ticks .entry)) i)) ⌝ }
+    ensures value { λ m. ⌜ m ≡ Meeting·of (Moves·windowCover (now (moves .entry)) b depth (windowAt (now (ticks .entry)) i))
+        (Moves·windowCover (now (others .entry)) other depth (windowAt (now (ticks .entry)) i)) ⌝ }
 {
     let w = Window {
         earlier: ticks[i - 1],
@@ -88,7 +90,8 @@ fn find(
     ticks: &[f32],
 ) -> Found
     requires { ⌜ length (now ticks) ≤ maxTicks ⌝ }
-    ensures found { λ r. ⌜ Found·Is (windowsFrom (Moves·windowCover (now (moves .entry)) b depth) (Moves·windowCover (now (others .entry)) other depth) 0 (windowsOf (now (ticks .entry)))) r ⌝ }
+    ensures found { λ r. ⌜ Found·Is (windowsFrom (Moves·windowCover (now (moves .entry)) b depth)
+        (Moves·windowCover (now (others .entry)) other depth) 0 (windowsOf (now (ticks .entry)))) r ⌝ }
 {
     let mut found = none(0);
     let mut k = 0u32;
@@ -124,8 +127,8 @@ fn refusal(b: Bounds3f, other: Bounds3f, depth: u32, ticks: &[f32]) -> u8
 }
 
 // Puts the windows, counted from 0, in which the covers of the two chains meet into the first places, 0 into the others, and gives how many there are. Refused
-// with 21 of the ticks, 6 and 7 of the first box, 6 and 7 of the second, 8, then 5 or 10, the earlier window first, then the first chain, and with 12 where a chain
-// has no moves; a refusal leaves the places as they came. In any other window no point of one box and no point of the other coincide. Accuracy: encloses.
+// with 21 of the ticks, 6 and 7 of the first box, 6 and 7 of the second, 8, then 5 or 10, the earlier window first, then the first chain, and with 12 where a
+// chain has no moves; a refusal leaves the places as they came. In any other window no point of one box and no point of the other coincide. Accuracy: encloses.
 pub fn list_windows(
     moves: &[[[f32; 4]; 45]],
     others: &[[[f32; 4]; 45]],
@@ -135,11 +138,16 @@ pub fn list_windows(
     ticks: &[f32],
     places: &mut [u32; 63],
 ) -> Windows
-    ensures refusal { λ r. ⌜ r .refusal ≡ WindowsAnswer·refusal (Moves·windows (now (moves .entry)) (now (others .entry)) b other depth (now (ticks .entry))) ⌝ }
-    ensures count { λ r. ⌜ r .count ≡ length (WindowsAnswer·windows (Moves·windows (now (moves .entry)) (now (others .entry)) b other depth (now (ticks .entry)))) ⌝ }
-    ensures left { λ _. ⌜ now (places .exit) ≡ WindowsAnswer·left (Moves·windows (now (moves .entry)) (now (others .entry)) b other depth (now (ticks .entry))) (now (places .entry)) ⌝ }
-    ensures apart { λ r. ⌜ (r .refusal ≡ 0 → KeptWindowsApart (now (moves .entry)) (now (others .entry)) b other (now (ticks .entry)) (take (r .count) (now (places .exit)))) ⌝ }
-    ensures finer { λ r. ⌜ (r .refusal ≡ 0 → KeptWindowsFiner (now (moves .entry)) (now (others .entry)) b other depth (now (ticks .entry)) (take (r .count) (now (places .exit)))) ⌝ }
+    ensures refusal { λ r. ⌜ r .refusal
+        ≡ WindowsAnswer·refusal (Moves·windows (now (moves .entry)) (now (others .entry)) b other depth (now (ticks .entry))) ⌝ }
+    ensures count { λ r. ⌜ r .count ≡ length
+        (WindowsAnswer·windows (Moves·windows (now (moves .entry)) (now (others .entry)) b other depth (now (ticks .entry)))) ⌝ }
+    ensures left { λ _. ⌜ now (places .exit)
+        ≡ WindowsAnswer·left (Moves·windows (now (moves .entry)) (now (others .entry)) b other depth (now (ticks .entry))) (now (places .entry)) ⌝ }
+    ensures apart { λ r. ⌜ (r .refusal ≡ 0
+        → KeptWindowsApart (now (moves .entry)) (now (others .entry)) b other (now (ticks .entry)) (take (r .count) (now (places .exit)))) ⌝ }
+    ensures finer { λ r. ⌜ (r .refusal ≡ 0
+        → KeptWindowsFiner (now (moves .entry)) (now (others .entry)) b other depth (now (ticks .entry)) (take (r .count) (now (places .exit)))) ⌝ }
 {
     if moves.len() == 0 {
         return Windows {

@@ -25,7 +25,7 @@ Window·asksFirst w time = Window·contains w time || lt (w .earlier) time
 abbrev pub Window·asksEnd : Window → Bool → Float → Bool
 Window·asksEnd w last time = Window·contains w time || (last && lt time (w .later))
 
--- "a move .. to which a time of the window belongs", by the chain's rule: times up to the start are an earlier move's, unless the move is the first, and times after the end a later
--- one's, unless it is the last
+-- "a move .. to which a time of the window belongs", by the chain's rule: times up to the start are an earlier move's,
+-- unless the move is the first, and times after the end a later one's, unless it is the last
 abbrev pub Window·belongs : Window → Bool → Bool → Float → Float → Bool
 Window·belongs w first last start end = (first || lt start (w .later)) && (last || le (w .earlier) end)

@@ -1,4 +1,5 @@
--- Cases of the definitions, by computing: t - 1/2, whose zero the search at depth 8 finds from both sides, and a constant, which is left out at once; how many intervals each search examines.
+-- Cases of the definitions, by computing: t - 1/2, whose zero the search at depth 8 finds from both sides, and a constant, which is left out at once;
+-- how many intervals each search examines.
 use mathlib.Core.Path.{_≡_, refl}
 use mathlib.Core.List.{[], _∷_}
 use lib.Ieee.{neg}

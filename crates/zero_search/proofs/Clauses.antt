@@ -21,7 +21,8 @@ unfolding search
 search-excluded zero f i z = refl
 search-excluded (suc d) f i z = refl
 
-pub search-newton : (f : MotionDerivative) (i : Interval) (z : Zeros) → search 0 false f i z ≡ record { zeros = Zeros·accept z i (newtonZero f i); examined = 1 }
+pub search-newton : (f : MotionDerivative) (i : Interval) (z : Zeros)
+    → search 0 false f i z ≡ record { zeros = Zeros·accept z i (newtonZero f i); examined = 1 }
 unfolding search
 search-newton f i z = refl
 

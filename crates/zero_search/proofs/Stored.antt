@@ -81,7 +81,8 @@ store-stored : (z : Zeros) (t : Float) → T (not (isNan t)) → Stored z → St
 unfolding Zeros·store
 store-stored z t number h = go (ltb (z .count) 8) (ltb-true _ _)
   where
-    go : (b : Bool) → (b ≡ true → z .count < 8) → Stored (cond b (record { zeros = set (z .zeros) (z .count) t; count = z .count + 1; refusal = 0 }) (Zeros·empty 9))
+    go : (b : Bool) → (b ≡ true → z .count < 8)
+        → Stored (cond b (record { zeros = set (z .zeros) (z .count) t; count = z .count + 1; refusal = 0 }) (Zeros·empty 9))
     go true fits = record {
       places = length-set (z .zeros) (z .count) t ∙ h .places;
       count = omega (arith, fits refl);

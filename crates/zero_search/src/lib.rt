@@ -172,8 +172,8 @@ fn unit_search(f: MotionDerivative) -> Search
     find_zeros(&table, f, i, ends, DEPTH, Zeros::empty(0))
 }
 
-// pbrt's `interval_find_zeros` from the interval 0 to 1 at depth 8, with how many intervals it examined, at most 511; refused with 9 where a ninth zero would be
-// stored. Accuracy: heuristic.
+// pbrt's `interval_find_zeros` from the interval 0 to 1 at depth 8, with how many intervals it examined, at most 511;
+// refused with 9 where a ninth zero would be stored. Accuracy: heuristic.
 pub fn interval_find_zeros(c1: f32, c2: f32, c3: f32, c4: f32, c5: f32, theta: f32) -> Search
     ensures value { λ r. ⌜ r ≡ intervalFindZeros c1 c2 c3 c4 c5 theta ⌝ }
 {

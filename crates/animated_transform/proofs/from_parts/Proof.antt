@@ -34,15 +34,17 @@ refused-requires c κs = search needs
 returns : tie.Need-returns
 unfolding AnimatedTransform·fromParts
 returns c =
-    let dots = c .before .before .before in
+    let c1 = c .before in let c2 = c1 .before in let c3 = c2 .before in let c4 = c3 .before in let c5 = c4 .before in
+    let c6 = c5 .before in let c7 = c6 .before in let c8 = c7 .before in let c9 = c8 .before in
+    let dots = c3 in
     let pair = dots .before .before in
     let dot = pair .before .dot in
     let coefficients : pair .pair-coefficients .result ≡ pairCoefficients (lt (dot .result) slerpThreshold) _ _ _ _ _ _ (dot .result) =
     pair .pair-coefficients .ensures in
-    let number : c .before .before .first-refusal .result ≡ firstRefusal (dots .dots-refusal .result) (pair .pair-coefficients .result .refusal) =
-    c .before .before .first-refusal .ensures in
-    let flip = pair .before .before .before .before .flip .ensures in
-    let met = ne-eqb _ 0 (c .before .if1 .taken) in
+    let number : c2 .first-refusal .result ≡ firstRefusal (dots .dots-refusal .result) (pair .pair-coefficients .result .refusal) =
+    c2 .first-refusal .ensures in
+    let flip = c9 .flip .ensures in
+    let met = ne-eqb _ 0 (c1 .if1 .taken) in
     rw (← flip, ← dot .ensures, ← coefficients, ← dots .before .dot2 .ensures, ← dots .dots-refusal .ensures, ← number, met) (c .refused .ensures)
 
 eq-requires : tie.Need-eq-requires
@@ -50,7 +52,19 @@ eq-requires c κs = search needs
 
 returns-2 : tie.Need-returns-2
 unfolding AnimatedTransform·fromParts
-returns-2 c = rw (← c .before .before .before .before .before .before .before .before .before .before .flip .ensures, ← c .before .before .before .before .before .before .before .dot .ensures, ← c .before .before .before .before .before .before .pair-coefficients .ensures, ← c .before .before .before .before .before .dot2 .ensures, ← c .before .before .before .before .dots-refusal .ensures, ← c .before .before .before .first-refusal .ensures, eq-eqb _ 0 (c .before .before .if1 .left), ← c .eq .ensures)
+returns-2 c =
+    let c1 = c .before in let c2 = c1 .before in let c3 = c2 .before in let c4 = c3 .before in let c5 = c4 .before in
+    let c6 = c5 .before in let c7 = c6 .before in let c8 = c7 .before in let c9 = c8 .before in let c10 = c9 .before in
+    rw (
+      ← c10 .flip .ensures,
+      ← c7 .dot .ensures,
+      ← c6 .pair-coefficients .ensures,
+      ← c5 .dot2 .ensures,
+      ← c4 .dots-refusal .ensures,
+      ← c3 .first-refusal .ensures,
+      eq-eqb _ 0 (c2 .if1 .left),
+      ← c .eq .ensures,
+    )
 
 pub from-parts-spec : {M : Type 1} → statement M
 from-parts-spec =

@@ -40,15 +40,44 @@ refused-requires c κs = search needs
 returns : tie.Need-returns
 unfolding AnimatedTransform·fromPoses
 returns c =
-    let inverses : c .before .before .before .before .first-refusal .result ≡ firstRefusal (c .before .before .before .before .before .before .before .before .from-matrix .result .refusal) (c .before .before .before .before .before .before .before .from-matrix2 .result .refusal) = c .before .before .before .before .first-refusal .ensures in
-    rw (← c .before .before .before .before .before .before .before .before .before .before .to-rows .ensures, ← c .before .before .before .before .before .before .before .before .before .to-rows2 .ensures, ← c .before .before .before .before .before .before .before .before .from-matrix .ensures, ← c .before .before .before .before .before .before .before .from-matrix2 .ensures, ← c .before .before .before .before .before .before .decompose .ensures, ← c .before .before .before .before .before .decompose2 .ensures, ← inverses, ← c .before .before .before .first-refusal2 .ensures, ← c .before .before .first-refusal3 .ensures, ne-eqb _ 0 (c .before .if1 .taken)) (c .refused .ensures)
+    let c1 = c .before in let c2 = c1 .before in let c3 = c2 .before in let c4 = c3 .before in let c5 = c4 .before in
+    let c6 = c5 .before in let c7 = c6 .before in let c8 = c7 .before in let c9 = c8 .before in let c10 = c9 .before in
+    let inverses : c4 .first-refusal .result ≡ firstRefusal (c8 .from-matrix .result .refusal) (c7 .from-matrix2 .result .refusal) =
+    c4 .first-refusal .ensures in
+    rw (
+      ← c10 .to-rows .ensures,
+      ← c9 .to-rows2 .ensures,
+      ← c8 .from-matrix .ensures,
+      ← c7 .from-matrix2 .ensures,
+      ← c6 .decompose .ensures,
+      ← c5 .decompose2 .ensures,
+      ← inverses,
+      ← c3 .first-refusal2 .ensures,
+      ← c2 .first-refusal3 .ensures,
+      ne-eqb _ 0 (c1 .if1 .taken),
+    ) (c .refused .ensures)
 
 from-parts-requires : tie.Need-from-parts-requires
 from-parts-requires c κs = search needs
 
 returns-2 : tie.Need-returns-2
 unfolding AnimatedTransform·fromPoses
-returns-2 c = rw (← c .before .before .before .before .before .before .before .before .before .before .to-rows .ensures, ← c .before .before .before .before .before .before .before .before .before .to-rows2 .ensures, ← c .before .before .before .before .before .before .before .before .from-matrix .ensures, ← c .before .before .before .before .before .before .before .from-matrix2 .ensures, ← c .before .before .before .before .before .before .decompose .ensures, ← c .before .before .before .before .before .decompose2 .ensures, ← c .before .before .before .before .first-refusal .ensures, ← c .before .before .before .first-refusal2 .ensures, ← c .before .before .first-refusal3 .ensures, eq-eqb _ 0 (c .before .if1 .left)) (c .from-parts .ensures)
+returns-2 c =
+    let c1 = c .before in let c2 = c1 .before in let c3 = c2 .before in let c4 = c3 .before in let c5 = c4 .before in
+    let c6 = c5 .before in let c7 = c6 .before in let c8 = c7 .before in let c9 = c8 .before in let c10 = c9 .before in
+    rw (
+      ← c10 .to-rows .ensures,
+      ← c9 .to-rows2 .ensures,
+      ← c8 .from-matrix .ensures,
+      ← c7 .from-matrix2 .ensures,
+      ← c6 .decompose .ensures,
+      ← c5 .decompose2 .ensures,
+      ← c4 .first-refusal .ensures,
+      ← c3 .first-refusal2 .ensures,
+      ← c2 .first-refusal3 .ensures,
+      eq-eqb _ 0 (c1 .if1 .left),
+    )
+    (c .from-parts .ensures)
 
 pub from-poses-spec : {M : Type 1} → statement M
 from-poses-spec =

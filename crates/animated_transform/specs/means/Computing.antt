@@ -6,5 +6,6 @@ use Rattle.rotation_arc.specs.means.Computing as arc
 use Rattle.animated_transform.specs.New.{AnimatedTransform·fromParts, AnimatedTransform·fromPoses, AnimatedTransform·new}
 
 unfoldable pub computing : Unit {0}
-unfolding poses.computing transform.computing decomposition.computing arc.computing AnimatedTransform·fromParts AnimatedTransform·fromPoses AnimatedTransform·new
+unfolding poses.computing transform.computing decomposition.computing arc.computing AnimatedTransform·fromParts AnimatedTransform·fromPoses
+    AnimatedTransform·new
 computing = tt

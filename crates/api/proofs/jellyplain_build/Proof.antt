@@ -19,10 +19,11 @@ put-motion-requires c κs = search needs
 
 returns : tie.Need-returns
 returns c =
-    let a = c .before .before .before .before .before .args in
-    let new = c .before .before .new in
+    let c1 = c .before in let c2 = c1 .before in let c3 = c2 .before in let c4 = c3 .before in let c5 = c4 .before in
+    let a = c5 .args in
+    let new = c2 .new in
     build-clauses (a .rigid) (Pose·ofList (a .start .now)) (Pose·ofList (a .end .now)) (new .result) _ _ (a .motion .now)
-    (rw (new .ensures .0, c .before .before .before .pose2 .ensures, c .before .before .before .before .pose .ensures)) (new .ensures .1)
+    (rw (new .ensures .0, c3 .pose2 .ensures, c4 .pose .ensures)) (new .ensures .1)
     (c .put-motion .ensures .0) (c .put-motion .ensures .1)
 
 pub jellyplain-build-spec : {M : Type 1} → statement M

@@ -18,12 +18,13 @@ put-bounds-requires c κs = search needs
 
 returns : tie.Need-returns
 returns c =
-    let rows = c .before .before .before .before in
-    let bounds = c .before .before .before in
+    let c1 = c .before in let c2 = c1 .before in let c3 = c2 .before in let c4 = c3 .before in
+    let rows = c4 in
+    let bounds = c3 in
     let a = rows .before .args in
     cover-clauses (a .motion .now) (a .b .now) (a .depth) _ _ (a .bounds .now)
-    (rw (c .put-bounds .ensures .0, c .before .before .cover .ensures .0, bounds .bounds .ensures, rows .from-rows .ensures))
-    (rw (c .put-bounds .ensures .1, c .before .before .cover .ensures .0, bounds .bounds .ensures, rows .from-rows .ensures))
+    (rw (c .put-bounds .ensures .0, c2 .cover .ensures .0, bounds .bounds .ensures, rows .from-rows .ensures))
+    (rw (c .put-bounds .ensures .1, c2 .cover .ensures .0, bounds .bounds .ensures, rows .from-rows .ensures))
 
 pub jellyplain-cover-spec : {M : Type 1} → statement M
 jellyplain-cover-spec =

@@ -13,7 +13,11 @@ put-transform-requires : tie.Need-put-transform-requires
 put-transform-requires c κs = search needs
 
 returns : tie.Need-returns
-returns c = (rw (c .put-transform .ensures .0, c .before .before .interpolate .ensures, c .before .before .before .from-rows .ensures), rw (c .put-transform .ensures .1, c .before .before .interpolate .ensures, c .before .before .before .from-rows .ensures))
+returns c =
+    let c1 = c .before in let c2 = c1 .before in let c3 = c2 .before in (
+      rw (c .put-transform .ensures .0, c2 .interpolate .ensures, c3 .from-rows .ensures),
+      rw (c .put-transform .ensures .1, c2 .interpolate .ensures, c3 .from-rows .ensures),
+    )
 
 pub jellyplain-interpolate-spec : {M : Type 1} → statement M
 jellyplain-interpolate-spec =

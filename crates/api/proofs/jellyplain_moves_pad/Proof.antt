@@ -13,8 +13,9 @@ put-pad-requires c κs = search needs
 
 returns : tie.Need-returns
 returns c =
-    let a = c .before .before .before .args in
-    let asked = c .before .before .pad in (
+    let c1 = c .before in let c2 = c1 .before in let c3 = c2 .before in
+    let a = c3 .args in
+    let asked = c2 .pad in (
       rw (c .put-pad .ensures .0, asked .ensures .0),
       (
         rw (c .put-pad .ensures .1, asked .ensures .0),

@@ -1,4 +1,5 @@
--- `jellyplain_moves_point` meets its contract: the point query of the chain in the rows, which is the chain's own where it was built (`kept-point`), and of one block the move's (`block-point`).
+-- `jellyplain_moves_point` meets its contract: the point query of the chain in the rows, which is the chain's own where it was built (`kept-point`),
+-- and of one block the move's (`block-point`).
 use Rattle.matrix4x4.specs.Rows.{Rows}
 use Rattle.bounds3.specs.List.{Point3f·ofList}
 use Rattle.motion_chain.specs.Chain.{Chain}
@@ -18,9 +19,10 @@ put-point-requires c κs = search needs
 
 returns : tie.Need-returns
 returns c =
-    let a = c .before .before .before .before .args in
-    let asked = c .before .before .transform-point in
-    let point = c .before .before .before .point in (
+    let c1 = c .before in let c2 = c1 .before in let c3 = c2 .before in let c4 = c3 .before in
+    let a = c4 .args in
+    let asked = c2 .transform-point in
+    let point = c3 .point in (
       rw (c .put-point .ensures .0, asked .ensures .0, point .ensures),
       (
         rw (c .put-point .ensures .1, asked .ensures .0, point .ensures),

@@ -1,4 +1,5 @@
--- `jellyplain_moves_points` meets its contract: the query with a list of times of the chain in the rows, which is the chain's own where it was built (`kept-points`).
+-- `jellyplain_moves_points` meets its contract: the query with a list of times of the chain in the rows,
+-- which is the chain's own where it was built (`kept-points`).
 use lib.ListN.{length}
 use Rattle.bounds3.specs.List.{Point3f·ofList}
 use Rattle.motion_chain.specs.Chain.{Chain}
@@ -18,9 +19,11 @@ same-length c = search needs
 
 returns : tie.Need-returns
 returns c =
-    let a = c .before .before .before .before .before .before .before .args in
-    let asked = c .before .before .transform-points in
-    let point = c .before .before .before .before .point in (
+    let c1 = c .before in let c2 = c1 .before in let c3 = c2 .before in let c4 = c3 .before in
+    let c5 = c4 .before in let c6 = c5 .before in let c7 = c6 .before in
+    let a = c7 .args in
+    let asked = c2 .transform-points in
+    let point = c4 .point in (
       rw (asked .ensures .0, point .ensures),
       (
         rw (asked .ensures .1 .0, point .ensures),

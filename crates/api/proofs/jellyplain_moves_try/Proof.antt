@@ -15,9 +15,10 @@ put-bounds-requires c κs = search needs
 
 returns : tie.Need-returns
 returns c =
-    let a = c .before .before .before .before .args in
-    let shown = c .before .before .try-pose in
-    let b = c .before .before .before .bounds .ensures in
+    let c1 = c .before in let c2 = c1 .before in let c3 = c2 .before in let c4 = c3 .before in
+    let a = c4 .args in
+    let shown = c2 .try-pose in
+    let b = c3 .bounds .ensures in
     moves-try-clauses (a .moves .now) (a .place) (a .pose .now) (a .b .now) (a .depth) _ _ (a .bounds .now) (shown .result)
     (rw (shown .ensures .0, b)) (rw (← b) (shown .ensures .1 .1)) (c .put-bounds .ensures .0) (c .put-bounds .ensures .1)
 

@@ -15,9 +15,10 @@ put-bounds-requires c κs = search needs
 
 returns : tie.Need-returns
 returns c =
-    let a = c .before .before .before .before .args in
-    let cover = c .before .before .cover in
-    let bounds = c .before .before .before .bounds in
+    let c1 = c .before in let c2 = c1 .before in let c3 = c2 .before in let c4 = c3 .before in
+    let a = c4 .args in
+    let cover = c2 .cover in
+    let bounds = c3 .bounds in
     moves-window-clauses (a .moves .now) (a .b .now) (a .depth) (record { earlier = a .earlier; later = a .later }) _ _ (a .bounds .now)
     (rw (c .put-bounds .ensures .0, cover .ensures .0, bounds .ensures))
     (rw (c .put-bounds .ensures .1, cover .ensures .0, bounds .ensures))

@@ -17,8 +17,18 @@ put-point-requires c κs = search needs
 
 returns : tie.Need-returns
 returns c =
-    let a = c .before .before .before .before .args in
-    (rw (c .put-point .ensures .0, c .before .before .transform-point .ensures, c .before .before .before .point .ensures), (rw (c .put-point .ensures .1, c .before .before .transform-point .ensures, c .before .before .before .point .ensures), λ (m : AnimatedTransform). kept-point (a .motion .now) m (a .time) (Point3f·ofList (a .p .now))))
+    let c1 = c .before in let c2 = c1 .before in let c3 = c2 .before in let c4 = c3 .before in
+    let a = c4 .args in (
+      rw (c .put-point .ensures .0, c2 .transform-point .ensures, c3 .point .ensures),
+      (
+        rw (
+          c .put-point .ensures .1,
+          c2 .transform-point .ensures,
+          c3 .point .ensures,
+        ),
+        λ (m : AnimatedTransform). kept-point (a .motion .now) m (a .time) (Point3f·ofList (a .p .now)),
+      ),
+    )
 
 pub jellyplain-point-spec : {M : Type 1} → statement M
 jellyplain-point-spec =

@@ -13,7 +13,9 @@ same-length : tie.Need-same-length
 same-length c = search needs
 
 returns : tie.Need-returns
-returns c = rw (← c .before .before .before .before .bounds .ensures) (c .before .before .write .ensures)
+returns c =
+    let c1 = c .before in let c2 = c1 .before in let c3 = c2 .before in let c4 = c3 .before in
+    rw (← c4 .bounds .ensures) (c2 .write .ensures)
 
 pub jellyplain-write-file-spec : {M : Type 1} → statement M
 jellyplain-write-file-spec = tie.close (tie.spec bounds-requires write-requires same-length returns)

@@ -14,7 +14,9 @@ enum-known-answer-2 : tie.Need-enum-known-answer-2
 enum-known-answer-2 c = search needs
 
 returns : tie.Need-returns
-returns c = rw (c .before .before .before .answer .given .1, c .before .bounds-values .ensures) (refl, (refl, refl))
+returns c =
+    let c1 = c .before in let c2 = c1 .before in let c3 = c2 .before in
+    rw (c3 .answer .given .1, c1 .bounds-values .ensures) (refl, (refl, refl))
 
 returns-2 : tie.Need-returns-2
 returns-2 c = rw (c .before .answer2 .given .1) (refl, (refl, refl))

@@ -22,10 +22,11 @@ from-fixed-requires c κs = search needs
 
 returns : tie.Need-returns
 returns c =
-    let i = c .before .before .before .before .before in
+    let c1 = c .before in let c2 = c1 .before in let c3 = c2 .before in let c4 = c3 .before in let c5 = c4 .before in
+    let i = c5 in
     let a = i .before .args .c in
-    let f = c .before .before .biased-floor in
-    let l = c .before .least-angle in
+    let f = c2 .biased-floor in
+    let l = c1 .least-angle in
     let k = acos-counted a (f .result) (l .result .cosines) (i .if1 .taken) (f .ensures) (l .ensures .1) in (
       (acos-value a (f .result) (l .result .angle) (c .from-fixed .result) (i .if1 .taken) (f .ensures) (l .ensures .0) (c .from-fixed .ensures), k),
       subst (λ (n : ℕ). n ≤ 31) (sym k) (acos-cosines-le a),

@@ -1,4 +1,5 @@
--- One cosine, in the middle: where it is above w the middle is the lower end and its cosine is carried (`halve-upper`), otherwise the upper end (`halve-lower`).
+-- One cosine, in the middle: where it is above w the middle is the lower end and its cosine is carried (`halve-upper`),
+-- otherwise the upper end (`halve-lower`).
 use borrow.Author.Needs.{needs}
 use Rattle.arc_cosine.proofs.Halving.{halve-upper, halve-lower}
 use Rattle.arc_cosine.proofs.halve.Statement.{statement}
@@ -15,14 +16,16 @@ add-cosines c = search needs
 
 returns : tie.Need-returns
 returns c =
-    let s = c .before .before .before .before in
-    let r = c .before .before .biased-cos in
+    let c1 = c .before in let c2 = c1 .before in let c3 = c2 .before in let c4 = c3 .before in
+    let s = c4 in
+    let r = c2 .biased-cos in
     (halve-upper (s .args .w) (s .args .b) (r .result) (r .ensures) (c .if1 .taken), r .ensures)
 
 returns-2 : tie.Need-returns-2
 returns-2 c =
-    let s = c .before .before .before .before in
-    let r = c .before .before .biased-cos in
+    let c1 = c .before in let c2 = c1 .before in let c3 = c2 .before in let c4 = c3 .before in
+    let s = c4 in
+    let r = c2 .biased-cos in
     (halve-lower (s .args .w) (s .args .b) (r .result) (r .ensures) (c .if1 .left), s .pre .1 .1)
 
 pub halve-spec : {M : Type 1} → statement M

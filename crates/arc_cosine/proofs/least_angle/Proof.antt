@@ -25,28 +25,37 @@ sub-if1 c = let l = c .before .before .loop .inv .0 .order in omega (arith, l)
 
 halve-requires : tie.Need-halve-requires Inv-loop μ-loop
 halve-requires c κs =
-    let loop = c .before .before .before in
+    let c1 = c .before in let c2 = c1 .before in let c3 = c2 .before in
+    let loop = c3 in
     (loop .before .before .pre, (searching-inside (loop .loop .inv) (c .if1 .taken), loop .loop .inv .0 .carried))
 
 loop-less : tie.Need-loop-less Inv-loop μ-loop
-loop-less c = searching-closer (c .before .before .before .before .loop .inv) (c .before .if1 .taken) (c .halve .ensures .0)
+loop-less c =
+    let c1 = c .before in let c2 = c1 .before in let c3 = c2 .before in let c4 = c3 .before in
+    searching-closer (c4 .loop .inv) (c1 .if1 .taken) (c .halve .ensures .0)
 
 loop-again : tie.Need-loop-again Inv-loop μ-loop
-loop-again c = searching-again (c .before .before .before .before .loop .inv) (c .before .if1 .taken) (c .halve .ensures .0)
+loop-again c =
+    let c1 = c .before in let c2 = c1 .before in let c3 = c2 .before in let c4 = c3 .before in
+    searching-again (c4 .loop .inv) (c1 .if1 .taken) (c .halve .ensures .0)
 
 add-t11 : tie.Need-add-t11 Inv-loop μ-loop
-add-t11 c = let i = c .before .before .before .before .before .before .loop .inv .0 in omega (arith, i .order, i .inside)
+add-t11 c =
+    let c1 = c .before in let c2 = c1 .before in let c3 = c2 .before in let c4 = c3 .before in let c5 = c4 .before in let c6 = c5 .before in
+    let i = c6 .loop .inv .0 in omega (arith, i .order, i .inside)
 
 returns : tie.Need-returns Inv-loop μ-loop
 returns c =
-    let ended = c .before .before .before in
-    let s = ended .before .before .before .loop .inv in
-    (halving-ends (s .0) (c .before .if2 .taken) (ended .if1 .left), searching-counted s (ended .if1 .left))
+    let c1 = c .before in let c2 = c1 .before in let c3 = c2 .before in let c4 = c3 .before in let c5 = c4 .before in let c6 = c5 .before in
+    let ended = c3 in
+    let s = c6 .loop .inv in
+    (halving-ends (s .0) (c1 .if2 .taken) (ended .if1 .left), searching-counted s (ended .if1 .left))
 
 returns-2 : tie.Need-returns-2 Inv-loop μ-loop
 returns-2 c =
-    let ended = c .before .before in
-    let s = ended .before .before .before .loop .inv in
+    let c1 = c .before in let c2 = c1 .before in let c3 = c2 .before in let c4 = c3 .before in let c5 = c4 .before in
+    let ended = c2 in
+    let s = c5 .loop .inv in
     (halving-zero (s .0) (c .if2 .left), searching-counted s (ended .if1 .left))
 
 pub least-angle-spec : {M : Type 1} → statement M

@@ -36,7 +36,9 @@ from-columns-requires c κs = search needs
 
 returns : tie.Need-returns
 unfolding derivative
-returns c = rw (c .from-columns .ensures, c .before .column-y3 .ensures, c .before .before .column-y2 .ensures, c .before .before .before .column-y .ensures)
+returns c =
+    let c1 = c .before in let c2 = c1 .before in let c3 = c2 .before in
+    rw (c .from-columns .ensures, c1 .column-y3 .ensures, c2 .column-y2 .ensures, c3 .column-y .ensures)
 
 pub along-y-spec : {M : Type 1} → statement M
 along-y-spec =

@@ -39,7 +39,9 @@ c5x-requires c κs = search needs
 
 returns : tie.Need-returns
 unfolding columnTerms
-returns c = rw (c .c5x .ensures, c .before .c4x .ensures, c .before .before .c3x .ensures, c .before .before .before .c2x .ensures, c .before .before .before .before .c1x .ensures)
+returns c =
+    let c1 = c .before in let c2 = c1 .before in let c3 = c2 .before in let c4 = c3 .before in
+    rw (c .c5x .ensures, c1 .c4x .ensures, c2 .c3x .ensures, c3 .c2x .ensures, c4 .c1x .ensures)
 
 pub column-x-spec : {M : Type 1} → statement M
 column-x-spec =

@@ -39,7 +39,9 @@ c5y-requires c κs = search needs
 
 returns : tie.Need-returns
 unfolding columnTerms
-returns c = rw (c .c5y .ensures, c .before .c4y .ensures, c .before .before .c3y .ensures, c .before .before .before .c2y .ensures, c .before .before .before .before .c1y .ensures)
+returns c =
+    let c1 = c .before in let c2 = c1 .before in let c3 = c2 .before in let c4 = c3 .before in
+    rw (c .c5y .ensures, c1 .c4y .ensures, c2 .c3y .ensures, c3 .c2y .ensures, c4 .c1y .ensures)
 
 pub column-y-spec : {M : Type 1} → statement M
 column-y-spec =

@@ -39,7 +39,9 @@ c5z-requires c κs = search needs
 
 returns : tie.Need-returns
 unfolding columnTerms
-returns c = rw (c .c5z .ensures, c .before .c4z .ensures, c .before .before .c3z .ensures, c .before .before .before .c2z .ensures, c .before .before .before .before .c1z .ensures)
+returns c =
+    let c1 = c .before in let c2 = c1 .before in let c3 = c2 .before in let c4 = c3 .before in
+    rw (c .c5z .ensures, c1 .c4z .ensures, c2 .c3z .ensures, c3 .c2z .ensures, c4 .c1z .ensures)
 
 pub column-z-spec : {M : Type 1} → statement M
 column-z-spec =

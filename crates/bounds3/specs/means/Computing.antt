@@ -6,5 +6,6 @@ use Rattle.bounds3.specs.Bounds3f.{Bounds3f·fromPoints, Bounds3f·index
 use Rattle.bounds3.specs.Finite.{Point3f·isFinite, Bounds3f·isFinite}
 
 unfoldable pub computing : Unit {0}
-unfolding isNan lt neg div round ofBits minNum maxNum Point3f·min Point3f·max Bounds3f·fromPoints Bounds3f·index Bounds3f·corner Bounds3f·unionPoint Bounds3f·unionBounds Point3f·isFinite Bounds3f·isFinite
+unfolding isNan lt neg div round ofBits minNum maxNum Point3f·min Point3f·max Bounds3f·fromPoints Bounds3f·index Bounds3f·corner Bounds3f·unionPoint
+    Bounds3f·unionBounds Point3f·isFinite Bounds3f·isFinite
 computing = tt

@@ -32,16 +32,18 @@ returns c =
 returns-2 : tie.Need-returns-2
 unfolding Bounds3f·refusal
 returns-2 c =
-    let f = c .before .before .before .is-finite in
-    let o = c .before .before .is-ordered in
-    rw (← f .ensures, ← o .ensures) (not-ordered (f .result) (o .result) (c .before .if1 .left) (c .if2 .taken))
+    let c1 = c .before in let c2 = c1 .before in let c3 = c2 .before in
+    let f = c3 .is-finite in
+    let o = c2 .is-ordered in
+    rw (← f .ensures, ← o .ensures) (not-ordered (f .result) (o .result) (c1 .if1 .left) (c .if2 .taken))
 
 returns-3 : tie.Need-returns-3
 unfolding Bounds3f·refusal
 returns-3 c =
-    let f = c .before .before .before .is-finite in
-    let o = c .before .before .is-ordered in
-    rw (← f .ensures, ← o .ensures) (neither (f .result) (o .result) (c .before .if1 .left) (c .if2 .left))
+    let c1 = c .before in let c2 = c1 .before in let c3 = c2 .before in
+    let f = c3 .is-finite in
+    let o = c2 .is-ordered in
+    rw (← f .ensures, ← o .ensures) (neither (f .result) (o .result) (c1 .if1 .left) (c .if2 .left))
 
 pub refusal-spec : {M : Type 1} → statement M
 refusal-spec = tie.close (tie.spec is-finite-requires is-ordered-requires returns returns-2 returns-3)

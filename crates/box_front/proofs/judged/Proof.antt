@@ -32,10 +32,11 @@ cover-refusal-requires c κs = search needs
 
 returns : tie.Need-returns Inv-loop μ-loop
 returns c =
-    let l = c .before .before .before .before .before .loop in
-    let a = c .before .before .before .before .before .before .args in
-    passed-refused (a .boxes .now) (a .depth) (l .inv .1 .1) (omega (arith, l .inv .0, c .before .before .before .before .loop-test .taken))
-    (c .before .cover-refusal .ensures ∙ ap (λ b. coverRefusal b (a .depth)) (c .before .before .bounds .ensures)) (c .if1 .taken)
+    let c1 = c .before in let c2 = c1 .before in let c3 = c2 .before in let c4 = c3 .before in let c5 = c4 .before in let c6 = c5 .before in
+    let l = c5 .loop in
+    let a = c6 .args in
+    passed-refused (a .boxes .now) (a .depth) (l .inv .1 .1) (omega (arith, l .inv .0, c4 .loop-test .taken))
+    (c1 .cover-refusal .ensures ∙ ap (λ b. coverRefusal b (a .depth)) (c2 .bounds .ensures)) (c .if1 .taken)
 
 add-k : tie.Need-add-k Inv-loop μ-loop
 add-k c = search needs
@@ -45,10 +46,11 @@ loop-less c = search needs
 
 loop-again : tie.Need-loop-again Inv-loop μ-loop
 loop-again c =
-    let l = c .before .before .before .before .before .loop in
-    let a = c .before .before .before .before .before .before .args in
-    let e = sym (c .before .cover-refusal .ensures ∙ ap (λ b. coverRefusal b (a .depth)) (c .before .before .bounds .ensures)) ∙ c .if1 .left in
-    (l .inv .0, (omega (arith, c .before .before .before .before .loop-test .taken), passed-next (a .boxes .now) (a .depth) (l .inv .1 .1) e))
+    let c1 = c .before in let c2 = c1 .before in let c3 = c2 .before in let c4 = c3 .before in let c5 = c4 .before in let c6 = c5 .before in
+    let l = c5 .loop in
+    let a = c6 .args in
+    let e = sym (c1 .cover-refusal .ensures ∙ ap (λ b. coverRefusal b (a .depth)) (c2 .bounds .ensures)) ∙ c .if1 .left in
+    (l .inv .0, (omega (arith, c4 .loop-test .taken), passed-next (a .boxes .now) (a .depth) (l .inv .1 .1) e))
 
 returns-2 : tie.Need-returns-2 Inv-loop μ-loop
 returns-2 c =

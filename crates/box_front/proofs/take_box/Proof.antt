@@ -25,10 +25,11 @@ put-bounds-requires c κs = search needs
 
 returns : tie.Need-returns
 returns c =
-    let moved = c .before .before .before in
-    let a = moved .before .before .before .args in
+    let c1 = c .before in let c2 = c1 .before in let c3 = c2 .before in let c4 = c3 .before in let c5 = c4 .before in let c6 = c5 .before in
+    let moved = c3 in
+    let a = c6 .args in
     let e = moved .box-enclosure .ensures ∙ ap (PaddedPose·encloseBounds (a .pose)) (moved .before .bounds .ensures) in
-    put-first (a .first) _ _ _ _ _ (c .before .before .if1 .taken) e (c .put-bounds .ensures .0) (c .put-bounds .ensures .1)
+    put-first (a .first) _ _ _ _ _ (c2 .if1 .taken) e (c .put-bounds .ensures .0) (c .put-bounds .ensures .1)
 
 bounds-requires-2 : tie.Need-bounds-requires-2
 bounds-requires-2 c κs = search needs
@@ -41,12 +42,14 @@ put-bounds-requires-2 c κs = search needs
 
 returns-2 : tie.Need-returns-2
 returns-2 c =
-    let moved = c .before .before .before .before .before .before in
-    let a = moved .before .before .before .args in
+    let c1 = c .before in let c2 = c1 .before in let c3 = c2 .before in let c4 = c3 .before in let c5 = c4 .before in
+    let c6 = c5 .before in let c7 = c6 .before in let c8 = c7 .before in let c9 = c8 .before in
+    let moved = c6 in
+    let a = c9 .args in
     let e = moved .box-enclosure .ensures ∙ ap (PaddedPose·encloseBounds (a .pose)) (moved .before .bounds .ensures) in
-    let old = c .before .before .before .bounds2 .ensures in
-    let u = c .before .before .union-bounds .ensures ∙ ap (λ x. BoundsAnswer·unionBounds (Bounds x) (moved .box-enclosure .result)) old in
-    put-joined (a .first) _ _ _ _ _ _ (c .before .before .before .before .before .if1 .left) e u (c .put-bounds2 .ensures .0) (c .put-bounds2 .ensures .1)
+    let old = c3 .bounds2 .ensures in
+    let u = c2 .union-bounds .ensures ∙ ap (λ x. BoundsAnswer·unionBounds (Bounds x) (moved .box-enclosure .result)) old in
+    put-joined (a .first) _ _ _ _ _ _ (c5 .if1 .left) e u (c .put-bounds2 .ensures .0) (c .put-bounds2 .ensures .1)
 
 pub take-box-spec : {M : Type 1} → statement M
 take-box-spec =

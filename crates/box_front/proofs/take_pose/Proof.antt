@@ -36,10 +36,12 @@ take-box-requires c κs = search needs
 
 returns-3 : tie.Need-returns-3 Inv-loop μ-loop
 returns-3 c =
-    let l = c .before .before .before .before .loop in
-    let a = c .before .before .before .before .before .before .before .args in
-    λ _ _ h. taking-refused (a .first) (a .pose) (a .boxes .now) (l .inv .1 .1 h) (omega (arith, l .inv .0, c .before .before .before .loop-test .taken))
-    (c .before .take-box .ensures .0) (c .if3 .taken) (ap (set (l .places) (l .i)) (c .before .take-box .ensures .1))
+    let c1 = c .before in let c2 = c1 .before in let c3 = c2 .before in let c4 = c3 .before in
+    let c5 = c4 .before in let c6 = c5 .before in let c7 = c6 .before in
+    let l = c4 .loop in
+    let a = c7 .args in
+    λ _ _ h. taking-refused (a .first) (a .pose) (a .boxes .now) (l .inv .1 .1 h) (omega (arith, l .inv .0, c3 .loop-test .taken))
+    (c1 .take-box .ensures .0) (c .if3 .taken) (ap (set (l .places) (l .i)) (c1 .take-box .ensures .1))
 
 add-i : tie.Need-add-i Inv-loop μ-loop
 add-i c = search needs
@@ -49,19 +51,22 @@ loop-less c = search needs
 
 loop-again : tie.Need-loop-again Inv-loop μ-loop
 loop-again c =
-    let l = c .before .before .before .before .loop in
-    let a = c .before .before .before .before .before .before .before .args in
-    let t = c .before .before .before .loop-test .taken in
-    let size = c .before .before .before .before .before .if2 .left in
-    let taken = c .before .take-box .ensures in
+    let c1 = c .before in let c2 = c1 .before in let c3 = c2 .before in let c4 = c3 .before in
+    let c5 = c4 .before in let c6 = c5 .before in let c7 = c6 .before in
+    let l = c4 .loop in
+    let a = c7 .args in
+    let t = c3 .loop-test .taken in
+    let size = c5 .if2 .left in
+    let taken = c1 .take-box .ensures in
     let written = ap (set (l .places) (l .i)) (taken .1) in
     let none = sym (taken .0) ∙ c .if3 .left in
     (l .inv .0, (omega (arith, t), λ h. taking-next (a .first) (a .pose) (a .boxes .now) (l .inv .1 .1 h) (omega (arith, t, h, size)) none written))
 
 returns-4 : tie.Need-returns-4 Inv-loop μ-loop
 returns-4 c =
-    let l = c .before .loop in
-    let a = c .before .before .before .before .args in
+    let c1 = c .before in let c2 = c1 .before in let c3 = c2 .before in let c4 = c3 .before in
+    let l = c1 .loop in
+    let a = c4 .args in
     let e : l .i ≡ a .front .count = omega (arith, l .inv .0, l .inv .1 .0, c .loop-test .left) in
     λ _ _ h. taking-last (a .first) (a .pose) (a .boxes .now) (subst (Taking (a .first) (a .pose) (a .boxes .now) _ _) e (l .inv .1 .1 h))
 

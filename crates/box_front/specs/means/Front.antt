@@ -1,5 +1,5 @@
--- What the code of a set keeps while it works: the boxes at the front that are not refused so far, and a place for each. Document 02 knows no such thing, and no promise cites
--- it. `Judged` and `Taken` say what the two steps leave. Definitions only.
+-- What the code of a set keeps while it works: the boxes at the front that are not refused so far, and a place for each.
+-- Document 02 knows no such thing, and no promise cites it. `Judged` and `Taken` say what the two steps leave. Definitions only.
 use Prim.Native.Nat.{ℕ, _≤_, _<_}
 use mathlib.Core.Path.{_≡_}
 use mathlib.Core.Bool.{Bool, cond}
@@ -51,4 +51,5 @@ pub record Taken (first : Bool) (pose : PaddedPose) (boxes old new : List (List 
 
 -- What it is asked of: there is a place for every box in front.
 abbrev pub Takes : Bool → PaddedPose → List (List Float) → List (List Float) → List (List Float) → Front → Front → Type 0
-Takes first pose boxes old new from to = from .count ≤ length boxes → from .count ≤ placeCount → length old ≡ placeCount → Taken first pose boxes old new from to
+Takes first pose boxes old new from to = from .count ≤ length boxes → from .count ≤ placeCount
+    → length old ≡ placeCount → Taken first pose boxes old new from to

@@ -23,19 +23,22 @@ put-pairs-requires c κs =
 
 returns : tie.Need-returns
 returns c =
-    let entry = c .before .before .before in
+    let c1 = c .before in let c2 = c1 .before in let c3 = c2 .before in
+    let entry = c3 in
     let lists = entry .args .poses .now in
-    pair-refused (entry .args .rigid) (Poses·ofLists lists) (length lists) (entry .args .moves .now) (entry .pre .0) (c .before .put-pairs .ensures .0) (c .if1 .taken)
+    pair-refused (entry .args .rigid) (Poses·ofLists lists) (length lists) (entry .args .moves .now) (entry .pre .0) (c1 .put-pairs .ensures .0) (c .if1 .taken)
 
 returns-2 : tie.Need-returns-2
 returns-2 c =
-    let entry = c .before .before .before in
+    let c1 = c .before in let c2 = c1 .before in let c3 = c2 .before in
+    let entry = c3 in
     let lists = entry .args .poses .now in
     let poses = Poses·ofLists lists in
-    let work = c .before .put-pairs .ensures in
+    let work = c1 .put-pairs .ensures in
     let none = c .if1 .left in
     let left = work .1 .0 none ∙ ap (λ (old : List Rows). blocksLeft (map (Pair·rows (entry .args .rigid)) (neighbours poses)) old) (entry .pre .1) in
-    all-built (entry .args .rigid) poses (length lists) (entry .args .moves .now) (sym (poses-length lists)) (entry .pre .0) (sym none ∙ work .0) left (work .1 .1 none)
+    all-built (entry .args .rigid) poses (length lists) (entry .args .moves .now)
+    (sym (poses-length lists)) (entry .pre .0) (sym none ∙ work .0) left (work .1 .1 none)
 
 pub build-passed-spec : {M : Type 1} → statement M
 build-passed-spec = tie.close (tie.spec put-pairs-requires returns returns-2)

@@ -45,12 +45,14 @@ put-motion-requires c κs = search needs
 
 returns : tie.Need-returns
 returns c =
-    let a = c .before .before .before .before .before .before .before .args in
-    let new = c .before .before .new in
+    let c1 = c .before in let c2 = c1 .before in let c3 = c2 .before in let c4 = c3 .before in
+    let c5 = c4 .before in let c6 = c5 .before in let c7 = c6 .before in
+    let a = c7 .args in
+    let new = c2 .new in
     let p = Pose·ofList (getD (a .poses .now) (a .i) []) in
     let q = Pose·ofList (getD (a .poses .now) (a .i + 1) []) in
-    let ps = c .before .before .before .before .before .pose .ensures in
-    let qs = c .before .before .before .pose2 .ensures in
+    let ps = c5 .pose .ensures in
+    let qs = c3 .pose2 .ensures in
     let (number, (rows, built)) =
     pair-clauses (a .rigid) p q (new .result) (getD (a .moves .now) (a .i) []) (rw (new .ensures .0, qs, ps)) (new .ensures .1)
     (c .put-motion .ensures .0) (c .put-motion .ensures .1) in

@@ -39,11 +39,12 @@ put-pair-requires c κs = search needs
 returns : tie.Need-returns Inv-loop μ-loop
 unfolding firstNumber
 returns c =
-    let l = c .before .before .before .before .loop in
-    let a = c .before .before .before .before .before .args in
-    let next = pairs-next (a .poses .now) (l .i) (l .inv .1 .0) (c .before .before .before .loop-test .taken) in
+    let c1 = c .before in let c2 = c1 .before in let c3 = c2 .before in let c4 = c3 .before in let c5 = c4 .before in
+    let l = c4 .loop in
+    let a = c5 .args in
+    let next = pairs-next (a .poses .now) (l .i) (l .inv .1 .0) (c3 .loop-test .taken) in
     let f = c .if1 .taken in
-    (rw (← l .inv .1 .1 .0, next, ← c .before .put-pair .ensures .0, ne-eqb _ 0 f), (λ z. absurd (f z), λ z. absurd (f z)))
+    (rw (← l .inv .1 .1 .0, next, ← c1 .put-pair .ensures .0, ne-eqb _ 0 f), (λ z. absurd (f z), λ z. absurd (f z)))
 
 add-i : tie.Need-add-i Inv-loop μ-loop
 add-i c = search needs
@@ -54,10 +55,11 @@ loop-less c = search needs
 loop-again : tie.Need-loop-again Inv-loop μ-loop
 unfolding firstNumber
 loop-again c =
-    let l = c .before .before .before .before .loop in
-    let a = c .before .before .before .before .before .args in
-    let next = pairs-next (a .poses .now) (l .i) (l .inv .1 .0) (c .before .before .before .loop-test .taken) in
-    let put = c .before .put-pair .ensures in
+    let c1 = c .before in let c2 = c1 .before in let c3 = c2 .before in let c4 = c3 .before in let c5 = c4 .before in
+    let l = c4 .loop in
+    let a = c5 .args in
+    let next = pairs-next (a .poses .now) (l .i) (l .inv .1 .0) (c3 .loop-test .taken) in
+    let put = c1 .put-pair .ensures in
     let z = c .if1 .left in
     let pair = Poses·pairAt (a .poses .now) (l .i - 1) in (
       refl,
@@ -66,7 +68,8 @@ loop-again c =
         (
           rw (← l .inv .1 .1 .0, next, ← put .0, eq-eqb _ 0 z),
           (
-            put-next (a .rigid) (l .moves) (l .i) pair (pairsFrom (a .poses .now) (l .i + 1)) (l .inv .1 .0) (put .1 .0 z) ∙ (rw (← next) refl ∙ l .inv .1 .1 .1 .0),
+            put-next (a .rigid) (l .moves) (l .i) pair (pairsFrom (a .poses .now) (l .i + 1)) (l .inv .1 .0) (put .1 .0 z)
+                ∙ (rw (← next) refl ∙ l .inv .1 .1 .1 .0),
             λ rest. l .inv .1 .1 .1 .1 (rw next (put .1 .1 z, rest)),
           ),
         ),

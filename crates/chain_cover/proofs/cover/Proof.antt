@@ -45,20 +45,23 @@ loop-less c = search needs
 
 loop-again : tie.Need-loop-again Inv-loop μ-loop
 loop-again c =
-    let l = c .before .before .loop in
-    let a = c .before .before .before .before .before .before .before .args in
-    let t = c .before .loop-test .taken in
+    let c1 = c .before in let c2 = c1 .before in let c3 = c2 .before in let c4 = c3 .before in
+    let c5 = c4 .before in let c6 = c5 .before in let c7 = c6 .before in
+    let l = c2 .loop in
+    let a = c7 .args in
+    let t = c1 .loop-test .taken in
     (refl, (omega (arith, t), covers-next (a .b) (a .depth) (l .r) (a .moves .now) (l .i) t (c .union-move .ensures) ∙ l .inv .1 .1))
 
 returns-2 : tie.Need-returns-2 Inv-loop μ-loop
 unfolding Moves·cover Moves·chain Chain·cover
 returns-2 c =
-    let l = c .before .loop in
-    let a = c .before .before .before .before .before .before .args in
+    let c1 = c .before in let c2 = c1 .before in let c3 = c2 .before in let c4 = c3 .before in let c5 = c4 .before in let c6 = c5 .before in
+    let l = c1 .loop in
+    let a = c6 .args in
     let e = sym (covers-end (a .b) (a .depth) (l .r) (a .moves .now) (l .i) (omega (arith, c .loop-test .left))) ∙ l .inv .1 .1 in
-    let some = ne-eqb (length (a .moves .now)) 0 (c .before .before .before .before .before .if1 .left) in
+    let some = ne-eqb (length (a .moves .now)) 0 (c5 .if1 .left) in
     cover-clauses (a .moves .now) (a .b) (a .depth)
-    (rw (some, ← c .before .before .before .from-rows .ensures, ← c .before .before .cover .ensures .0) e)
+    (rw (some, ← c3 .from-rows .ensures, ← c2 .cover .ensures .0) e)
 
 pub cover-spec : {M : Type 1} → statement M
 cover-spec =

@@ -18,24 +18,28 @@ returns-2 c =
 
 returns-3 : tie.Need-returns-3
 returns-3 c =
-    let a = c .before .before .before .args in
-    many-boxes (a .moves .now) (a .boxes .now) (a .depth) (a .covers .now) (a .union .now) (c .before .before .if1 .left) (c .if3 .taken)
+    let c1 = c .before in let c2 = c1 .before in let c3 = c2 .before in
+    let a = c3 .args in
+    many-boxes (a .moves .now) (a .boxes .now) (a .depth) (a .covers .now) (a .union .now) (c2 .if1 .left) (c .if3 .taken)
 
 covers-requires : tie.Need-covers-requires
 covers-requires c κs = search needs
 
 returns-4 : tie.Need-returns-4
 returns-4 c =
-    let front = c .before .before in
+    let c1 = c .before in let c2 = c1 .before in let c3 = c2 .before in let c4 = c3 .before in
+    let c5 = c4 .before in let c6 = c5 .before in let c7 = c6 .before in
+    let front = c2 in
     let else3 = front .before .before in
     let some = else3 .before .before .if1 .left in
     let l = else3 .if3 .left in
-    let a = else3 .before .before .before .args in
+    let a = c7 .args in
     box-refused (a .moves .now) (a .boxes .now) (a .depth) (a .covers .now) (a .union .now) some l (front .covers .ensures some l refl) (c .if4 .taken)
 
 union-places-requires : tie.Need-union-places-requires
 union-places-requires c κs =
-    let front = c .before .before .before in
+    let c1 = c .before in let c2 = c1 .before in let c3 = c2 .before in
+    let front = c3 in
     let else3 = front .before .before in
     let some = else3 .before .before .if1 .left in
     let l = else3 .if3 .left in
@@ -47,15 +51,17 @@ bounds-values-requires c κs = search needs
 
 returns-5 : tie.Need-returns-5
 returns-5 c =
-    let front = c .before .before .before .before .before in
+    let c1 = c .before in let c2 = c1 .before in let c3 = c2 .before in let c4 = c3 .before in let c5 = c4 .before in
+    let c6 = c5 .before in let c7 = c6 .before in let c8 = c7 .before in let c9 = c8 .before in let c10 = c9 .before in
+    let front = c5 in
     let else3 = front .before .before in
     let some = else3 .before .before .if1 .left in
     let l = else3 .if3 .left in
-    let a = else3 .before .before .before .args in
+    let a = c10 .args in
     let w = front .covers .ensures some l refl in
-    let u = c .before .union-places .ensures in
+    let u = c1 .union-places .ensures in
     rw (c .bounds-values .ensures)
-    (all-accepted (a .moves .now) (a .boxes .now) (a .depth) (a .covers .now) (a .union .now) some l w (else3 .before .if2 .left) (c .before .before .before .if4 .left) _ u)
+    (all-accepted (a .moves .now) (a .boxes .now) (a .depth) (a .covers .now) (a .union .now) some l w (else3 .before .if2 .left) (c3 .if4 .left) _ u)
 
 pub covers-spec : {M : Type 1} → statement M
 covers-spec =

@@ -32,8 +32,9 @@ mul-bounds c = search needs
 
 index-1-bounds-2 : tie.Need-index-1-bounds-2 Inv-loop μ-loop
 index-1-bounds-2 c =
-    let h = c .before .before .before .before .pre in
-    omega (arith, h, c .before .loop .inv .0, c .loop-test .taken)
+    let c1 = c .before in let c2 = c1 .before in let c3 = c2 .before in let c4 = c3 .before in
+    let h = c4 .pre in
+    omega (arith, h, c1 .loop .inv .0, c .loop-test .taken)
 
 bounds-requires-2 : tie.Need-bounds-requires-2 Inv-loop μ-loop
 bounds-requires-2 c κs = search needs
@@ -49,17 +50,20 @@ loop-less c = search needs
 
 loop-again : tie.Need-loop-again Inv-loop μ-loop
 loop-again c =
-    let l = c .before .before .before .before in
-    let a = l .before .before .before .args in
-    let h = l .before .before .before .pre in
-    let t : l .loop .i < a .n = omega (arith, l .loop .inv .0, c .before .before .before .loop-test .taken) in
+    let c1 = c .before in let c2 = c1 .before in let c3 = c2 .before in let c4 = c3 .before in
+    let c5 = c4 .before in let c6 = c5 .before in let c7 = c6 .before in
+    let l = c4 in
+    let a = c7 .args in
+    let h = c7 .pre in
+    let t : l .loop .i < a .n = omega (arith, l .loop .inv .0, c3 .loop-test .taken) in
     let next = union-next (a .places .now) (a .n) (omega (arith, h)) (l .loop .union) (l .loop .i) t in
-    (l .loop .inv .0, (omega (arith, t), rw (c .union-bounds .ensures, c .before .bounds2 .ensures) next ∙ l .loop .inv .1 .1))
+    (l .loop .inv .0, (omega (arith, t), rw (c .union-bounds .ensures, c1 .bounds2 .ensures) next ∙ l .loop .inv .1 .1))
 
 returns : tie.Need-returns Inv-loop μ-loop
 returns c =
-    let l = c .before .loop in
-    let start = c .before .before .before .before in
+    let c1 = c .before in let c2 = c1 .before in let c3 = c2 .before in let c4 = c3 .before in
+    let l = c1 .loop in
+    let start = c4 in
     let a = start .args in
     let h = start .pre in
     sym (union-end (a .places .now) (a .n) (omega (arith, h)) (l .union) (l .i) (omega (arith, l .inv .0, c .loop-test .left))) ∙ l .inv .1 .1

@@ -39,7 +39,8 @@ covers-requires c κs = search needs
 
 loop-holds : tie.Need-loop-holds Inv-loop μ-loop
 loop-holds c =
-    let h = c .before .before .before .before .before .if1 .left in
+    let c1 = c .before in let c2 = c1 .before in let c3 = c2 .before in let c4 = c3 .before in let c5 = c4 .before in
+    let h = c5 .if1 .left in
     (refl, (omega (arith, h), λ _ f. reached-first _ _ _ (record { size = refl; behind = λ i l. refl; reached = f })))
 
 mul-add-move : tie.Need-mul-add-move Inv-loop μ-loop
@@ -49,7 +50,10 @@ shared-slice-element-add-move : tie.Need-shared-slice-element-add-move Inv-loop 
 shared-slice-element-add-move c = search needs
 
 add-move-requires : tie.Need-add-move-requires Inv-loop μ-loop
-add-move-requires c κs = c .before .before .before .before .before .before .before .before .if2 .left
+add-move-requires c κs =
+    let c1 = c .before in let c2 = c1 .before in let c3 = c2 .before in let c4 = c3 .before in
+    let c5 = c4 .before in let c6 = c5 .before in let c7 = c6 .before in let c8 = c7 .before in
+    c8 .if2 .left
 
 add-i : tie.Need-add-i Inv-loop μ-loop
 add-i c = search needs
@@ -59,15 +63,18 @@ loop-less c = search needs
 
 loop-again : tie.Need-loop-again Inv-loop μ-loop
 loop-again c =
-    let l = c .before .before .before .before .loop in
-    let t = c .before .before .before .loop-test .taken in
+    let c1 = c .before in let c2 = c1 .before in let c3 = c2 .before in let c4 = c3 .before in
+    let l = c4 .loop in
+    let t = c3 .loop-test .taken in
     (refl, (omega (arith, t), λ h f. reached-next _ _ _ (l .inv .1 .1 h f) t h (c .add-move .ensures)))
 
 returns-3 : tie.Need-returns-3 Inv-loop μ-loop
 returns-3 c =
-    let l = c .before .loop in
-    let first = c .before .before in
-    let a = first .before .before .before .before .before .before .args in
+    let c1 = c .before in let c2 = c1 .before in let c3 = c2 .before in let c4 = c3 .before in
+    let c5 = c4 .before in let c6 = c5 .before in let c7 = c6 .before in let c8 = c7 .before in
+    let l = c1 .loop in
+    let first = c2 in
+    let a = c8 .args in
     λ n m h.
     let w = worked-same (λ b. ap (λ x. AnimatedTransform·cover x b (a .depth)) (first .before .before .from-rows .ensures)) (first .covers .ensures m h) in
     worked-trans w (reached-last _ _ _ (l .inv .1 .1 (w .size ∙ h) (w .reached)) (omega (arith, l .inv .0, c .loop-test .left)))

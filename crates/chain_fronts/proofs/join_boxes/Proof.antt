@@ -42,8 +42,9 @@ loop-less c = search needs
 
 loop-again : tie.Need-loop-again Inv-loop μ-loop
 loop-again c =
-    let l = c .before .before .before .before in
-    let t = c .before .before .before .loop-test .taken in
+    let c1 = c .before in let c2 = c1 .before in let c3 = c2 .before in let c4 = c3 .before in
+    let l = c4 in
+    let t = c3 .loop-test .taken in
     let h = l .before .pre in
     (omega (arith, t), λ e. joined-next _ (l .loop .inv .1 e) (omega (arith, t, h, e)) (ap (set (l .loop .places) (l .loop .i)) (c .join-box .ensures)))
 

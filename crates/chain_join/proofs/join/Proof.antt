@@ -59,7 +59,8 @@ with-blocks-requires-2 c κs =
 
 returns-3 : tie.Need-returns-3
 returns-3 c =
-    let test = c .before .before .before in
+    let c1 = c .before in let c2 = c1 .before in let c3 = c2 .before in
+    let test = c3 in
     let number = test .before in
     let count = number .before in
     let mismatch = count .before in
@@ -71,7 +72,7 @@ returns-3 c =
     let h =
     has-room first second old some
     (mismatch .mismatch-refusal .ensures .0) (count .count-refusal .ensures) (number .first-refusal .ensures) (test .if2 .left) in
-    let put = c .before .with-blocks .ensures in
+    let put = c1 .with-blocks .ensures in
     let places = put .0 in
     all-joined first second old some
     (mismatch .mismatch-refusal .ensures .0) (count .count-refusal .ensures) (number .first-refusal .ensures)

@@ -31,17 +31,21 @@ same-kind-requires c κs = search needs
 
 returns : tie.Need-returns
 returns c =
-    let kind = c .before in
-    let pose = kind .before .before .before in
-    let s = pose .before .before .before in
+    let c1 = c .before in let c2 = c1 .before in let c3 = c2 .before in let c4 = c3 .before in
+    let c5 = c4 .before in let c6 = c5 .before in let c7 = c6 .before in
+    let kind = c1 in
+    let pose = c4 in
+    let s = c7 in
     let h = s .pre .0 in
     poses-agree (s .args .first .now) (s .args .second .now) _ (omega (arith, h)) (pose .same-pose .ensures) (kind .same-kind .ensures) (c .if1 .taken)
 
 returns-2 : tie.Need-returns-2
 returns-2 c =
-    let kind = c .before in
-    let pose = kind .before .before .before in
-    let s = pose .before .before .before in
+    let c1 = c .before in let c2 = c1 .before in let c3 = c2 .before in let c4 = c3 .before in
+    let c5 = c4 .before in let c6 = c5 .before in let c7 = c6 .before in
+    let kind = c1 in
+    let pose = c4 in
+    let s = c7 in
     let h = s .pre .0 in
     poses-differ (s .args .first .now) (s .args .second .now) _ (omega (arith, h)) (pose .same-pose .ensures) (kind .same-kind .ensures) (c .if1 .left)
 

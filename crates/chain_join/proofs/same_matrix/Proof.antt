@@ -43,9 +43,11 @@ same-row-requires-4 c κs = search needs
 
 returns : tie.Need-returns
 returns c =
-    let s = c .before .before .before .before .before .before .before .before .before .before .before .before in
+    let c1 = c .before in let c2 = c1 .before in let c3 = c2 .before in let c4 = c3 .before in let c5 = c4 .before in let c6 = c5 .before in
+    let c7 = c6 .before in let c8 = c7 .before in let c9 = c8 .before in let c10 = c9 .before in let c11 = c10 .before in let c12 = c11 .before in
+    let s = c12 in
     matrix-clauses (matrixAt (s .args .last .now) 8) (matrixAt (s .args .first .now) 0)
-    (c .before .before .before .before .before .before .before .before .before .same-row .ensures) (c .before .before .before .before .before .before .same-row2 .ensures) (c .before .before .before .same-row3 .ensures) (c .same-row4 .ensures)
+    (c9 .same-row .ensures) (c6 .same-row2 .ensures) (c3 .same-row3 .ensures) (c .same-row4 .ensures)
 
 pub same-matrix-spec : {M : Type 1} → statement M
 same-matrix-spec =

@@ -42,9 +42,12 @@ same-bits-requires-2 c κs = search needs
 returns : tie.Need-returns
 unfolding AnimatedTransform·fromRows transformAt
 returns c =
-    let s = c .before .before .before .before .before .before .before in
-    pose-clauses (AnimatedTransform·endPose (AnimatedTransform·fromRows (s .args .last .now))) (AnimatedTransform·startPose (AnimatedTransform·fromRows (s .args .first .now)))
-    (c .before .before .before .before .same-bits .ensures) (c .before .before .before .same-matrix .ensures) (c .same-bits2 .ensures)
+    let c1 = c .before in let c2 = c1 .before in let c3 = c2 .before in let c4 = c3 .before in
+    let c5 = c4 .before in let c6 = c5 .before in let c7 = c6 .before in
+    let s = c7 in
+    pose-clauses (AnimatedTransform·endPose (AnimatedTransform·fromRows (s .args .last .now)))
+    (AnimatedTransform·startPose (AnimatedTransform·fromRows (s .args .first .now)))
+    (c4 .same-bits .ensures) (c3 .same-matrix .ensures) (c .same-bits2 .ensures)
 
 pub same-pose-spec : {M : Type 1} → statement M
 same-pose-spec =

@@ -42,9 +42,10 @@ same-bits-requires-4 c κs = search needs
 
 returns : tie.Need-returns
 returns c =
-    let s = c .before .before .before .before in
+    let c1 = c .before in let c2 = c1 .before in let c3 = c2 .before in let c4 = c3 .before in
+    let s = c4 in
     row-clauses (s .args .t1) (s .args .t2) (s .good .0 .1 .0 .1) (s .good .1 .0 .1 .0 .1)
-    (c .before .before .before .same-bits .ensures) (c .before .before .same-bits2 .ensures) (c .before .same-bits3 .ensures) (c .same-bits4 .ensures)
+    (c3 .same-bits .ensures) (c2 .same-bits2 .ensures) (c1 .same-bits3 .ensures) (c .same-bits4 .ensures)
 
 pub same-row-spec : {M : Type 1} → statement M
 same-row-spec =

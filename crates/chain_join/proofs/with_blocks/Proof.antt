@@ -44,10 +44,11 @@ loop-less c = search needs
 
 loop-again : tie.Need-loop-again Inv-loop μ-loop
 loop-again c =
-    let l = c .before .before .loop in
-    let s = c .before .before .before in
+    let c1 = c .before in let c2 = c1 .before in let c3 = c2 .before in
+    let l = c2 .loop in
+    let s = c3 in
     let a = s .args in
-    let more = c .before .loop-test .taken in
+    let more = c1 .loop-test .taken in
     let room = s .pre in
     let places = s .good .1 .1 .0 .1 .0 .1 in
     let turn = put-block (a .blocks) (a .at) (a .others .now) (l .i) (l .filled) (omega (arith, room, places, more)) more (l .inv .1 .1) in

@@ -41,10 +41,11 @@ move-number-requires c κs = search needs
 
 returns : tie.Need-returns Inv-loop μ-loop
 returns c =
-    let start = c .before .before .before .before in
+    let c1 = c .before in let c2 = c1 .before in let c3 = c2 .before in let c4 = c3 .before in
+    let start = c4 in
     let l = start .before .loop in
     let a = start .before .before .args in
-    let next = moves-next (a .rigid) (a .poses .now) (l .i) (l .inv .1 .0) (start .loop-test .taken) (c .before .move-number .ensures) in
+    let next = moves-next (a .rigid) (a .poses .now) (l .i) (l .inv .1 .0) (start .loop-test .taken) (c1 .move-number .ensures) in
     rw (← l .inv .1 .1, next, ne-eqb _ 0 (c .if1 .taken))
 
 add-i : tie.Need-add-i Inv-loop μ-loop
@@ -55,10 +56,11 @@ loop-less c = search needs
 
 loop-again : tie.Need-loop-again Inv-loop μ-loop
 loop-again c =
-    let start = c .before .before .before .before in
+    let c1 = c .before in let c2 = c1 .before in let c3 = c2 .before in let c4 = c3 .before in
+    let start = c4 in
     let l = start .before .loop in
     let a = start .before .before .args in
-    let next = moves-next (a .rigid) (a .poses .now) (l .i) (l .inv .1 .0) (start .loop-test .taken) (c .before .move-number .ensures) in
+    let next = moves-next (a .rigid) (a .poses .now) (l .i) (l .inv .1 .0) (start .loop-test .taken) (c1 .move-number .ensures) in
     (refl, (omega arith, rw (← l .inv .1 .1, next, eq-eqb _ 0 (c .if1 .left))))
 
 returns-2 : tie.Need-returns-2 Inv-loop μ-loop

@@ -19,8 +19,9 @@ moves-number-requires c κs = search needs
 
 returns-2 : tie.Need-returns-2
 returns-2 c =
-    let a = c .before .before .before .args in
-    rw (chain-number (a .rigid) (Poses·ofLists (a .poses .now)), ← c .before .before .refusal .ensures, eq-eqb _ 0 (c .before .if1 .left), c .moves-number .ensures)
+    let c1 = c .before in let c2 = c1 .before in let c3 = c2 .before in
+    let a = c3 .args in
+    rw (chain-number (a .rigid) (Poses·ofLists (a .poses .now)), ← c2 .refusal .ensures, eq-eqb _ 0 (c1 .if1 .left), c .moves-number .ensures)
 
 pub number-spec : {M : Type 1} → statement M
 number-spec = tie.close (tie.spec refusal-requires returns moves-number-requires returns-2)

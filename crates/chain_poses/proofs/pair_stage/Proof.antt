@@ -28,10 +28,11 @@ pair-number-at-requires c κs = search needs
 returns : tie.Need-returns Inv-loop μ-loop
 unfolding firstNumber
 returns c =
-    let l = c .before .before .before .loop in
-    let a = c .before .before .before .before .args in
-    let next = pairs-next (a .poses .now) (l .i) (l .inv .1 .0) (c .before .before .loop-test .taken) in
-    rw (← l .inv .1 .1, next, ← c .before .pair-number-at .ensures, ne-eqb _ 0 (c .if1 .taken))
+    let c1 = c .before in let c2 = c1 .before in let c3 = c2 .before in let c4 = c3 .before in
+    let l = c3 .loop in
+    let a = c4 .args in
+    let next = pairs-next (a .poses .now) (l .i) (l .inv .1 .0) (c2 .loop-test .taken) in
+    rw (← l .inv .1 .1, next, ← c1 .pair-number-at .ensures, ne-eqb _ 0 (c .if1 .taken))
 
 add-i : tie.Need-add-i Inv-loop μ-loop
 add-i c = search needs
@@ -42,10 +43,11 @@ loop-less c = search needs
 loop-again : tie.Need-loop-again Inv-loop μ-loop
 unfolding firstNumber
 loop-again c =
-    let l = c .before .before .before .loop in
-    let a = c .before .before .before .before .args in
-    let next = pairs-next (a .poses .now) (l .i) (l .inv .1 .0) (c .before .before .loop-test .taken) in
-    (refl, (omega arith, rw (← l .inv .1 .1, next, ← c .before .pair-number-at .ensures, eq-eqb _ 0 (c .if1 .left))))
+    let c1 = c .before in let c2 = c1 .before in let c3 = c2 .before in let c4 = c3 .before in
+    let l = c3 .loop in
+    let a = c4 .args in
+    let next = pairs-next (a .poses .now) (l .i) (l .inv .1 .0) (c2 .loop-test .taken) in
+    (refl, (omega arith, rw (← l .inv .1 .1, next, ← c1 .pair-number-at .ensures, eq-eqb _ 0 (c .if1 .left))))
 
 returns-2 : tie.Need-returns-2 Inv-loop μ-loop
 unfolding firstNumber

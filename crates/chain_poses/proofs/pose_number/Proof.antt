@@ -21,11 +21,15 @@ is-affine-requires c κs = search needs
 
 returns-3 : tie.Need-returns-3
 unfolding Pose·number
-returns-3 c = rw (ne-eqb _ 1 (c .before .before .before .if1 .left), eq-eqb _ 2 (c .before .before .if3 .taken), ← c .before .is-affine .ensures, c .if4 .taken)
+returns-3 c =
+    let c1 = c .before in let c2 = c1 .before in let c3 = c2 .before in
+    rw (ne-eqb _ 1 (c3 .if1 .left), eq-eqb _ 2 (c2 .if3 .taken), ← c1 .is-affine .ensures, c .if4 .taken)
 
 returns-4 : tie.Need-returns-4
 unfolding Pose·number
-returns-4 c = rw (ne-eqb _ 1 (c .before .before .before .if1 .left), eq-eqb _ 2 (c .before .before .if3 .taken), ← c .before .is-affine .ensures, c .if4 .left)
+returns-4 c =
+    let c1 = c .before in let c2 = c1 .before in let c3 = c2 .before in
+    rw (ne-eqb _ 1 (c3 .if1 .left), eq-eqb _ 2 (c2 .if3 .taken), ← c1 .is-affine .ensures, c .if4 .left)
 
 is-padded-requires : tie.Need-is-padded-requires
 is-padded-requires c κs = search needs
@@ -34,13 +38,25 @@ returns-5 : tie.Need-returns-5
 unfolding Pose·number
 returns-5 c =
     let k = c .before .before in
-    rw (ne-eqb _ 1 (k .before .before .if1 .left), ne-eqb _ 2 (k .before .if3 .left), eq-eqb _ 16 (k .if5 .taken), ← c .before .is-padded .ensures, c .if6 .taken)
+    rw (
+      ne-eqb _ 1 (k .before .before .if1 .left),
+      ne-eqb _ 2 (k .before .if3 .left),
+      eq-eqb _ 16 (k .if5 .taken),
+      ← c .before .is-padded .ensures,
+      c .if6 .taken,
+    )
 
 returns-6 : tie.Need-returns-6
 unfolding Pose·number
 returns-6 c =
     let k = c .before .before in
-    rw (ne-eqb _ 1 (k .before .before .if1 .left), ne-eqb _ 2 (k .before .if3 .left), eq-eqb _ 16 (k .if5 .taken), ← c .before .is-padded .ensures, c .if6 .left)
+    rw (
+      ne-eqb _ 1 (k .before .before .if1 .left),
+      ne-eqb _ 2 (k .before .if3 .left),
+      eq-eqb _ 16 (k .if5 .taken),
+      ← c .before .is-padded .ensures,
+      c .if6 .left,
+    )
 
 kind-number-requires : tie.Need-kind-number-requires
 kind-number-requires c κs = search needs
@@ -48,13 +64,16 @@ kind-number-requires c κs = search needs
 returns-7 : tie.Need-returns-7
 unfolding Pose·number
 returns-7 c =
-    let k = c .before in
-    rw (ne-eqb _ 1 (k .before .before .before .if1 .left), ne-eqb _ 2 (k .before .before .if3 .left), ne-eqb _ 16 (k .before .if5 .left), eq-eqb _ 17 (k .if7 .taken))
+    let c1 = c .before in let c2 = c1 .before in let c3 = c2 .before in let c4 = c3 .before in
+    let k = c1 in
+    rw (ne-eqb _ 1 (c4 .if1 .left), ne-eqb _ 2 (k .before .before .if3 .left), ne-eqb _ 16 (k .before .if5 .left), eq-eqb _ 17 (k .if7 .taken))
     (c .kind-number .ensures)
 
 returns-8 : tie.Need-returns-8
 unfolding Pose·number
-returns-8 c = rw (ne-eqb _ 1 (c .before .before .before .if1 .left), ne-eqb _ 2 (c .before .before .if3 .left), ne-eqb _ 16 (c .before .if5 .left), ne-eqb _ 17 (c .if7 .left))
+returns-8 c =
+    let c1 = c .before in let c2 = c1 .before in let c3 = c2 .before in
+    rw (ne-eqb _ 1 (c3 .if1 .left), ne-eqb _ 2 (c2 .if3 .left), ne-eqb _ 16 (c1 .if5 .left), ne-eqb _ 17 (c .if7 .left))
 
 pub pose-number-spec : {M : Type 1} → statement M
 pose-number-spec =

@@ -24,10 +24,11 @@ pose-number-at-requires c κs = search needs
 returns : tie.Need-returns Inv-loop μ-loop
 unfolding firstNumber
 returns c =
-    let l = c .before .before .before .loop in
-    let a = c .before .before .before .before .args in
-    let next = poses-next (a .poses .now) (l .i) (c .before .before .loop-test .taken) in
-    rw (← l .inv .1, next, ← c .before .pose-number-at .ensures, ne-eqb _ 0 (c .if1 .taken))
+    let c1 = c .before in let c2 = c1 .before in let c3 = c2 .before in let c4 = c3 .before in
+    let l = c3 .loop in
+    let a = c4 .args in
+    let next = poses-next (a .poses .now) (l .i) (c2 .loop-test .taken) in
+    rw (← l .inv .1, next, ← c1 .pose-number-at .ensures, ne-eqb _ 0 (c .if1 .taken))
 
 add-i : tie.Need-add-i Inv-loop μ-loop
 add-i c = search needs
@@ -38,10 +39,11 @@ loop-less c = search needs
 loop-again : tie.Need-loop-again Inv-loop μ-loop
 unfolding firstNumber
 loop-again c =
-    let l = c .before .before .before .loop in
-    let a = c .before .before .before .before .args in
-    let next = poses-next (a .poses .now) (l .i) (c .before .before .loop-test .taken) in
-    (refl, rw (← l .inv .1, next, ← c .before .pose-number-at .ensures, eq-eqb _ 0 (c .if1 .left)))
+    let c1 = c .before in let c2 = c1 .before in let c3 = c2 .before in let c4 = c3 .before in
+    let l = c3 .loop in
+    let a = c4 .args in
+    let next = poses-next (a .poses .now) (l .i) (c2 .loop-test .taken) in
+    (refl, rw (← l .inv .1, next, ← c1 .pose-number-at .ensures, eq-eqb _ 0 (c .if1 .left)))
 
 returns-2 : tie.Need-returns-2 Inv-loop μ-loop
 unfolding firstNumber

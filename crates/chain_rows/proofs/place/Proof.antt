@@ -34,9 +34,10 @@ index-3-if1 c = search needs
 
 returns : tie.Need-returns Inv-loop μ-loop
 returns c =
-    let l = c .before .before .before .loop in
-    let a = c .before .before .before .before .args in
-    let n : suc (l .i) < length (a .moves .now) = omega (arith, l .inv .0, c .before .before .loop-test .taken) in
+    let c1 = c .before in let c2 = c1 .before in let c3 = c2 .before in let c4 = c3 .before in
+    let l = c3 .loop in
+    let a = c4 .args in
+    let n : suc (l .i) < length (a .moves .now) = omega (arith, l .inv .0, c2 .loop-test .taken) in
     (sym (place-here (a .time) (a .moves .now) (l .i) n (c .if1 .taken)) ∙ l .inv .1 .1, omega (arith, n))
 
 add-i : tie.Need-add-i Inv-loop μ-loop
@@ -47,9 +48,10 @@ loop-less c = search needs
 
 loop-again : tie.Need-loop-again Inv-loop μ-loop
 loop-again c =
-    let l = c .before .before .before .loop in
-    let a = c .before .before .before .before .args in
-    let n : suc (l .i) < length (a .moves .now) = omega (arith, l .inv .0, c .before .before .loop-test .taken) in
+    let c1 = c .before in let c2 = c1 .before in let c3 = c2 .before in let c4 = c3 .before in
+    let l = c3 .loop in
+    let a = c4 .args in
+    let n : suc (l .i) < length (a .moves .now) = omega (arith, l .inv .0, c2 .loop-test .taken) in
     (l .inv .0, (omega (arith, n), sym (place-next (a .time) (a .moves .now) (l .i) n (c .if1 .left)) ∙ l .inv .1 .1))
 
 returns-2 : tie.Need-returns-2 Inv-loop μ-loop

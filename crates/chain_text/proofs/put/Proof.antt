@@ -42,12 +42,16 @@ same-length c = search needs
 returns : tie.Need-returns
 unfolding ascii
 returns c =
-    let bounds = c .before .before in
-    let ends = bounds .before .before .before .before in
-    let pose = ends .before .before .before .before in
+    let c1 = c .before in let c2 = c1 .before in let c3 = c2 .before in let c4 = c3 .before in let c5 = c4 .before in
+    let c6 = c5 .before in let c7 = c6 .before in let c8 = c7 .before in let c9 = c8 .before in let c10 = c9 .before in
+    let c11 = c10 .before in let c12 = c11 .before in let c13 = c12 .before in let c14 = c13 .before in let c15 = c14 .before in
+    let c16 = c15 .before in let c17 = c16 .before in let c18 = c17 .before in let c19 = c18 .before in let c20 = c19 .before in
+    let bounds = c2 in
+    let ends = c6 in
+    let pose = c10 in
     let values = pose .before .before in
-    let names = values .before .before .before .before in
-    let entry = names .before .before .before .before in
+    let names = c16 in
+    let entry = c20 in
     let a = entry .args in
     put-all (a .moves .now) (a .b) (entry .pre .0) (a .out .now) (entry .pre .1) _ _ _ _ (names .write-text .ensures .1)
     (rw (values .start-values .ensures) at (pose .put-pose .ensures)) (ends .put-ends .ensures) (bounds .put-bounds .ensures)

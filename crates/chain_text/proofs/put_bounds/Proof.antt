@@ -28,9 +28,10 @@ same-length c = search needs
 
 returns : tie.Need-returns
 returns c =
-    let a = c .before .before .before .before .before .before .args in
-    rw (c .before .before .write-bounds .ensures .1 .0, c .before .before .before .before .bounds-values .ensures)
-    (part-front (boundsText (Bounds3f·list (a .b))) (a .out .now) (a .at) 72 (sym (bounds-length (a .b))) (c .before .before .before .before .before .before .pre))
+    let c1 = c .before in let c2 = c1 .before in let c3 = c2 .before in let c4 = c3 .before in let c5 = c4 .before in let c6 = c5 .before in
+    let a = c6 .args in
+    rw (c2 .write-bounds .ensures .1 .0, c4 .bounds-values .ensures)
+    (part-front (boundsText (Bounds3f·list (a .b))) (a .out .now) (a .at) 72 (sym (bounds-length (a .b))) (c6 .pre))
 
 pub put-bounds-spec : {M : Type 1} → statement M
 put-bounds-spec =

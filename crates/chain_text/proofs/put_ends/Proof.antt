@@ -41,8 +41,9 @@ add-put-pose-2 c = record { fits = omega arith }
 
 put-pose-requires : tie.Need-put-pose-requires Inv-loop μ-loop
 put-pose-requires c κs =
-    let l = c .before .before .before .before .loop in
-    omega (arith, l .inv .1, c .before .before .before .loop-test .taken)
+    let c1 = c .before in let c2 = c1 .before in let c3 = c2 .before in let c4 = c3 .before in
+    let l = c4 .loop in
+    omega (arith, l .inv .1, c3 .loop-test .taken)
 
 add-i : tie.Need-add-i Inv-loop μ-loop
 add-i c = search needs
@@ -52,11 +53,13 @@ loop-less c = search needs
 
 loop-again : tie.Need-loop-again Inv-loop μ-loop
 loop-again c =
-    let l = c .before .before .before .before .before .before .before .loop in
-    let e = c .before .before .before .before .before .before .before .before .before in
+    let c1 = c .before in let c2 = c1 .before in let c3 = c2 .before in let c4 = c3 .before in let c5 = c4 .before in
+    let c6 = c5 .before in let c7 = c6 .before in let c8 = c7 .before in let c9 = c8 .before in
+    let l = c7 .loop in
+    let e = c9 in
     let a = e .args in
-    let h = c .before .before .before .before .before .before .loop-test .taken in
-    let line = rw (c .before .before .before .before .end-values .ensures) at (c .before .before .put-pose .ensures) in
+    let h = c6 .loop-test .taken in
+    let line = rw (c4 .end-values .ensures) at (c2 .put-pose .ensures) in
     let turn = put-end (a .out .now) (a .moves .now) (e .pre) (l .i) h (l .out) _ (l .inv .2) line in
     (omega (arith, h), ap length turn ∙ ends-size (a .out .now) (a .moves .now) (e .pre) (l .i + 1) (omega (arith, h)), turn)
 
@@ -65,8 +68,9 @@ same-length c = search needs
 
 returns : tie.Need-returns Inv-loop μ-loop
 returns c =
-    let l = c .before .loop in
-    let e : l .i ≡ length (c .before .before .before .args .moves .now) = omega arith in
+    let c1 = c .before in let c2 = c1 .before in let c3 = c2 .before in
+    let l = c1 .loop in
+    let e : l .i ≡ length (c3 .args .moves .now) = omega arith in
     rw (← e) (l .inv .2)
 
 pub put-ends-spec : {M : Type 1} → statement M

@@ -29,10 +29,11 @@ same-length c = search needs
 
 returns : tie.Need-returns
 returns c =
-    let a = c .before .before .before .before .before .before .args in
+    let c1 = c .before in let c2 = c1 .before in let c3 = c2 .before in let c4 = c3 .before in let c5 = c4 .before in let c6 = c5 .before in
+    let a = c6 .args in
     let fourteen : length (a .t1) ≡ 14 = search needs in
-    rw (c .before .before .write-values .ensures .1)
-    (part-front (valuesText (a .t1)) (a .out .now) (a .at) 126 (omega (arith, length-values (a .t1), fourteen)) (c .before .before .before .before .before .before .pre))
+    rw (c2 .write-values .ensures .1)
+    (part-front (valuesText (a .t1)) (a .out .now) (a .at) 126 (omega (arith, length-values (a .t1), fourteen)) (c6 .pre))
 
 pub put-pose-spec : {M : Type 1} → statement M
 put-pose-spec =

@@ -10,9 +10,10 @@ refused-requires c κs = search needs
 
 returns : tie.Need-returns
 returns c =
-    let a = c .before .before .before .args in
+    let c1 = c .before in let c2 = c1 .before in let c3 = c2 .before in
+    let a = c3 .args in
     let e = c .refused .ensures in
-    no-moves (a .moves .now) (a .b) (a .out .now) (c .before .if1 .taken) _ _ (e .1) (e .0)
+    no-moves (a .moves .now) (a .b) (a .out .now) (c1 .if1 .taken) _ _ (e .1) (e .0)
 
 add-length : tie.Need-add-length
 add-length c = search needs
@@ -40,24 +41,29 @@ refused-requires-2 c κs = search needs
 
 returns-2 : tie.Need-returns-2
 returns-2 c =
-    let first = c .before .before in
+    let c1 = c .before in let c2 = c1 .before in let c3 = c2 .before in let c4 = c3 .before in
+    let c5 = c4 .before in let c6 = c5 .before in let c7 = c6 .before in
+    let first = c2 in
     let room = first .before in
     let judged = room .before in
     let some = judged .before .if1 .left in
-    let a = judged .before .before .before .args in
+    let a = c7 .args in
     let e = c .refused2 .ensures in
     all-refused (a .moves .now) (a .b) (a .out .now) some _ _ _ _ (omega arith) (judged .refusal .ensures) (room .room-refusal .ensures) (first .first-refusal .ensures)
-    (c .before .if2 .taken) _ _ (e .1) (e .0)
+    (c1 .if2 .taken) _ _ (e .1) (e .0)
 
 put-requires : tie.Need-put-requires
 put-requires c κs =
-    let first = c .before .before in
+    let c1 = c .before in let c2 = c1 .before in let c3 = c2 .before in let c4 = c3 .before in
+    let c5 = c4 .before in let c6 = c5 .before in let c7 = c6 .before in
+    let first = c2 in
     let room = first .before in
     let judged = room .before in
     let some = judged .before .if1 .left in
-    let a = judged .before .before .before .args in (
+    let a = c7 .args in (
       omega (arith, some),
-      has-room (a .moves .now) (a .b) (a .out .now) some _ _ _ _ (omega arith) (judged .refusal .ensures) (room .room-refusal .ensures) (first .first-refusal .ensures) (c .before .if2 .left),
+      has-room (a .moves .now) (a .b) (a .out .now) some _ _ _ _ (omega arith) (judged .refusal .ensures)
+          (room .room-refusal .ensures) (first .first-refusal .ensures) (c1 .if2 .left),
     )
 
 same-length : tie.Need-same-length
@@ -65,12 +71,14 @@ same-length c = search needs
 
 returns-3 : tie.Need-returns-3
 returns-3 c =
-    let put = c .before .before in
-    let first = put .before .before .before in
+    let c1 = c .before in let c2 = c1 .before in let c3 = c2 .before in let c4 = c3 .before in let c5 = c4 .before in
+    let c6 = c5 .before in let c7 = c6 .before in let c8 = c7 .before in let c9 = c8 .before in let c10 = c9 .before in
+    let put = c2 in
+    let first = c5 in
     let room = first .before in
     let judged = room .before in
     let some = judged .before .if1 .left in
-    let a = judged .before .before .before .args in
+    let a = c10 .args in
     all-written (a .moves .now) (a .b) (a .out .now) some _ _ _ _ (omega arith) (judged .refusal .ensures) (room .room-refusal .ensures) (first .first-refusal .ensures)
     (put .before .before .if2 .left) _ (put .put .ensures)
 

@@ -62,12 +62,14 @@ loop-less c = search needs
 
 loop-again : tie.Need-loop-again Inv-loop μ-loop
 loop-again c =
-    let l = c .before .before .before .before .before .before .before .before .loop in
-    let a = c .before .before .before .before .before .before .before .before .before .before .before .args in
-    let e = c .before .before .before .before .before .before .before .before .before .before .before .pre in
-    let h = c .before .before .before .before .before .before .before .loop-test .taken in
-    let s = c .before .before .before .before .before .stretch-end .ensures in
-    let f = c .before .before .fill-part .ensures in
+    let c1 = c .before in let c2 = c1 .before in let c3 = c2 .before in let c4 = c3 .before in let c5 = c4 .before in let c6 = c5 .before in
+    let c7 = c6 .before in let c8 = c7 .before in let c9 = c8 .before in let c10 = c9 .before in let c11 = c10 .before in
+    let l = c8 .loop in
+    let a = c11 .args in
+    let e = c11 .pre in
+    let h = c7 .loop-test .taken in
+    let s = c5 .stretch-end .ensures in
+    let f = c2 .fill-part .ensures in
     let n : suc (l .i) < length (a .moves .now) = omega (arith, h, l .inv .0) in
     let r = rises-drop (l .from) (a .times .now) (subst T (sym (e .1 .1)) tt) in
     let next =
@@ -85,16 +87,20 @@ fill-part-requires-2 c κs = search needs
 
 same-length : tie.Need-same-length Inv-loop μ-loop
 same-length c =
-    let loop = c .before .before .before .before .before .before in
-    c .before .before .fill-part2 .ensures .1 ∙ (loop .loop .inv .1 .1 .1 .0 ∙ sym (loop .before .before .before .pre .1 .0))
+    let c1 = c .before in let c2 = c1 .before in let c3 = c2 .before in let c4 = c3 .before in let c5 = c4 .before in
+    let c6 = c5 .before in let c7 = c6 .before in let c8 = c7 .before in let c9 = c8 .before in
+    let loop = c6 in
+    c2 .fill-part2 .ensures .1 ∙ (loop .loop .inv .1 .1 .1 .0 ∙ sym (c9 .pre .1 .0))
 
 returns : tie.Need-returns Inv-loop μ-loop
 returns c =
-    let l = c .before .before .before .before .before .before .loop in
-    let a = c .before .before .before .before .before .before .before .before .before .args in
-    let n : suc (l .i) ≡ length (a .moves .now) = omega (arith, l .inv .0, l .inv .1 .0, c .before .before .before .before .before .loop-test .left) in
+    let c1 = c .before in let c2 = c1 .before in let c3 = c2 .before in let c4 = c3 .before in let c5 = c4 .before in
+    let c6 = c5 .before in let c7 = c6 .before in let c8 = c7 .before in let c9 = c8 .before in
+    let l = c6 .loop in
+    let a = c9 .args in
+    let n : suc (l .i) ≡ length (a .moves .now) = omega (arith, l .inv .0, l .inv .1 .0, c5 .loop-test .left) in
     floats-last (a .moves .now) (a .p) (a .times .now) (l .answers) (l .i) (l .from) n (l .inv .1 .1 .0) (l .inv .1 .1 .1 .0)
-    (c .before .before .fill-part2 .ensures .0) ∙ l .inv .1 .1 .1 .1
+    (c2 .fill-part2 .ensures .0) ∙ l .inv .1 .1 .1 .1
 
 pub fill-all-spec : {M : Type 1} → statement M
 fill-all-spec =

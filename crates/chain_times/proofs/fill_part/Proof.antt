@@ -42,10 +42,12 @@ same-length c = search needs
 
 returns : tie.Need-returns
 returns c =
-    let a = c .before .before .before .before .before .before .before .args in
-    let e = c .before .before .before .before .before .before .before .pre in
+    let c1 = c .before in let c2 = c1 .before in let c3 = c2 .before in let c4 = c3 .before in
+    let c5 = c4 .before in let c6 = c5 .before in let c7 = c6 .before in
+    let a = c7 .args in
+    let e = c7 .pre in
     let put = part-put (a .motion .now) (a .p) (a .times .now) (a .answers .now) (a .from) (a .to) (e .0) (e .1 .0) (e .1 .1) in
-    (rw (c .before .before .put-points .ensures, put), search needs)
+    (rw (c2 .put-points .ensures, put), search needs)
 
 pub fill-part-spec : {M : Type 1} → statement M
 fill-part-spec =

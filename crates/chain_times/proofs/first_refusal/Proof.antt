@@ -67,14 +67,16 @@ first-refusal-requires c κs = search needs
 
 returns : tie.Need-returns Inv-loop μ-loop
 returns c =
-    let l = c .before .before .before .before .before .before .before .loop in
-    let a = c .before .before .before .before .before .before .before .before .before .args in
-    let e = c .before .before .before .before .before .before .before .before .before .pre in
-    let h = c .before .before .before .before .before .before .loop-test .taken in
-    let s = c .before .before .before .before .stretch-end .ensures in
+    let c1 = c .before in let c2 = c1 .before in let c3 = c2 .before in let c4 = c3 .before in let c5 = c4 .before in
+    let c6 = c5 .before in let c7 = c6 .before in let c8 = c7 .before in let c9 = c8 .before in
+    let l = c7 .loop in
+    let a = c9 .args in
+    let e = c9 .pre in
+    let h = c6 .loop-test .taken in
+    let s = c4 .stretch-end .ensures in
     let n : suc (l .i) < length (a .moves .now) = omega (arith, h, l .inv .1 .0) in
     let r = rises-drop (l .from) (a .times .now) (subst T (sym (e .1)) tt) in
-    number-here (a .moves .now) (a .p) (a .times .now) (l .i) (l .from) n r (s .0) (c .before .first-refusal .ensures) (c .if1 .taken) ∙ l .inv .1 .1 .1 .1
+    number-here (a .moves .now) (a .p) (a .times .now) (l .i) (l .from) n r (s .0) (c1 .first-refusal .ensures) (c .if1 .taken) ∙ l .inv .1 .1 .1 .1
 
 add-i : tie.Need-add-i Inv-loop μ-loop
 add-i c = search needs
@@ -84,14 +86,16 @@ loop-less c = search needs
 
 loop-again : tie.Need-loop-again Inv-loop μ-loop
 loop-again c =
-    let l = c .before .before .before .before .before .before .before .loop in
-    let a = c .before .before .before .before .before .before .before .before .before .args in
-    let e = c .before .before .before .before .before .before .before .before .before .pre in
-    let h = c .before .before .before .before .before .before .loop-test .taken in
-    let s = c .before .before .before .before .stretch-end .ensures in
+    let c1 = c .before in let c2 = c1 .before in let c3 = c2 .before in let c4 = c3 .before in let c5 = c4 .before in
+    let c6 = c5 .before in let c7 = c6 .before in let c8 = c7 .before in let c9 = c8 .before in
+    let l = c7 .loop in
+    let a = c9 .args in
+    let e = c9 .pre in
+    let h = c6 .loop-test .taken in
+    let s = c4 .stretch-end .ensures in
     let n : suc (l .i) < length (a .moves .now) = omega (arith, h, l .inv .1 .0) in
     let r = rises-drop (l .from) (a .times .now) (subst T (sym (e .1)) tt) in
-    let next = number-next (a .moves .now) (a .p) (a .times .now) (l .i) (l .from) n r (s .0) (c .before .first-refusal .ensures) (c .if1 .left) in
+    let next = number-next (a .moves .now) (a .p) (a .times .now) (l .i) (l .from) n r (s .0) (c1 .first-refusal .ensures) (c .if1 .left) in
     (refl, (l .inv .1 .0, (omega (arith, h), (s .1 .0, next ∙ l .inv .1 .1 .1 .1))))
 
 mul-first-refusal-3 : tie.Need-mul-first-refusal-3 Inv-loop μ-loop
@@ -117,9 +121,10 @@ first-refusal-requires-2 c κs = search needs
 
 returns-2 : tie.Need-returns-2 Inv-loop μ-loop
 returns-2 c =
-    let l = c .before .before .before .before .loop in
-    let a = c .before .before .before .before .before .before .args in
-    let n : suc (l .i) ≡ length (a .moves .now) = omega (arith, l .inv .1 .0, l .inv .1 .1 .0, c .before .before .before .loop-test .left) in
+    let c1 = c .before in let c2 = c1 .before in let c3 = c2 .before in let c4 = c3 .before in let c5 = c4 .before in let c6 = c5 .before in
+    let l = c4 .loop in
+    let a = c6 .args in
+    let n : suc (l .i) ≡ length (a .moves .now) = omega (arith, l .inv .1 .0, l .inv .1 .1 .0, c3 .loop-test .left) in
     number-last (a .moves .now) (a .p) (a .times .now) (l .i) (l .from) n (c .first-refusal2 .ensures) ∙ l .inv .1 .1 .1 .1
 
 pub first-refusal-spec : {M : Type 1} → statement M

@@ -31,19 +31,23 @@ shared-slice-read-if1 c = search needs
 
 returns : tie.Need-returns Inv-loop μ-loop
 returns c =
-    let l = c .before .before .before .loop in
-    let a = c .before .before .before .before .args in
-    let h = c .before .before .loop-test .taken in
-    (sym (count-here (a .end) (a .times .now) (l .i) h (not-true (le (getD (a .times .now) (l .i) nan) (a .end)) (c .if1 .taken))) ∙ l .inv .1 .1 .1, (omega (arith, h), l .inv .1 .0))
+    let c1 = c .before in let c2 = c1 .before in let c3 = c2 .before in let c4 = c3 .before in
+    let l = c3 .loop in
+    let a = c4 .args in
+    let h = c2 .loop-test .taken in (
+      sym (count-here (a .end) (a .times .now) (l .i) h (not-true (le (getD (a .times .now) (l .i) nan) (a .end)) (c .if1 .taken))) ∙ l .inv .1 .1 .1,
+      (omega (arith, h), l .inv .1 .0),
+    )
 
 loop-less : tie.Need-loop-less Inv-loop μ-loop
 loop-less c = search needs
 
 loop-again : tie.Need-loop-again Inv-loop μ-loop
 loop-again c =
-    let l = c .before .before .before .loop in
-    let a = c .before .before .before .before .args in
-    let h = c .before .before .loop-test .taken in
+    let c1 = c .before in let c2 = c1 .before in let c3 = c2 .before in let c4 = c3 .before in
+    let l = c3 .loop in
+    let a = c4 .args in
+    let h = c2 .loop-test .taken in
     (refl, (omega (arith, l .inv .1 .0), (omega (arith, h), count-next (a .end) (a .times .now) (l .i) h (not-false _ (c .if1 .left)) ∙ l .inv .1 .1 .1)))
 
 returns-2 : tie.Need-returns-2 Inv-loop μ-loop

@@ -22,12 +22,13 @@ build-two-requires c κs = search needs
 
 returns : tie.Need-returns
 returns c =
-    let place = c .before .before .before .before .before in
+    let c1 = c .before in let c2 = c1 .before in let c3 = c2 .before in let c4 = c3 .before in let c5 = c4 .before in
+    let place = c5 in
     let kind = place .before in
     let entry = kind .before .before in
     let a = entry .args in
     beside-clauses (a .moves .now) (a .place) (Pose·ofList (a .pose .now)) (kind .is-rigid .ensures)
-    (first-same (a .moves .now) (Pose·ofList (a .pose .now)) (entry .pre .0) (a .place) (place .if1 .taken) (c .before .before .end-pose .ensures))
+    (first-same (a .moves .now) (Pose·ofList (a .pose .now)) (entry .pre .0) (a .place) (place .if1 .taken) (c2 .end-pose .ensures))
     (c .build-two .ensures)
 
 sub-start-pose : tie.Need-sub-start-pose
@@ -47,7 +48,8 @@ build-two-requires-2 c κs = search needs
 
 returns-2 : tie.Need-returns-2
 returns-2 c =
-    let place = c .before .before .before in
+    let c1 = c .before in let c2 = c1 .before in let c3 = c2 .before in
+    let place = c3 in
     let start = place .before in
     let other = start .before .before in
     let kind = other .before in
@@ -71,7 +73,8 @@ build-three-requires c κs = search needs
 
 returns-3 : tie.Need-returns-3
 returns-3 c =
-    let place = c .before .before .before .before .before in
+    let c1 = c .before in let c2 = c1 .before in let c3 = c2 .before in let c4 = c3 .before in let c5 = c4 .before in
+    let place = c5 in
     let start = place .before in
     let other = start .before .before in
     let kind = other .before in
@@ -79,7 +82,7 @@ returns-3 c =
     let a = entry .args in
     beside-clauses (a .moves .now) (a .place) (Pose·ofList (a .pose .now)) (kind .is-rigid .ensures)
     (inner-same (a .moves .now) (Pose·ofList (a .pose .now)) (entry .pre .0) (a .place) (other .if1 .left) (place .if2 .left) (entry .pre .1 .0)
-    (start .start-pose .ensures) (c .before .before .end-pose2 .ensures))
+    (start .start-pose .ensures) (c2 .end-pose2 .ensures))
     (c .build-three .ensures)
 
 pub build-beside-spec : {M : Type 1} → statement M

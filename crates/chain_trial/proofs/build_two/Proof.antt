@@ -17,10 +17,12 @@ build-requires c κs = search needs
 returns : tie.Need-returns
 unfolding Poses·ofLists
 returns c =
-    let entry = c .before .before .before in
+    let c1 = c .before in let c2 = c1 .before in let c3 = c2 .before in
+    let entry = c3 in
     let a = entry .args in
     let build = c .build .ensures in
-    built-clauses (a .rigid) (a .start ∷ a .end ∷ []) (Pose·ofList (a .start) ∷ Pose·ofList (a .end) ∷ []) (a .blocks .now) refl (entry .pre) (build .0) (build .1 .0) (build .1 .1)
+    built-clauses (a .rigid) (a .start ∷ a .end ∷ []) (Pose·ofList (a .start) ∷ Pose·ofList (a .end) ∷ [])
+    (a .blocks .now) refl (entry .pre) (build .0) (build .1 .0) (build .1 .1)
 
 pub build-two-spec : {M : Type 1} → statement M
 build-two-spec = tie.close (tie.spec slice-aggregate-build build-requires returns)

@@ -20,8 +20,9 @@ array-share-prefix-blocks c =
 
 slice-aggregate-cover : tie.Need-slice-aggregate-cover
 slice-aggregate-cover c =
-    let pre = c .before .before .before .pre in
-    let changed = c .before .put-changed .ensures refl (pre .1 .1 .1) (pre .0) (pre .1 .0) (pre .1 .1 .0) in
+    let c1 = c .before in let c2 = c1 .before in let c3 = c2 .before in
+    let pre = c3 .pre in
+    let changed = c1 .put-changed .ensures refl (pre .1 .1 .1) (pre .0) (pre .1 .0) (pre .1 .1 .0) in
     sym (length-take-le _ _ (omega (arith, pre .1 .0, changed .1)))
 
 cover-requires : tie.Need-cover-requires
@@ -29,10 +30,11 @@ cover-requires c κs = search needs
 
 returns : tie.Need-returns
 returns c =
-    let entry = c .before .before .before .before in
+    let c1 = c .before in let c2 = c1 .before in let c3 = c2 .before in let c4 = c3 .before in
+    let entry = c4 in
     let a = entry .args in
     let pre = entry .pre in
-    let changed = c .before .before .put-changed .ensures refl (pre .1 .1 .1) (pre .0) (pre .1 .0) (pre .1 .1 .0) in
+    let changed = c2 .put-changed .ensures refl (pre .1 .1 .1) (pre .0) (pre .1 .0) (pre .1 .1 .0) in
     c .cover .ensures .0 ∙ ap (λ (rows : List Rows). Moves·cover rows (a .b) (a .depth)) (changed .0)
 
 pub changed-cover-spec : {M : Type 1} → statement M

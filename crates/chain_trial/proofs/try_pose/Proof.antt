@@ -18,30 +18,33 @@ trial-refusal-requires c κs = search needs
 
 returns : tie.Need-returns
 returns c =
-    let change = c .before .before .before in
+    let c1 = c .before in let c2 = c1 .before in let c3 = c2 .before in
+    let change = c3 in
     let a = change .before .before .args in
     let f = c .if1 .taken in
     let value = refused-try (a .moves .now) (a .place) (Pose·ofList (a .pose .now)) (a .b) (a .depth) _ _ (change .change-refusal .ensures .0)
-    (c .before .before .cover-refusal .ensures) (c .before .trial-refusal .ensures) f in
+    (c2 .cover-refusal .ensures) (c1 .trial-refusal .ensures) f in
     trial-clauses (a .moves .now) (a .place) (Pose·ofList (a .pose .now)) (a .b) (a .depth) value (λ none. absurd (f none))
 
 changed-cover-requires : tie.Need-changed-cover-requires
 changed-cover-requires c κs =
-    let change = c .before .before .before .before in
+    let c1 = c .before in let c2 = c1 .before in let c3 = c2 .before in let c4 = c3 .before in
+    let change = c4 in
     let a = change .before .before .args in
     let p = Pose·ofList (a .pose .now) in
     let made = change .change-refusal .ensures in
-    let none = none-refused (a .moves .now) (a .place) p (a .b) (a .depth) _ _ (c .before .before .trial-refusal .ensures) (c .before .if1 .left) in
+    let none = none-refused (a .moves .now) (a .place) p (a .b) (a .depth) _ _ (c2 .trial-refusal .ensures) (c1 .if1 .left) in
     let passed = place-passed (a .moves .now) (a .place) (change-place (a .moves .now) (a .place) p (sym (made .0) ∙ none)) in
     (passed .some, (passed .few, (passed .inside, made .1 .1)))
 
 returns-2 : tie.Need-returns-2
 returns-2 c =
-    let change = c .before .before .before .before .before in
+    let c1 = c .before in let c2 = c1 .before in let c3 = c2 .before in let c4 = c3 .before in let c5 = c4 .before in
+    let change = c5 in
     let a = change .before .before .args in
     let p = Pose·ofList (a .pose .now) in
     let made = change .change-refusal .ensures in
-    let none = none-refused (a .moves .now) (a .place) p (a .b) (a .depth) _ _ (c .before .before .before .trial-refusal .ensures) (c .before .before .if1 .left) in
+    let none = none-refused (a .moves .now) (a .place) p (a .b) (a .depth) _ _ (c3 .trial-refusal .ensures) (c2 .if1 .left) in
     let zero = sym (made .0) ∙ none in
     let value = cover-try (a .moves .now) (a .place) p (a .b) (a .depth) zero (made .1 .0 none) (c .changed-cover .ensures) in
     trial-clauses (a .moves .now) (a .place) p (a .b) (a .depth) value

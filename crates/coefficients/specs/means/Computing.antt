@@ -9,5 +9,6 @@ use Rattle.coefficients.specs.Coefficients.{Coefficients·new}
 use Rattle.coefficients.specs.IsFinite.{Coefficients·isFinite}
 
 unfoldable pub computing : Unit {0}
-unfolding add sub mul neg ofBits c1x c2x c3x c4x c5x c1y c2y c3y c4y c5y c1z c2z c3z c4z c5z columnTerms derivative Coefficients·new DerivativeTerm·isFinite Derivative·isFinite Coefficients·isFinite
+unfolding add sub mul neg ofBits c1x c2x c3x c4x c5x c1y c2y c3y c4y c5y c1z c2z c3z c4z c5z columnTerms derivative Coefficients·new DerivativeTerm·isFinite
+    Derivative·isFinite Coefficients·isFinite
 computing = tt

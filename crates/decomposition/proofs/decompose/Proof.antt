@@ -32,9 +32,10 @@ refused-requires c κs = search needs
 
 returns : tie.Need-returns Inv-loop μ-loop
 returns c =
-    let l = c .before .before .before .before .before .loop in
-    let rit = c .before .before .before .inverse in
-    c .refused .ensures ∙ sym (inverse-refuses (l .inv) (rit .result) (rw (← c .before .before .before .before .transpose .ensures) (rit .ensures)) _ (c .before .if1 .taken))
+    let c1 = c .before in let c2 = c1 .before in let c3 = c2 .before in let c4 = c3 .before in let c5 = c4 .before in
+    let l = c5 .loop in
+    let rit = c3 .inverse in
+    c .refused .ensures ∙ sym (inverse-refuses (l .inv) (rit .result) (rw (← c4 .transpose .ensures) (rit .ensures)) _ (c1 .if1 .taken))
 
 to-rows-requires : tie.Need-to-rows-requires Inv-loop μ-loop
 to-rows-requires c κs = search needs
@@ -50,13 +51,15 @@ refused-requires-2 c κs = search needs
 
 returns-2 : tie.Need-returns-2 Inv-loop μ-loop
 returns-2 c =
-    let l = c .before .before .before .before .before .before .before .before .before .loop in
-    let rit = c .before .before .before .before .before .before .before .inverse in
-    let rnext = c .before .before .before .mean in
+    let c1 = c .before in let c2 = c1 .before in let c3 = c2 .before in let c4 = c3 .before in let c5 = c4 .before in
+    let c6 = c5 .before in let c7 = c6 .before in let c8 = c7 .before in let c9 = c8 .before in
+    let l = c9 .loop in
+    let rit = c7 .inverse in
+    let rnext = c3 .mean in
     c .refused2 .ensures ∙
     sym
-    (matrix-refuses (l .inv) (rit .result) (rw (← c .before .before .before .before .before .before .before .before .transpose .ensures) (rit .ensures)) (c .before .before .before .before .before .if1 .left)
-    (rnext .result) (rw (← c .before .before .before .before .to-rows .ensures) (rnext .ensures)) _ (sym (c .before .before .is-finite .ensures) ∙ not-true _ (c .before .if2 .taken)))
+    (matrix-refuses (l .inv) (rit .result) (rw (← c8 .transpose .ensures) (rit .ensures)) (c5 .if1 .left)
+    (rnext .result) (rw (← c4 .to-rows .ensures) (rnext .ensures)) _ (sym (c2 .is-finite .ensures) ∙ not-true _ (c1 .if2 .taken)))
 
 distance-requires : tie.Need-distance-requires Inv-loop μ-loop
 distance-requires c κs = search needs
@@ -69,24 +72,30 @@ loop-less c = search needs
 
 loop-again : tie.Need-loop-again Inv-loop μ-loop
 loop-again c =
-    let l = c .before .before .before .before .before .before .before .before .before .before .loop in
-    let rit = c .before .before .before .before .before .before .before .before .inverse in
-    let rnext = c .before .before .before .before .mean in
-    turn-next (l .inv) (rit .result) (rw (← c .before .before .before .before .before .before .before .before .before .transpose .ensures) (rit .ensures)) (c .before .before .before .before .before .before .if1 .left)
-    (rnext .result) (rw (← c .before .before .before .before .before .to-rows .ensures) (rnext .ensures)) (sym (c .before .before .before .is-finite .ensures) ∙ not-false _ (c .before .before .if2 .left)) (rw (c .before .distance .ensures) at (c .if3 .left))
+    let c1 = c .before in let c2 = c1 .before in let c3 = c2 .before in let c4 = c3 .before in let c5 = c4 .before in
+    let c6 = c5 .before in let c7 = c6 .before in let c8 = c7 .before in let c9 = c8 .before in let c10 = c9 .before in
+    let l = c10 .loop in
+    let rit = c8 .inverse in
+    let rnext = c4 .mean in
+    turn-next (l .inv) (rit .result) (rw (← c9 .transpose .ensures) (rit .ensures)) (c6 .if1 .left)
+    (rnext .result) (rw (← c5 .to-rows .ensures) (rnext .ensures))
+    (sym (c3 .is-finite .ensures) ∙ not-false _ (c2 .if2 .left)) (rw (c1 .distance .ensures) at (c .if3 .left))
 
 parts-requires : tie.Need-parts-requires Inv-loop μ-loop
 parts-requires c κs = search needs
 
 returns-3 : tie.Need-returns-3 Inv-loop μ-loop
 returns-3 c =
-    let l = c .before .before .before .before .before .before .before .before .before .before .before .loop in
-    let rit = c .before .before .before .before .before .before .before .before .before .inverse in
-    let rnext = c .before .before .before .before .before .mean in
+    let c1 = c .before in let c2 = c1 .before in let c3 = c2 .before in let c4 = c3 .before in let c5 = c4 .before in let c6 = c5 .before in
+    let c7 = c6 .before in let c8 = c7 .before in let c9 = c8 .before in let c10 = c9 .before in let c11 = c10 .before in
+    let l = c11 .loop in
+    let rit = c9 .inverse in
+    let rnext = c5 .mean in
     c .parts .ensures ∙
     sym
-    (turn-last (l .inv) (rit .result) (rw (← c .before .before .before .before .before .before .before .before .before .before .transpose .ensures) (rit .ensures)) (c .before .before .before .before .before .before .before .if1 .left)
-    (rnext .result) (rw (← c .before .before .before .before .before .before .to-rows .ensures) (rnext .ensures)) (sym (c .before .before .before .before .is-finite .ensures) ∙ not-false _ (c .before .before .before .if2 .left)) _ (rw (c .before .before .distance .ensures) at (c .before .if3 .taken)))
+    (turn-last (l .inv) (rit .result) (rw (← c10 .transpose .ensures) (rit .ensures)) (c7 .if1 .left)
+    (rnext .result) (rw (← c6 .to-rows .ensures) (rnext .ensures))
+    (sym (c4 .is-finite .ensures) ∙ not-false _ (c3 .if2 .left)) _ (rw (c2 .distance .ensures) at (c1 .if3 .taken)))
 
 pub decompose-spec : {M : Type 1} → statement M
 decompose-spec =

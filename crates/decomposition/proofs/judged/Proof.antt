@@ -36,11 +36,15 @@ refused-requires c κs = search needs
 
 returns : tie.Need-returns
 unfolding Decomposition·judged
-returns c = rw (rw (c .before .before .before .before .before .before .is-finite .ensures, c .before .before .before .before .before .is-finite2 .ensures) at (c .before .before .before .before .if1 .taken), c .from-rows .ensures)
+returns c =
+    let c1 = c .before in let c2 = c1 .before in let c3 = c2 .before in let c4 = c3 .before in let c5 = c4 .before in let c6 = c5 .before in
+    rw (rw (c6 .is-finite .ensures, c5 .is-finite2 .ensures) at (c4 .if1 .taken), c .from-rows .ensures)
 
 returns-2 : tie.Need-returns-2
 unfolding Decomposition·judged
-returns-2 c = rw (rw (c .before .before .before .is-finite .ensures, c .before .before .is-finite2 .ensures) at (c .before .if1 .left)) (c .refused .ensures)
+returns-2 c =
+    let c1 = c .before in let c2 = c1 .before in let c3 = c2 .before in
+    rw (rw (c3 .is-finite .ensures, c2 .is-finite2 .ensures) at (c1 .if1 .left)) (c .refused .ensures)
 
 pub judged-spec : {M : Type 1} → statement M
 judged-spec =

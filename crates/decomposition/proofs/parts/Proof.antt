@@ -28,12 +28,16 @@ refused-requires c κs = search needs
 returns : tie.Need-returns
 unfolding parts
 returns c =
-    let rotation : c .before .before .before .quaternion-from-matrix .result ≡ Quaternion·fromMatrix (c .before .before .before .before .before .before .before .args .r) = c .before .before .before .quaternion-from-matrix .ensures in
-    rw (← c .before .before .before .before .before .before .inverse .ensures, eq-eqb _ 0 (c .before .before .before .before .if1 .taken), ← rotation, ← c .before .before .to-rows .ensures, ← c .before .scale-by .ensures) (c .judged .ensures)
+    let c1 = c .before in let c2 = c1 .before in let c3 = c2 .before in let c4 = c3 .before in
+    let c5 = c4 .before in let c6 = c5 .before in let c7 = c6 .before in
+    let rotation : c3 .quaternion-from-matrix .result ≡ Quaternion·fromMatrix (c7 .args .r) = c3 .quaternion-from-matrix .ensures in
+    rw (← c6 .inverse .ensures, eq-eqb _ 0 (c4 .if1 .taken), ← rotation, ← c2 .to-rows .ensures, ← c1 .scale-by .ensures) (c .judged .ensures)
 
 returns-2 : tie.Need-returns-2
 unfolding parts
-returns-2 c = rw (← c .before .before .before .inverse .ensures, ne-eqb _ 0 (c .before .if1 .left)) (c .refused .ensures)
+returns-2 c =
+    let c1 = c .before in let c2 = c1 .before in let c3 = c2 .before in
+    rw (← c3 .inverse .ensures, ne-eqb _ 0 (c1 .if1 .left)) (c .refused .ensures)
 
 pub parts-spec : {M : Type 1} → statement M
 parts-spec =

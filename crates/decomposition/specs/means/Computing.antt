@@ -8,5 +8,6 @@ use Rattle.decomposition.specs.Polar.{judgedRound, polarRound, polar}
 use Rattle.decomposition.specs.Decompose.{Decomposition·judged, scaleBy, parts, finish, Matrix4x4·decompose}
 
 unfoldable pub computing : Unit {0}
-unfolding isNan le maxNum inverse.computing quaternion.computing linearPart mean rowDistance distance judgedRound polarRound polar Decomposition·judged scaleBy parts finish Matrix4x4·decompose
+unfolding isNan le maxNum inverse.computing quaternion.computing linearPart mean rowDistance distance judgedRound polarRound polar Decomposition·judged scaleBy
+    parts finish Matrix4x4·decompose
 computing = tt

@@ -45,7 +45,8 @@ calls t = (
 returns : (t : ℕ) → union-pieces-lts.Need-returns (calls t) (union-pieces-at t) union-pieces.Post
 returns t c =
     let a = c .before .before .args in
-    rw (c .union-piece .ensures) (sym (pieces-whole (pieceBox (a .a) (a .s0) (a .s1) (a .pad0) (a .pad1) (a .b)) (a .r) (a .depth) (a .dt) (c .before .if1 .taken)))
+    rw (c .union-piece .ensures)
+    (sym (pieces-whole (pieceBox (a .a) (a .s0) (a .s1) (a .pad0) (a .pad1) (a .b)) (a .r) (a .depth) (a .dt) (c .before .if1 .taken)))
 
 sub-union-pieces : (t : ℕ) → union-pieces-lts.Need-sub-union-pieces (calls t) (union-pieces-at t) union-pieces.Post
 sub-union-pieces t c = omega arith
@@ -57,7 +58,9 @@ sub-union-pieces-2 : (t : ℕ) → union-pieces-lts.Need-sub-union-pieces-2 (cal
 sub-union-pieces-2 t c = omega arith
 
 union-pieces-requires-2 : (t : ℕ) → union-pieces-lts.Need-union-pieces-requires-2 (calls t) (union-pieces-at t) union-pieces.Post
-union-pieces-requires-2 t c κs = (omega (arith, c .before .before .if1 .left, c .before .before .before .pre .0), tt)
+union-pieces-requires-2 t c κs =
+    let c1 = c .before in let c2 = c1 .before in let c3 = c2 .before in
+    (omega (arith, c2 .if1 .left, c3 .pre .0), tt)
 
 returns-2 : (t : ℕ) → union-pieces-lts.Need-returns-2 (calls t) (union-pieces-at t) union-pieces.Post
 returns-2 t c =

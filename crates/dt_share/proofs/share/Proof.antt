@@ -19,7 +19,8 @@ limited-requires-2 c κs = search needs
 returns : tie.Need-returns
 unfolding share
 returns c =
-    rw (c .limited2 .ensures, c .before .dt2 .ensures, c .before .before .limited .ensures, c .before .before .before .dt .ensures)
+    let c1 = c .before in let c2 = c1 .before in let c3 = c2 .before in
+    rw (c .limited2 .ensures, c1 .dt2 .ensures, c2 .limited .ensures, c3 .dt .ensures)
 
 pub share-spec : {M : Type 1} → statement M
 share-spec =

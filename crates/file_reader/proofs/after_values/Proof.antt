@@ -33,9 +33,11 @@ loop-less c = search needs
 
 loop-again : tie.Need-loop-again Inv-loop μ-loop
 loop-again c =
-    let l = c .before .before .before .before .before .loop in
-    let a = c .before .before .before .before .before .before .before .before .args in
-    let next = rw (l .inv .0) at (c .before .before .values-line .ensures .0) in
+    let c1 = c .before in let c2 = c1 .before in let c3 = c2 .before in let c4 = c3 .before in
+    let c5 = c4 .before in let c6 = c5 .before in let c7 = c6 .before in let c8 = c7 .before in
+    let l = c5 .loop in
+    let a = c8 .args in
+    let next = rw (l .inv .0) at (c2 .values-line .ensures .0) in
     let led = place-next (values (length (a .scratch .now))) (a .s .now) (a .count) (l .i) (l .place) (omega arith) in
     (search needs, (omega arith, rw next (sym led ∙ l .inv .1 .1)))
 
@@ -44,8 +46,9 @@ same-length c = search needs
 
 returns : tie.Need-returns Inv-loop μ-loop
 returns c =
-    let l = c .before .loop in
-    let a = c .before .before .before .before .args in
+    let c1 = c .before in let c2 = c1 .before in let c3 = c2 .before in let c4 = c3 .before in
+    let l = c1 .loop in
+    let a = c4 .args in
     sym (place-end (values (length (a .scratch .now))) (a .s .now) (a .count) (l .i) (l .place) (omega arith)) ∙ l .inv .1 .1
 
 pub after-values-spec : {M : Type 1} → statement M

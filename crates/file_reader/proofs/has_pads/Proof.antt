@@ -34,15 +34,17 @@ is-names-requires c κs = search needs
 returns : tie.Need-returns
 unfolding hasPads ascii
 returns c =
-    let end = c .before .before .before .before in
+    let c1 = c .before in let c2 = c1 .before in let c3 = c2 .before in let c4 = c3 .before in
+    let end = c4 in
     let s = end .before .before .args .s .now in
     rw (split-first lineFeed s .1)
     (c .is-names .ensures ∙ ap (λ (l : List ℕ). fits (names paddedNames) l) (line-slice s 0 (end .line-end .result) (end .line-end .ensures)))
 
 returns-2 : tie.Need-returns-2
 returns-2 c =
-    let s = c .before .before .before .args .s .now in
-    let end : c .before .line-end .result ≡ 0 + position lineFeed s = c .before .line-end .ensures in
+    let c1 = c .before in let c2 = c1 .before in let c3 = c2 .before in
+    let s = c3 .args .s .now in
+    let end : c1 .line-end .result ≡ 0 + position lineFeed s = c1 .line-end .ensures in
     absurd (omega (arith, position-bound lineFeed s, end, c .if1 .left))
 
 pub has-pads-spec : {M : Type 1} → statement M

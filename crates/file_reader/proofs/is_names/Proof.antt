@@ -21,8 +21,9 @@ loop-holds c = (omega arith, omega arith, refl)
 returns : tie.Need-returns Inv-loop μ-loop
 unfolding fits
 returns c =
-    let a = c .before .before .before .before .before .args in
-    let l = c .before .before .loop in
+    let c1 = c .before in let c2 = c1 .before in let c3 = c2 .before in let c4 = c3 .before in let c5 = c4 .before in
+    let a = c5 .args in
+    let l = c2 .loop in
     sym (l .inv .2 ∙ names-short (a .line .now) (a .text .now) (l .at) (l .i) (omega arith) (omega arith))
 
 shared-slice-read-if2 : tie.Need-shared-slice-read-if2 Inv-loop μ-loop
@@ -34,8 +35,10 @@ shared-slice-read-if2-2 c = search needs
 returns-2 : tie.Need-returns-2 Inv-loop μ-loop
 unfolding fits
 returns-2 c =
-    let a = c .before .before .before .before .before .before .before .before .args in
-    let l = c .before .before .before .before .before .loop in
+    let c1 = c .before in let c2 = c1 .before in let c3 = c2 .before in let c4 = c3 .before in
+    let c5 = c4 .before in let c6 = c5 .before in let c7 = c6 .before in let c8 = c7 .before in
+    let a = c8 .args in
+    let l = c5 .loop in
     sym (l .inv .2 ∙ names-differ (a .line .now) (a .text .now) (l .at) (l .i) (omega arith) (omega arith) (c .if2 .taken))
 
 next-byte-requires : tie.Need-next-byte-requires Inv-loop μ-loop
@@ -49,18 +52,21 @@ loop-less c = search needs
 
 loop-again : tie.Need-loop-again Inv-loop μ-loop
 loop-again c =
-    let a = c .before .before .before .before .before .before .before .before .before .args in
-    let l = c .before .before .before .before .before .before .loop in (
+    let c1 = c .before in let c2 = c1 .before in let c3 = c2 .before in let c4 = c3 .before in let c5 = c4 .before in
+    let c6 = c5 .before in let c7 = c6 .before in let c8 = c7 .before in let c9 = c8 .before in
+    let a = c9 .args in
+    let l = c6 .loop in (
       c .next-byte .ensures .within,
       omega arith,
-      l .inv .2 ∙ names-same (a .line .now) (a .text .now) (l .at) (l .i) _ (c .next-byte .ensures) (omega arith) (c .before .if2 .left),
+      l .inv .2 ∙ names-same (a .line .now) (a .text .now) (l .at) (l .i) _ (c .next-byte .ensures) (omega arith) (c1 .if2 .left),
     )
 
 returns-3 : tie.Need-returns-3 Inv-loop μ-loop
 unfolding fits
 returns-3 c =
-    let a = c .before .before .before .before .args in
-    let l = c .before .loop in
+    let c1 = c .before in let c2 = c1 .before in let c3 = c2 .before in let c4 = c3 .before in
+    let a = c4 .args in
+    let l = c1 .loop in
     sym (l .inv .2 ∙ names-end (a .line .now) (a .text .now) (l .at) (l .i) (l .inv .0) (omega arith))
 
 pub is-names-spec : {M : Type 1} → statement M

@@ -20,8 +20,9 @@ read-columns-requires c κs = (omega arith, omega arith)
 returns : tie.Need-returns
 unfolding ascii
 returns c =
-    let test = c .before .before .before in
-    let start = test .before .before .before in
+    let c1 = c .before in let c2 = c1 .before in let c3 = c2 .before in let c4 = c3 .before in let c5 = c4 .before in let c6 = c5 .before in
+    let test = c3 in
+    let start = c6 in
     told true (start .args .bytes .now) (start .args .poses .now) _ _ (sym (test .before .has-pads .ensures) ∙ test .if1 .taken) (c .read-columns .ensures)
 
 slice-aggregate-read-columns-2 : tie.Need-slice-aggregate-read-columns-2
@@ -33,8 +34,9 @@ read-columns-requires-2 c κs = (omega arith, omega arith)
 returns-2 : tie.Need-returns-2
 unfolding ascii
 returns-2 c =
-    let test = c .before .before .before in
-    let start = test .before .before .before in
+    let c1 = c .before in let c2 = c1 .before in let c3 = c2 .before in let c4 = c3 .before in let c5 = c4 .before in let c6 = c5 .before in
+    let test = c3 in
+    let start = c6 in
     told false (start .args .bytes .now) (start .args .poses .now) _ _ (sym (test .before .has-pads .ensures) ∙ test .if1 .left) (c .read-columns2 .ensures)
 
 pub read-spec : {M : Type 1} → statement M

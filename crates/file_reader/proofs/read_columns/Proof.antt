@@ -18,7 +18,8 @@ departs-requires c κs = search needs
 
 returns : tie.Need-returns
 returns c =
-    let a = c .before .before .before .before .args in
+    let c1 = c .before in let c2 = c1 .before in let c3 = c2 .before in let c4 = c3 .before in
+    let a = c4 .args in
     rw (c .departs .ensures) (file-long (a .text .now) (a .columns) (a .bytes .now) (a .poses .now) (omega arith))
 
 pose-lines-requires : tie.Need-pose-lines-requires
@@ -32,12 +33,14 @@ array-borrow-prefix-pose c = search needs
 
 slice-aggregate-after-values : tie.Need-slice-aggregate-after-values
 slice-aggregate-after-values c =
-    let start = c .before .before .before .before .before .before in
+    let c1 = c .before in let c2 = c1 .before in let c3 = c2 .before in let c4 = c3 .before in let c5 = c4 .before in let c6 = c5 .before in
+    let start = c6 in
     sym (length-take-le (start .args .columns) _ (start .pre .1))
 
 after-values-requires : tie.Need-after-values-requires
 after-values-requires c κs =
-    let start = c .before .before .before .before .before .before in
+    let c1 = c .before in let c2 = c1 .before in let c3 = c2 .before in let c4 = c3 .before in let c5 = c4 .before in let c6 = c5 .before in
+    let start = c6 in
     let n = length-take-le (start .args .columns) (replicate 14 (ofBits binary32 0)) (start .pre .1) in
     (omega arith, omega (arith, n, start .pre .0))
 
@@ -59,12 +62,15 @@ departs-requires-2 c κs = search needs
 returns-2 : tie.Need-returns-2
 unfolding ascii
 returns-2 c =
-    let end = c .before .before .before in
+    let c1 = c .before in let c2 = c1 .before in let c3 = c2 .before in let c4 = c3 .before in let c5 = c4 .before in
+    let c6 = c5 .before in let c7 = c6 .before in let c8 = c7 .before in let c9 = c8 .before in let c10 = c9 .before in
+    let c11 = c10 .before in let c12 = c11 .before in let c13 = c12 .before in let c14 = c13 .before in let c15 = c14 .before in
+    let end = c3 in
     let values = end .before .before in
-    let behind = values .before .before .before in
+    let behind = c8 in
     let first = behind .before .before in
     let count = first .before in
-    let start = count .before .before .before .before in
+    let start = c15 in
     let s = start .args .bytes .now in
     let (least, most) = start .pre in
     let size : length s ≤ maxBytes = omega (arith, count .before .if1 .left) in
@@ -74,24 +80,27 @@ returns-2 c =
     rw (c .departs2 .ensures)
     (file-departs (start .args .text .now) (start .args .columns) least s size _ _ _ _ _ (count .pose-lines .ensures) (first .names-line .ensures) led
     (values .names-line2 .ensures) (end .values-line .ensures .0)
-    (start .args .poses .now) (c .before .if2 .taken))
+    (start .args .poses .now) (c1 .if2 .taken))
 
 with-poses-requires : tie.Need-with-poses-requires
 unfolding ascii
 with-poses-requires c κs =
-    let end = c .before .before .before in
+    let c1 = c .before in let c2 = c1 .before in let c3 = c2 .before in let c4 = c3 .before in let c5 = c4 .before in
+    let c6 = c5 .before in let c7 = c6 .before in let c8 = c7 .before in let c9 = c8 .before in let c10 = c9 .before in
+    let c11 = c10 .before in let c12 = c11 .before in let c13 = c12 .before in let c14 = c13 .before in let c15 = c14 .before in
+    let end = c3 in
     let values = end .before .before in
-    let behind = values .before .before .before in
+    let behind = c8 in
     let first = behind .before .before in
     let count = first .before in
-    let start = count .before .before .before .before in
+    let start = c15 in
     let s = start .args .bytes .now in
     let (least, most) = start .pre in
     let size : length s ≤ maxBytes = omega (arith, count .before .if1 .left) in
     let part = length-take-le (start .args .columns) (replicate 14 (ofBits binary32 0)) most in
     let led = subst (λ (n : ℕ). behind .after-values .result ≡ through (replicate (count .pose-lines .result) (values′ n)) s (first .names-line .result)) part
     (behind .after-values .ensures) in
-    let whole = c .before .if2 .left in (
+    let whole = c1 .if2 .left in (
       size,
       (
         file-room (start .args .text .now) (start .args .columns) least s size _ _ _ _ _ (count .pose-lines .ensures) (first .names-line .ensures) led
@@ -110,12 +119,15 @@ with-poses-requires c κs =
 returns-3 : tie.Need-returns-3
 unfolding ascii
 returns-3 c =
-    let end = c .before .before .before .before in
+    let c1 = c .before in let c2 = c1 .before in let c3 = c2 .before in let c4 = c3 .before in let c5 = c4 .before in let c6 = c5 .before in
+    let c7 = c6 .before in let c8 = c7 .before in let c9 = c8 .before in let c10 = c9 .before in let c11 = c10 .before in
+    let c12 = c11 .before in let c13 = c12 .before in let c14 = c13 .before in let c15 = c14 .before in let c16 = c15 .before in
+    let end = c4 in
     let values = end .before .before in
-    let behind = values .before .before .before in
+    let behind = c9 in
     let first = behind .before .before in
     let count = first .before in
-    let start = count .before .before .before .before in
+    let start = c16 in
     let s = start .args .bytes .now in
     let (least, most) = start .pre in
     let size : length s ≤ maxBytes = omega (arith, count .before .if1 .left) in
@@ -123,7 +135,7 @@ returns-3 c =
     let led = subst (λ (n : ℕ). behind .after-values .result ≡ through (replicate (count .pose-lines .result) (values′ n)) s (first .names-line .result)) part
     (behind .after-values .ensures) in
     file-contents (start .args .text .now) (start .args .columns) least s size _ _ _ _ _ (count .pose-lines .ensures) (first .names-line .ensures) led
-    (values .names-line2 .ensures) (end .values-line .ensures .0) (c .before .before .if2 .left)
+    (values .names-line2 .ensures) (end .values-line .ensures .0) (c2 .if2 .left)
     (start .args .poses .now) _ _ (c .with-poses .ensures) (end .values-line .ensures .1)
 
 pub read-columns-spec : {M : Type 1} → statement M

@@ -1,5 +1,5 @@
--- `read_values` reads a line of values. The invariant: k of them stand in `out`, and the line is as many as `out` has places exactly where the words from `at` on are
--- the values that are left.
+-- `read_values` reads a line of values. The invariant: k of them stand in `out`, and the line is
+-- as many as `out` has places exactly where the words from `at` on are the values that are left.
 use Prim.Native.Nat.{_+_, _-_}
 use native.Mathlib.Omega.{arith}
 use mathlib.Core.Path.{_≡_, refl, sym, _∙_}
@@ -45,17 +45,20 @@ same-length c = search needs
 returns : tie.Need-returns Inv-loop μ-loop
 unfolding fits
 returns c =
-    let l = c .before .before .before .loop in
-    let line = c .before .before .before .before .before .before .args .line .now in
-    let e = sym (c .before .before .read-word .ensures) ∙ c .enum-told .given .1 in
+    let c1 = c .before in let c2 = c1 .before in let c3 = c2 .before in let c4 = c3 .before in let c5 = c4 .before in let c6 = c5 .before in
+    let l = c3 .loop in
+    let line = c6 .args .line .now in
+    let e = sym (c2 .read-word .ensures) ∙ c .enum-told .given .1 in
     (sym (rw (l .inv .0) at (read-malformed line (l .out) (l .at) (l .k) (l .inv .1) e)), λ t. absurd (false≢true t))
 
 add-at : tie.Need-add-at Inv-loop μ-loop
 add-at c =
-    let l = c .before .before .before .before .before .loop in
-    let line = c .before .before .before .before .before .before .before .before .args .line .now in
-    let bits = c .before .before .bits .given in
-    let e = sym (c .before .before .before .before .read-word .ensures) ∙ bits .1 in
+    let c1 = c .before in let c2 = c1 .before in let c3 = c2 .before in let c4 = c3 .before in
+    let c5 = c4 .before in let c6 = c5 .before in let c7 = c6 .before in let c8 = c7 .before in
+    let l = c5 .loop in
+    let line = c8 .args .line .now in
+    let bits = c2 .bits .given in
+    let e = sym (c4 .read-word .ensures) ∙ bits .1 in
     omega (arith, bits-inside line (l .at) (bits .0 .0) e)
 
 add-k : tie.Need-add-k Inv-loop μ-loop
@@ -67,14 +70,16 @@ same-length-2 c = search needs
 returns-2 : tie.Need-returns-2 Inv-loop μ-loop
 unfolding fits valuesOf
 returns-2 c =
-    let l = c .before .before .before .before .before .before .loop in
-    let line = c .before .before .before .before .before .before .before .before .before .args .line .now in
-    let bits = c .before .before .before .bits .given in
-    let e = sym (c .before .before .before .before .before .read-word .ensures) ∙ bits .1 in
-    let size = length-set (l .out) (l .k) (c .before .float-of-bits .result) in
+    let c1 = c .before in let c2 = c1 .before in let c3 = c2 .before in let c4 = c3 .before in let c5 = c4 .before in
+    let c6 = c5 .before in let c7 = c6 .before in let c8 = c7 .before in let c9 = c8 .before in
+    let l = c6 .loop in
+    let line = c9 .args .line .now in
+    let bits = c3 .bits .given in
+    let e = sym (c5 .read-word .ensures) ∙ bits .1 in
+    let size = length-set (l .out) (l .k) (c1 .float-of-bits .result) in
     let full : l .k + 1 ≡ length (l .out) = omega (arith, size, l .inv .0, c .if1 .taken) in (
       sym (rw (l .inv .0) at (read-final line (l .out) (l .at) (l .k) (l .inv .1) (bits .0 .0) e full)),
-      λ t. read-filled line (l .out) (l .at) (l .k) (l .inv .1) (bits .0 .0) e _ (c .before .float-of-bits .ensures) full t,
+      λ t. read-filled line (l .out) (l .at) (l .k) (l .inv .1) (bits .0 .0) e _ (c1 .float-of-bits .ensures) full t,
     )
 
 same-length-3 : tie.Need-same-length-3 Inv-loop μ-loop
@@ -83,12 +88,14 @@ same-length-3 c = search needs
 returns-3 : tie.Need-returns-3 Inv-loop μ-loop
 unfolding fits
 returns-3 c =
-    let l = c .before .before .before .before .before .before .before .loop in
-    let line = c .before .before .before .before .before .before .before .before .before .before .args .line .now in
-    let bits = c .before .before .before .before .bits .given in
-    let e = sym (c .before .before .before .before .before .before .read-word .ensures) ∙ bits .1 in
-    let size = length-set (l .out) (l .k) (c .before .before .float-of-bits .result) in
-    let more : l .k + 1 ≡ length (l .out) → ⊥ = omega (arith, size, l .inv .0, c .before .if1 .left) in (
+    let c1 = c .before in let c2 = c1 .before in let c3 = c2 .before in let c4 = c3 .before in let c5 = c4 .before in
+    let c6 = c5 .before in let c7 = c6 .before in let c8 = c7 .before in let c9 = c8 .before in let c10 = c9 .before in
+    let l = c7 .loop in
+    let line = c10 .args .line .now in
+    let bits = c4 .bits .given in
+    let e = sym (c6 .read-word .ensures) ∙ bits .1 in
+    let size = length-set (l .out) (l .k) (c2 .float-of-bits .result) in
+    let more : l .k + 1 ≡ length (l .out) → ⊥ = omega (arith, size, l .inv .0, c1 .if1 .left) in (
       sym (rw (l .inv .0) at (read-short line (l .out) (l .at) (l .k) (l .inv .1) (bits .0 .0) e more (c .if2 .taken))),
       λ t. absurd (false≢true t),
     )
@@ -102,11 +109,13 @@ same-length-4 c = search needs
 returns-4 : tie.Need-returns-4 Inv-loop μ-loop
 unfolding fits
 returns-4 c =
-    let l = c .before .before .before .before .before .before .before .before .before .loop in
-    let line = c .before .before .before .before .before .before .before .before .before .before .before .before .args .line .now in
-    let bits = c .before .before .before .before .before .before .bits .given in
-    let e = sym (c .before .before .before .before .before .before .before .before .read-word .ensures) ∙ bits .1 in (
-      sym (rw (l .inv .0) at (read-unspaced line (l .out) (l .at) (l .k) (l .inv .1) (bits .0 .0) e (c .before .before .if2 .left) (c .if3 .taken))),
+    let c1 = c .before in let c2 = c1 .before in let c3 = c2 .before in let c4 = c3 .before in let c5 = c4 .before in let c6 = c5 .before in
+    let c7 = c6 .before in let c8 = c7 .before in let c9 = c8 .before in let c10 = c9 .before in let c11 = c10 .before in let c12 = c11 .before in
+    let l = c9 .loop in
+    let line = c12 .args .line .now in
+    let bits = c6 .bits .given in
+    let e = sym (c8 .read-word .ensures) ∙ bits .1 in (
+      sym (rw (l .inv .0) at (read-unspaced line (l .out) (l .at) (l .k) (l .inv .1) (bits .0 .0) e (c2 .if2 .left) (c .if3 .taken))),
       λ t. absurd (false≢true t),
     )
 
@@ -118,16 +127,19 @@ loop-less c = search needs
 
 loop-again : tie.Need-loop-again Inv-loop μ-loop
 loop-again c =
-    let l = c .before .before .before .before .before .before .before .before .before .before .loop in
-    let line = c .before .before .before .before .before .before .before .before .before .before .before .before .before .args .line .now in
-    let bits = c .before .before .before .before .before .before .before .bits .given in
-    let e = sym (c .before .before .before .before .before .before .before .before .before .read-word .ensures) ∙ bits .1 in
-    let value = c .before .before .before .before .before .float-of-bits in
+    let c1 = c .before in let c2 = c1 .before in let c3 = c2 .before in let c4 = c3 .before in let c5 = c4 .before in
+    let c6 = c5 .before in let c7 = c6 .before in let c8 = c7 .before in let c9 = c8 .before in
+    let c10 = c9 .before in let c11 = c10 .before in let c12 = c11 .before in let c13 = c12 .before in
+    let l = c10 .loop in
+    let line = c13 .args .line .now in
+    let bits = c7 .bits .given in
+    let e = sym (c9 .read-word .ensures) ∙ bits .1 in
+    let value = c5 .float-of-bits in
     let size = length-set (l .out) (l .k) (value .result) in
-    let more : l .k + 1 ≡ length (l .out) → ⊥ = omega (arith, size, l .inv .0, c .before .before .before .before .if1 .left) in (
+    let more : l .k + 1 ≡ length (l .out) → ⊥ = omega (arith, size, l .inv .0, c4 .if1 .left) in (
       size ∙ l .inv .0,
-      read-more line (l .out) (l .at) (l .k) (l .inv .1) (bits .0 .0) e _ (value .ensures) _ more (c .before .before .before .if2 .left)
-          (c .before .if3 .left)
+      read-more line (l .out) (l .at) (l .k) (l .inv .1) (bits .0 .0) e _ (value .ensures) _ more (c3 .if2 .left)
+          (c1 .if3 .left)
           (c .next-byte .ensures),
     )
 

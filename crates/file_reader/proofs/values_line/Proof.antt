@@ -31,12 +31,14 @@ same-length c = search needs
 
 returns : tie.Need-returns
 returns c =
-    let a = c .before .before .before .before .before .before .before .before .before .before .before .args in
-    let end = c .before .before .before .before .before .before .before .before .line-end in
-    let read = c .before .before .before .before .read-values in (
+    let c1 = c .before in let c2 = c1 .before in let c3 = c2 .before in let c4 = c3 .before in let c5 = c4 .before in let c6 = c5 .before in
+    let c7 = c6 .before in let c8 = c7 .before in let c9 = c8 .before in let c10 = c9 .before in let c11 = c10 .before in
+    let a = c11 .args in
+    let end = c8 .line-end in
+    let read = c4 .read-values in (
       c .after-line-feed .ensures
-          ∙ after-fits (values (length (a .out .now))) (a .s .now) (a .at) (end .result) (end .ensures) (sym (read .ensures .0) ∙ c .before .if2 .taken),
-      λ h. read .ensures .1 (c .before .if2 .taken) ∙ ap valuesOf (line-slice (a .s .now) (a .at) (end .result) (end .ensures)),
+          ∙ after-fits (values (length (a .out .now))) (a .s .now) (a .at) (end .result) (end .ensures) (sym (read .ensures .0) ∙ c1 .if2 .taken),
+      λ h. read .ensures .1 (c1 .if2 .taken) ∙ ap valuesOf (line-slice (a .s .now) (a .at) (end .result) (end .ensures)),
     )
 
 same-length-2 : tie.Need-same-length-2
@@ -44,17 +46,20 @@ same-length-2 c = search needs
 
 returns-2 : tie.Need-returns-2
 returns-2 c =
-    let a = c .before .before .before .before .before .before .before .before .before .before .args in
-    let end = c .before .before .before .before .before .before .before .line-end in (
+    let c1 = c .before in let c2 = c1 .before in let c3 = c2 .before in let c4 = c3 .before in let c5 = c4 .before in
+    let c6 = c5 .before in let c7 = c6 .before in let c8 = c7 .before in let c9 = c8 .before in let c10 = c9 .before in
+    let a = c10 .args in
+    let end = c7 .line-end in (
       after-unfit (values (length (a .out .now))) (a .s .now) (a .at) (end .result) (end .ensures)
-          (sym (c .before .before .before .read-values .ensures .0) ∙ c .if2 .left),
+          (sym (c3 .read-values .ensures .0) ∙ c .if2 .left),
       λ h. absurd (omega arith),
     )
 
 returns-3 : tie.Need-returns-3
 returns-3 c =
-    let a = c .before .before .before .before .args in
-    let end = c .before .line-end in (
+    let c1 = c .before in let c2 = c1 .before in let c3 = c2 .before in let c4 = c3 .before in
+    let a = c4 .args in
+    let end = c1 .line-end in (
       after-unended (values (length (a .out .now))) (a .s .now) (a .at) (end .result) (end .ensures) (omega arith),
       λ h. absurd (omega arith),
     )

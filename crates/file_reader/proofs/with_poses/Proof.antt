@@ -20,7 +20,8 @@ abbrev Inv-loop : tie.InvT-loop
 Inv-loop s at count columns filled₀ place₀ i₀ filled place i =
     (i ≤ count)
     × ((placeFrom (values columns) s count i place ≤ length s)
-    × (sets filled i (map poseOf (linesFrom (values columns) s count i place)) ≡ sets filled₀ 0 (map poseOf (linesThrough (replicate count (values columns)) s at))))
+    × (sets filled i (map poseOf (linesFrom (values columns) s count i place))
+    ≡ sets filled₀ 0 (map poseOf (linesThrough (replicate count (values columns)) s at))))
 
 abbrev μ-loop : tie.MeasureT-loop
 μ-loop s at count columns filled₀ place₀ i₀ filled place i = count - i
@@ -35,12 +36,14 @@ array-borrow-prefix-line c = search needs
 
 slice-aggregate-values-line : tie.Need-slice-aggregate-values-line Inv-loop μ-loop
 slice-aggregate-values-line c =
-    let start = c .before .before .before .before in
+    let c1 = c .before in let c2 = c1 .before in let c3 = c2 .before in let c4 = c3 .before in
+    let start = c4 in
     sym (length-take-le (start .args .columns) _ (start .pre .1 .1 .1 .0))
 
 values-line-requires : tie.Need-values-line-requires Inv-loop μ-loop
 values-line-requires c κs =
-    let start = c .before .before .before .before in
+    let c1 = c .before in let c2 = c1 .before in let c3 = c2 .before in let c4 = c3 .before in
+    let start = c4 in
     let n = length-take-le (start .args .columns) (replicate 14 (ofBits binary32 0)) (start .pre .1 .1 .1 .0) in
     (omega arith, omega (arith, n, start .pre .1 .1 .0))
 
@@ -61,11 +64,13 @@ loop-less c = search needs
 
 loop-again : tie.Need-loop-again Inv-loop μ-loop
 loop-again c =
-    let l = c .before .before .before .before .before .loop in
-    let start = c .before .before .before .before .before .before .before in
+    let c1 = c .before in let c2 = c1 .before in let c3 = c2 .before in let c4 = c3 .before in
+    let c5 = c4 .before in let c6 = c5 .before in let c7 = c6 .before in
+    let l = c5 .loop in
+    let start = c7 in
     let a = start .args in
     let s = a .s .now in
-    let line = c .before .before .values-line in
+    let line = c2 .values-line in
     let kind = values (a .columns) in
     let least = start .pre .1 .1 .0 in
     let most = start .pre .1 .1 .1 .0 in
@@ -83,9 +88,10 @@ loop-again c =
 
 returns : tie.Need-returns Inv-loop μ-loop
 returns c =
-    let l = c .before .loop in
-    let a = c .before .before .before .args in
-    let places = c .before .before .before .good .1 .1 .1 .1 .0 .1 .0 .1 in
+    let c1 = c .before in let c2 = c1 .before in let c3 = c2 .before in
+    let l = c1 .loop in
+    let a = c3 .args in
+    let places = c3 .good .1 .1 .1 .1 .0 .1 .0 .1 in
     rw (lines-from-end (values (a .columns)) (a .s .now) (a .count) (l .i) (l .place) (omega arith)) at (l .inv .1 .1)
     ∙ poses-put (a .columns) (a .s .now) (a .count) (a .at) (a .poses) (omega (arith, places))
 

@@ -20,21 +20,27 @@ same-length c = search needs
 
 returns : tie.Need-returns
 returns c =
-    let refused = c .before .before .before .before in
+    let c1 = c .before in let c2 = c1 .before in let c3 = c2 .before in let c4 = c3 .before in let c5 = c4 .before in
+    let c6 = c5 .before in let c7 = c6 .before in let c8 = c7 .before in let c9 = c8 .before in let c10 = c9 .before in
+    let refused = c4 in
     let read = refused .before .before in
-    let bytes = read .before .before .before .before .args .bytes .now in
-    rw (file-refused bytes (read .read .result) (read .read .ensures .0) (refused .if1 .taken)) (c .before .before .write-refusal .ensures)
+    let bytes = c10 .args .bytes .now in
+    rw (file-refused bytes (read .read .result) (read .read .ensures .0) (refused .if1 .taken)) (c2 .write-refusal .ensures)
 
 array-share-prefix-poses : tie.Need-array-share-prefix-poses
 array-share-prefix-poses c =
-    let read = c .before .before .before .read in
-    let bytes = c .before .before .before .before .before .before .before .args .bytes .now in
+    let c1 = c .before in let c2 = c1 .before in let c3 = c2 .before in let c4 = c3 .before in
+    let c5 = c4 .before in let c6 = c5 .before in let c7 = c6 .before in
+    let read = c3 .read in
+    let bytes = c7 .args .bytes .now in
     omega (arith, read .ensures .1 .1, poses-room (MoveFile·poses bytes) _ (read .ensures .1 .0))
 
 slice-aggregate-write-poses : tie.Need-slice-aggregate-write-poses
 slice-aggregate-write-poses c =
-    let read = c .before .before .before .before .read in
-    let room = poses-room (MoveFile·poses (c .before .before .before .before .before .before .before .before .args .bytes .now)) _ (read .ensures .1 .0) in
+    let c1 = c .before in let c2 = c1 .before in let c3 = c2 .before in let c4 = c3 .before in
+    let c5 = c4 .before in let c6 = c5 .before in let c7 = c6 .before in let c8 = c7 .before in
+    let read = c4 .read in
+    let room = poses-room (MoveFile·poses (c8 .args .bytes .now)) _ (read .ensures .1 .0) in
     sym (length-take-le _ _ (omega (arith, read .ensures .1 .1, room)))
 
 bounds-requires : tie.Need-bounds-requires
@@ -48,12 +54,16 @@ same-length-2 c = search needs
 
 returns-2 : tie.Need-returns-2
 returns-2 c =
-    let bounds = c .before .before .before .before in
-    let accepted = bounds .before .before .before .before in
+    let c1 = c .before in let c2 = c1 .before in let c3 = c2 .before in let c4 = c3 .before in let c5 = c4 .before in
+    let c6 = c5 .before in let c7 = c6 .before in let c8 = c7 .before in let c9 = c8 .before in let c10 = c9 .before in
+    let c11 = c10 .before in let c12 = c11 .before in let c13 = c12 .before in let c14 = c13 .before in
+    let bounds = c4 in
+    let accepted = c8 in
     let read = accepted .before .before in
-    let bytes = read .before .before .before .before .args .bytes .now in
-    rw (file-printed bytes (read .read .result) (read .read .ensures .0) _ _ (bounds .bounds .result) (accepted .if1 .left) (read .read .ensures .1 .0) (bounds .bounds .ensures))
-    (c .before .before .write-poses .ensures)
+    let bytes = c14 .args .bytes .now in
+    rw (file-printed bytes (read .read .result) (read .read .ensures .0) _ _ (bounds .bounds .result)
+    (accepted .if1 .left) (read .read .ensures .1 .0) (bounds .bounds .ensures))
+    (c2 .write-poses .ensures)
 
 pub rewrite-spec : {M : Type 1} → statement M
 rewrite-spec =

@@ -16,10 +16,11 @@ same-length c = search needs
 
 returns : tie.Need-returns
 returns c =
-    let judged = c .before .before .before .before .before in
+    let c1 = c .before in let c2 = c1 .before in let c3 = c2 .before in let c4 = c3 .before in let c5 = c4 .before in
+    let judged = c5 in
     let a = judged .before .before .args in
-    let some = c .before .before .before .before .if1 .taken in
-    rw (box-printed (a .b) (Moves·text (a .moves .now) (a .b)) (judged .refusal .ensures) some) (c .before .before .write-refusal .ensures)
+    let some = c4 .if1 .taken in
+    rw (box-printed (a .b) (Moves·text (a .moves .now) (a .b)) (judged .refusal .ensures) some) (c2 .write-refusal .ensures)
 
 write-requires : tie.Need-write-requires
 write-requires c κs = search needs
@@ -29,11 +30,12 @@ same-length-2 c = search needs
 
 returns-2 : tie.Need-returns-2
 returns-2 c =
-    let judged = c .before .before .before .before .before in
+    let c1 = c .before in let c2 = c1 .before in let c3 = c2 .before in let c4 = c3 .before in let c5 = c4 .before in
+    let judged = c5 in
     let entry = judged .before .before in
     let a = entry .args in
-    let write = c .before .before .write in
-    text-printed (a .moves .now) (a .b) (a .out .now) _ _ _ (entry .pre) (judged .refusal .ensures) (c .before .before .before .before .if1 .left) (write .ensures .1 .0)
+    let write = c2 .write in
+    text-printed (a .moves .now) (a .b) (a .out .now) _ _ _ (entry .pre) (judged .refusal .ensures) (c4 .if1 .left) (write .ensures .1 .0)
     (write .ensures .1 .1 .0)
 
 pub write-moves-spec : {M : Type 1} → statement M

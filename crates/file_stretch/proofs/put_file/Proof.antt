@@ -21,27 +21,34 @@ same-length c = search needs
 
 returns : tie.Need-returns
 returns c =
-    let read = c .before .before .before .before .before .before .read in
-    let start = c .before .before .before .before .before .before .before .before .before .before in
-    let write = c .before .before .write-refusal in
-    rw (file-refused (start .args .bytes .now) (read .result) (read .ensures .0) (c .before .before .before .before .if1 .taken))
+    let c1 = c .before in let c2 = c1 .before in let c3 = c2 .before in let c4 = c3 .before in let c5 = c4 .before in
+    let c6 = c5 .before in let c7 = c6 .before in let c8 = c7 .before in let c9 = c8 .before in let c10 = c9 .before in
+    let read = c6 .read in
+    let start = c10 in
+    let write = c2 .write-refusal in
+    rw (file-refused (start .args .bytes .now) (read .result) (read .ensures .0) (c4 .if1 .taken))
     (refusal-put (read .result .refusal) (start .args .out .now) _ _ (start .pre) (write .ensures .0) (write .ensures .1 .0))
 
 array-share-prefix-poses : tie.Need-array-share-prefix-poses
 array-share-prefix-poses c =
-    let read = c .before .before .read in
-    omega (arith, read .ensures .1 .1, poses-room (MoveFile·poses (c .before .before .before .before .before .before .args .bytes .now)) _ (read .ensures .1 .0))
+    let c1 = c .before in let c2 = c1 .before in let c3 = c2 .before in let c4 = c3 .before in let c5 = c4 .before in let c6 = c5 .before in
+    let read = c2 .read in
+    omega (arith, read .ensures .1 .1, poses-room (MoveFile·poses (c6 .args .bytes .now)) _ (read .ensures .1 .0))
 
 slice-aggregate-put-poses : tie.Need-slice-aggregate-put-poses
 slice-aggregate-put-poses c =
-    let read = c .before .before .before .read in
-    let room = poses-room (MoveFile·poses (c .before .before .before .before .before .before .before .args .bytes .now)) _ (read .ensures .1 .0) in
+    let c1 = c .before in let c2 = c1 .before in let c3 = c2 .before in let c4 = c3 .before in
+    let c5 = c4 .before in let c6 = c5 .before in let c7 = c6 .before in
+    let read = c3 .read in
+    let room = poses-room (MoveFile·poses (c7 .args .bytes .now)) _ (read .ensures .1 .0) in
     sym (length-take-le _ _ (omega (arith, read .ensures .1 .1, room)))
 
 put-poses-requires : tie.Need-put-poses-requires
 put-poses-requires c κs =
-    let read = c .before .before .before .before .read in
-    let start = c .before .before .before .before .before .before .before .before in
+    let c1 = c .before in let c2 = c1 .before in let c3 = c2 .before in let c4 = c3 .before in
+    let c5 = c4 .before in let c6 = c5 .before in let c7 = c6 .before in let c8 = c7 .before in
+    let read = c4 .read in
+    let start = c8 in
     (le-trans (taken-length (read .result .count) _) (read .ensures .1 .1), start .pre)
 
 same-length-2 : tie.Need-same-length-2
@@ -49,8 +56,10 @@ same-length-2 c = search needs
 
 returns-2 : tie.Need-returns-2
 returns-2 c =
-    let read = c .before .before .before .before .before .before .before .read in
-    rw (file-printed (c .before .before .before .before .before .before .before .before .before .before .before .args .bytes .now) (read .result) (read .ensures .0) _ _ (c .before .before .before .before .before .if1 .left) (read .ensures .1 .0)) (c .before .before .put-poses .ensures)
+    let c1 = c .before in let c2 = c1 .before in let c3 = c2 .before in let c4 = c3 .before in let c5 = c4 .before in let c6 = c5 .before in
+    let c7 = c6 .before in let c8 = c7 .before in let c9 = c8 .before in let c10 = c9 .before in let c11 = c10 .before in
+    let read = c7 .read in
+    rw (file-printed (c11 .args .bytes .now) (read .result) (read .ensures .0) _ _ (c5 .if1 .left) (read .ensures .1 .0)) (c2 .put-poses .ensures)
 
 pub put-file-spec : {M : Type 1} → statement M
 put-file-spec =

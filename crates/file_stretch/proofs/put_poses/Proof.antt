@@ -17,17 +17,20 @@ shortest-run-requires c κs = search needs
 
 put-run-requires : tie.Need-put-run-requires
 put-run-requires c κs =
-    let start = c .before .before .before .before in
+    let c1 = c .before in let c2 = c1 .before in let c3 = c2 .before in let c4 = c3 .before in
+    let start = c4 in
     let lists = start .args .poses .now in
-    (rw (c .before .shortest-run .ensures .0) (omega (arith, run-within false (Poses·ofLists lists), poses-length lists, start .pre .0)), start .pre .1)
+    (rw (c1 .shortest-run .ensures .0) (omega (arith, run-within false (Poses·ofLists lists), poses-length lists, start .pre .0)), start .pre .1)
 
 same-length : tie.Need-same-length
 same-length c = search needs
 
 returns : tie.Need-returns
 returns c =
-    let poses = Poses·ofLists (c .before .before .before .before .before .before .before .args .poses .now) in
-    rw (poses-printed poses _ _ (c .before .before .before .before .before .number .ensures) (c .before .before .before .before .shortest-run .ensures .0)) (c .before .before .put-run .ensures)
+    let c1 = c .before in let c2 = c1 .before in let c3 = c2 .before in let c4 = c3 .before in
+    let c5 = c4 .before in let c6 = c5 .before in let c7 = c6 .before in
+    let poses = Poses·ofLists (c7 .args .poses .now) in
+    rw (poses-printed poses _ _ (c5 .number .ensures) (c4 .shortest-run .ensures .0)) (c2 .put-run .ensures)
 
 pub put-poses-spec : {M : Type 1} → statement M
 put-poses-spec =

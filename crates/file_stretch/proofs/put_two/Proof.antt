@@ -26,10 +26,12 @@ same-length c = search needs
 
 returns : tie.Need-returns
 returns c =
-    let start = c .before .before .before .before .before .before .before .before .before .before .before in
+    let c1 = c .before in let c2 = c1 .before in let c3 = c2 .before in let c4 = c3 .before in let c5 = c4 .before in let c6 = c5 .before in
+    let c7 = c6 .before in let c8 = c7 .before in let c9 = c8 .before in let c10 = c9 .before in let c11 = c10 .before in
+    let start = c11 in
     let a = start .args in
-    rw (c .before .before .write-text2 .ensures .1)
-    (both-written (a .first .now) (a .second .now) (a .out .now) _ (length (a .first .now)) refl (start .pre) (c .before .before .before .before .before .before .write-text .ensures .1) _ refl)
+    rw (c2 .write-text2 .ensures .1)
+    (both-written (a .first .now) (a .second .now) (a .out .now) _ (length (a .first .now)) refl (start .pre) (c6 .write-text .ensures .1) _ refl)
 
 pub put-two-spec : {M : Type 1} → statement M
 put-two-spec =

@@ -28,9 +28,11 @@ same-length c = search needs
 
 returns : tie.Need-returns
 returns c =
-    let a = c .before .before .before .before .before .before .before .before .before .before .args in
-    let file = c .before .before .before .before .before .before .put-file in
-    let write = c .before .before .write-text in
+    let c1 = c .before in let c2 = c1 .before in let c3 = c2 .before in let c4 = c3 .before in let c5 = c4 .before in
+    let c6 = c5 .before in let c7 = c6 .before in let c8 = c7 .before in let c9 = c8 .before in let c10 = c9 .before in
+    let a = c10 .args in
+    let file = c6 .put-file in
+    let write = c2 .write-text in
     let whole = front-taken (stretchText (a .bytes .now)) _ _ (file .result) (file .ensures .0) (file .ensures .1 .1) (file .ensures .1 .0) in
     wrote (stretchText (a .bytes .now)) (a .out .now) _ _ (rw whole at (write .ensures .0)) (rw whole at (write .ensures .1))
 

@@ -19,7 +19,9 @@ cast-t8 : tie.Need-cast-t8
 cast-t8 c = search needs
 
 returns-3 : tie.Need-returns-3
-returns-3 c = decode-subnormal (c .before .before .before .args .x) (c .before .before .before .good .0 .1) (c .before .before .if1 .left) (c .if3 .taken)
+returns-3 c =
+    let c1 = c .before in let c2 = c1 .before in let c3 = c2 .before in
+    decode-subnormal (c3 .args .x) (c3 .good .0 .1) (c2 .if1 .left) (c .if3 .taken)
 
 add-t7 : tie.Need-add-t7
 add-t7 c = search needs
@@ -34,7 +36,9 @@ cast-t11 : tie.Need-cast-t11
 cast-t11 c = search needs
 
 returns-4 : tie.Need-returns-4
-returns-4 c = decode-normal (c .before .before .before .args .x) (c .before .before .before .good .0 .1) (c .before .before .if1 .left) (c .before .if2 .left) (c .if3 .left)
+returns-4 c =
+    let c1 = c .before in let c2 = c1 .before in let c3 = c2 .before in
+    decode-normal (c3 .args .x) (c3 .good .0 .1) (c2 .if1 .left) (c1 .if2 .left) (c .if3 .left)
 
 pub integer-decode-spec : {M : Type 1} → statement M
 integer-decode-spec =

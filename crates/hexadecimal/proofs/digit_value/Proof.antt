@@ -30,18 +30,21 @@ returns-2 c =
 
 sub-result-3 : tie.Need-sub-result-3
 sub-result-3 c =
-    let low : 65 ≤ c .before .before .before .args .b = leb-true _ _ (and-eq-true-iff _ _ .0 (c .if3 .taken) .0) in
+    let c1 = c .before in let c2 = c1 .before in let c3 = c2 .before in
+    let low : 65 ≤ c3 .args .b = leb-true _ _ (and-eq-true-iff _ _ .0 (c .if3 .taken) .0) in
     omega arith
 
 returns-3 : tie.Need-returns-3
 returns-3 c =
-    let s = c .before .before .before in
-    bounded _ _ (digitValue-upper (s .args .b) (s .fits .b .fits) (c .before .before .if1 .left) (c .before .if2 .left) (c .if3 .taken))
+    let c1 = c .before in let c2 = c1 .before in let c3 = c2 .before in
+    let s = c3 in
+    bounded _ _ (digitValue-upper (s .args .b) (s .fits .b .fits) (c2 .if1 .left) (c1 .if2 .left) (c .if3 .taken))
 
 returns-4 : tie.Need-returns-4
 returns-4 c =
-    let s = c .before .before .before in
-    bounded _ _ (digitValue-none (s .args .b) (s .fits .b .fits) (c .before .before .if1 .left) (c .before .if2 .left) (c .if3 .left))
+    let c1 = c .before in let c2 = c1 .before in let c3 = c2 .before in
+    let s = c3 in
+    bounded _ _ (digitValue-none (s .args .b) (s .fits .b .fits) (c2 .if1 .left) (c1 .if2 .left) (c .if3 .left))
 
 pub digit-value-spec : {M : Type 1} → statement M
 digit-value-spec =

@@ -58,23 +58,27 @@ add-result-3 c = search needs
 
 returns : tie.Need-returns
 returns c =
-    let a = c .before .before .before .before .before .before .before .before .before .before .args in
+    let c1 = c .before in let c2 = c1 .before in let c3 = c2 .before in let c4 = c3 .before in let c5 = c4 .before in
+    let c6 = c5 .before in let c7 = c6 .before in let c8 = c7 .before in let c9 = c8 .before in let c10 = c9 .before in
+    let a = c10 .args in
     rw (c .if1 .taken) at
     (half-digits (a .s .now) (a .at) _ _ _ _ (omega arith)
-    (c .before .before .before .before .before .before .before .digit-value .ensures .0)
-    (c .before .before .before .before .before .digit-value2 .ensures .0)
-    (c .before .before .before .digit-value3 .ensures .0)
-    (c .before .digit-value4 .ensures .0))
+    (c7 .digit-value .ensures .0)
+    (c5 .digit-value2 .ensures .0)
+    (c3 .digit-value3 .ensures .0)
+    (c1 .digit-value4 .ensures .0))
 
 returns-2 : tie.Need-returns-2
 returns-2 c =
-    let a = c .before .before .before .before .before .before .before .before .before .before .args in
+    let c1 = c .before in let c2 = c1 .before in let c3 = c2 .before in let c4 = c3 .before in let c5 = c4 .before in
+    let c6 = c5 .before in let c7 = c6 .before in let c8 = c7 .before in let c9 = c8 .before in let c10 = c9 .before in
+    let a = c10 .args in
     rw (c .if1 .left) at
     (half-digits (a .s .now) (a .at) _ _ _ _ (omega arith)
-    (c .before .before .before .before .before .before .before .digit-value .ensures .0)
-    (c .before .before .before .before .before .digit-value2 .ensures .0)
-    (c .before .before .before .digit-value3 .ensures .0)
-    (c .before .digit-value4 .ensures .0))
+    (c7 .digit-value .ensures .0)
+    (c5 .digit-value2 .ensures .0)
+    (c3 .digit-value3 .ensures .0)
+    (c1 .digit-value4 .ensures .0))
 
 pub read-half-spec : {M : Type 1} → statement M
 read-half-spec =

@@ -41,13 +41,15 @@ add-t11 c = omega (arith, both-below (c .before .before .read-half .result) (c .
 
 returns-3 : tie.Need-returns-3
 returns-3 c =
-    let a = c .before .before .before .before .before .before .args in
-    rw (← c .before .before .read-half .ensures, ← c .before .read-half2 .ensures, c .if3 .taken) at (read-halves (a .s .now) (a .at) (omega arith))
+    let c1 = c .before in let c2 = c1 .before in let c3 = c2 .before in let c4 = c3 .before in let c5 = c4 .before in let c6 = c5 .before in
+    let a = c6 .args in
+    rw (← c2 .read-half .ensures, ← c1 .read-half2 .ensures, c .if3 .taken) at (read-halves (a .s .now) (a .at) (omega arith))
 
 returns-4 : tie.Need-returns-4
 returns-4 c =
-    let a = c .before .before .before .before .before .before .args in
-    rw (← c .before .before .read-half .ensures, ← c .before .read-half2 .ensures, c .if3 .left) at (read-halves (a .s .now) (a .at) (omega arith))
+    let c1 = c .before in let c2 = c1 .before in let c3 = c2 .before in let c4 = c3 .before in let c5 = c4 .before in let c6 = c5 .before in
+    let a = c6 .args in
+    rw (← c2 .read-half .ensures, ← c1 .read-half2 .ensures, c .if3 .left) at (read-halves (a .s .now) (a .at) (omega arith))
 
 pub read-word-spec : {M : Type 1} → statement M
 read-word-spec =

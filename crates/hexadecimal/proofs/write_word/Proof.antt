@@ -27,12 +27,14 @@ sub-if2 c = omega arith
 
 returns-2 : tie.Need-returns-2 Inv-loop μ-loop
 returns-2 c =
-    let a = c .before .before .before .args in
+    let c1 = c .before in let c2 = c1 .before in let c3 = c2 .before in
+    let a = c3 .args in
     (write-short (a .out .now) (a .at) (a .n) (omega arith), sym (lt-leb (a .at + 8) (length (a .out .now)) (omega arith)))
 
 loop-holds : tie.Need-loop-holds Inv-loop μ-loop
 loop-holds c =
-    let a = c .before .before .before .args in
+    let c1 = c .before in let c2 = c1 .before in let c3 = c2 .before in
+    let a = c3 .args in
     (omega arith, omega arith, refl, paste-zero (a .out .now) (a .at) (digits 8 (a .n)))
 
 mul-digit : tie.Need-mul-digit Inv-loop μ-loop
@@ -64,8 +66,9 @@ loop-less c = omega arith
 
 loop-again : tie.Need-loop-again Inv-loop μ-loop
 loop-again c =
-    let a = c .before .before .before .before .before .before .args in
-    let l = c .before .before .loop in (
+    let c1 = c .before in let c2 = c1 .before in let c3 = c2 .before in let c4 = c3 .before in let c5 = c4 .before in let c6 = c5 .before in
+    let a = c6 .args in
+    let l = c2 .loop in (
       omega arith,
       l .inv .1,
       length-set (l .out) (a .at + l .i) (c .digit .result) ∙ l .inv .2,
@@ -77,8 +80,9 @@ same-length c = search needs
 
 returns-3 : tie.Need-returns-3 Inv-loop μ-loop
 returns-3 c =
-    let a = c .before .before .before .before .before .args in
-    let l = c .before .loop in
+    let c1 = c .before in let c2 = c1 .before in let c3 = c2 .before in let c4 = c3 .before in let c5 = c4 .before in
+    let a = c5 .args in
+    let l = c1 .loop in
     let e : l .i ≡ 8 = omega arith in
     (rw e at (l .inv .3) ∙ write-fits (a .out .now) (a .at) (a .n) (l .inv .1), sym (le-leb (a .at + 8) (length (a .out .now)) (l .inv .1)))
 

@@ -44,16 +44,20 @@ refused-requires c κs = search needs
 returns : tie.Need-returns
 unfolding composed
 returns c =
-    rw (c .scaled .ensures, ← c .before .before .before .before .before .before .before .before .before .before .translate .ensures, ← c .before .before .before .before .before .before .before .before .before .transform-from-quaternion .ensures, ← c .before .before .before .before .before .before .before .before .mul .ensures, ← c .before .before .before .before .before .before .to-rows .ensures)
-    (sym (ap (λ (b : Bool). cond b (scaled (c .before .before .before .before .before .before .before .before .mul .result) (c .before .before .before .before .before .before .to-rows .result)) (TransformAnswer·refused 5))
-    (rw (c .before .before .before .before .before .before .before .is-finite .ensures, c .before .before .before .before .before .is-finite2 .ensures, c .before .before .before .before .is-finite3 .ensures, c .before .before .before .is-finite4 .ensures, c .before .before .is-finite5 .ensures) at (c .before .if1 .taken))))
+    let c1 = c .before in let c2 = c1 .before in let c3 = c2 .before in let c4 = c3 .before in let c5 = c4 .before in
+    let c6 = c5 .before in let c7 = c6 .before in let c8 = c7 .before in let c9 = c8 .before in let c10 = c9 .before in
+    rw (c .scaled .ensures, ← c10 .translate .ensures, ← c9 .transform-from-quaternion .ensures, ← c8 .mul .ensures, ← c6 .to-rows .ensures)
+    (sym (ap (λ (b : Bool). cond b (scaled (c8 .mul .result) (c6 .to-rows .result)) (TransformAnswer·refused 5))
+    (rw (c7 .is-finite .ensures, c5 .is-finite2 .ensures, c4 .is-finite3 .ensures, c3 .is-finite4 .ensures, c2 .is-finite5 .ensures) at (c1 .if1 .taken))))
 
 returns-2 : tie.Need-returns-2
 unfolding composed
 returns-2 c =
-    rw (c .refused .ensures, ← c .before .before .before .before .before .before .before .before .before .before .translate .ensures, ← c .before .before .before .before .before .before .before .before .before .transform-from-quaternion .ensures, ← c .before .before .before .before .before .before .before .before .mul .ensures, ← c .before .before .before .before .before .before .to-rows .ensures)
-    (sym (ap (λ (b : Bool). cond b (scaled (c .before .before .before .before .before .before .before .before .mul .result) (c .before .before .before .before .before .before .to-rows .result)) (TransformAnswer·refused 5))
-    (rw (c .before .before .before .before .before .before .before .is-finite .ensures, c .before .before .before .before .before .is-finite2 .ensures, c .before .before .before .before .is-finite3 .ensures, c .before .before .before .is-finite4 .ensures, c .before .before .is-finite5 .ensures) at (c .before .if1 .left))))
+    let c1 = c .before in let c2 = c1 .before in let c3 = c2 .before in let c4 = c3 .before in let c5 = c4 .before in
+    let c6 = c5 .before in let c7 = c6 .before in let c8 = c7 .before in let c9 = c8 .before in let c10 = c9 .before in
+    rw (c .refused .ensures, ← c10 .translate .ensures, ← c9 .transform-from-quaternion .ensures, ← c8 .mul .ensures, ← c6 .to-rows .ensures)
+    (sym (ap (λ (b : Bool). cond b (scaled (c8 .mul .result) (c6 .to-rows .result)) (TransformAnswer·refused 5))
+    (rw (c7 .is-finite .ensures, c5 .is-finite2 .ensures, c4 .is-finite3 .ensures, c3 .is-finite4 .ensures, c2 .is-finite5 .ensures) at (c1 .if1 .left))))
 
 pub composed-spec : {M : Type 1} → statement M
 composed-spec =

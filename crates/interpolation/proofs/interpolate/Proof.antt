@@ -28,12 +28,16 @@ returns c = rw (← differs-nan (c .before .before .args .time), c .before .if1 
 returns-2 : tie.Need-returns-2
 unfolding AnimatedTransform·interpolate
 returns-2 c =
-    let args = c .before .before .before .before .before .args in
-    rw (← differs-nan (args .time), c .before .before .before .before .if1 .left) (sym (ap (known (args .m) (args .time)) (c .before .if2 .taken)))
+    let c1 = c .before in let c2 = c1 .before in let c3 = c2 .before in let c4 = c3 .before in let c5 = c4 .before in
+    let args = c5 .args in
+    rw (← differs-nan (args .time), c4 .if1 .left) (sym (ap (known (args .m) (args .time)) (c1 .if2 .taken)))
 
 returns-3 : tie.Need-returns-3
 unfolding AnimatedTransform·interpolate
-returns-3 c = rw (← differs-nan (c .before .before .before .before .before .before .before .args .time), c .before .before .before .before .before .before .if1 .left, c .before .before .before .if2 .left, c .before .if3 .taken)
+returns-3 c =
+    let c1 = c .before in let c2 = c1 .before in let c3 = c2 .before in let c4 = c3 .before in
+    let c5 = c4 .before in let c6 = c5 .before in let c7 = c6 .before in
+    rw (← differs-nan (c7 .args .time), c6 .if1 .left, c3 .if2 .left, c1 .if3 .taken)
 
 dt-requires : tie.Need-dt-requires
 dt-requires c κs = search needs
@@ -43,7 +47,10 @@ pose-at-requires c κs = search needs
 
 returns-4 : tie.Need-returns-4
 unfolding AnimatedTransform·interpolate
-returns-4 c = rw (← differs-nan (c .before .before .before .before .before .before .before .before .args .time), c .before .before .before .before .before .before .before .if1 .left, c .before .before .before .before .if2 .left, c .before .before .if3 .left, c .pose-at .ensures, c .before .dt .ensures)
+returns-4 c =
+    let c1 = c .before in let c2 = c1 .before in let c3 = c2 .before in let c4 = c3 .before in
+    let c5 = c4 .before in let c6 = c5 .before in let c7 = c6 .before in let c8 = c7 .before in
+    rw (← differs-nan (c8 .args .time), c7 .if1 .left, c4 .if2 .left, c2 .if3 .left, c .pose-at .ensures, c1 .dt .ensures)
 
 pub interpolate-spec : {M : Type 1} → statement M
 interpolate-spec =

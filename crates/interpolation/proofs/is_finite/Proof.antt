@@ -18,7 +18,9 @@ is-finite-requires-2 c κs = search needs
 
 returns : tie.Need-returns
 unfolding Transform·isFinite
-returns c = rw (c .is-finite2 .ensures, c .before .to-rows2 .ensures, c .before .before .is-finite .ensures, c .before .before .before .to-rows .ensures)
+returns c =
+    let c1 = c .before in let c2 = c1 .before in let c3 = c2 .before in
+    rw (c .is-finite2 .ensures, c1 .to-rows2 .ensures, c2 .is-finite .ensures, c3 .to-rows .ensures)
 
 pub is-finite-spec : {M : Type 1} → statement M
 is-finite-spec =

@@ -19,7 +19,9 @@ composed-requires c κs = search needs
 
 returns : tie.Need-returns
 unfolding AnimatedTransform·poseAt
-returns c = rw (c .composed .ensures, c .before .scale-by .ensures, c .before .before .slerp .ensures, c .before .before .before .translation .ensures, translation-same _ _ _, scale-by-same _ _ _ _)
+returns c =
+    let c1 = c .before in let c2 = c1 .before in let c3 = c2 .before in
+    rw (c .composed .ensures, c1 .scale-by .ensures, c2 .slerp .ensures, c3 .translation .ensures, translation-same _ _ _, scale-by-same _ _ _ _)
 
 pub pose-at-spec : {M : Type 1} → statement M
 pose-at-spec =

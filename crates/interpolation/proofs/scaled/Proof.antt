@@ -22,11 +22,15 @@ refused-requires c κs = search needs
 
 returns : tie.Need-returns
 unfolding scaled
-returns c = rw (← c .before .before .before .before .before .to-rows .ensures, ← c .before .before .before .before .from-matrix .ensures, eq-eqb _ 0 (c .before .before .if1 .taken), ← c .before .mul .ensures, c .judged .ensures)
+returns c =
+    let c1 = c .before in let c2 = c1 .before in let c3 = c2 .before in let c4 = c3 .before in let c5 = c4 .before in
+    rw (← c5 .to-rows .ensures, ← c4 .from-matrix .ensures, eq-eqb _ 0 (c2 .if1 .taken), ← c1 .mul .ensures, c .judged .ensures)
 
 returns-2 : tie.Need-returns-2
 unfolding scaled
-returns-2 c = rw (← c .before .before .before .before .to-rows .ensures, ← c .before .before .before .from-matrix .ensures, ne-eqb _ 0 (c .before .if1 .left), c .refused .ensures)
+returns-2 c =
+    let c1 = c .before in let c2 = c1 .before in let c3 = c2 .before in let c4 = c3 .before in
+    rw (← c4 .to-rows .ensures, ← c3 .from-matrix .ensures, ne-eqb _ 0 (c1 .if1 .left), c .refused .ensures)
 
 pub scaled-spec : {M : Type 1} → statement M
 scaled-spec =

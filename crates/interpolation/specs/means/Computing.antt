@@ -4,8 +4,10 @@ use Rattle.pose_steps.specs.Composition.{lerpScaleBy}
 use Rattle.unit_interval.specs.means.Computing as unit
 use Rattle.rotation.specs.means.Computing as rotation
 use Rattle.animated_transform.specs.means.Computing as animated
-use Rattle.interpolation.specs.Interpolate.{Transform·isFinite, TransformAnswer·judged, scaled, composed, AnimatedTransform·poseAt, AnimatedTransform·interpolate}
+use Rattle.interpolation.specs.Interpolate.{Transform·isFinite, TransformAnswer·judged, scaled, composed}
+use Rattle.interpolation.specs.Interpolate.{AnimatedTransform·poseAt, AnimatedTransform·interpolate}
 
 unfoldable pub computing : Unit {0}
-unfolding lerp lerpScaleBy unit.computing rotation.computing animated.computing Transform·isFinite TransformAnswer·judged scaled composed AnimatedTransform·poseAt AnimatedTransform·interpolate
+unfolding lerp lerpScaleBy unit.computing rotation.computing animated.computing Transform·isFinite TransformAnswer·judged scaled composed
+    AnimatedTransform·poseAt AnimatedTransform·interpolate
 computing = tt

@@ -1,5 +1,5 @@
--- Sine and cosine of an interval of angles, from what is kept of its two ends: u, sine and cosine. Document 01 knows no such thing, and no promise cites it: `sin-range` and
--- `cos-range` say that these are `Interval·sinEnclosure` and `Interval·cosEnclosure`. Definitions only.
+-- Sine and cosine of an interval of angles, from what is kept of its two ends: u, sine and cosine. Document 01 knows no such thing, and no promise cites it:
+-- `sin-range` and `cos-range` say that these are `Interval·sinEnclosure` and `Interval·cosEnclosure`. Definitions only.
 use Prim.Native.Nat.{_*_, _^_, min}
 use mathlib.Core.Bool.{_||_}
 use lib.Ieee.{Float}

@@ -1,6 +1,7 @@
 -- A formula read in intervals of which none is judged: `Program·unjudged`. Definitions only.
--- `Program·tested` and `Program·divisors` list the intervals that have to be finite, and those that have to be positive, for the judged reading to give the same
--- (`program-unjudged`). Of a sum or a difference its result alone is asked for, since its operands are finite where it is; of other operations the operands too.
+-- `Program·tested` and `Program·divisors` list the intervals that have to be finite, and those that have to be positive,
+-- for the judged reading to give the same (`program-unjudged`). Of a sum or a difference its result alone is asked for,
+-- since its operands are finite where it is; of other operations the operands too.
 use Prim.Native.Nat.{ℕ}
 use mathlib.Core.Bool.{Bool, true, _&&_}
 use mathlib.Core.List.{List, [], _∷_, _++_}

@@ -42,7 +42,9 @@ row-eq-requires-4 c κs = search needs
 
 returns : tie.Need-returns
 unfolding Matrix4x4·eq
-returns c = rw (c .before .before .before .row-eq .ensures, c .before .before .row-eq2 .ensures, c .before .row-eq3 .ensures, c .row-eq4 .ensures)
+returns c =
+    let c1 = c .before in let c2 = c1 .before in let c3 = c2 .before in
+    rw (c3 .row-eq .ensures, c2 .row-eq2 .ensures, c1 .row-eq3 .ensures, c .row-eq4 .ensures)
 
 pub eq-spec : {M : Type 1} → statement M
 eq-spec =

@@ -30,7 +30,9 @@ row-is-finite-requires-4 c κs = search needs
 
 returns : tie.Need-returns
 unfolding Matrix4x4·isFinite
-returns c = rw (c .before .before .before .row-is-finite .ensures, c .before .before .row-is-finite2 .ensures, c .before .row-is-finite3 .ensures, c .row-is-finite4 .ensures)
+returns c =
+    let c1 = c .before in let c2 = c1 .before in let c3 = c2 .before in
+    rw (c3 .row-is-finite .ensures, c2 .row-is-finite2 .ensures, c1 .row-is-finite3 .ensures, c .row-is-finite4 .ensures)
 
 pub is-finite-spec : {M : Type 1} → statement M
 is-finite-spec =

@@ -34,7 +34,10 @@ mul-row-requires-4 c κs = search needs
 
 returns : tie.Need-returns
 unfolding Matrix4x4·transpose Matrix4x4·mul
-returns c = rw (c .before .before .before .mul-row .ensures, c .before .before .mul-row2 .ensures, c .before .mul-row3 .ensures, c .mul-row4 .ensures, c .before .before .before .before .before .before .before .before .transpose .ensures)
+returns c =
+    let c1 = c .before in let c2 = c1 .before in let c3 = c2 .before in let c4 = c3 .before in
+    let c5 = c4 .before in let c6 = c5 .before in let c7 = c6 .before in let c8 = c7 .before in
+    rw (c3 .mul-row .ensures, c2 .mul-row2 .ensures, c1 .mul-row3 .ensures, c .mul-row4 .ensures, c8 .transpose .ensures)
 
 pub mul-spec : {M : Type 1} → statement M
 mul-spec =

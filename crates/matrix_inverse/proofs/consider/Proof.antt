@@ -45,10 +45,14 @@ module _ (r : Row) (ipiv : List ℕ) (j k : ℕ) (p : Pivot) where
   used e = rw (ne-eqb _ _ e)
 
 returns : tie.Need-returns
-returns c = rw (c .before .before .abs .ensures) (taken _ _ _ _ _ (c .before .before .before .if1 .taken) (rw (c .before .before .abs .ensures) at (c .if2 .taken)))
+returns c =
+    let c1 = c .before in let c2 = c1 .before in let c3 = c2 .before in
+    rw (c2 .abs .ensures) (taken _ _ _ _ _ (c3 .if1 .taken) (rw (c2 .abs .ensures) at (c .if2 .taken)))
 
 returns-2 : tie.Need-returns-2
-returns-2 c = below _ _ _ _ _ (c .before .before .before .if1 .taken) (rw (c .before .before .abs .ensures) at (c .if2 .left))
+returns-2 c =
+    let c1 = c .before in let c2 = c1 .before in let c3 = c2 .before in
+    below _ _ _ _ _ (c3 .if1 .taken) (rw (c2 .abs .ensures) at (c .if2 .left))
 
 returns-3 : tie.Need-returns-3
 returns-3 c = used _ _ _ _ _ (c .if1 .left)

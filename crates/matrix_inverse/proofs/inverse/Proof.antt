@@ -39,9 +39,10 @@ refused-requires c κs = search needs
 
 returns : tie.Need-returns Inv-loop μ-loop
 returns c =
-    let found = c .before .before .before .before .search in
-    let swapped = c .before .before .before .swap-rows in
-    rw (reached-zeroPivot (c .before .before .before .before .before .before .loop .inv .1) (found .result) (swapped .result) (found .ensures .0) (swapped .ensures) (search needs) (c .before .if1 .taken))
+    let c1 = c .before in let c2 = c1 .before in let c3 = c2 .before in let c4 = c3 .before in let c5 = c4 .before in let c6 = c5 .before in
+    let found = c4 .search in
+    let swapped = c3 .swap-rows in
+    rw (reached-zeroPivot (c6 .loop .inv .1) (found .result) (swapped .result) (found .ensures .0) (swapped .ensures) (search needs) (c1 .if1 .taken))
     (c .refused .ensures)
 
 mul-ipiv : tie.Need-mul-ipiv Inv-loop μ-loop
@@ -51,7 +52,9 @@ array-read-ipiv : tie.Need-array-read-ipiv Inv-loop μ-loop
 array-read-ipiv c = search needs
 
 add-ipiv : tie.Need-add-ipiv Inv-loop μ-loop
-add-ipiv c = omega (arith, c .before .before .before .before .before .loop .inv .1 .counts (c .before .before .before .search .result .icol))
+add-ipiv c =
+    let c1 = c .before in let c2 = c1 .before in let c3 = c2 .before in let c4 = c3 .before in let c5 = c4 .before in
+    omega (arith, c5 .loop .inv .1 .counts (c3 .search .result .icol))
 
 array-write-ipiv : tie.Need-array-write-ipiv Inv-loop μ-loop
 array-write-ipiv c = search needs
@@ -79,11 +82,12 @@ loop-less c = search needs
 
 loop-again : tie.Need-loop-again Inv-loop μ-loop
 loop-again c =
-    let found = c .before .before .before .before .search in
-    let swapped = c .before .before .before .swap-rows in (
+    let c1 = c .before in let c2 = c1 .before in let c3 = c2 .before in let c4 = c3 .before in let c5 = c4 .before in let c6 = c5 .before in
+    let found = c4 .search in
+    let swapped = c3 .swap-rows in (
       search needs,
-      reached-next (c .before .before .before .before .before .before .loop .inv .1) (found .result) (swapped .result) (found .ensures .0) (swapped .ensures)
-          (c .eliminate .result) (found .ensures .1) (c .before .if1 .left) (c .eliminate .ensures),
+      reached-next (c6 .loop .inv .1) (found .result) (swapped .result) (found .ensures .0) (swapped .ensures)
+          (c .eliminate .result) (found .ensures .1) (c1 .if1 .left) (c .eliminate .ensures),
     )
 
 restore-columns-requires : tie.Need-restore-columns-requires Inv-loop μ-loop
@@ -93,7 +97,9 @@ judged-requires : tie.Need-judged-requires Inv-loop μ-loop
 judged-requires c κs = search needs
 
 returns-2 : tie.Need-returns-2 Inv-loop μ-loop
-returns-2 c = rw (reached-end (c .before .before .before .loop .inv .1) (omega arith), ← c .before .restore-columns .ensures) (c .judged .ensures)
+returns-2 c =
+    let c1 = c .before in let c2 = c1 .before in let c3 = c2 .before in
+    rw (reached-end (c3 .loop .inv .1) (omega arith), ← c1 .restore-columns .ensures) (c .judged .ensures)
 
 pub inverse-spec : {M : Type 1} → statement M
 inverse-spec =

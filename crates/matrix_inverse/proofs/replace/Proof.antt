@@ -30,7 +30,9 @@ select-requires-4 c κs = search needs
 
 returns : tie.Need-returns
 unfolding replace
-returns c = rw (c .before .before .before .select .ensures, c .before .before .select2 .ensures, c .before .select3 .ensures, c .select4 .ensures)
+returns c =
+    let c1 = c .before in let c2 = c1 .before in let c3 = c2 .before in
+    rw (c3 .select .ensures, c2 .select2 .ensures, c1 .select3 .ensures, c .select4 .ensures)
 
 pub replace-spec : {M : Type 1} → statement M
 replace-spec =

@@ -34,7 +34,8 @@ loop-again c = (search needs, loop-next _ _ _ _ _ (c .before .before .loop .inv 
 returns : tie.Need-returns Inv-loop μ-loop
 unfolding Pivot·search
 returns c =
-    let v : c .before .loop .best ≡ Pivot·search (c .before .before .args .m) (c .before .before .args .ipiv) = loop-end _ _ 4 _ _ (omega arith) (c .before .loop .inv .1) in
+    let v : c .before .loop .best ≡ Pivot·search (c .before .before .args .m) (c .before .before .args .ipiv) =
+    loop-end _ _ 4 _ _ (omega arith) (c .before .loop .inv .1) in
     (v, search-inRange _ _ _ v)
 
 pub search-spec : {M : Type 1} → statement M

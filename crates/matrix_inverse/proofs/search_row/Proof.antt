@@ -49,7 +49,9 @@ loop-again c = (search needs, loop-next _ _ _ _ _ (c .before .before .loop .inv 
 
 returns-2 : tie.Need-returns-2 Inv-loop μ-loop
 unfolding searchRow
-returns-2 c = rw (ne-eqb _ _ (c .before .before .before .if1 .left)) (loop-end _ _ 4 _ _ (omega arith) (c .before .loop .inv .1))
+returns-2 c =
+    let c1 = c .before in let c2 = c1 .before in let c3 = c2 .before in
+    rw (ne-eqb _ _ (c3 .if1 .left)) (loop-end _ _ 4 _ _ (omega arith) (c1 .loop .inv .1))
 
 pub search-row-spec : {M : Type 1} → statement M
 search-row-spec =

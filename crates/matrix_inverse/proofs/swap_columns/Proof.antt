@@ -30,7 +30,9 @@ swap-entries-requires-4 c κs = search needs
 
 returns : tie.Need-returns
 unfolding swapColumns
-returns c = rw (c .before .before .before .swap-entries .ensures, c .before .before .swap-entries2 .ensures, c .before .swap-entries3 .ensures, c .swap-entries4 .ensures)
+returns c =
+    let c1 = c .before in let c2 = c1 .before in let c3 = c2 .before in
+    rw (c3 .swap-entries .ensures, c2 .swap-entries2 .ensures, c1 .swap-entries3 .ensures, c .swap-entries4 .ensures)
 
 pub swap-columns-spec : {M : Type 1} → statement M
 swap-columns-spec =

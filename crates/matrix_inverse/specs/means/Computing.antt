@@ -9,5 +9,6 @@ use Rattle.matrix_inverse.specs.RestoreColumns.{swapColumns, restoreAt, 
 use Rattle.matrix_inverse.specs.Inverse.{eliminationRound, InverseAnswer·judged, finish, Matrix4x4·inverse}
 
 unfoldable pub computing : Unit {0}
-unfolding matrix.computing sub mul div eq lt le ofBits abs loop consider searchRow Pivot·search swapRows replace scaleRow clearRow clearAt eliminate swapColumns restoreAt restoreColumns eliminationRound InverseAnswer·judged finish Matrix4x4·inverse
+unfolding matrix.computing sub mul div eq lt le ofBits abs loop consider searchRow Pivot·search swapRows replace scaleRow clearRow clearAt eliminate swapColumns
+    restoreAt restoreColumns eliminationRound InverseAnswer·judged finish Matrix4x4·inverse
 computing = tt

@@ -45,19 +45,27 @@ array-read-if3-2 c = search needs
 
 returns : tie.Need-returns
 unfolding largest
-returns c = (sym (ap (first (c .before .before .before .before .before .args .t1)) (c .before .if1 .taken) ∙ ap (second 1) (c .if2 .taken)), search needs)
+returns c =
+    let c1 = c .before in let c2 = c1 .before in let c3 = c2 .before in let c4 = c3 .before in let c5 = c4 .before in
+    (sym (ap (first (c5 .args .t1)) (c1 .if1 .taken) ∙ ap (second 1) (c .if2 .taken)), search needs)
 
 returns-2 : tie.Need-returns-2
 unfolding largest
-returns-2 c = (sym (ap (first (c .before .before .before .before .before .args .t1)) (c .before .if1 .taken) ∙ ap (second 1) (c .if2 .left)), search needs)
+returns-2 c =
+    let c1 = c .before in let c2 = c1 .before in let c3 = c2 .before in let c4 = c3 .before in let c5 = c4 .before in
+    (sym (ap (first (c5 .args .t1)) (c1 .if1 .taken) ∙ ap (second 1) (c .if2 .left)), search needs)
 
 returns-3 : tie.Need-returns-3
 unfolding largest
-returns-3 c = (sym (ap (first (c .before .before .before .before .before .args .t1)) (c .before .if1 .left) ∙ ap (second 0) (c .if3 .taken)), search needs)
+returns-3 c =
+    let c1 = c .before in let c2 = c1 .before in let c3 = c2 .before in let c4 = c3 .before in let c5 = c4 .before in
+    (sym (ap (first (c5 .args .t1)) (c1 .if1 .left) ∙ ap (second 0) (c .if3 .taken)), search needs)
 
 returns-4 : tie.Need-returns-4
 unfolding largest
-returns-4 c = (sym (ap (first (c .before .before .before .before .before .args .t1)) (c .before .if1 .left) ∙ ap (second 0) (c .if3 .left)), search needs)
+returns-4 c =
+    let c1 = c .before in let c2 = c1 .before in let c3 = c2 .before in let c4 = c3 .before in let c5 = c4 .before in
+    (sym (ap (first (c5 .args .t1)) (c1 .if1 .left) ∙ ap (second 0) (c .if3 .left)), search needs)
 
 pub largest-spec : {M : Type 1} → statement M
 largest-spec =

@@ -44,12 +44,13 @@ from-largest-requires c κs = search needs
 returns-2 : tie.Need-returns-2
 unfolding Quaternion·fromMatrix
 returns-2 c =
+    let c1 = c .before in let c2 = c1 .before in let c3 = c2 .before in let c4 = c3 .before in
     rw (
-      c .before .before .before .before .if1 .left,
+      c4 .if1 .left,
       c .from-largest .ensures,
-      c .before .nxt2 .ensures .0,
-      c .before .before .nxt .ensures .0,
-      c .before .before .before .largest .ensures .0,
+      c1 .nxt2 .ensures .0,
+      c2 .nxt .ensures .0,
+      c3 .largest .ensures .0,
     )
 
 pub quaternion-from-matrix-spec : {M : Type 1} → statement M

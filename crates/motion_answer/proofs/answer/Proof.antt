@@ -15,9 +15,11 @@ same-length c = search needs
 
 returns : tie.Need-returns
 returns c =
-    let cover = c .before .before .before .before in
-    let a = cover .before .before .before .args in
-    answer-clauses (a .bytes .now) (a .out .now) _ _ (cover .file-cover .result) (cover .file-cover .ensures) (c .before .before .write .ensures)
+    let c1 = c .before in let c2 = c1 .before in let c3 = c2 .before in let c4 = c3 .before in
+    let c5 = c4 .before in let c6 = c5 .before in let c7 = c6 .before in
+    let cover = c4 in
+    let a = c7 .args in
+    answer-clauses (a .bytes .now) (a .out .now) _ _ (cover .file-cover .result) (cover .file-cover .ensures) (c2 .write .ensures)
 
 pub answer-spec : {M : Type 1} → statement M
 answer-spec = tie.close (tie.spec file-cover-requires write-requires same-length returns)

@@ -18,21 +18,24 @@ returns c = refused-cover _ _ (c .before .build .ensures .0) (c .if1 .taken)
 
 sub-n : tie.Need-sub-n
 sub-n c =
-    let build = c .before .build in
-    omega (arith, built-count (c .before .before .before .args .poses .now) (build .ensures .0) (c .if1 .left) .0)
+    let c1 = c .before in let c2 = c1 .before in let c3 = c2 .before in
+    let build = c1 .build in
+    omega (arith, built-count (c3 .args .poses .now) (build .ensures .0) (c .if1 .left) .0)
 
 array-share-prefix-moves : tie.Need-array-share-prefix-moves
 array-share-prefix-moves c =
-    let build = c .before .build in
-    let lists = c .before .before .before .args .poses .now in
+    let c1 = c .before in let c2 = c1 .before in let c3 = c2 .before in
+    let build = c1 .build in
+    let lists = c3 .args .poses .now in
     let few = built-count lists (build .ensures .0) (c .if1 .left) in
     omega (arith, few .1, moves-room (Chain·new false (Poses·ofLists lists)) _ (build .ensures .1 .0))
 
 slice-aggregate-cover : tie.Need-slice-aggregate-cover
 slice-aggregate-cover c =
-    let build = c .before .before .build in
-    let lists = c .before .before .before .before .args .poses .now in
-    let few = built-count lists (build .ensures .0) (c .before .if1 .left) in
+    let c1 = c .before in let c2 = c1 .before in let c3 = c2 .before in let c4 = c3 .before in
+    let build = c2 .build in
+    let lists = c4 .args .poses .now in
+    let few = built-count lists (build .ensures .0) (c1 .if1 .left) in
     sym (length-take-le _ _ (omega (arith, few .1, moves-room (Chain·new false (Poses·ofLists lists)) _ (build .ensures .1 .0))))
 
 cover-requires : tie.Need-cover-requires
@@ -40,9 +43,10 @@ cover-requires c κs = search needs
 
 returns-2 : tie.Need-returns-2
 returns-2 c =
-    let a = c .before .before .before .before .before .args in
-    let build = c .before .before .before .build in
-    let none = c .before .before .if1 .left in
+    let c1 = c .before in let c2 = c1 .before in let c3 = c2 .before in let c4 = c3 .before in let c5 = c4 .before in
+    let a = c5 .args in
+    let build = c3 .build in
+    let none = c2 .if1 .left in
     built-cover (a .poses .now) (build .ensures .0) none (a .b) (c .cover .result)
     (λ chain s. c .cover .ensures .1 .0 chain (build .ensures .1 .1 chain s .same))
 

@@ -25,14 +25,17 @@ same-length c = search needs
 returns : tie.Need-returns
 unfolding BoundsAnswer·text
 returns c =
-    rw (c .before .before .before .before .before .before .cover .given .1, ← c .before .before .before .before .bounds-values .ensures) (c .before .before .write-bounds .ensures)
+    let c1 = c .before in let c2 = c1 .before in let c3 = c2 .before in let c4 = c3 .before in let c5 = c4 .before in let c6 = c5 .before in
+    rw (c6 .cover .given .1, ← c4 .bounds-values .ensures) (c2 .write-bounds .ensures)
 
 same-length-2 : tie.Need-same-length-2
 same-length-2 c = search needs
 
 returns-2 : tie.Need-returns-2
 unfolding BoundsAnswer·text
-returns-2 c = rw (c .before .before .before .before .before .cover2 .given .1) (c .before .before .write-refusal .ensures)
+returns-2 c =
+    let c1 = c .before in let c2 = c1 .before in let c3 = c2 .before in let c4 = c3 .before in let c5 = c4 .before in
+    rw (c5 .cover2 .given .1) (c2 .write-refusal .ensures)
 
 pub write-spec : {M : Type 1} → statement M
 write-spec =

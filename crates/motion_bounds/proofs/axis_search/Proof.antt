@@ -6,13 +6,14 @@ use Rattle.motion_bounds.proofs.axis_search.Tie as tie
 returns : tie.Need-returns
 unfolding axisSearch
 returns c =
+    let c1 = c .before in let c2 = c1 .before in let c3 = c2 .before in let c4 = c3 .before in let c5 = c4 .before in
     rw (
       c .interval-find-zeros .ensures,
-      c .before .eval5 .ensures,
-      c .before .before .eval4 .ensures,
-      c .before .before .before .eval3 .ensures,
-      c .before .before .before .before .eval2 .ensures,
-      c .before .before .before .before .before .eval .ensures,
+      c1 .eval5 .ensures,
+      c2 .eval4 .ensures,
+      c3 .eval3 .ensures,
+      c4 .eval2 .ensures,
+      c5 .eval .ensures,
     )
 
 pub axis-search-spec : {M : Type 1} → statement M

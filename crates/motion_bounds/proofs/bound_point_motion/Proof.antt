@@ -10,7 +10,9 @@ returns c = rw (← c .before .is-finite .ensures, c .if1 .taken)
 
 returns-2 : tie.Need-returns-2
 unfolding boundPointMotion
-returns-2 c = rw (← c .before .before .before .is-finite .ensures, c .before .before .if1 .left, c .point-bounds .ensures, c .before .constants .ensures)
+returns-2 c =
+    let c1 = c .before in let c2 = c1 .before in let c3 = c2 .before in
+    rw (← c3 .is-finite .ensures, c2 .if1 .left, c .point-bounds .ensures, c1 .constants .ensures)
 
 pub bound-point-motion-spec : {M : Type 1} → statement M
 bound-point-motion-spec =

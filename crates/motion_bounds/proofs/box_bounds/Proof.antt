@@ -6,14 +6,17 @@ use Rattle.motion_bounds.proofs.box_bounds.Tie as tie
 
 returns : tie.Need-returns
 unfolding boxBounds boxExamined
-returns c = rw (c .before .if1 .taken, c .counted .ensures, c .before .before .before .transform-bounds .ensures .0)
+returns c =
+    let c1 = c .before in let c2 = c1 .before in let c3 = c2 .before in
+    rw (c1 .if1 .taken, c .counted .ensures, c3 .transform-bounds .ensures .0)
 
 returns-2 : tie.Need-returns-2
 unfolding boxBounds boxExamined
 returns-2 c =
-    let ends = c .before in
+    let c1 = c .before in let c2 = c1 .before in let c3 = c2 .before in let c4 = c3 .before in let c5 = c4 .before in
+    let ends = c1 in
     let end = ends .before in
-    let moving = end .before .before .before in
+    let moving = c5 in
     rw (
       moving .if1 .left,
       end .before .if2 .taken,
@@ -25,7 +28,9 @@ returns-2 c =
 
 returns-3 : tie.Need-returns-3
 unfolding boxBounds boxExamined
-returns-3 c = rw (c .before .before .before .before .if1 .left, c .before .before .if2 .left, c .union-corners .ensures, c .before .constants .ensures)
+returns-3 c =
+    let c1 = c .before in let c2 = c1 .before in let c3 = c2 .before in let c4 = c3 .before in
+    rw (c4 .if1 .left, c2 .if2 .left, c .union-corners .ensures, c1 .constants .ensures)
 
 pub box-bounds-spec : {M : Type 1} → statement M
 box-bounds-spec =

@@ -18,11 +18,15 @@ enum-known-start-2 c = search needs
 
 returns : tie.Need-returns
 unfolding BoundsAnswer·fromEnds
-returns c = rw (c .before .before .before .before .before .start .given .1, c .before .before .end .given .1, c .from-points .ensures)
+returns c =
+    let c1 = c .before in let c2 = c1 .before in let c3 = c2 .before in let c4 = c3 .before in let c5 = c4 .before in
+    rw (c5 .start .given .1, c2 .end .given .1, c .from-points .ensures)
 
 returns-2 : tie.Need-returns-2
 unfolding BoundsAnswer·fromEnds
-returns-2 c = rw (c .before .before .before .before .start .given .1, c .before .end2 .given .1)
+returns-2 c =
+    let c1 = c .before in let c2 = c1 .before in let c3 = c2 .before in let c4 = c3 .before in
+    rw (c4 .start .given .1, c1 .end2 .given .1)
 
 returns-3 : tie.Need-returns-3
 unfolding BoundsAnswer·fromEnds

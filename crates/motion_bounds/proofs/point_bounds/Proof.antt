@@ -7,19 +7,21 @@ use Rattle.motion_bounds.proofs.point_bounds.Tie as tie
 returns : tie.Need-returns
 unfolding pointBounds pointExamined
 returns c =
-    rw (c .before .before .if1 .taken, c .counted .ensures, c .before .from-moved .ensures, c .before .before .before .before .transform-point .ensures .0)
+    let c1 = c .before in let c2 = c1 .before in let c3 = c2 .before in let c4 = c3 .before in
+    rw (c2 .if1 .taken, c .counted .ensures, c1 .from-moved .ensures, c4 .transform-point .ensures .0)
 
 returns-2 : tie.Need-returns-2
 unfolding pointBounds pointExamined
 returns-2 c =
-    let ends = c .before in
+    let c1 = c .before in let c2 = c1 .before in let c3 = c2 .before in let c4 = c3 .before in let c5 = c4 .before in
+    let ends = c1 in
     let moved = ends .before in
     rw (
       moved .before .if1 .left,
       c .union-axes .ensures,
       ends .from-ends .ensures,
       moved .transform-point2 .ensures .0,
-      moved .before .before .before .transform-point .ensures .0,
+      c5 .transform-point .ensures .0,
     )
 
 pub point-bounds-spec : {M : Type 1} → statement M

@@ -5,7 +5,8 @@ use Rattle.motion_bounds.proofs.union_axes.Tie as tie
 
 returns : tie.Need-returns
 returns c =
-    rw (c .counted .ensures, c .before .union-axis3 .ensures, c .before .before .union-axis2 .ensures, c .before .before .before .union-axis .ensures)
+    let c1 = c .before in let c2 = c1 .before in let c3 = c2 .before in
+    rw (c .counted .ensures, c1 .union-axis3 .ensures, c2 .union-axis2 .ensures, c3 .union-axis .ensures)
     (axes-counted _ _ _ _)
 
 pub union-axes-spec : {M : Type 1} → statement M

@@ -12,10 +12,13 @@ enum-told c = search needs
 returns : tie.Need-returns
 unfolding unionAxis
 returns c =
-    rw (c .before .before .before .before .enum-told .given .1, ← c .before .before .before .axis-search .ensures, ne-eqb _ _ (c .if1 .taken))
+    let c1 = c .before in let c2 = c1 .before in let c3 = c2 .before in let c4 = c3 .before in
+    rw (c4 .enum-told .given .1, ← c3 .axis-search .ensures, ne-eqb _ _ (c .if1 .taken))
 
 union-zeros-requires : tie.Need-union-zeros-requires
-union-zeros-requires c κs = rw (c .before .before .before .axis-search .ensures) (axis-zeros-stored _ _ _)
+union-zeros-requires c κs =
+    let c1 = c .before in let c2 = c1 .before in let c3 = c2 .before in
+    rw (c3 .axis-search .ensures) (axis-zeros-stored _ _ _)
 
 enum-told-2 : tie.Need-enum-told-2
 enum-told-2 c = search needs
@@ -23,8 +26,9 @@ enum-told-2 c = search needs
 returns-2 : tie.Need-returns-2
 unfolding unionAxis
 returns-2 c =
-    let told = c .before .before .before .before .before .enum-told .given .1 in
-    rw (told, ← c .before .before .before .before .axis-search .ensures, eq-eqb _ _ (c .before .if1 .left), c .union-zeros .ensures, told)
+    let c1 = c .before in let c2 = c1 .before in let c3 = c2 .before in let c4 = c3 .before in let c5 = c4 .before in
+    let told = c5 .enum-told .given .1 in
+    rw (told, ← c4 .axis-search .ensures, eq-eqb _ _ (c1 .if1 .left), c .union-zeros .ensures, told)
 
 returns-3 : tie.Need-returns-3
 unfolding unionAxis

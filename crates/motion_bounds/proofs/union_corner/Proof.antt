@@ -16,8 +16,10 @@ enum-known-s c = search needs
 
 add-requires : tie.Need-add-requires
 add-requires c κs =
-    let corner = c .before .before in
-    let joined = corner .before .before .before .before .before in
+    let c1 = c .before in let c2 = c1 .before in let c3 = c2 .before in let c4 = c3 .before in
+    let c5 = c4 .before in let c6 = c5 .before in let c7 = c6 .before in
+    let corner = c2 in
+    let joined = c7 in
     let start = joined .before .before in
     let a = start .args in
     let below : 511 * a .c ≤ 3577 = omega (arith, start .pre .0) in (
@@ -34,9 +36,11 @@ enum-told-2 c = search needs
 returns : tie.Need-returns
 unfolding MotionBoundsAnswer·unionBounds
 returns c =
-    let met = c .before .before .before in
+    let c1 = c .before in let c2 = c1 .before in let c3 = c2 .before in let c4 = c3 .before in
+    let c5 = c4 .before in let c6 = c5 .before in let c7 = c6 .before in let c8 = c7 .before in
+    let met = c3 in
     let moved = met .before .before in
-    let joined = moved .before .before .before in
+    let joined = c8 in
     let start = joined .before .before in
     let a = start .args in
     rw (
@@ -46,15 +50,16 @@ returns c =
       ← moved .point-bounds .ensures,
       joined .r .given .1,
       met .s .given .1,
-      c .before .union-bounds .ensures,
+      c1 .union-bounds .ensures,
       c .add .ensures,
     )
 
 returns-2 : tie.Need-returns-2
 unfolding MotionBoundsAnswer·unionBounds
 returns-2 c =
-    let moved = c .before .before in
-    let joined = moved .before .before .before in
+    let c1 = c .before in let c2 = c1 .before in let c3 = c2 .before in let c4 = c3 .before in let c5 = c4 .before in
+    let moved = c2 in
+    let joined = c5 in
     let start = joined .before .before in
     let a = start .args in
     rw (

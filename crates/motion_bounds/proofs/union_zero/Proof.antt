@@ -19,11 +19,15 @@ enum-told c = search needs
 
 returns : tie.Need-returns
 unfolding unionZero BoundsAnswer·unionMoved
-returns c = rw (c .before .before .before .before .before .before .r .given .1, ← c .before .before .before .before .point-at .ensures, c .before .before .q .given .1, c .union-point .ensures)
+returns c =
+    let c1 = c .before in let c2 = c1 .before in let c3 = c2 .before in let c4 = c3 .before in let c5 = c4 .before in let c6 = c5 .before in
+    rw (c6 .r .given .1, ← c4 .point-at .ensures, c2 .q .given .1, c .union-point .ensures)
 
 returns-2 : tie.Need-returns-2
 unfolding unionZero BoundsAnswer·unionMoved
-returns-2 c = rw (c .before .before .before .before .before .r .given .1, ← c .before .before .before .point-at .ensures, c .before .q2 .given .1)
+returns-2 c =
+    let c1 = c .before in let c2 = c1 .before in let c3 = c2 .before in let c4 = c3 .before in let c5 = c4 .before in
+    rw (c5 .r .given .1, ← c3 .point-at .ensures, c1 .q2 .given .1)
 
 returns-3 : tie.Need-returns-3
 unfolding unionZero BoundsAnswer·unionMoved

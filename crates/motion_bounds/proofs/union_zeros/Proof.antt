@@ -40,15 +40,19 @@ loop-again c = (search needs, loop-next _ _ _ _ _ (c .before .before .loop .inv 
 returns : tie.Need-returns Inv-loop μ-loop
 unfolding unionZeros
 returns c =
-    let start = c .before .before .before .before .before in
+    let c1 = c .before in let c2 = c1 .before in let c3 = c2 .before in let c4 = c3 .before in let c5 = c4 .before in
+    let start = c5 in
     let a = start .args in
-    let ended = c .before .before in
+    let ended = c2 in
     let joined = loop-end _ _ (a .found .count) _ _ (omega (arith, ended .loop-test .left, ended .before .loop .inv .0)) (ended .before .loop .inv .1) in
-    c .union-zero2 .ensures ∙ ap (unionZero (a .m) (a .a) (a .p) positiveZero) joined ∙ sym (unused-once (a .m) (a .a) (a .p) (a .found .zeros) (a .found .count) (start .pre .unused) (a .r) 7 (omega arith) (omega arith))
+    c .union-zero2 .ensures ∙ ap (unionZero (a .m) (a .a) (a .p) positiveZero) joined
+    ∙ sym (unused-once (a .m) (a .a) (a .p) (a .found .zeros) (a .found .count) (start .pre .unused) (a .r) 7 (omega arith) (omega arith))
 
 returns-2 : tie.Need-returns-2 Inv-loop μ-loop
 unfolding unionZeros
-returns-2 c = let full = c .before .before .before .before .pre .count in loop-end _ _ 8 _ _ (omega (arith, full)) (c .before .before .loop .inv .1)
+returns-2 c =
+    let c1 = c .before in let c2 = c1 .before in let c3 = c2 .before in let c4 = c3 .before in
+    let full = c4 .pre .count in loop-end _ _ 8 _ _ (omega (arith, full)) (c2 .loop .inv .1)
 
 pub union-zeros-spec : {M : Type 1} → statement M
 union-zeros-spec =

@@ -1,5 +1,5 @@
--- What the steps of the code give where no definition of the motion box names it: one axis joined and what was examined for it (`axisBounds`), the three axes in turn, and
--- the union of two answers. No definition of the motion box cites them.
+-- What the steps of the code give where no definition of the motion box names it: one axis joined and what was examined for it (`axisBounds`),
+-- the three axes in turn, and the union of two answers. No definition of the motion box cites them.
 use Prim.Native.Nat.{ℕ}
 use Rattle.bounds3.specs.declared.Point3f.{Point3f}
 use Rattle.bounds3.specs.Bounds3f.{Bounds3f·unionBounds}

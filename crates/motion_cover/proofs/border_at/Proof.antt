@@ -13,10 +13,11 @@ returns c = rw (c .if1 .taken)
 returns-2 : tie.Need-returns-2
 unfolding Border·at
 returns-2 c =
-    let e = c .before .before .before in
+    let c1 = c .before in let c2 = c1 .before in let c3 = c2 .before in
+    let e = c3 in
     let args = e .before .before .args in
     let lent = e .before .before .pre in
-    let s = c .before .sin-cos-in in
+    let s = c1 .sin-cos-in in
     let x = args .a .theta ⊗ args .t in
     rw (e .if1 .left, from-sin-cos x (s .result) (c .from-sin-cos .ensures) (sin-lent lent x (s .ensures .0)) (cos-lent lent x (s .ensures .1)))
 

@@ -15,8 +15,9 @@ transform-padded-requires c κs = search needs
 returns : tie.Need-returns
 unfolding AnimatedTransform·encloseMotion
 returns c =
+    let c1 = c .before in let c2 = c1 .before in let c3 = c2 .before in let c4 = c3 .before in
     rw
-    (not-true (c .before .before .before .before .args .m .«actually_animated») (c .before .before .if1 .taken), c .transform-padded .ensures, c .before .max .ensures)
+    (not-true (c4 .args .m .«actually_animated») (c2 .if1 .taken), c .transform-padded .ensures, c1 .max .ensures)
 
 ends-enclosure-requires : tie.Need-ends-enclosure-requires
 ends-enclosure-requires c κs = search needs
@@ -33,14 +34,17 @@ enum-known-ends-2 c = search needs
 returns-2 : tie.Need-returns-2
 unfolding AnimatedTransform·encloseMotion
 returns-2 c =
+    let c1 = c .before in let c2 = c1 .before in let c3 = c2 .before in let c4 = c3 .before in
+    let c5 = c4 .before in let c6 = c5 .before in let c7 = c6 .before in
     rw
-    (← c .before .before .before .before .ends-enclosure .ensures, c .before .before .ends .given .1, c .slices-enclosure .ensures, not-false (c .before .before .before .before .before .before .before .args .m .«actually_animated») (c .before .before .before .before .before .if1 .left))
+    (← c4 .ends-enclosure .ensures, c2 .ends .given .1, c .slices-enclosure .ensures, not-false (c7 .args .m .«actually_animated») (c5 .if1 .left))
 
 returns-3 : tie.Need-returns-3
 unfolding AnimatedTransform·encloseMotion
 returns-3 c =
+    let c1 = c .before in let c2 = c1 .before in let c3 = c2 .before in let c4 = c3 .before in let c5 = c4 .before in let c6 = c5 .before in
     rw
-    (← c .before .before .before .ends-enclosure .ensures, c .before .ends2 .given .1, refused-first _ _ _ _ _ _, not-false (c .before .before .before .before .before .before .args .m .«actually_animated») (c .before .before .before .before .if1 .left))
+    (← c3 .ends-enclosure .ensures, c1 .ends2 .given .1, refused-first _ _ _ _ _ _, not-false (c6 .args .m .«actually_animated») (c4 .if1 .left))
 
 pub motion-enclosure-spec : {M : Type 1} → statement M
 motion-enclosure-spec =

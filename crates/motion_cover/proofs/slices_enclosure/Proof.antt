@@ -46,8 +46,10 @@ border-at-requires-2 c κs = search needs
 
 slice-enclosure-requires : tie.Need-slice-enclosure-requires Inv-loop μ-loop
 slice-enclosure-requires c κs =
-    let l = c .before .before .before .before in
-    (l .before .before .before .perpendicular-to .ensures, (l .loop .inv .2, border-own _ _ _ (c .border-at2 .ensures)))
+    let c1 = c .before in let c2 = c1 .before in let c3 = c2 .before in let c4 = c3 .before in
+    let c5 = c4 .before in let c6 = c5 .before in let c7 = c6 .before in
+    let l = c4 in
+    (c7 .perpendicular-to .ensures, (l .loop .inv .2, border-own _ _ _ (c .border-at2 .ensures)))
 
 enum-known-slice : tie.Need-enum-known-slice Inv-loop μ-loop
 enum-known-slice c = search needs
@@ -57,15 +59,19 @@ enum-told c = search needs
 
 returns : tie.Need-returns Inv-loop μ-loop
 returns c =
-    let slice = c .before .before .slice-enclosure in
-    let to = c .before .before .before .border-at2 in
-    let high = c .before .before .before .before .before .from-fixed in
-    let l = c .before .before .before .before .before .before .before .loop in
-    let d = c .before .before .before .before .before .before .before .before .before .before .before .before .before .args .d in
-    let h : d ≤ maxDepth = c .before .before .before .before .before .before .before .before .before .before .before .before .before .pre in
-    rw (← c .before .before .before .before .before .before .before .before .before .before .before .constants .ensures)
+    let c1 = c .before in let c2 = c1 .before in let c3 = c2 .before in let c4 = c3 .before in let c5 = c4 .before in
+    let c6 = c5 .before in let c7 = c6 .before in let c8 = c7 .before in let c9 = c8 .before in
+    let c10 = c9 .before in let c11 = c10 .before in let c12 = c11 .before in let c13 = c12 .before in
+    let slice = c2 .slice-enclosure in
+    let to = c3 .border-at2 in
+    let high = c5 .from-fixed in
+    let l = c7 .loop in
+    let d = c13 .args .d in
+    let h : d ≤ maxDepth = c13 .pre in
+    rw (← c11 .constants .ensures)
     (sym
-    (slice-refused (l .inv .1) (to .result .t) (border-time _ _ _ (to .ensures) ∙ rw (high .ensures) (slice-end d _ h)) (slice .result) (slice .ensures) (c .enum-told .given .0 .0) (c .enum-told .given .1)
+    (slice-refused (l .inv .1) (to .result .t) (border-time _ _ _ (to .ensures) ∙ rw (high .ensures) (slice-end d _ h))
+    (slice .result) (slice .ensures) (c .enum-told .given .0 .0) (c .enum-told .given .1)
     (omega (arith, slice-count d h))))
 
 union-bounds-requires : tie.Need-union-bounds-requires Inv-loop μ-loop
@@ -74,8 +80,11 @@ union-bounds-requires c κs = search needs
 -- k stays below 2^13
 add-k : tie.Need-add-k Inv-loop μ-loop
 add-k c =
-    let d = c .before .before .before .before .before .before .before .before .before .before .before .before .before .before .before .args .d in
-    let h : d ≤ maxDepth = c .before .before .before .before .before .before .before .before .before .before .before .before .before .before .before .pre in
+    let c1 = c .before in let c2 = c1 .before in let c3 = c2 .before in let c4 = c3 .before in let c5 = c4 .before in
+    let c6 = c5 .before in let c7 = c6 .before in let c8 = c7 .before in let c9 = c8 .before in let c10 = c9 .before in
+    let c11 = c10 .before in let c12 = c11 .before in let c13 = c12 .before in let c14 = c13 .before in let c15 = c14 .before in
+    let d = c15 .args .d in
+    let h : d ≤ maxDepth = c15 .pre in
     omega (arith, slice-count d h, pow-lt {i = d} {j = 13} (omega arith))
 
 loop-less : tie.Need-loop-less Inv-loop μ-loop
@@ -83,23 +92,29 @@ loop-less c = search needs
 
 loop-again : tie.Need-loop-again Inv-loop μ-loop
 loop-again c =
-    let slice = c .before .before .before .before .slice-enclosure in
-    let to = c .before .before .before .before .before .border-at2 in
-    let high = c .before .before .before .before .before .before .before .from-fixed in
-    let l = c .before .before .before .before .before .before .before .before .before .loop in
-    let d = c .before .before .before .before .before .before .before .before .before .before .before .before .before .before .before .args .d in
-    let h : d ≤ maxDepth = c .before .before .before .before .before .before .before .before .before .before .before .before .before .before .before .pre in (
-      omega (arith, c .before .before .before .before .before .before .before .before .loop-test .taken),
-      reached-next (l .inv .1) (to .result .t) (border-time _ _ _ (to .ensures) ∙ rw (high .ensures) (slice-end d _ h)) (slice .result) (slice .ensures) (c .before .before .slice .given .0 .0) (c .before .before .slice .given .1) (c .union-bounds .result) (c .union-bounds .ensures),
+    let c1 = c .before in let c2 = c1 .before in let c3 = c2 .before in let c4 = c3 .before in let c5 = c4 .before in
+    let c6 = c5 .before in let c7 = c6 .before in let c8 = c7 .before in let c9 = c8 .before in let c10 = c9 .before in
+    let c11 = c10 .before in let c12 = c11 .before in let c13 = c12 .before in let c14 = c13 .before in let c15 = c14 .before in
+    let slice = c4 .slice-enclosure in
+    let to = c5 .border-at2 in
+    let high = c7 .from-fixed in
+    let l = c9 .loop in
+    let d = c15 .args .d in
+    let h : d ≤ maxDepth = c15 .pre in (
+      omega (arith, c8 .loop-test .taken),
+      reached-next (l .inv .1) (to .result .t) (border-time _ _ _ (to .ensures) ∙ rw (high .ensures) (slice-end d _ h)) (slice .result)
+          (slice .ensures) (c2 .slice .given .0 .0) (c2 .slice .given .1) (c .union-bounds .result) (c .union-bounds .ensures),
       border-own _ _ _ (to .ensures),
     )
 
 returns-2 : tie.Need-returns-2 Inv-loop μ-loop
 returns-2 c =
-    let l = c .before .loop in
-    let d = c .before .before .before .before .before .before .before .args .d in
-    let h : d ≤ maxDepth = c .before .before .before .before .before .before .before .pre in
-    rw (← c .before .before .before .before .before .constants .ensures) (sym (reached-last (l .inv .1) (omega (arith, slice-count d h))))
+    let c1 = c .before in let c2 = c1 .before in let c3 = c2 .before in let c4 = c3 .before in
+    let c5 = c4 .before in let c6 = c5 .before in let c7 = c6 .before in
+    let l = c1 .loop in
+    let d = c7 .args .d in
+    let h : d ≤ maxDepth = c7 .pre in
+    rw (← c5 .constants .ensures) (sym (reached-last (l .inv .1) (omega (arith, slice-count d h))))
 
 pub slices-enclosure-spec : {M : Type 1} → statement M
 slices-enclosure-spec =

@@ -18,12 +18,14 @@ from-enclosure-requires c κs = search needs
 
 returns : tie.Need-returns
 unfolding Transform·encloseBounds
-returns c = rw (
-  c .from-enclosure .ensures,
-  c .before .transform-point-enclosure .ensures,
-  c .before .before .intervals .ensures,
-  c .before .before .before .matrix-point .ensures,
-)
+returns c =
+    let c1 = c .before in let c2 = c1 .before in let c3 = c2 .before in
+    rw (
+      c .from-enclosure .ensures,
+      c1 .transform-point-enclosure .ensures,
+      c2 .intervals .ensures,
+      c3 .matrix-point .ensures,
+    )
 
 pub transform-enclosure-spec : {M : Type 1} → statement M
 transform-enclosure-spec =

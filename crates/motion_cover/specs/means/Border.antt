@@ -1,4 +1,5 @@
--- What the code of a cover keeps where two slices meet, so that neither works it anew. Document 01 knows no such thing, and no promise cites it. Definitions only.
+-- What the code of a cover keeps where two slices meet, so that neither works it anew.
+-- Document 01 knows no such thing, and no promise cites it. Definitions only.
 use mathlib.Core.Bool.{cond}
 use lib.Ieee.{Float, binary32, ofBits}
 use Rattle.float32.specs.Operators.{_⊗_, one}

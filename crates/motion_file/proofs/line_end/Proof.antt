@@ -25,8 +25,9 @@ shared-slice-read-if1 c = search needs
 
 returns : tie.Need-returns Inv-loop μ-loop
 returns c =
-    let l = c .before .before .before .loop in
-    omega (arith, position-here lineFeed (c .before .before .before .before .args .s .now) (l .i) (omega arith) (c .if1 .taken))
+    let c1 = c .before in let c2 = c1 .before in let c3 = c2 .before in let c4 = c3 .before in
+    let l = c3 .loop in
+    omega (arith, position-here lineFeed (c4 .args .s .now) (l .i) (omega arith) (c .if1 .taken))
 
 add-i : tie.Need-add-i Inv-loop μ-loop
 add-i c = search needs
@@ -36,9 +37,10 @@ loop-less c = search needs
 
 loop-again : tie.Need-loop-again Inv-loop μ-loop
 loop-again c =
-    let l = c .before .before .before .loop in
+    let c1 = c .before in let c2 = c1 .before in let c3 = c2 .before in let c4 = c3 .before in
+    let l = c3 .loop in
     rw (add-one (l .i))
-    (omega (arith, position-next lineFeed (c .before .before .before .before .args .s .now) (l .i) (omega arith) (c .if1 .left)))
+    (omega (arith, position-next lineFeed (c4 .args .s .now) (l .i) (omega arith) (c .if1 .left)))
 
 returns-2 : tie.Need-returns-2 Inv-loop μ-loop
 returns-2 c = omega (arith, position-end lineFeed (c .before .before .args .s .now) (c .before .loop .i) (omega arith))

@@ -32,8 +32,9 @@ is-line-feed-requires c κs = search needs
 
 add-feeds : tie.Need-add-feeds Inv-loop μ-loop
 add-feeds c =
-    let l = c .before .before .before .loop in
-    let s = c .before .before .before .before .before .args .s .now in
+    let c1 = c .before in let c2 = c1 .before in let c3 = c2 .before in let c4 = c3 .before in let c5 = c4 .before in
+    let l = c3 .loop in
+    let s = c5 .args .s .now in
     record { fits = omega (arith, c .is-line-feed .ensures, at-most-one (eqb lineFeed (getD s (l .i) 0))) }
 
 add-i : tie.Need-add-i Inv-loop μ-loop
@@ -44,14 +45,17 @@ loop-less c = search needs
 
 loop-again : tie.Need-loop-again Inv-loop μ-loop
 loop-again c =
-    let l = c .before .before .before .loop in
-    let s = c .before .before .before .before .before .args .s .now in
+    let c1 = c .before in let c2 = c1 .before in let c3 = c2 .before in let c4 = c3 .before in let c5 = c4 .before in
+    let l = c3 .loop in
+    let s = c5 .args .s .now in
     let next = pieces-next lineFeed s (l .i) (omega arith) in
     let one = c .is-line-feed .ensures in
     (omega arith, (omega (arith, one, at-most-one (eqb lineFeed (getD s (l .i) 0))), omega (arith, next, one)))
 
 returns : tie.Need-returns Inv-loop μ-loop
-returns c = omega (arith, pieces-end lineFeed (c .before .before .before .args .s .now) (c .before .loop .i) (omega arith))
+returns c =
+    let c1 = c .before in let c2 = c1 .before in let c3 = c2 .before in
+    omega (arith, pieces-end lineFeed (c3 .args .s .now) (c1 .loop .i) (omega arith))
 
 pub line-feeds-spec : {M : Type 1} → statement M
 line-feeds-spec =

@@ -17,8 +17,9 @@ judged-requires c κs = search needs
 
 returns-2 : tie.Need-returns-2
 returns-2 c =
-    let a = c .before .before .before .before .args in
-    λ l h. none-passed (a .m) (a .places .now) (c .before .before .judged .ensures) (c .if2 .taken)
+    let c1 = c .before in let c2 = c1 .before in let c3 = c2 .before in let c4 = c3 .before in
+    let a = c4 .args in
+    λ l h. none-passed (a .m) (a .places .now) (c2 .judged .ensures) (c .if2 .taken)
 
 start-pad-requires : tie.Need-start-pad-requires
 start-pad-requires c κs = search needs
@@ -31,10 +32,12 @@ take-pose-requires c κs = search needs
 
 returns-3 : tie.Need-returns-3
 returns-3 c =
-    let started = c .before .before in
-    let judged = started .before .before .before .before .before .before in
+    let c1 = c .before in let c2 = c1 .before in let c3 = c2 .before in let c4 = c3 .before in
+    let c5 = c4 .before in let c6 = c5 .before in let c7 = c6 .before in let c8 = c7 .before in
+    let started = c2 in
+    let judged = c8 in
     let a = judged .before .before .args in
-    let start = started .before .before .stored-enclosure .ensures ∙ ap (λ p. PaddedPose·stored p (a .m .«start_transform»)) (started .before .before .before .start-pad .ensures) in
+    let start = started .before .before .stored-enclosure .ensures ∙ ap (λ p. PaddedPose·stored p (a .m .«start_transform»)) (c5 .start-pad .ensures) in
     let s = not-true (a .m .«actually_animated») (c .if3 .taken) in
     λ l h. worked-same (λ b. moved-stored (a .m) (a .depth) b s)
     (start-worked (a .m) (a .depth) l (judged .judged .ensures) h start (started .take-pose .ensures))
@@ -47,17 +50,22 @@ take-pose-requires-2 c κs = search needs
 
 take-slices-requires : tie.Need-take-slices-requires
 take-slices-requires c κs =
-    let judged = c .before .before .before .before .before .before .before .before .before .before .before .before in
-    (judged-depth (judged .judged .ensures) (c .before .before .before .before .before .before .before .before .before .before .if2 .left), judged .before .if1 .left)
+    let c1 = c .before in let c2 = c1 .before in let c3 = c2 .before in let c4 = c3 .before in let c5 = c4 .before in let c6 = c5 .before in
+    let c7 = c6 .before in let c8 = c7 .before in let c9 = c8 .before in let c10 = c9 .before in let c11 = c10 .before in let c12 = c11 .before in
+    let judged = c12 in
+    (judged-depth (judged .judged .ensures) (c10 .if2 .left), judged .before .if1 .left)
 
 returns-4 : tie.Need-returns-4
 returns-4 c =
-    let ended = c .before .before in
-    let else3 = ended .before .before .before in
+    let c1 = c .before in let c2 = c1 .before in let c3 = c2 .before in let c4 = c3 .before in let c5 = c4 .before in
+    let c6 = c5 .before in let c7 = c6 .before in let c8 = c7 .before in let c9 = c8 .before in
+    let c10 = c9 .before in let c11 = c10 .before in let c12 = c11 .before in let c13 = c12 .before in
+    let ended = c2 in
+    let else3 = c5 in
     let started = else3 .before .before in
-    let judged = started .before .before .before .before .before .before in
+    let judged = c13 in
     let a = judged .before .before .args in
-    let start = started .before .before .stored-enclosure .ensures ∙ ap (λ p. PaddedPose·stored p (a .m .«start_transform»)) (started .before .before .before .start-pad .ensures) in
+    let start = started .before .before .stored-enclosure .ensures ∙ ap (λ p. PaddedPose·stored p (a .m .«start_transform»)) (c10 .start-pad .ensures) in
     let s = not-false (a .m .«actually_animated») (else3 .if3 .left) in
     λ l h.
     let v = start-worked (a .m) (a .depth) l (judged .judged .ensures) h start (started .take-pose .ensures) in

@@ -28,8 +28,9 @@ loop-holds c = (omega arith, sliced-first _ _ _ _ _ _)
 
 slice-requires : tie.Need-slice-requires Inv-loop μ-loop
 slice-requires c κs =
-    let d = c .before .before .before .args .d in
-    let h : d ≤ maxDepth = c .before .before .before .pre .0 in
+    let c1 = c .before in let c2 = c1 .before in let c3 = c2 .before in
+    let d = c3 .args .d in
+    let h : d ≤ maxDepth = c3 .pre .0 in
     (h, omega (arith, slice-count d h, c .loop-test .taken))
 
 padded-enclosure-requires : tie.Need-padded-enclosure-requires Inv-loop μ-loop
@@ -40,28 +41,32 @@ take-pose-requires c κs = search needs
 
 add-k : tie.Need-add-k Inv-loop μ-loop
 add-k c =
-    let d = c .before .before .before .before .before .before .before .args .d in
-    let h : d ≤ maxDepth = c .before .before .before .before .before .before .before .pre .0 in
-    omega (arith, slice-count d h, pow-lt {i = d} {j = 13} (omega (arith, h)), c .before .before .before .before .loop-test .taken)
+    let c1 = c .before in let c2 = c1 .before in let c3 = c2 .before in let c4 = c3 .before in
+    let c5 = c4 .before in let c6 = c5 .before in let c7 = c6 .before in
+    let d = c7 .args .d in
+    let h : d ≤ maxDepth = c7 .pre .0 in
+    omega (arith, slice-count d h, pow-lt {i = d} {j = 13} (omega (arith, h)), c4 .loop-test .taken)
 
 loop-less : tie.Need-loop-less Inv-loop μ-loop
 loop-less c = search needs
 
 loop-again : tie.Need-loop-again Inv-loop μ-loop
 loop-again c =
-    let l = c .before .before .before .before .before in
+    let c1 = c .before in let c2 = c1 .before in let c3 = c2 .before in let c4 = c3 .before in let c5 = c4 .before in
+    let l = c5 in
     let a = l .before .before .args in
-    let t = c .before .before .before .before .loop-test .taken in
-    let slice = c .before .before .before .slice .ensures in
-    let e = c .before .before .padded-enclosure .ensures ∙ ap (PaddedPose·over (l .before .constants .result) (a .m .s0) (a .m .s1) (a .m .pad0) (a .m .pad1)) slice in
+    let t = c4 .loop-test .taken in
+    let slice = c3 .slice .ensures in
+    let e = c2 .padded-enclosure .ensures ∙ ap (PaddedPose·over (l .before .constants .result) (a .m .s0) (a .m .s1) (a .m .pad0) (a .m .pad1)) slice in
     (omega (arith, t), sliced-next _ _ _ _ _ _ (l .loop .inv .1) (l .before .before .pre .1) e (c .take-pose .ensures))
 
 returns : tie.Need-returns Inv-loop μ-loop
 returns c =
-    let l = c .before .loop in
-    let a = c .before .before .before .args in
-    let h : a .d ≤ maxDepth = c .before .before .before .pre .0 in
-    sliced-last _ _ _ _ _ _ (l .inv .1) (omega (arith, slice-count (a .d) h, l .inv .0, c .loop-test .left)) (c .before .before .constants .ensures)
+    let c1 = c .before in let c2 = c1 .before in let c3 = c2 .before in
+    let l = c1 .loop in
+    let a = c3 .args in
+    let h : a .d ≤ maxDepth = c3 .pre .0 in
+    sliced-last _ _ _ _ _ _ (l .inv .1) (omega (arith, slice-count (a .d) h, l .inv .0, c .loop-test .left)) (c2 .constants .ensures)
 
 pub take-slices-spec : {M : Type 1} → statement M
 take-slices-spec =

@@ -1,5 +1,5 @@
--- What the code of a set has worked out so far, `FrontOf`, and what it leaves in the places, `Worked`. Document 02 knows no such thing: the promises of a set cite neither.
--- Definitions only.
+-- What the code of a set has worked out so far, `FrontOf`, and what it leaves in the places, `Worked`.
+-- Document 02 knows no such thing: the promises of a set cite neither. Definitions only.
 use Prim.Native.Nat.{ℕ, _≤_, _<_}
 use mathlib.Core.Path.{_≡_}
 use mathlib.Core.Bool.{Bool, false}
@@ -36,6 +36,7 @@ abbrev pub Works : (Bounds3f → BoundsAnswer) → List (List Float) → List (L
 Works answer boxes old new front = length boxes ≤ placeCount → length old ≡ placeCount → Worked answer boxes old new front
 
 -- Work that goes on from what is answered so far.
-abbrev pub Continues : ((Bounds3f → BoundsAnswer) → Bounds3f → BoundsAnswer) → List (List Float) → List (List Float) → List (List Float) → Front → Front → Type 0
+abbrev pub Continues : ((Bounds3f → BoundsAnswer) → Bounds3f → BoundsAnswer)
+    → List (List Float) → List (List Float) → List (List Float) → Front → Front → Type 0
 Continues then boxes old new from to =
     (answer : Bounds3f → BoundsAnswer) → length old ≡ placeCount → FrontOf false answer boxes old from → Worked (then answer) boxes old new to

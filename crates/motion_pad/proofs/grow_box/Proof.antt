@@ -11,13 +11,15 @@ returns c = rw (ne-eqb _ 0 (c .if1 .taken))
 
 returns-2 : tie.Need-returns-2
 returns-2 c =
-    let a = c .before .before .before .before .before .args in
-    faces-finite (a .pad) (a .b) (c .before .before .before .if1 .left) (c .before .before .grown .ensures) (c .before .is-finite .ensures) (c .if2 .taken)
+    let c1 = c .before in let c2 = c1 .before in let c3 = c2 .before in let c4 = c3 .before in let c5 = c4 .before in
+    let a = c5 .args in
+    faces-finite (a .pad) (a .b) (c3 .if1 .left) (c2 .grown .ensures) (c1 .is-finite .ensures) (c .if2 .taken)
 
 returns-3 : tie.Need-returns-3
 returns-3 c =
-    let a = c .before .before .before .before .before .args in
-    faces-infinite (a .pad) (a .b) (c .before .before .before .if1 .left) (c .before .before .grown .ensures) (c .before .is-finite .ensures) (c .if2 .left)
+    let c1 = c .before in let c2 = c1 .before in let c3 = c2 .before in let c4 = c3 .before in let c5 = c4 .before in
+    let a = c5 .args in
+    faces-infinite (a .pad) (a .b) (c3 .if1 .left) (c2 .grown .ensures) (c1 .is-finite .ensures) (c .if2 .left)
 
 pub grow-box-spec : {M : Type 1} → statement M
 grow-box-spec = tie.close (tie.spec returns (λ c κs. tt) (λ c κs. tt) returns-2 returns-3)

@@ -9,12 +9,13 @@ use Rattle.motion_pad.proofs.pad_judged.Tie as tie
 returns : tie.Need-returns
 unfolding Pad·enclose
 returns c =
-    let a = c .before .before .before .before .args in
+    let c1 = c .before in let c2 = c1 .before in let c3 = c2 .before in let c4 = c3 .before in
+    let a = c4 .args in
     ap Judged·of
     (traced (enclosure 0 (Pad·inputs (a .pad0) (a .pad1) (a .dt))) padStage
-    _ (c .before .before .before .sub-enclosure .ensures)
-    _ (c .before .before .mul-enclosure .ensures)
-    _ (c .before .mul-enclosure2 .ensures)
+    _ (c3 .sub-enclosure .ensures)
+    _ (c2 .mul-enclosure .ensures)
+    _ (c1 .mul-enclosure2 .ensures)
     _ (c .add-enclosure .ensures))
 
 pub pad-judged-spec : {M : Type 1} → statement M

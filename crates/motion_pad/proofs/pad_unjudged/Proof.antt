@@ -12,12 +12,13 @@ use Rattle.motion_pad.proofs.pad_unjudged.Tie as tie
 returns : tie.Need-returns
 unfolding Pad·unjudged
 returns c =
-    let a = c .before .before .before .before .args in
+    let c1 = c .before in let c2 = c1 .before in let c3 = c2 .before in let c4 = c3 .before in
+    let a = c4 .args in
     ap (λ (l : List Interval). Judged·of (enclosure 0 l) .interval)
     (traced-unjudged (Pad·inputs (a .pad0) (a .pad1) (a .dt)) padStage
-    _ (c .before .before .before .sub-enclosure .ensures)
-    _ (c .before .before .mul-ordered .ensures)
-    _ (c .before .mul-ordered2 .ensures)
+    _ (c3 .sub-enclosure .ensures)
+    _ (c2 .mul-ordered .ensures)
+    _ (c1 .mul-ordered2 .ensures)
     _ (c .add-enclosure .ensures))
 
 pub pad-unjudged-spec : {M : Type 1} → statement M

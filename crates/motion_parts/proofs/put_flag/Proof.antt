@@ -12,7 +12,9 @@ same-length c = search needs
 
 returns : tie.Need-returns
 unfolding flagPieces
-returns c = rw (c .before .before .before .before .if1 .taken) (c .before .before .put-decimal .ensures)
+returns c =
+    let c1 = c .before in let c2 = c1 .before in let c3 = c2 .before in let c4 = c3 .before in
+    rw (c4 .if1 .taken) (c2 .put-decimal .ensures)
 
 put-decimal-requires-2 : tie.Need-put-decimal-requires-2
 put-decimal-requires-2 c κs = search needs
@@ -22,7 +24,9 @@ same-length-2 c = search needs
 
 returns-2 : tie.Need-returns-2
 unfolding flagPieces
-returns-2 c = rw (c .before .before .before .before .if1 .left) (c .before .before .put-decimal2 .ensures)
+returns-2 c =
+    let c1 = c .before in let c2 = c1 .before in let c3 = c2 .before in let c4 = c3 .before in
+    rw (c4 .if1 .left) (c2 .put-decimal2 .ensures)
 
 pub put-flag-spec : {M : Type 1} → statement M
 put-flag-spec =

@@ -48,11 +48,13 @@ loop-less c = search needs
 
 loop-again : tie.Need-loop-again Inv-loop μ-loop
 loop-again c =
-    let l = c .before .before .before .before .before .before .before .before .loop in
-    let a = c .before .before .before .before .before .before .before .before .before .before .args in
+    let c1 = c .before in let c2 = c1 .before in let c3 = c2 .before in let c4 = c3 .before in let c5 = c4 .before in
+    let c6 = c5 .before in let c7 = c6 .before in let c8 = c7 .before in let c9 = c8 .before in let c10 = c9 .before in
+    let l = c8 .loop in
+    let a = c10 .args in
     let turn =
     rows-turn (a .motion .now) (l .k) (l .out) _ (l .end) _ (omega arith)
-    (rw (c .before .before .before .before .part-size .ensures) at (c .before .before .put-floats .ensures)) in
+    (rw (c4 .part-size .ensures) at (c2 .put-floats .ensures)) in
     (omega arith, search needs, turn .0 ∙ l .inv .2, turn .1 ∙ l .inv .3)
 
 same-length : tie.Need-same-length Inv-loop μ-loop
@@ -60,8 +62,9 @@ same-length c = search needs
 
 returns : tie.Need-returns Inv-loop μ-loop
 returns c =
-    let l = c .before .loop in
-    let a = c .before .before .before .args in
+    let c1 = c .before in let c2 = c1 .before in let c3 = c2 .before in
+    let l = c1 .loop in
+    let a = c3 .args in
     let last : l .k ≡ 35 = omega arith in
     let end = rows-end (a .motion .now) (l .out) (l .end) in
     (sym (end .0) ∙ rw last at (l .inv .2), sym (end .1) ∙ rw last at (l .inv .3))

@@ -32,16 +32,19 @@ same-length c = search needs
 returns : tie.Need-returns
 unfolding partsPieces
 returns c =
-    let a = c .before .before .before .before .before .before .before .before .before .before .before .before .before .before .args in
+    let c1 = c .before in let c2 = c1 .before in let c3 = c2 .before in let c4 = c3 .before in let c5 = c4 .before in
+    let c6 = c5 .before in let c7 = c6 .before in let c8 = c7 .before in let c9 = c8 .before in let c10 = c9 .before in
+    let c11 = c10 .before in let c12 = c11 .before in let c13 = c12 .before in let c14 = c13 .before in
+    let a = c14 .args in
     let last = getD (a .motion .now) 43 [] in
     let animated = flagPieces (getD last 0 nan) in
     let rotates = flagPieces (getD last 1 nan) in
     let rows = rowPieces (a .motion .now) 0 in
     all-append animated (rotates ++ rows) (a .out .now) _ _ (a .at) _ _
-    (c .before .before .before .before .before .before .before .before .before .before .put-flag .ensures)
+    (c10 .put-flag .ensures)
     (all-append rotates rows _ _ _ _ _ _
-    (c .before .before .before .before .before .before .put-flag2 .ensures)
-    (c .before .before .put-part-rows .ensures))
+    (c6 .put-flag2 .ensures)
+    (c2 .put-part-rows .ensures))
 
 pub put-parts-spec : {M : Type 1} → statement M
 put-parts-spec =

@@ -6,11 +6,12 @@ use Rattle.motion_piece.proofs.box_enclosure.Tie as tie
 returns : tie.Need-returns
 unfolding PaddedPose·encloseBounds
 returns c =
+    let c1 = c .before in let c2 = c1 .before in let c3 = c2 .before in
     rw (
       c .grow .ensures,
-      c .before .from-enclosure .ensures,
-      c .before .before .transform-point-enclosure .ensures,
-      c .before .before .before .intervals .ensures,
+      c1 .from-enclosure .ensures,
+      c2 .transform-point-enclosure .ensures,
+      c3 .intervals .ensures,
     )
 
 pub box-enclosure-spec : {M : Type 1} → statement M

@@ -1,4 +1,5 @@
--- Poses with their pad over a box, `PaddedPose·encloseBounds`: what a piece of a cover does once these are known, be it a slice of dt or a stored transform. Definitions only.
+-- Poses with their pad over a box, `PaddedPose·encloseBounds`: what a piece of a cover does once these are known, be it a slice of dt or a stored transform.
+-- Definitions only.
 use lib.Ieee.{Float}
 use Rattle.matrix4x4.specs.declared.Matrix4x4.{Matrix4x4}
 use Rattle.bounds3.specs.declared.Bounds3f.{Bounds3f}
@@ -15,7 +16,8 @@ use Rattle.motion_piece.specs.declared.PaddedPose.{PaddedPose}
 -- The box that the box b is moved to, grown by the pad, or the number that was met.
 unfoldable pub PaddedPose·encloseBounds : PaddedPose → Bounds3f → BoundsAnswer
 PaddedPose·encloseBounds pose b =
-    BoundsAnswer·grow (pose .pad) (BoundsAnswer·fromEnclosure (Pose·encloseTransformPoint (pose .matrix .refusal) (pose .matrix .matrix) (Bounds3f·intervals b)))
+    BoundsAnswer·grow (pose .pad)
+    (BoundsAnswer·fromEnclosure (Pose·encloseTransformPoint (pose .matrix .refusal) (pose .matrix .matrix) (Bounds3f·intervals b)))
 
 -- Over an interval of dt.
 abbrev pub PaddedPose·over : PoseConstants → Matrix4x4 → Matrix4x4 → Float → Float → Interval → PaddedPose

@@ -31,8 +31,9 @@ transform-point-requires-2 c κs = search needs
 returns-2 : tie.Need-returns-2
 unfolding AnimatedTransform·movedPoint
 returns-2 c =
-    let args = c .before .before .before .before .before .before .args in
-    rw (c .before .before .before .if1 .left) (c .transform-point2 .ensures .0 ∙ sym (ap (late (args .m) (args .a) (args .time) (args .p)) (c .before .if2 .taken)))
+    let c1 = c .before in let c2 = c1 .before in let c3 = c2 .before in let c4 = c3 .before in let c5 = c4 .before in let c6 = c5 .before in
+    let args = c6 .args in
+    rw (c3 .if1 .left) (c .transform-point2 .ensures .0 ∙ sym (ap (late (args .m) (args .a) (args .time) (args .p)) (c1 .if2 .taken)))
 
 dt-requires : tie.Need-dt-requires
 dt-requires c κs = search needs
@@ -43,8 +44,10 @@ moved-point-requires c κs = search needs
 returns-3 : tie.Need-returns-3
 unfolding AnimatedTransform·movedPoint
 returns-3 c =
-    let args = c .before .before .before .before .before .before .before .args in
-    rw (c .before .before .before .before .if1 .left, c .moved-point .ensures, c .before .dt .ensures) (sym (ap (late (args .m) (args .a) (args .time) (args .p)) (c .before .before .if2 .left)))
+    let c1 = c .before in let c2 = c1 .before in let c3 = c2 .before in let c4 = c3 .before in
+    let c5 = c4 .before in let c6 = c5 .before in let c7 = c6 .before in
+    let args = c7 .args in
+    rw (c4 .if1 .left, c .moved-point .ensures, c1 .dt .ensures) (sym (ap (late (args .m) (args .a) (args .time) (args .p)) (c2 .if2 .left)))
 
 pub moved-point-spec : {M : Type 1} → statement M
 moved-point-spec =

@@ -34,9 +34,10 @@ moved-point-requires c κs = search needs
 returns-2 : tie.Need-returns-2
 unfolding AnimatedTransform·transformPoint
 returns-2 c =
-    let args = c .before .before .before .before .args in
-    rw (← differs-nan (args .time), ← c .before .before .before .is-finite .ensures, c .moved-point .ensures, c .before .constants .ensures)
-    (sym (ap (asked (args .m) (args .time) (args .p)) (c .before .before .if1 .left)))
+    let c1 = c .before in let c2 = c1 .before in let c3 = c2 .before in let c4 = c3 .before in
+    let args = c4 .args in
+    rw (← differs-nan (args .time), ← c3 .is-finite .ensures, c .moved-point .ensures, c1 .constants .ensures)
+    (sym (ap (asked (args .m) (args .time) (args .p)) (c2 .if1 .left)))
 
 pub transform-point-spec : {M : Type 1} → statement M
 transform-point-spec = tie.close (tie.spec is-finite-requires returns constants-requires moved-point-requires returns-2)

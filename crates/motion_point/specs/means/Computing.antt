@@ -1,4 +1,5 @@
--- What has to unfold for a point of a given move to be moved by computing, as one group: a case says `unfolding computing`. The arc cosine's search is not in it.
+-- What has to unfold for a point of a given move to be moved by computing, as one group:
+-- a case says `unfolding computing`. The arc cosine's search is not in it.
 use lib.Ieee.{isNan, le}
 use Rattle.unit_interval.specs.means.Computing as dt
 use Rattle.transform.specs.means.Computing as transform

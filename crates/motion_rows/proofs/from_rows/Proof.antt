@@ -70,11 +70,14 @@ array-read-t46 c = search needs
 returns : tie.Need-returns
 unfolding AnimatedTransform·fromRows
 returns c =
-    let matrix = c .before .before in
+    let c1 = c .before in let c2 = c1 .before in let c3 = c2 .before in let c4 = c3 .before in let c5 = c4 .before in
+    let c6 = c5 .before in let c7 = c6 .before in let c8 = c7 .before in let c9 = c8 .before in
+    let c10 = c9 .before in let c11 = c10 .before in let c12 = c11 .before in let c13 = c12 .before in
+    let matrix = c2 in
     let rotation = matrix .before .before in
     let vector = rotation .before .before in
     let transform = vector .before .before in
-    let rows = transform .before .before .before .before .before .args .rows .now in
+    let rows = c13 .args .rows .now in
     λ i. record {
       «start_transform» = transform .transform-at .ensures i;
       «end_transform» = vector .before .transform-at2 .ensures i;
@@ -87,7 +90,7 @@ returns c =
       r0 = rotation .quaternion-at .ensures i;
       r1 = matrix .before .quaternion-at2 .ensures i;
       s0 = matrix .matrix-at .ensures i;
-      s1 = c .before .matrix-at2 .ensures i;
+      s1 = c1 .matrix-at2 .ensures i;
       coefficients = c .coefficients-at .ensures i;
       pad0 = at rows 44 0;
       pad1 = at rows 44 1;

@@ -1,4 +1,5 @@
--- `moved_point` meets its contract: the tests and the three poses are those of the move that the rows hold (`moved-point-start`, `moved-point-end`, `moved-point-between`).
+-- `moved_point` meets its contract: the tests and the three poses are those of the move that the rows hold (`moved-point-start`,
+-- `moved-point-end`, `moved-point-between`).
 use mathlib.Core.Path.{sym}
 use lib.Ieee.{div}
 use Rattle.unit_interval.specs.Unit.{dt}
@@ -32,10 +33,11 @@ transform-point-requires c κs = search needs
 returns : tie.Need-returns
 unfolding AnimatedTransform·fromRows
 returns c =
-    let a = c .before .before .before .before .before .before .args in
+    let c1 = c .before in let c2 = c1 .before in let c3 = c2 .before in let c4 = c3 .before in let c5 = c4 .before in let c6 = c5 .before in
+    let a = c6 .args in
     let m = AnimatedTransform·fromRows (a .rows .now) in
-    rw (c .transform-point .ensures .0, c .before .transform-at .ensures)
-    (sym (moved-point-start m (PoseConstants·fromRows (a .rows .now)) (a .time) (a .p) (c .before .before .if1 .taken)))
+    rw (c .transform-point .ensures .0, c1 .transform-at .ensures)
+    (sym (moved-point-start m (PoseConstants·fromRows (a .rows .now)) (a .time) (a .p) (c2 .if1 .taken)))
 
 array-read-if2 : tie.Need-array-read-if2
 array-read-if2 c = search needs
@@ -49,10 +51,12 @@ transform-point-requires-2 c κs = search needs
 returns-2 : tie.Need-returns-2
 unfolding AnimatedTransform·fromRows
 returns-2 c =
-    let a = c .before .before .before .before .before .before .before .args in
+    let c1 = c .before in let c2 = c1 .before in let c3 = c2 .before in let c4 = c3 .before in
+    let c5 = c4 .before in let c6 = c5 .before in let c7 = c6 .before in
+    let a = c7 .args in
     let m = AnimatedTransform·fromRows (a .rows .now) in
-    rw (c .transform-point2 .ensures .0, c .before .transform-at2 .ensures)
-    (sym (moved-point-end m (PoseConstants·fromRows (a .rows .now)) (a .time) (a .p) (c .before .before .before .if1 .left) (c .before .before .if2 .taken)))
+    rw (c .transform-point2 .ensures .0, c1 .transform-at2 .ensures)
+    (sym (moved-point-end m (PoseConstants·fromRows (a .rows .now)) (a .time) (a .p) (c3 .if1 .left) (c2 .if2 .taken)))
 
 constants-from-rows-requires : tie.Need-constants-from-rows-requires
 constants-from-rows-requires c κs = search needs
@@ -78,10 +82,12 @@ moved-point-requires c κs = search needs
 returns-3 : tie.Need-returns-3
 unfolding AnimatedTransform·fromRows div dt
 returns-3 c =
-    let a = c .before .before .before .before .before .before .before .before .before .args in
+    let c1 = c .before in let c2 = c1 .before in let c3 = c2 .before in let c4 = c3 .before in let c5 = c4 .before in
+    let c6 = c5 .before in let c7 = c6 .before in let c8 = c7 .before in let c9 = c8 .before in
+    let a = c9 .args in
     let m = AnimatedTransform·fromRows (a .rows .now) in
-    rw (c .moved-point .ensures, c .before .matrix-at2 .ensures, c .before .before .matrix-at .ensures, c .before .before .before .constants-from-rows .ensures)
-    (sym (moved-point-between m (PoseConstants·fromRows (a .rows .now)) (a .time) (a .p) (c .before .before .before .before .before .if1 .left) (c .before .before .before .before .if2 .left)))
+    rw (c .moved-point .ensures, c1 .matrix-at2 .ensures, c2 .matrix-at .ensures, c3 .constants-from-rows .ensures)
+    (sym (moved-point-between m (PoseConstants·fromRows (a .rows .now)) (a .time) (a .p) (c5 .if1 .left) (c4 .if2 .left)))
 
 pub moved-point-spec : {M : Type 1} → statement M
 moved-point-spec =

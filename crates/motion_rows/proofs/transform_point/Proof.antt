@@ -17,7 +17,9 @@ moved-point-requires c κs = search needs
 
 returns-2 : tie.Need-returns-2
 unfolding Rows·transformPoint
-returns-2 c = rw (← differs-nan (c .before .before .before .args .time), ← c .before .before .is-finite .ensures, c .before .if1 .left, c .moved-point .ensures)
+returns-2 c =
+    let c1 = c .before in let c2 = c1 .before in let c3 = c2 .before in
+    rw (← differs-nan (c3 .args .time), ← c2 .is-finite .ensures, c1 .if1 .left, c .moved-point .ensures)
 
 pub transform-point-spec : {M : Type 1} → statement M
 transform-point-spec =

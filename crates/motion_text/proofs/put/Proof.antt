@@ -37,8 +37,9 @@ loop-less c = search needs
 
 loop-again : tie.Need-loop-again Inv-loop μ-loop
 loop-again c =
-    let a = c .before .before .before .args in
-    let l = c .before .before .loop in (
+    let c1 = c .before in let c2 = c1 .before in let c3 = c2 .before in
+    let a = c3 .args in
+    let l = c2 .loop in (
       omega arith,
       length-set (l .out) (a .at + l .i) _ ∙ l .inv .1,
       rw (l .inv .2, add-one (l .i)) (paste-suc (a .out .now) (a .at) (a .text .now) (l .i) 0 (omega arith) (omega arith)),

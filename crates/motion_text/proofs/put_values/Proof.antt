@@ -64,12 +64,14 @@ loop-less c = search needs
 
 loop-again : tie.Need-loop-again Inv-loop μ-loop
 loop-again c =
-    let a = c .before .before .before .before .before .before .before .before .before .before .before .args in
-    let l = c .before .before .before .before .before .before .before .before .loop in
-    let write = c .before .before .before .write-word in
+    let c1 = c .before in let c2 = c1 .before in let c3 = c2 .before in let c4 = c3 .before in let c5 = c4 .before in let c6 = c5 .before in
+    let c7 = c6 .before in let c8 = c7 .before in let c9 = c8 .before in let c10 = c9 .before in let c11 = c10 .before in
+    let a = c11 .args in
+    let l = c8 .loop in
+    let write = c3 .write-word in
     let turn =
     values-turn (a .values .now) (l .k) (omega arith) (a .out .now) (l .out) _ (a .at) _ _ (omega arith) (l .inv .2)
-    (c .before .before .before .before .before .bits-of-float .ensures) (write .ensures .0) (c .separator .ensures) in
+    (c5 .bits-of-float .ensures) (write .ensures .0) (c .separator .ensures) in
     (omega arith, ap length turn ∙ values-size (a .values .now) (l .k + 1) (a .out .now) (a .at) (omega arith) (omega arith), turn)
 
 same-length : tie.Need-same-length Inv-loop μ-loop
@@ -77,8 +79,9 @@ same-length c = search needs
 
 returns : tie.Need-returns Inv-loop μ-loop
 returns c =
-    let l = c .before .loop in
-    let e : l .k ≡ length (c .before .before .before .before .args .values .now) = omega arith in
+    let c1 = c .before in let c2 = c1 .before in let c3 = c2 .before in let c4 = c3 .before in
+    let l = c1 .loop in
+    let e : l .k ≡ length (c4 .args .values .now) = omega arith in
     rw (← e) (l .inv .2)
 
 pub put-values-spec : {M : Type 1} → statement M

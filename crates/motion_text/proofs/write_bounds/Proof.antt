@@ -35,11 +35,14 @@ same-length c = search needs
 returns-2 : tie.Need-returns-2
 unfolding boundsText ascii
 returns-2 c =
-    let a = c .before .before .before .before .before .before .before .before .before .before .before .before .args in
+    let c1 = c .before in let c2 = c1 .before in let c3 = c2 .before in let c4 = c3 .before in let c5 = c4 .before in let c6 = c5 .before in
+    let c7 = c6 .before in let c8 = c7 .before in let c9 = c8 .before in let c10 = c9 .before in let c11 = c10 .before in let c12 = c11 .before in
+    let a = c12 .args in
     let six : length (a .t1) ≡ 6 = search needs in
-    wrote-two (ascii "x0 y0 z0 x1 y1 z1\n") (valuesLine (a .t1)) (a .out .now) _ _ 18 (9 * length (a .t1)) 72 refl (sym (length-values (a .t1))) (omega arith) (omega arith)
-    (c .before .before .before .before .before .before .before .put .ensures)
-    (c .before .before .put-values .ensures)
+    wrote-two (ascii "x0 y0 z0 x1 y1 z1\n") (valuesLine (a .t1)) (a .out .now) _ _ 18
+    (9 * length (a .t1)) 72 refl (sym (length-values (a .t1))) (omega arith) (omega arith)
+    (c7 .put .ensures)
+    (c2 .put-values .ensures)
 
 pub write-bounds-spec : {M : Type 1} → statement M
 write-bounds-spec =

@@ -7,7 +7,8 @@ use Rattle.motion_text.proofs.write_text.Tie as tie
 
 returns : tie.Need-returns
 returns c =
-    let a = c .before .before .before .args in
+    let c1 = c .before in let c2 = c1 .before in let c3 = c2 .before in
+    let a = c3 .args in
     (lengthIn-short (a .text .now) (a .out .now) (c .if1 .taken), front-short (a .text .now) (a .out .now) (c .if1 .taken))
 
 put-requires : tie.Need-put-requires
@@ -18,8 +19,10 @@ same-length c = search needs
 
 returns-2 : tie.Need-returns-2
 returns-2 c =
-    let a = c .before .before .before .before .before .before .before .args in
-    wrote-one (a .text .now) (a .out .now) _ _ refl (c .before .before .before .before .if1 .left) (c .before .before .put .ensures)
+    let c1 = c .before in let c2 = c1 .before in let c3 = c2 .before in let c4 = c3 .before in
+    let c5 = c4 .before in let c6 = c5 .before in let c7 = c6 .before in
+    let a = c7 .args in
+    wrote-one (a .text .now) (a .out .now) _ _ refl (c4 .if1 .left) (c2 .put .ensures)
 
 pub write-text-spec : {M : Type 1} → statement M
 write-text-spec = tie.close (tie.spec returns put-requires same-length returns-2)

@@ -17,7 +17,9 @@ judged-requires c κs = search needs
 
 returns-2 : tie.Need-returns-2
 unfolding AnimatedTransform·pad Rows·pad
-returns-2 c = rw (← differs-nan (c .before .before .before .args .time), c .before .before .if1 .left, ← c .before .pad-at .ensures, c .judged .ensures)
+returns-2 c =
+    let c1 = c .before in let c2 = c1 .before in let c3 = c2 .before in
+    rw (← differs-nan (c3 .args .time), c2 .if1 .left, ← c1 .pad-at .ensures, c .judged .ensures)
 
 pub pad-spec : {M : Type 1} → statement M
 pad-spec = tie.close (tie.spec returns pad-at-requires judged-requires returns-2)

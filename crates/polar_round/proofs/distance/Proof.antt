@@ -42,7 +42,9 @@ max-requires-3 c κs = search needs
 
 returns : tie.Need-returns
 unfolding distance
-returns c = rw (c .max3 .ensures, c .before .row-distance3 .ensures, c .before .before .max2 .ensures, c .before .before .before .row-distance2 .ensures, c .before .before .before .before .max .ensures, c .before .before .before .before .before .row-distance .ensures)
+returns c =
+    let c1 = c .before in let c2 = c1 .before in let c3 = c2 .before in let c4 = c3 .before in let c5 = c4 .before in
+    rw (c .max3 .ensures, c1 .row-distance3 .ensures, c2 .max2 .ensures, c3 .row-distance2 .ensures, c4 .max .ensures, c5 .row-distance .ensures)
 
 pub distance-spec : {M : Type 1} → statement M
 distance-spec =

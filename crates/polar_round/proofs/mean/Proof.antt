@@ -42,7 +42,9 @@ mean-row-requires-4 c κs = search needs
 
 returns : tie.Need-returns
 unfolding mean
-returns c = rw (c .mean-row4 .ensures, c .before .mean-row3 .ensures, c .before .before .mean-row2 .ensures, c .before .before .before .mean-row .ensures)
+returns c =
+    let c1 = c .before in let c2 = c1 .before in let c3 = c2 .before in
+    rw (c .mean-row4 .ensures, c1 .mean-row3 .ensures, c2 .mean-row2 .ensures, c3 .mean-row .ensures)
 
 pub mean-spec : {M : Type 1} → statement M
 mean-spec =

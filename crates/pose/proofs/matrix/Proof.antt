@@ -48,7 +48,26 @@ judged-requires c κs = search needs
 
 returns : tie.Need-returns
 unfolding Pose·matrix
-returns c = rw (c .judged .ensures, c .before .all-finite5 .ensures, c .before .before .all-finite4 .ensures, c .before .before .before .all-finite3 .ensures, c .before .before .before .before .all-finite2 .ensures, c .before .before .before .before .before .all-finite .ensures, c .before .before .before .before .before .before .is-finite .ensures, c .before .before .before .before .before .before .before .product2 .ensures, c .before .before .before .before .before .before .before .before .product .ensures, c .before .before .before .before .before .before .before .before .before .rotation .ensures, c .before .before .before .before .before .before .before .before .before .before .translation-matrix .ensures, c .before .before .before .before .before .before .before .before .before .before .before .scale-by .ensures, c .before .before .before .before .before .before .before .before .before .before .before .before .slerp .ensures, c .before .before .before .before .before .before .before .before .before .before .before .before .before .translation .ensures)
+returns c =
+    let c1 = c .before in let c2 = c1 .before in let c3 = c2 .before in let c4 = c3 .before in let c5 = c4 .before in
+    let c6 = c5 .before in let c7 = c6 .before in let c8 = c7 .before in let c9 = c8 .before in
+    let c10 = c9 .before in let c11 = c10 .before in let c12 = c11 .before in let c13 = c12 .before in
+    rw (
+      c .judged .ensures,
+      c1 .all-finite5 .ensures,
+      c2 .all-finite4 .ensures,
+      c3 .all-finite3 .ensures,
+      c4 .all-finite2 .ensures,
+      c5 .all-finite .ensures,
+      c6 .is-finite .ensures,
+      c7 .product2 .ensures,
+      c8 .product .ensures,
+      c9 .rotation .ensures,
+      c10 .translation-matrix .ensures,
+      c11 .scale-by .ensures,
+      c12 .slerp .ensures,
+      c13 .translation .ensures,
+    )
 
 pub matrix-spec : {M : Type 1} → statement M
 matrix-spec =

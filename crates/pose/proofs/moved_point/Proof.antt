@@ -15,11 +15,15 @@ is-finite-requires c κs = search needs
 
 returns : tie.Need-returns
 unfolding Pose·movedPoint
-returns c = rw (← c .before .before .before .before .matrix .ensures, ← c .before .before .before .transform-point .ensures, ← c .before .is-finite .ensures, c .if1 .taken)
+returns c =
+    let c1 = c .before in let c2 = c1 .before in let c3 = c2 .before in let c4 = c3 .before in
+    rw (← c4 .matrix .ensures, ← c3 .transform-point .ensures, ← c1 .is-finite .ensures, c .if1 .taken)
 
 returns-2 : tie.Need-returns-2
 unfolding Pose·movedPoint
-returns-2 c = rw (← c .before .before .before .before .matrix .ensures, ← c .before .before .before .transform-point .ensures, ← c .before .is-finite .ensures, c .if1 .left)
+returns-2 c =
+    let c1 = c .before in let c2 = c1 .before in let c3 = c2 .before in let c4 = c3 .before in
+    rw (← c4 .matrix .ensures, ← c3 .transform-point .ensures, ← c1 .is-finite .ensures, c .if1 .left)
 
 pub moved-point-spec : {M : Type 1} → statement M
 moved-point-spec =

@@ -15,8 +15,9 @@ product-rows a b ex ey er em = rw (em, er, ex, ey)
 
 returns : tie.Need-returns
 returns c =
-    product-rows (c .before .before .before .before .args .a) (c .before .before .before .before .args .b)
-    (c .before .before .before .to-rows .ensures) (c .before .before .to-rows2 .ensures) (c .before .mul .ensures) (c .from-rows .ensures)
+    let c1 = c .before in let c2 = c1 .before in let c3 = c2 .before in let c4 = c3 .before in
+    product-rows (c4 .args .a) (c4 .args .b)
+    (c3 .to-rows .ensures) (c2 .to-rows2 .ensures) (c1 .mul .ensures) (c .from-rows .ensures)
 
 pub product-spec : {M : Type 1} → statement M
 product-spec = tie.close (tie.spec (λ c κs. tt) (λ c κs. tt) (λ c κs. tt) (λ c κs. tt) returns)

@@ -5,7 +5,9 @@ use Rattle.pose_ends.proofs.quaternion_ends_sum.Tie as tie
 
 returns : tie.Need-returns
 unfolding IntervalQuaternion·endsSum
-returns c = rw (c .ends-sum4 .ensures, c .before .ends-sum3 .ensures, c .before .before .ends-sum2 .ensures, c .before .before .before .ends-sum .ensures)
+returns c =
+    let c1 = c .before in let c2 = c1 .before in let c3 = c2 .before in
+    rw (c .ends-sum4 .ensures, c1 .ends-sum3 .ensures, c2 .ends-sum2 .ensures, c3 .ends-sum .ensures)
 
 pub quaternion-ends-sum-spec : {M : Type 1} → statement M
 quaternion-ends-sum-spec = tie.close (tie.spec (λ c κs. tt) (λ c κs. tt) (λ c κs. tt) (λ c κs. tt) returns)

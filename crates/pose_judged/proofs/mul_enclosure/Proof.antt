@@ -15,7 +15,9 @@ mul-row-enclosure-requires-3 c κs = search needs
 
 returns : tie.Need-returns
 unfolding Pose·encloseMul
-returns c = rw (c .before .before .before .mul-row-enclosure3 .ensures, c .before .before .before .before .mul-row-enclosure2 .ensures, c .before .before .before .before .before .mul-row-enclosure .ensures)
+returns c =
+    let c1 = c .before in let c2 = c1 .before in let c3 = c2 .before in let c4 = c3 .before in let c5 = c4 .before in
+    rw (c3 .mul-row-enclosure3 .ensures, c4 .mul-row-enclosure2 .ensures, c5 .mul-row-enclosure .ensures)
 
 pub mul-enclosure-spec : {M : Type 1} → statement M
 mul-enclosure-spec =

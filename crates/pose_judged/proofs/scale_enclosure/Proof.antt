@@ -15,7 +15,9 @@ scale-row-enclosure-requires-3 c κs = search needs
 
 returns : tie.Need-returns
 unfolding Pose·encloseScale
-returns c = rw (c .before .before .before .scale-row-enclosure3 .ensures, c .before .before .before .before .scale-row-enclosure2 .ensures, c .before .before .before .before .before .scale-row-enclosure .ensures)
+returns c =
+    let c1 = c .before in let c2 = c1 .before in let c3 = c2 .before in let c4 = c3 .before in let c5 = c4 .before in
+    rw (c3 .scale-row-enclosure3 .ensures, c4 .scale-row-enclosure2 .ensures, c5 .scale-row-enclosure .ensures)
 
 pub scale-enclosure-spec : {M : Type 1} → statement M
 scale-enclosure-spec =

@@ -44,12 +44,13 @@ returns-2 c =
 returns-3 : tie.Need-returns-3
 unfolding posesRefusal
 returns-3 c =
-    let calls = c .before .before .before in
+    let c1 = c .before in let c2 = c1 .before in let c3 = c2 .before in
+    let calls = c3 in
     let affine = calls .before .before in
     let finite = affine .before .before in
     rw (
-      rw (finite .before .is-finite .ensures, finite .is-finite2 .ensures) at (c .before .before .if1 .left),
-      rw (affine .before .is-affine .ensures, affine .is-affine2 .ensures) at (c .before .if2 .left),
+      rw (finite .before .is-finite .ensures, finite .is-finite2 .ensures) at (c2 .if1 .left),
+      rw (affine .before .is-affine .ensures, affine .is-affine2 .ensures) at (c1 .if2 .left),
       rw (calls .before .is-padded .ensures, calls .is-padded2 .ensures) at (c .if3 .taken),
     )
 
@@ -59,13 +60,14 @@ times-refusal-requires c κs = search needs
 returns-4 : tie.Need-returns-4
 unfolding posesRefusal
 returns-4 c =
-    let calls = c .before .before .before .before in
+    let c1 = c .before in let c2 = c1 .before in let c3 = c2 .before in let c4 = c3 .before in
+    let calls = c4 in
     let affine = calls .before .before in
     let finite = affine .before .before in
     rw (
-      rw (finite .before .is-finite .ensures, finite .is-finite2 .ensures) at (c .before .before .before .if1 .left),
-      rw (affine .before .is-affine .ensures, affine .is-affine2 .ensures) at (c .before .before .if2 .left),
-      rw (calls .before .is-padded .ensures, calls .is-padded2 .ensures) at (c .before .if3 .left),
+      rw (finite .before .is-finite .ensures, finite .is-finite2 .ensures) at (c3 .if1 .left),
+      rw (affine .before .is-affine .ensures, affine .is-affine2 .ensures) at (c2 .if2 .left),
+      rw (calls .before .is-padded .ensures, calls .is-padded2 .ensures) at (c1 .if3 .left),
     )
     (c .times-refusal .ensures)
 

@@ -10,7 +10,8 @@ use Rattle.pose_steps.specs.Stages.{translationStage, scaleRowStage}
 use Rattle.pose_steps.specs.Enclose.{IntervalVector·list, IntervalRow·three, JudgedVector·of, JudgedRow·of}
 
 unfoldable pub Pose·unjudgedTranslation : IntervalVector → IntervalVector → Interval → IntervalVector
-Pose·unjudgedTranslation t0 t1 dt = JudgedVector·of (enclosure 0 (Program·unjudged (IntervalVector·list t0 ++ IntervalVector·list t1 ++ dt ∷ []) translationStage)) .vector
+Pose·unjudgedTranslation t0 t1 dt =
+    JudgedVector·of (enclosure 0 (Program·unjudged (IntervalVector·list t0 ++ IntervalVector·list t1 ++ dt ∷ []) translationStage)) .vector
 
 unfoldable pub Pose·unjudgedScaleRow : IntervalRow → IntervalRow → Interval → IntervalRow
 Pose·unjudgedScaleRow s0 s1 dt = JudgedRow·of (enclosure 0 (Program·unjudged (IntervalRow·three s0 ++ IntervalRow·three s1 ++ dt ∷ []) scaleRowStage)) .row

@@ -5,12 +5,13 @@ use Rattle.pose_point.proofs.transform_point_enclosure.Tie as tie
 
 returns : tie.Need-returns
 returns c =
-    transform-point-tested (c .before .before .before .before .before .before .args .m) (c .before .before .before .before .before .before .args .a) (c .before .before .before .before .before .before .args .p)
-    (c .before .before .before .before .before .transform-point-unjudged .ensures)
-    (c .before .before .before .before .matrix-ends-sum .ensures)
-    (c .before .before .before .vector-ends-sum .ensures)
-    (c .before .before .vector-ends-sum2 .ensures)
-    (c .before .is-finite .ensures)
+    let c1 = c .before in let c2 = c1 .before in let c3 = c2 .before in let c4 = c3 .before in let c5 = c4 .before in let c6 = c5 .before in
+    transform-point-tested (c6 .args .m) (c6 .args .a) (c6 .args .p)
+    (c5 .transform-point-unjudged .ensures)
+    (c4 .matrix-ends-sum .ensures)
+    (c3 .vector-ends-sum .ensures)
+    (c2 .vector-ends-sum2 .ensures)
+    (c1 .is-finite .ensures)
     (c .if1 .taken)
 
 returns-2 : tie.Need-returns-2

@@ -5,13 +5,15 @@ use Rattle.pose_rotation.proofs.rotation_enclosure.Tie as tie
 
 returns : tie.Need-returns
 returns c =
-    rotation-tested (c .before .before .before .before .before .before .before .args .m) (c .before .before .before .before .before .before .before .args .q)
-    (c .before .before .before .before .before .before .products-unjudged .ensures)
-    (c .before .before .before .before .before .rotation-unjudged .ensures)
-    (c .before .before .before .before .quaternion-ends-sum .ensures)
-    (c .before .before .before .products-ends-sum .ensures)
-    (c .before .before .matrix-ends-sum .ensures)
-    (c .before .is-finite .ensures)
+    let c1 = c .before in let c2 = c1 .before in let c3 = c2 .before in let c4 = c3 .before in
+    let c5 = c4 .before in let c6 = c5 .before in let c7 = c6 .before in
+    rotation-tested (c7 .args .m) (c7 .args .q)
+    (c6 .products-unjudged .ensures)
+    (c5 .rotation-unjudged .ensures)
+    (c4 .quaternion-ends-sum .ensures)
+    (c3 .products-ends-sum .ensures)
+    (c2 .matrix-ends-sum .ensures)
+    (c1 .is-finite .ensures)
     (c .if1 .taken)
 
 returns-2 : tie.Need-returns-2

@@ -13,7 +13,8 @@ sin-cos-requires c κs = search needs
 returns : tie.Need-returns
 unfolding Pose·slerpFar
 returns c =
-    let angle = c .before .before .before .before in
+    let c1 = c .before in let c2 = c1 .before in let c3 = c2 .before in let c4 = c3 .before in
+    let angle = c4 in
     rw (angle .sin-cos .ensures .0, angle .sin-cos .ensures .1, angle .before .sqrt .ensures)
 
 pub slerp-far-spec : {M : Type 1} → statement M

@@ -5,15 +5,17 @@ use Rattle.pose_slerp.proofs.squared_unjudged.Tie as tie
 
 returns : tie.Need-returns
 unfolding IntervalQuaternion·squared
-returns c = rw (
-  c .add-enclosure3 .ensures,
-  c .before .mul-ordered4 .ensures,
-  c .before .before .add-enclosure2 .ensures,
-  c .before .before .before .mul-ordered3 .ensures,
-  c .before .before .before .before .add-enclosure .ensures,
-  c .before .before .before .before .before .mul-ordered2 .ensures,
-  c .before .before .before .before .before .before .mul-ordered .ensures,
-)
+returns c =
+    let c1 = c .before in let c2 = c1 .before in let c3 = c2 .before in let c4 = c3 .before in let c5 = c4 .before in let c6 = c5 .before in
+    rw (
+      c .add-enclosure3 .ensures,
+      c1 .mul-ordered4 .ensures,
+      c2 .add-enclosure2 .ensures,
+      c3 .mul-ordered3 .ensures,
+      c4 .add-enclosure .ensures,
+      c5 .mul-ordered2 .ensures,
+      c6 .mul-ordered .ensures,
+    )
 
 pub squared-unjudged-spec : {M : Type 1} → statement M
 squared-unjudged-spec = tie.close (tie.spec (λ c κs. tt) (λ c κs. tt) (λ c κs. tt) (λ c κs. tt) (λ c κs. tt) (λ c κs. tt) (λ c κs. tt) returns)

@@ -1,5 +1,5 @@
--- The parts of `slerp` with no interval judged: a combination of two quaternions, a squared length, a quotient; and the quaternion that far slerp turns the first one to, in floats.
--- Definitions only.
+-- The parts of `slerp` with no interval judged: a combination of two quaternions, a squared length, a quotient;
+-- and the quaternion that far slerp turns the first one to, in floats. Definitions only.
 use lib.Ieee.{Float, binary32}
 use Rattle.square_root.specs.SquareRoot.{sqrt}
 use Rattle.float32.specs.Operators.{_⊕_, _⊖_, _⊗_, _⊘_}
@@ -20,7 +20,8 @@ IntervalQuaternion·combination p q a b =
 
 abbrev pub squares : Interval → Interval → Interval → Interval → Interval
 squares x y z w =
-    Interval·addEnclosure (Interval·addEnclosure (Interval·addEnclosure (Interval·mulOrdered x x) (Interval·mulOrdered y y)) (Interval·mulOrdered z z)) (Interval·mulOrdered w w)
+    Interval·addEnclosure (Interval·addEnclosure (Interval·addEnclosure (Interval·mulOrdered x x) (Interval·mulOrdered y y)) (Interval·mulOrdered z z))
+    (Interval·mulOrdered w w)
 
 -- self.dot(self)
 unfoldable pub IntervalQuaternion·squared : IntervalQuaternion → Interval

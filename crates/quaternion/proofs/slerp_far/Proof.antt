@@ -34,17 +34,19 @@ add-requires c κs = search needs
 returns : tie.Need-returns
 unfolding slerpFar
 returns c =
+    let c1 = c .before in let c2 = c1 .before in let c3 = c2 .before in let c4 = c3 .before in
+    let c5 = c4 .before in let c6 = c5 .before in let c7 = c6 .before in let c8 = c7 .before in
     rw (
       c .add .ensures,
-      c .before .mul3 .ensures,
-      c .before .before .mul2 .ensures,
-      c .before .before .before .sin-cos .ensures .0,
-      c .before .before .before .sin-cos .ensures .1,
-      c .before .before .before .before .normalize .ensures,
-      c .before .before .before .before .before .sub .ensures,
-      c .before .before .before .before .before .before .mul .ensures,
-      c .before .before .before .before .before .before .before .acos .ensures,
-      c .before .before .before .before .before .before .before .before .clamp .ensures,
+      c1 .mul3 .ensures,
+      c2 .mul2 .ensures,
+      c3 .sin-cos .ensures .0,
+      c3 .sin-cos .ensures .1,
+      c4 .normalize .ensures,
+      c5 .sub .ensures,
+      c6 .mul .ensures,
+      c7 .acos .ensures,
+      c8 .clamp .ensures,
     )
 
 pub slerp-far-spec : {M : Type 1} → statement M

@@ -18,7 +18,9 @@ normalize-requires c κs = search needs
 
 returns : tie.Need-returns
 unfolding slerpNear
-returns c = rw (c .normalize .ensures, c .before .add .ensures, c .before .before .mul2 .ensures, c .before .before .before .mul .ensures)
+returns c =
+    let c1 = c .before in let c2 = c1 .before in let c3 = c2 .before in
+    rw (c .normalize .ensures, c1 .add .ensures, c2 .mul2 .ensures, c3 .mul .ensures)
 
 pub slerp-near-spec : {M : Type 1} → statement M
 slerp-near-spec =

@@ -19,7 +19,8 @@ sub-if3 c = search needs
 
 returns-3 : tie.Need-returns-3
 returns-3 c =
-    let a = c .before .before .before .args in append-large (a .n) (a .b) (omega arith) (omega arith) (c .if3 .taken)
+    let c1 = c .before in let c2 = c1 .before in let c3 = c2 .before in
+    let a = c3 .args in append-large (a .n) (a .b) (omega arith) (omega arith) (c .if3 .taken)
 
 mul-t6 : tie.Need-mul-t6
 mul-t6 c = search needs
@@ -29,7 +30,8 @@ add-t7 c = search needs
 
 returns-4 : tie.Need-returns-4
 returns-4 c =
-    let a = c .before .before .before .args in append-fits (a .n) (a .b) (omega arith) (omega arith) (c .if3 .left)
+    let c1 = c .before in let c2 = c1 .before in let c3 = c2 .before in
+    let a = c3 .args in append-fits (a .n) (a .b) (omega arith) (omega arith) (c .if3 .left)
 
 pub append-digit-spec : {M : Type 1} → statement M
 append-digit-spec =

@@ -22,14 +22,16 @@ returns c =
 
 returns-2 : tie.Need-returns-2 Inv-loop μ-loop
 returns-2 c =
-    let a = c .before .before .before .args in kept-empty (a .input .now) (a .from) (a .to) (a .most) (omega arith) (c .if2 .taken)
+    let c1 = c .before in let c2 = c1 .before in let c3 = c2 .before in
+    let a = c3 .args in kept-empty (a .input .now) (a .from) (a .to) (a .most) (omega arith) (c .if2 .taken)
 
 least-requires : tie.Need-least-requires Inv-loop μ-loop
 least-requires c κs = search needs
 
 loop-holds : tie.Need-loop-holds Inv-loop μ-loop
 loop-holds c =
-    let a = c .before .before .before .before .args in
+    let c1 = c .before in let c2 = c1 .before in let c3 = c2 .before in let c4 = c3 .before in
+    let a = c4 .args in
     (omega (arith, c .least .ensures .0), refl, omega arith, paste-zero (a .input .now) 0 (drop (a .from) (a .input .now)))
 
 add-input : tie.Need-add-input Inv-loop μ-loop
@@ -49,8 +51,10 @@ loop-less c = search needs
 
 loop-again : tie.Need-loop-again Inv-loop μ-loop
 loop-again c =
-    let a = c .before .before .before .before .before .before .before .args in
-    let l = c .before .before .loop in
+    let c1 = c .before in let c2 = c1 .before in let c3 = c2 .before in let c4 = c3 .before in
+    let c5 = c4 .before in let c6 = c5 .before in let c7 = c6 .before in
+    let a = c7 .args in
+    let l = c2 .loop in
     let turn = kept-turn (a .input .now) (a .from) (l .k) (omega arith) (l .input) (l .inv .3) in
     (l .inv .0, length-set (l .input) (l .k) _ ∙ l .inv .1, omega arith, turn)
 
@@ -59,9 +63,10 @@ same-length c = search needs
 
 returns-3 : tie.Need-returns-3 Inv-loop μ-loop
 returns-3 c =
-    let a = c .before .before .before .before .before .before .args in
-    let l = c .before .loop in
-    let least = c .before .before .least in
+    let c1 = c .before in let c2 = c1 .before in let c3 = c2 .before in let c4 = c3 .before in let c5 = c4 .before in let c6 = c5 .before in
+    let a = c6 .args in
+    let l = c1 .loop in
+    let least = c2 .least in
     let e : l .k ≡ least .result = omega arith in
     kept-front (a .input .now) (l .input) (a .from) (a .to) (a .most) (least .result) (omega arith) (omega arith) (least .ensures .1) (rw e at (l .inv .3))
 

@@ -21,9 +21,10 @@ slice-aggregate-result-2 c = search needs
 returns-2 : tie.Need-returns-2
 unfolding part
 returns-2 c =
-    let a = c .before .before .before .args in
+    let c1 = c .before in let c2 = c1 .before in let c3 = c2 .before in
+    let a = c3 .args in
     let none : a .to - a .from ≡ 0 = omega arith in
-    rw (le-leb _ _ (c .before .before .if1 .left), none)
+    rw (le-leb _ _ (c2 .if1 .left), none)
 
 part-result-start : tie.Need-part-result-start
 part-result-start c = search needs

@@ -36,9 +36,11 @@ same-requires c κs = search needs
 
 returns : tie.Need-returns Inv-loop μ-loop
 returns c =
-    let a = c .before .before .before .before .before .before .before .before .args in
-    let l = c .before .before .before .before .before .loop in
-    let here = from-here (a .word .now) (a .list .now) (l .at) _ _ (omega arith) (c .before .before .before .find .ensures .0) (c .before .same .ensures) in
+    let c1 = c .before in let c2 = c1 .before in let c3 = c2 .before in let c4 = c3 .before in
+    let c5 = c4 .before in let c6 = c5 .before in let c7 = c6 .before in let c8 = c7 .before in
+    let a = c8 .args in
+    let l = c5 .loop in
+    let here = from-here (a .word .now) (a .list .now) (l .at) _ _ (omega arith) (c3 .find .ensures .0) (c1 .same .ensures) in
     let none : from (a .word .now) (a .list .now) (l .at) ≡ 0 = rw (c .if1 .taken) at here in
     omega (arith, l .inv .2, none)
 
@@ -53,17 +55,20 @@ loop-less c = search needs
 
 loop-again : tie.Need-loop-again Inv-loop μ-loop
 loop-again c =
-    let a = c .before .before .before .before .before .before .before .before .args in
-    let l = c .before .before .before .before .before .loop in
-    let find = c .before .before .before .find in
-    let here = from-here (a .word .now) (a .list .now) (l .at) (find .result) _ (omega arith) (find .ensures .0) (c .before .same .ensures) in
+    let c1 = c .before in let c2 = c1 .before in let c3 = c2 .before in let c4 = c3 .before in
+    let c5 = c4 .before in let c6 = c5 .before in let c7 = c6 .before in let c8 = c7 .before in
+    let a = c8 .args in
+    let l = c5 .loop in
+    let find = c3 .find in
+    let here = from-here (a .word .now) (a .list .now) (l .at) (find .result) _ (omega arith) (find .ensures .0) (c1 .same .ensures) in
     let more = rw (c .if1 .left) at here in
     (omega (arith, find .ensures .1), omega (arith, find .ensures .0), omega (arith, l .inv .2, more))
 
 returns-2 : tie.Need-returns-2 Inv-loop μ-loop
 returns-2 c =
-    let a = c .before .before .before .before .args in
-    let l = c .before .loop in
+    let c1 = c .before in let c2 = c1 .before in let c3 = c2 .before in let c4 = c3 .before in
+    let a = c4 .args in
+    let l = c1 .loop in
     omega (arith, l .inv .2, from-end (a .word .now) (a .list .now) (l .at) (omega arith))
 
 pub position-spec : {M : Type 1} → statement M

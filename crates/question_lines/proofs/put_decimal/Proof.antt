@@ -32,11 +32,14 @@ same-length c = search needs
 
 returns : tie.Need-returns
 returns c =
-    let a = c .before .before .before .before .before .before .before .before .before .before .before .before .before .args in
-    let d = c .before .before .before .before .before .before .before .before .before .before .decimal .ensures in
+    let c1 = c .before in let c2 = c1 .before in let c3 = c2 .before in let c4 = c3 .before in let c5 = c4 .before in
+    let c6 = c5 .before in let c7 = c6 .before in let c8 = c7 .before in let c9 = c8 .before in
+    let c10 = c9 .before in let c11 = c10 .before in let c12 = c11 .before in let c13 = c12 .before in
+    let a = c13 .args in
+    let d = c10 .decimal .ensures in
     let text = d .1 .1 ∙ decimal-fewest 19 (a .n) _ (omega arith) (d .1 .0) in
-    all-cons (space ∷ []) (decimal (a .n) ∷ []) (a .out .now) _ _ (a .at) _ _ (c .before .before .before .before .before .before .before .put-text .ensures)
-    (all-cons (decimal (a .n)) [] _ _ _ _ _ _ (rw text at (c .before .before .put-text2 .ensures)) (all-none _ _))
+    all-cons (space ∷ []) (decimal (a .n) ∷ []) (a .out .now) _ _ (a .at) _ _ (c7 .put-text .ensures)
+    (all-cons (decimal (a .n)) [] _ _ _ _ _ _ (rw text at (c2 .put-text2 .ensures)) (all-none _ _))
 
 pub put-decimal-spec : {M : Type 1} → statement M
 put-decimal-spec =

@@ -21,13 +21,15 @@ write-word-requires c κs = search needs
 
 same-length : tie.Need-same-length
 same-length c =
-    let a = c .before .before .before .before .before .before .args in omega (arith, length-set (a .out .now) (a .at) 32)
+    let c1 = c .before in let c2 = c1 .before in let c3 = c2 .before in let c4 = c3 .before in let c5 = c4 .before in let c6 = c5 .before in
+    let a = c6 .args in omega (arith, length-set (a .out .now) (a .at) 32)
 
 returns : tie.Need-returns
 returns c =
-    let a = c .before .before .before .before .before .before .args in
-    c .before .before .write-word .ensures .0
-    ∙ put-float (a .x) (a .out .now) (a .at) _ (omega arith) (c .before .before .before .before .bits-of-float .ensures)
+    let c1 = c .before in let c2 = c1 .before in let c3 = c2 .before in let c4 = c3 .before in let c5 = c4 .before in let c6 = c5 .before in
+    let a = c6 .args in
+    c2 .write-word .ensures .0
+    ∙ put-float (a .x) (a .out .now) (a .at) _ (omega arith) (c4 .bits-of-float .ensures)
 
 pub put-float-spec : {M : Type 1} → statement M
 put-float-spec =

@@ -19,12 +19,14 @@ abbrev μ-loop : tie.MeasureT-loop
 
 returns : tie.Need-returns Inv-loop μ-loop
 returns c =
-    let a = c .before .before .before .args in
+    let c1 = c .before in let c2 = c1 .before in let c3 = c2 .before in
+    let a = c3 .args in
     rw (floats-few (a .values .now) (a .count) (c .if1 .taken)) (put-empty (a .out .now) (a .at))
 
 returns-2 : tie.Need-returns-2 Inv-loop μ-loop
 returns-2 c =
-    let a = c .before .before .before .before .args in
+    let c1 = c .before in let c2 = c1 .before in let c3 = c2 .before in let c4 = c3 .before in
+    let a = c4 .args in
     let xs = spacedFloats (take (a .count) (a .values .now)) in
     let size : length xs ≡ 9 * a .count = length-floats (take (a .count) (a .values .now)) ∙ rw (length-take-le (a .count) (a .values .now) (omega arith)) in
     rw (floats-enough (a .values .now) (a .count) (omega arith)) (put-short xs (a .out .now) (a .at) (omega (arith, size)))
@@ -34,14 +36,16 @@ sub-if3 c = search needs
 
 returns-3 : tie.Need-returns-3 Inv-loop μ-loop
 returns-3 c =
-    let a = c .before .before .before .before .before .args in
+    let c1 = c .before in let c2 = c1 .before in let c3 = c2 .before in let c4 = c3 .before in let c5 = c4 .before in
+    let a = c5 .args in
     let xs = spacedFloats (take (a .count) (a .values .now)) in
     let size : length xs ≡ 9 * a .count = length-floats (take (a .count) (a .values .now)) ∙ rw (length-take-le (a .count) (a .values .now) (omega arith)) in
     rw (floats-enough (a .values .now) (a .count) (omega arith)) (put-short xs (a .out .now) (a .at) (omega (arith, size)))
 
 loop-holds : tie.Need-loop-holds Inv-loop μ-loop
 loop-holds c =
-    let a = c .before .before .before .before .before .args in
+    let c1 = c .before in let c2 = c1 .before in let c3 = c2 .before in let c4 = c3 .before in let c5 = c4 .before in
+    let a = c5 .args in
     (omega arith, refl, paste-zero (a .out .now) (a .at) (spacedFloats (take (a .count) (a .values .now))))
 
 mul-put-float : tie.Need-mul-put-float Inv-loop μ-loop
@@ -67,14 +71,16 @@ loop-less c = search needs
 
 loop-again : tie.Need-loop-again Inv-loop μ-loop
 loop-again c =
-    let a = c .before .before .before .before .before .before .before .before .before .before .before .before .args in
-    let l = c .before .before .before .before .before .before .loop in
+    let c1 = c .before in let c2 = c1 .before in let c3 = c2 .before in let c4 = c3 .before in let c5 = c4 .before in let c6 = c5 .before in
+    let c7 = c6 .before in let c8 = c7 .before in let c9 = c8 .before in let c10 = c9 .before in let c11 = c10 .before in let c12 = c11 .before in
+    let a = c12 .args in
+    let l = c6 .loop in
     let xs = take (a .count) (a .values .now) in
     let size : length xs ≡ a .count = length-take-le (a .count) (a .values .now) (omega arith) in
     let here = getD-take (a .count) (a .values .now) (l .k) nan (omega arith) in
     let turn =
     floats-turn xs (l .k) (a .out .now) (l .out) _ (a .at) (omega (arith, size)) (omega (arith, size)) (l .inv .2)
-    (rw (← here) at (c .before .before .put-float .ensures)) in
+    (rw (← here) at (c2 .put-float .ensures)) in
     let long = length-paste (a .out .now) (a .at) (spacedFloats xs) (9 * (l .k + 1)) (omega arith) (rw (length-floats xs, size) (omega arith)) in
     (omega arith, ap length turn ∙ long, turn)
 
@@ -89,8 +95,10 @@ same-length c = search needs
 
 returns-4 : tie.Need-returns-4 Inv-loop μ-loop
 returns-4 c =
-    let a = c .before .before .before .before .before .before .before .args in
-    let l = c .before .loop in
+    let c1 = c .before in let c2 = c1 .before in let c3 = c2 .before in let c4 = c3 .before in
+    let c5 = c4 .before in let c6 = c5 .before in let c7 = c6 .before in
+    let a = c7 .args in
+    let l = c1 .loop in
     let xs = spacedFloats (take (a .count) (a .values .now)) in
     let size : length xs ≡ 9 * a .count = length-floats (take (a .count) (a .values .now)) ∙ rw (length-take-le (a .count) (a .values .now) (omega arith)) in
     let e : l .k ≡ a .count = omega arith in

@@ -28,13 +28,16 @@ same-length c = search needs
 returns : tie.Need-returns
 unfolding ascii
 returns c =
-    let a = c .before .before .before .before .before .before .before .before .before .before .before .before .before .before .before .args in
+    let c1 = c .before in let c2 = c1 .before in let c3 = c2 .before in let c4 = c3 .before in let c5 = c4 .before in
+    let c6 = c5 .before in let c7 = c6 .before in let c8 = c7 .before in let c9 = c8 .before in let c10 = c9 .before in
+    let c11 = c10 .before in let c12 = c11 .before in let c13 = c12 .before in let c14 = c13 .before in let c15 = c14 .before in
+    let a = c15 .args in
     let n = a .refusal in
     all-cons (ascii "refused") _ (a .out .now) _ _ (a .at) _ _
-    (c .before .before .before .before .before .before .before .before .before .before .before .put-text .ensures)
+    (c11 .put-text .ensures)
     (all-append (wholePieces n) ((lineFeed ∷ []) ∷ []) _ _ _ _ _ _
-    (c .before .before .before .before .before .before .before .put-decimal .ensures)
-    (all-cons (lineFeed ∷ []) [] _ _ _ _ _ _ (c .before .before .put-text2 .ensures) (all-none _ _)))
+    (c7 .put-decimal .ensures)
+    (all-cons (lineFeed ∷ []) [] _ _ _ _ _ _ (c2 .put-text2 .ensures) (all-none _ _)))
 
 pub put-refused-spec : {M : Type 1} → statement M
 put-refused-spec =

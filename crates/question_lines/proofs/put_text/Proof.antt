@@ -48,8 +48,9 @@ loop-less c = search needs
 
 loop-again : tie.Need-loop-again Inv-loop μ-loop
 loop-again c =
-    let a = c .before .before .before .before .before .args in
-    let l = c .before .before .loop in (
+    let c1 = c .before in let c2 = c1 .before in let c3 = c2 .before in let c4 = c3 .before in let c5 = c4 .before in
+    let a = c5 .args in
+    let l = c2 .loop in (
       omega arith,
       length-set (l .out) (a .at + l .i) _ ∙ l .inv .1,
       rw (l .inv .2, add-one (l .i)) (paste-suc (a .out .now) (a .at) (a .text .now) (l .i) 0 (omega arith) (omega arith)),
@@ -63,8 +64,9 @@ same-length c = search needs
 
 returns-3 : tie.Need-returns-3 Inv-loop μ-loop
 returns-3 c =
-    let a = c .before .before .before .before .args in
-    let l = c .before .loop in
+    let c1 = c .before in let c2 = c1 .before in let c3 = c2 .before in let c4 = c3 .before in
+    let a = c4 .args in
+    let l = c1 .loop in
     let e : l .i ≡ length (a .text .now) = omega arith in
     rw (l .inv .2, e) (put-fits (a .text .now) (a .out .now) (a .at) (omega arith))
 

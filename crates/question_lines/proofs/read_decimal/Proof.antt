@@ -35,10 +35,12 @@ enum-told c = search needs
 
 returns-2 : tie.Need-returns-2 Inv-loop μ-loop
 returns-2 c =
-    let word = c .before .before .before .before .before .before .before .before .args .word .now in
-    let l = c .before .before .before .before .before .loop in
-    let e = sym (c .before .before .append-digit .ensures) ∙ c .enum-told .given .1 in
-    sym (append-off word (l .value) (l .i) (omega arith) e) ∙ l .inv ∙ read-some word (c .before .before .before .before .before .before .if1 .left)
+    let c1 = c .before in let c2 = c1 .before in let c3 = c2 .before in let c4 = c3 .before in
+    let c5 = c4 .before in let c6 = c5 .before in let c7 = c6 .before in let c8 = c7 .before in
+    let word = c8 .args .word .now in
+    let l = c5 .loop in
+    let e = sym (c2 .append-digit .ensures) ∙ c .enum-told .given .1 in
+    sym (append-off word (l .value) (l .i) (omega arith) e) ∙ l .inv ∙ read-some word (c6 .if1 .left)
 
 add-i : tie.Need-add-i Inv-loop μ-loop
 add-i c = search needs
@@ -48,17 +50,20 @@ loop-less c = search needs
 
 loop-again : tie.Need-loop-again Inv-loop μ-loop
 loop-again c =
-    let word = c .before .before .before .before .before .before .before .before .before .args .word .now in
-    let l = c .before .before .before .before .before .before .loop in
-    let n = c .before .n .given in
-    let e = sym (c .before .before .before .append-digit .ensures) ∙ n .1 in
+    let c1 = c .before in let c2 = c1 .before in let c3 = c2 .before in let c4 = c3 .before in let c5 = c4 .before in
+    let c6 = c5 .before in let c7 = c6 .before in let c8 = c7 .before in let c9 = c8 .before in
+    let word = c9 .args .word .now in
+    let l = c6 .loop in
+    let n = c1 .n .given in
+    let e = sym (c3 .append-digit .ensures) ∙ n .1 in
     sym (append-on word (l .value) (l .i) (omega arith) (n .0 .0) e) ∙ l .inv
 
 returns-3 : tie.Need-returns-3 Inv-loop μ-loop
 returns-3 c =
-    let word = c .before .before .before .before .args .word .now in
-    let l = c .before .loop in
-    append-end word (l .value) (l .i) (omega arith) ∙ l .inv ∙ read-some word (c .before .before .if1 .left)
+    let c1 = c .before in let c2 = c1 .before in let c3 = c2 .before in let c4 = c3 .before in
+    let word = c4 .args .word .now in
+    let l = c1 .loop in
+    append-end word (l .value) (l .i) (omega arith) ∙ l .inv ∙ read-some word (c2 .if1 .left)
 
 pub read-decimal-spec : {M : Type 1} → statement M
 read-decimal-spec =

@@ -18,11 +18,13 @@ abbrev μ-loop : tie.MeasureT-loop
 
 returns : tie.Need-returns Inv-loop μ-loop
 returns c =
-    let a = c .before .before .before .args in few (a .text .now) (a .count) (a .values .now) (c .if1 .taken)
+    let c1 = c .before in let c2 = c1 .before in let c3 = c2 .before in
+    let a = c3 .args in few (a .text .now) (a .count) (a .values .now) (c .if1 .taken)
 
 returns-2 : tie.Need-returns-2 Inv-loop μ-loop
 returns-2 c =
-    let a = c .before .before .before .before .args in
+    let c1 = c .before in let c2 = c1 .before in let c3 = c2 .before in let c4 = c3 .before in
+    let a = c4 .args in
     other-size (a .text .now) (a .count) (a .values .now) (omega arith) (λ e. omega (arith, e, c .if2 .taken))
 
 mul-if3 : tie.Need-mul-if3 Inv-loop μ-loop
@@ -30,12 +32,14 @@ mul-if3 c = search needs
 
 returns-3 : tie.Need-returns-3 Inv-loop μ-loop
 returns-3 c =
-    let a = c .before .before .before .before .before .args in
+    let c1 = c .before in let c2 = c1 .before in let c3 = c2 .before in let c4 = c3 .before in let c5 = c4 .before in
+    let a = c5 .args in
     other-size (a .text .now) (a .count) (a .values .now) (omega arith) (c .if3 .taken)
 
 loop-holds : tie.Need-loop-holds Inv-loop μ-loop
 loop-holds c =
-    let a = c .before .before .before .before .before .args in
+    let c1 = c .before in let c2 = c1 .before in let c3 = c2 .before in let c4 = c3 .before in let c5 = c4 .before in
+    let a = c5 .args in
     let all : a .count - 0 ≡ a .count = omega arith in
     (refl, omega arith, ap (λ n. floatsFrom n 0 (a .text .now)) all, ap (λ n. storedFrom n 0 (a .text .now) (a .values .now)) all)
 
@@ -65,10 +69,12 @@ same-length c = search needs
 
 returns-4 : tie.Need-returns-4 Inv-loop μ-loop
 returns-4 c =
-    let a = c .before .before .before .before .before .before .before .before .before .before .args in
-    let l = c .before .before .before .before .loop in
+    let c1 = c .before in let c2 = c1 .before in let c3 = c2 .before in let c4 = c3 .before in let c5 = c4 .before in
+    let c6 = c5 .before in let c7 = c6 .before in let c8 = c7 .before in let c9 = c8 .before in let c10 = c9 .before in
+    let a = c10 .args in
+    let l = c4 .loop in
     let text = a .text .now in
-    let e = sym (c .before .before .read-float .ensures) ∙ c .enum-told .given .1 in
+    let e = sym (c2 .read-float .ensures) ∙ c .enum-told .given .1 in
     fit text (a .count) (a .values .now) _ _ (omega arith) (omega arith)
     (read-off text (l .values) (a .count) (l .k) (omega arith) e ∙ l .inv .2)
     (stored-off text (l .values) (a .count) (l .k) (omega arith) e ∙ l .inv .3)
@@ -81,11 +87,13 @@ loop-less c = search needs
 
 loop-again : tie.Need-loop-again Inv-loop μ-loop
 loop-again c =
-    let a = c .before .before .before .before .before .before .before .before .before .before .before .before .args in
-    let l = c .before .before .before .before .before .before .loop in
+    let c1 = c .before in let c2 = c1 .before in let c3 = c2 .before in let c4 = c3 .before in let c5 = c4 .before in let c6 = c5 .before in
+    let c7 = c6 .before in let c8 = c7 .before in let c9 = c8 .before in let c10 = c9 .before in let c11 = c10 .before in let c12 = c11 .before in
+    let a = c12 .args in
+    let l = c6 .loop in
     let text = a .text .now in
-    let bits = c .before .before .bits .given in
-    let e = sym (c .before .before .before .before .read-float .ensures) ∙ bits .1 in
+    let bits = c2 .bits .given in
+    let e = sym (c4 .read-float .ensures) ∙ bits .1 in
     let read = sym (read-on text (l .values) (a .count) (l .k) (omega arith) (bits .0 .0) e) ∙ l .inv .2 in
     let stored = sym (stored-on text (l .values) (a .count) (l .k) (omega arith) (bits .0 .0) e) ∙ l .inv .3 in
     (length-set (l .values) (l .k) _ ∙ l .inv .0, omega arith, read, rw (c .float-of-bits .ensures) stored)
@@ -95,8 +103,10 @@ same-length-2 c = search needs
 
 returns-5 : tie.Need-returns-5 Inv-loop μ-loop
 returns-5 c =
-    let a = c .before .before .before .before .before .before .before .args in
-    let l = c .before .loop in
+    let c1 = c .before in let c2 = c1 .before in let c3 = c2 .before in let c4 = c3 .before in
+    let c5 = c4 .before in let c6 = c5 .before in let c7 = c6 .before in
+    let a = c7 .args in
+    let l = c1 .loop in
     let text = a .text .now in
     let none : a .count - l .k ≡ 0 = omega arith in
     fit text (a .count) (a .values .now) _ _ (omega arith) (omega arith)

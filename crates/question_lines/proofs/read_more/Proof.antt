@@ -38,7 +38,9 @@ same-length c = search needs
 
 returns : tie.Need-returns
 returns c =
-    let a = c .before .before .before .before .before .before .before .before .before .args in
+    let c1 = c .before in let c2 = c1 .before in let c3 = c2 .before in let c4 = c3 .before in let c5 = c4 .before in
+    let c6 = c5 .before in let c7 = c6 .before in let c8 = c7 .before in let c9 = c8 .before in
+    let a = c9 .args in
     (omega arith, take-at (take (a .held) (a .input .now)) _ (a .held) (length-take-le (a .held) (a .input .now) (omega arith)))
 
 returns-2 : tie.Need-returns-2

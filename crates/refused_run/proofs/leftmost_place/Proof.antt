@@ -45,12 +45,14 @@ run-number-requires c κs = search needs
 
 returns : tie.Need-returns Inv-loop μ-loop
 returns c =
-    let start = c .before .before .before in
+    let c1 = c .before in let c2 = c1 .before in let c3 = c2 .before in let c4 = c3 .before in let c5 = c4 .before in let c6 = c5 .before in
+    let start = c3 in
     let l = start .before .loop in
-    let a = start .before .before .before .args in
+    let a = c6 .args in
     let place = start .before .before .run-places .result - l .left in
     let h = start .loop-test .taken in
-    found-at (a .rigid) (a .poses .now) (a .number) (a .count) place (omega (arith, h, l .inv .0, l .inv .1 .0)) (l .inv .1 .1) (c .before .run-number .ensures) (c .if1 .taken)
+    found-at (a .rigid) (a .poses .now) (a .number) (a .count) place
+    (omega (arith, h, l .inv .0, l .inv .1 .0)) (l .inv .1 .1) (c1 .run-number .ensures) (c .if1 .taken)
 
 sub-left : tie.Need-sub-left Inv-loop μ-loop
 sub-left c = search needs
@@ -60,18 +62,20 @@ loop-less c = search needs
 
 loop-again : tie.Need-loop-again Inv-loop μ-loop
 loop-again c =
-    let start = c .before .before .before in
+    let c1 = c .before in let c2 = c1 .before in let c3 = c2 .before in let c4 = c3 .before in let c5 = c4 .before in let c6 = c5 .before in
+    let start = c3 in
     let l = start .before .loop in
-    let a = start .before .before .before .args in
+    let a = c6 .args in
     let place = start .before .before .run-places .result - l .left in
     let h = start .loop-test .taken in
-    let next = missed-next (a .rigid) (a .poses .now) (a .number) (a .count) place (l .inv .1 .1) (c .before .run-number .ensures) (c .if1 .left) in
+    let next = missed-next (a .rigid) (a .poses .now) (a .number) (a .count) place (l .inv .1 .1) (c1 .run-number .ensures) (c .if1 .left) in
     (l .inv .0, (omega (arith, l .inv .1 .0), λ j k. next j (omega (arith, h, k, l .inv .1 .0))))
 
 returns-2 : tie.Need-returns-2 Inv-loop μ-loop
 returns-2 c =
-    let l = c .before .loop in
-    let a = c .before .before .before .args in
+    let c1 = c .before in let c2 = c1 .before in let c3 = c2 .before in
+    let l = c1 .loop in
+    let a = c3 .args in
     let z = c .loop-test .left in
     l .inv .0 ∙ found-none (a .rigid) (a .poses .now) (a .number) (a .count) (λ j k. l .inv .1 .1 j (omega (arith, k, z, l .inv .0)))
 

@@ -16,7 +16,8 @@ move-number-requires c κs = search needs
 
 returns : tie.Need-returns
 returns c =
-    let start = c .before .before .before in
+    let c1 = c .before in let c2 = c1 .before in let c3 = c2 .before in
+    let start = c3 in
     c .move-number .ensures ∙ one-pose (start .before .args .rigid) (start .before .args .run .now) (start .if1 .taken)
 
 number-requires : tie.Need-number-requires

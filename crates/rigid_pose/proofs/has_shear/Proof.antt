@@ -38,7 +38,9 @@ near-zero-requires-3 c κs = search needs
 returns : tie.Need-returns
 unfolding Matrix4x4·hasShear Matrix4x4·transpose
 returns c =
-    let yz = c .before in
+    let c1 = c .before in let c2 = c1 .before in let c3 = c2 .before in let c4 = c3 .before in let c5 = c4 .before in
+    let c6 = c5 .before in let c7 = c6 .before in let c8 = c7 .before in let c9 = c8 .before in
+    let yz = c1 in
     let xz = yz .before .before in
     let xy = xz .before .before in
     rw (
@@ -48,7 +50,7 @@ returns c =
       xz .dot32 .ensures,
       xz .before .near-zero .ensures,
       xy .dot3 .ensures,
-      xy .before .before .before .before .transpose .ensures,
+      c9 .transpose .ensures,
     )
 
 pub has-shear-spec : {M : Type 1} → statement M

@@ -20,7 +20,9 @@ neg-requires c κs = search needs
 
 returns : tie.Need-returns
 unfolding flip
-returns c = c .neg .ensures ∙ sym (ap (turned (c .before .before .before .args .r1)) (rw (c .before .before .dot .ensures) at (c .before .if1 .taken)))
+returns c =
+    let c1 = c .before in let c2 = c1 .before in let c3 = c2 .before in
+    c .neg .ensures ∙ sym (ap (turned (c3 .args .r1)) (rw (c2 .dot .ensures) at (c1 .if1 .taken)))
 
 returns-2 : tie.Need-returns-2
 unfolding flip

@@ -24,13 +24,16 @@ zero-requires c κs = search needs
 
 returns : tie.Need-returns
 unfolding CoefficientsAnswer·judged
-returns c = sym (ap (answer (c .before .before .before .args .value)) (rw (c .before .before .is-finite .ensures, c .before .is-finite2 .ensures) at (c .if1 .taken)))
+returns c =
+    let c1 = c .before in let c2 = c1 .before in let c3 = c2 .before in
+    sym (ap (answer (c3 .args .value)) (rw (c2 .is-finite .ensures, c1 .is-finite2 .ensures) at (c .if1 .taken)))
 
 returns-2 : tie.Need-returns-2
 unfolding CoefficientsAnswer·judged
 returns-2 c =
+    let c1 = c .before in let c2 = c1 .before in let c3 = c2 .before in let c4 = c3 .before in
     rw (c .zero .ensures)
-    (sym (ap (answer (c .before .before .before .before .args .value)) (rw (c .before .before .before .is-finite .ensures, c .before .before .is-finite2 .ensures) at (c .before .if1 .left))))
+    (sym (ap (answer (c4 .args .value)) (rw (c3 .is-finite .ensures, c2 .is-finite2 .ensures) at (c1 .if1 .left))))
 
 pub judged-spec : {M : Type 1} → statement M
 judged-spec =

@@ -33,7 +33,20 @@ judged-requires c κs = search needs
 
 returns : tie.Need-returns
 unfolding rotationCoefficients
-returns c = rw (c .judged .ensures, c .before .new .ensures, c .before .before .to-rows2 .ensures, c .before .before .before .to-rows .ensures, c .before .before .before .before .normalize .ensures, c .before .before .before .before .before .sub .ensures, c .before .before .before .before .before .before .mul .ensures, c .before .before .before .before .before .before .before .acos .ensures, c .before .before .before .before .before .before .before .before .clamp .ensures)
+returns c =
+    let c1 = c .before in let c2 = c1 .before in let c3 = c2 .before in let c4 = c3 .before in
+    let c5 = c4 .before in let c6 = c5 .before in let c7 = c6 .before in let c8 = c7 .before in
+    rw (
+      c .judged .ensures,
+      c1 .new .ensures,
+      c2 .to-rows2 .ensures,
+      c3 .to-rows .ensures,
+      c4 .normalize .ensures,
+      c5 .sub .ensures,
+      c6 .mul .ensures,
+      c7 .acos .ensures,
+      c8 .clamp .ensures,
+    )
 
 pub rotation-coefficients-spec : {M : Type 1} → statement M
 rotation-coefficients-spec =

@@ -33,11 +33,12 @@ refusal-requires c κs = search needs
 
 returns : tie.Need-returns Inv-loop μ-loop
 returns c =
-    let a = c .before .before .before .before .before .before .args in
-    let l = c .before .before .before .before .before .loop in
-    let n = c .before .refusal .ensures ∙ ap Bounds3f·refusal (c .before .before .bounds .ensures) in
-    let h = c .before .before .before .before .loop-test .taken in
-    sym (refusal-here (a .count) (a .boxes .now) (a .lengths .now) (l .i) (c .before .refusal .result) h n (c .if1 .taken)) ∙ l .inv .1
+    let c1 = c .before in let c2 = c1 .before in let c3 = c2 .before in let c4 = c3 .before in let c5 = c4 .before in let c6 = c5 .before in
+    let a = c6 .args in
+    let l = c5 .loop in
+    let n = c1 .refusal .ensures ∙ ap Bounds3f·refusal (c2 .bounds .ensures) in
+    let h = c4 .loop-test .taken in
+    sym (refusal-here (a .count) (a .boxes .now) (a .lengths .now) (l .i) (c1 .refusal .result) h n (c .if1 .taken)) ∙ l .inv .1
 
 add-i : tie.Need-add-i Inv-loop μ-loop
 add-i c = search needs
@@ -47,10 +48,11 @@ loop-less c = search needs
 
 loop-again : tie.Need-loop-again Inv-loop μ-loop
 loop-again c =
-    let a = c .before .before .before .before .before .before .args in
-    let l = c .before .before .before .before .before .loop in
-    let h = c .before .before .before .before .loop-test .taken in
-    let n = sym (c .before .refusal .ensures ∙ ap Bounds3f·refusal (c .before .before .bounds .ensures)) ∙ c .if1 .left in
+    let c1 = c .before in let c2 = c1 .before in let c3 = c2 .before in let c4 = c3 .before in let c5 = c4 .before in let c6 = c5 .before in
+    let a = c6 .args in
+    let l = c5 .loop in
+    let h = c4 .loop-test .taken in
+    let n = sym (c1 .refusal .ensures ∙ ap Bounds3f·refusal (c2 .bounds .ensures)) ∙ c .if1 .left in
     (omega (arith, h), refusal-next (a .count) (a .boxes .now) (a .lengths .now) (l .i) h n ∙ l .inv .1)
 
 returns-2 : tie.Need-returns-2 Inv-loop μ-loop

@@ -25,7 +25,8 @@ element-copy-out-result c = search needs
 
 add-result : tie.Need-add-result
 add-result c =
-    let start = c .before .before .before .before in
+    let c1 = c .before in let c2 = c1 .before in let c3 = c2 .before in let c4 = c3 .before in
+    let start = c4 in
     omega (arith, start .pre .1 .1 .0 (start .args .i) (start .pre .1 .0) .1, start .pre .1 .1 .1)
 
 returns-3 : tie.Need-returns-3

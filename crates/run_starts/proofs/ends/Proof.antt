@@ -22,41 +22,45 @@ waits-requires c κs = search needs
 
 start-waiting-requires : tie.Need-start-waiting-requires Inv-loop μ-loop
 start-waiting-requires c κs =
-    let start = c .before .before .before in
+    let c1 = c .before in let c2 = c1 .before in let c3 = c2 .before in
+    let start = c3 in
     let a = start .args in
     let all = all-few (a .count) (a .boxes .now) (a .lengths .now) (start .pre .0) (start .pre .1) in
-    (start .pre .0, (start .pre .1, omega (arith, c .before .before .loop .inv .early, all)))
+    (start .pre .0, (start .pre .1, omega (arith, c2 .loop .inv .early, all)))
 
 next-stop-requires : tie.Need-next-stop-requires Inv-loop μ-loop
 next-stop-requires c κs = search needs
 
 loop-less : tie.Need-loop-less Inv-loop μ-loop
 loop-less c =
-    let start = c .before .before .before .before .before in
+    let c1 = c .before in let c2 = c1 .before in let c3 = c2 .before in let c4 = c3 .before in let c5 = c4 .before in
+    let start = c5 in
     let a = start .args in
-    let l = c .before .before .before .before .loop in
-    let waits = sym (c .before .before .before .waits .ensures) ∙ c .before .before .if1 .taken in
+    let l = c4 .loop in
+    let waits = sym (c3 .waits .ensures) ∙ c2 .if1 .taken in
     let all = all-few (a .count) (a .boxes .now) (a .lengths .now) (start .pre .0) (start .pre .1) in
     let s =
-    stop-next (a .count) (a .boxes .now) (a .lengths .now) (start .pre .0) (start .pre .1) (l .t) (l .ends) (c .before .start-waiting .result)
-    (c .next-stop .result) (l .inv) (c .before .start-waiting .ensures) (c .next-stop .ensures) waits in
+    stop-next (a .count) (a .boxes .now) (a .lengths .now) (start .pre .0) (start .pre .1) (l .t) (l .ends) (c1 .start-waiting .result)
+    (c .next-stop .result) (l .inv) (c1 .start-waiting .ensures) (c .next-stop .ensures) waits in
     omega (arith, s .0, s .1 .early, all)
 
 loop-again : tie.Need-loop-again Inv-loop μ-loop
 loop-again c =
-    let start = c .before .before .before .before .before in
+    let c1 = c .before in let c2 = c1 .before in let c3 = c2 .before in let c4 = c3 .before in let c5 = c4 .before in
+    let start = c5 in
     let a = start .args in
-    let l = c .before .before .before .before .loop in
-    let waits = sym (c .before .before .before .waits .ensures) ∙ c .before .before .if1 .taken in
-    stop-next (a .count) (a .boxes .now) (a .lengths .now) (start .pre .0) (start .pre .1) (l .t) (l .ends) (c .before .start-waiting .result)
-    (c .next-stop .result) (l .inv) (c .before .start-waiting .ensures) (c .next-stop .ensures) waits .1
+    let l = c4 .loop in
+    let waits = sym (c3 .waits .ensures) ∙ c2 .if1 .taken in
+    stop-next (a .count) (a .boxes .now) (a .lengths .now) (start .pre .0) (start .pre .1) (l .t) (l .ends) (c1 .start-waiting .result)
+    (c .next-stop .result) (l .inv) (c1 .start-waiting .ensures) (c .next-stop .ensures) waits .1
 
 returns : tie.Need-returns Inv-loop μ-loop
 returns c =
-    let start = c .before .before .before in
+    let c1 = c .before in let c2 = c1 .before in let c3 = c2 .before in
+    let start = c3 in
     let a = start .args in
-    let l = c .before .before .loop in
-    let waits = sym (c .before .waits .ensures) ∙ c .if1 .left in
+    let l = c2 .loop in
+    let waits = sym (c1 .waits .ensures) ∙ c .if1 .left in
     stop-last (a .count) (a .boxes .now) (a .lengths .now) (start .pre .0) (start .pre .1) (l .t) (l .ends) (l .inv) waits
 
 pub ends-spec : {M : Type 1} → statement M

@@ -29,9 +29,10 @@ element-copy-out-n c = search needs
 
 returns : tie.Need-returns Inv-loop μ-loop
 returns c =
-    let a = c .before .before .before .before .args in
-    let i = c .before .before .before .loop .i in
-    sym (some-here (a .count) (badLengthAt (a .lengths .now)) i (c .before .before .loop-test .taken) (c .if1 .taken))
+    let c1 = c .before in let c2 = c1 .before in let c3 = c2 .before in let c4 = c3 .before in
+    let a = c4 .args in
+    let i = c3 .loop .i in
+    sym (some-here (a .count) (badLengthAt (a .lengths .now)) i (c2 .loop-test .taken) (c .if1 .taken))
 
 add-i : tie.Need-add-i Inv-loop μ-loop
 add-i c = search needs
@@ -41,9 +42,10 @@ loop-less c = search needs
 
 loop-again : tie.Need-loop-again Inv-loop μ-loop
 loop-again c =
-    let a = c .before .before .before .before .args in
-    let l = c .before .before .before .loop in
-    (omega (arith, c .before .before .loop-test .taken), some-next (l .i) (badLengthAt (a .lengths .now)) (l .inv .1) (c .if1 .left))
+    let c1 = c .before in let c2 = c1 .before in let c3 = c2 .before in let c4 = c3 .before in
+    let a = c4 .args in
+    let l = c3 .loop in
+    (omega (arith, c2 .loop-test .taken), some-next (l .i) (badLengthAt (a .lengths .now)) (l .inv .1) (c .if1 .left))
 
 returns-2 : tie.Need-returns-2 Inv-loop μ-loop
 returns-2 c =

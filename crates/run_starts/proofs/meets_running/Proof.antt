@@ -26,10 +26,11 @@ runs-and-meets-requires c κs = search needs
 
 returns : tie.Need-returns Inv-loop μ-loop
 returns c =
-    let a = c .before .before .before .before .args in
-    let j = c .before .before .before .loop .j in
-    let meets = sym (c .before .runs-and-meets .ensures) ∙ c .if1 .taken in
-    sym (some-here (a .count) (runsAndMeets (a .boxes .now) (a .ends) (a .t) (a .i)) j (c .before .before .loop-test .taken) meets)
+    let c1 = c .before in let c2 = c1 .before in let c3 = c2 .before in let c4 = c3 .before in
+    let a = c4 .args in
+    let j = c3 .loop .j in
+    let meets = sym (c1 .runs-and-meets .ensures) ∙ c .if1 .taken in
+    sym (some-here (a .count) (runsAndMeets (a .boxes .now) (a .ends) (a .t) (a .i)) j (c2 .loop-test .taken) meets)
 
 add-j : tie.Need-add-j Inv-loop μ-loop
 add-j c = search needs
@@ -39,10 +40,11 @@ loop-less c = search needs
 
 loop-again : tie.Need-loop-again Inv-loop μ-loop
 loop-again c =
-    let a = c .before .before .before .before .args in
-    let l = c .before .before .before .loop in (
-      omega (arith, c .before .before .loop-test .taken),
-      some-next (l .j) (runsAndMeets (a .boxes .now) (a .ends) (a .t) (a .i)) (l .inv .1) (sym (c .before .runs-and-meets .ensures) ∙ c .if1 .left),
+    let c1 = c .before in let c2 = c1 .before in let c3 = c2 .before in let c4 = c3 .before in
+    let a = c4 .args in
+    let l = c3 .loop in (
+      omega (arith, c2 .loop-test .taken),
+      some-next (l .j) (runsAndMeets (a .boxes .now) (a .ends) (a .t) (a .i)) (l .inv .1) (sym (c1 .runs-and-meets .ensures) ∙ c .if1 .left),
     )
 
 returns-2 : tie.Need-returns-2 Inv-loop μ-loop

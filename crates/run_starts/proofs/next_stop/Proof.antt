@@ -34,9 +34,10 @@ loop-less c = search needs
 
 loop-again : tie.Need-loop-again Inv-loop μ-loop
 loop-again c =
-    let a = c .before .before .before .args in
-    let l = c .before .before .loop in (
-      omega (arith, c .before .loop-test .taken),
+    let c1 = c .before in let c2 = c1 .before in let c3 = c2 .before in
+    let a = c3 .args in
+    let l = c2 .loop in (
+      omega (arith, c1 .loop-test .taken),
       subst (λ (n : ℕ). NextStop (l .i + 1) (a .t2) (a .t) n) (sym (c .sooner .ensures)) (stop-step (a .t2) (a .t) (l .i) (l .next) (l .inv .1)),
     )
 

@@ -35,13 +35,14 @@ meets-requires c κs = search needs
 
 returns : tie.Need-returns
 returns c =
-    let runs = c .before .before .before .before .before in
+    let c1 = c .before in let c2 = c1 .before in let c3 = c2 .before in let c4 = c3 .before in let c5 = c4 .before in
+    let runs = c5 in
     rw (
       ← runs .before .is-running .ensures,
       runs .if1 .taken,
       c .meets .ensures,
-      c .before .before .before .bounds .ensures,
-      c .before .bounds2 .ensures,
+      c3 .bounds .ensures,
+      c1 .bounds2 .ensures,
     )
 
 returns-2 : tie.Need-returns-2

@@ -24,20 +24,22 @@ ends-requires c κs =
 
 starts-of-requires : tie.Need-starts-of-requires
 starts-of-requires c κs =
-    let a = c .before .before .before .args in
-    let z = sym (c .before .before .refusal .ensures) ∙ c .before .if1 .left in
+    let c1 = c .before in let c2 = c1 .before in let c3 = c2 .before in
+    let a = c3 .args in
+    let z = sym (c2 .refusal .ensures) ∙ c1 .if1 .left in
     let few = accepted-few (a .count) (a .boxes .now) (a .lengths .now) z in
     let good = accepted-lengths (a .count) (a .boxes .now) (a .lengths .now) z in
     (few, lengths-before-ends (a .count) (a .boxes .now) (a .lengths .now) few good (c .ends .result) (c .ends .ensures))
 
 returns-2 : tie.Need-returns-2
 returns-2 c =
-    let a = c .before .before .before .before .args in
-    let z = sym (c .before .before .before .refusal .ensures) ∙ c .before .before .if1 .left in
+    let c1 = c .before in let c2 = c1 .before in let c3 = c2 .before in let c4 = c3 .before in
+    let a = c4 .args in
+    let z = sym (c3 .refusal .ensures) ∙ c2 .if1 .left in
     let few = accepted-few (a .count) (a .boxes .now) (a .lengths .now) z in
     let good = accepted-lengths (a .count) (a .boxes .now) (a .lengths .now) z in
-    day-given (a .count) (a .boxes .now) (a .lengths .now) few good (a .starts .now) (c .starts-of .result) (c .before .ends .result) z
-    (c .before .ends .ensures) (c .starts-of .ensures)
+    day-given (a .count) (a .boxes .now) (a .lengths .now) few good (a .starts .now) (c .starts-of .result) (c1 .ends .result) z
+    (c1 .ends .ensures) (c .starts-of .ensures)
 
 pub start-ticks-spec : {M : Type 1} → statement M
 start-ticks-spec =

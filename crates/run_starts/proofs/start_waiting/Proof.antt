@@ -50,10 +50,11 @@ loop-less c = search needs
 
 loop-again : tie.Need-loop-again Inv-loop μ-loop
 loop-again c =
-    let start = c .before .before .before in
+    let c1 = c .before in let c2 = c1 .before in let c3 = c2 .before in
+    let start = c3 in
     let a = start .args in
-    let l = c .before .before .loop in
-    let some = c .before .loop-test .taken in (
+    let l = c2 .loop in
+    let some = c1 .loop-test .taken in (
       omega (arith, l .inv .0),
       (
         length-set (l .now) (a .count - l .left) (c .end-taken .result) ∙ l .inv .1 .0,

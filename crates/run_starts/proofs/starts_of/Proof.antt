@@ -30,7 +30,9 @@ element-copy-out-starts : tie.Need-element-copy-out-starts Inv-loop μ-loop
 element-copy-out-starts c = search needs
 
 sub-starts : tie.Need-sub-starts Inv-loop μ-loop
-sub-starts c = c .before .before .before .pre .1 (c .before .before .loop .i) (c .before .loop-test .taken)
+sub-starts c =
+    let c1 = c .before in let c2 = c1 .before in let c3 = c2 .before in
+    c3 .pre .1 (c2 .loop .i) (c1 .loop-test .taken)
 
 mul-starts-3 : tie.Need-mul-starts-3 Inv-loop μ-loop
 mul-starts-3 c = search needs
@@ -46,10 +48,11 @@ loop-less c = search needs
 
 loop-again : tie.Need-loop-again Inv-loop μ-loop
 loop-again c =
-    let a = c .before .before .before .args in
-    let l = c .before .before .loop in
-    let h = c .before .loop-test .taken in
-    (omega (arith, h), starts-step (a .lengths .now) (a .t3) (l .starts) (l .i) (omega (arith, h, c .before .before .before .pre .0)) (l .inv .1))
+    let c1 = c .before in let c2 = c1 .before in let c3 = c2 .before in
+    let a = c3 .args in
+    let l = c2 .loop in
+    let h = c1 .loop-test .taken in
+    (omega (arith, h), starts-step (a .lengths .now) (a .t3) (l .starts) (l .i) (omega (arith, h, c3 .pre .0)) (l .inv .1))
 
 returns : tie.Need-returns Inv-loop μ-loop
 returns c =

@@ -31,9 +31,10 @@ array-read-if1 c = search needs
 
 returns : tie.Need-returns Inv-loop μ-loop
 returns c =
-    let a = c .before .before .before .args in
-    let i = c .before .before .loop .i in
-    sym (some-here (a .count) (λ k. eqb (getD (a .t2) k 0) 0) i (c .before .loop-test .taken) (eq-eqb (getD (a .t2) i 0) 0 (c .if1 .taken)))
+    let c1 = c .before in let c2 = c1 .before in let c3 = c2 .before in
+    let a = c3 .args in
+    let i = c2 .loop .i in
+    sym (some-here (a .count) (λ k. eqb (getD (a .t2) k 0) 0) i (c1 .loop-test .taken) (eq-eqb (getD (a .t2) i 0) 0 (c .if1 .taken)))
 
 add-i : tie.Need-add-i Inv-loop μ-loop
 add-i c = search needs
@@ -43,9 +44,10 @@ loop-less c = search needs
 
 loop-again : tie.Need-loop-again Inv-loop μ-loop
 loop-again c =
-    let a = c .before .before .before .args in
-    let l = c .before .before .loop in
-    (omega (arith, c .before .loop-test .taken), some-next (l .i) (λ k. eqb (getD (a .t2) k 0) 0) (l .inv .1) (ne-eqb (getD (a .t2) (l .i) 0) 0 (c .if1 .left)))
+    let c1 = c .before in let c2 = c1 .before in let c3 = c2 .before in
+    let a = c3 .args in
+    let l = c2 .loop in
+    (omega (arith, c1 .loop-test .taken), some-next (l .i) (λ k. eqb (getD (a .t2) k 0) 0) (l .inv .1) (ne-eqb (getD (a .t2) (l .i) 0) 0 (c .if1 .left)))
 
 returns-2 : tie.Need-returns-2 Inv-loop μ-loop
 returns-2 c =

@@ -17,7 +17,8 @@ wide-requires c κs = search needs
 
 returns : tie.Need-returns
 returns c =
-    let a = c .before .before .before .args in
+    let c1 = c .before in let c2 = c1 .before in let c3 = c2 .before in
+    let a = c3 .args in
     c .wide .ensures ∙ sym (quarterSineOver-one (entry (a .table .now)))
     ∙ ap (quarterSineOver (entry (a .table .now))) (let e : quarterTurn ≡ min (a .v) quarterTurn = omega arith in e)
 
@@ -47,7 +48,8 @@ interpolate-requires c κs = search needs
 
 returns-2 : tie.Need-returns-2
 returns-2 c =
-    let a = c .before .before .before .before .args in
+    let c1 = c .before in let c2 = c1 .before in let c3 = c2 .before in let c4 = c3 .before in
+    let a = c4 .args in
     c .interpolate .ensures ∙ unfold quarterSineOver in ap (quarterSineOver (entry (a .table .now))) (let e : a .v ≡ min (a .v) quarterTurn = omega arith in e)
 
 pub quarter-sine-in-spec : {M : Type 1} → statement M

@@ -21,14 +21,17 @@ integer-decode-requires c κs = search needs
 
 estimate-bits-requires : tie.Need-estimate-bits-requires
 unfolding ofBits
-estimate-bits-requires c κs = positive-number (c .before .before .before .args .x) (positive-tests (c .before .before .before .args .x) (c .before .before .if1 .taken) (c .before .if2 .taken))
+estimate-bits-requires c κs =
+    let c1 = c .before in let c2 = c1 .before in let c3 = c2 .before in
+    positive-number (c3 .args .x) (positive-tests (c3 .args .x) (c2 .if1 .taken) (c1 .if2 .taken))
 
 sqrt-bits-requires : tie.Need-sqrt-bits-requires
 unfolding ofBits
 sqrt-bits-requires c κs =
-    let x = c .before .before .before .before .args .x in
-    let p = positive-tests x (c .before .before .before .if1 .taken) (c .before .before .if2 .taken) in
-    rw (c .before .integer-decode .ensures) (significand-pos x (held (c .before .before .before .before)) p, (significand-lt x, exponent-le x (held (c .before .before .before .before))))
+    let c1 = c .before in let c2 = c1 .before in let c3 = c2 .before in let c4 = c3 .before in
+    let x = c4 .args .x in
+    let p = positive-tests x (c3 .if1 .taken) (c2 .if2 .taken) in
+    rw (c1 .integer-decode .ensures) (significand-pos x (held (c4)) p, (significand-lt x, exponent-le x (held (c4))))
 
 cast-result : tie.Need-cast-result
 cast-result c = search needs
@@ -39,9 +42,10 @@ float-from-bits-result c = bits-number (c .sqrt-bits .result) (c .sqrt-bits .ens
 returns : tie.Need-returns
 unfolding ofBits
 returns c =
-    let x = c .before .before .before .before .before .args .x in
-    let p = positive-tests x (c .before .before .before .before .if1 .taken) (c .before .before .before .if2 .taken) in
-    decoded-sqrt x (held (c .before .before .before .before .before)) p (c .sqrt-bits .result) (rw (c .before .before .integer-decode .ensures) at (c .sqrt-bits .ensures))
+    let c1 = c .before in let c2 = c1 .before in let c3 = c2 .before in let c4 = c3 .before in let c5 = c4 .before in
+    let x = c5 .args .x in
+    let p = positive-tests x (c4 .if1 .taken) (c3 .if2 .taken) in
+    decoded-sqrt x (held (c5)) p (c .sqrt-bits .result) (rw (c2 .integer-decode .ensures) at (c .sqrt-bits .ensures))
 
 returns-2 : tie.Need-returns-2
 unfolding ofBits

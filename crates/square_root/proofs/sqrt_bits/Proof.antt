@@ -32,7 +32,8 @@ nearest-root-requires c κs = search needs
 returns : tie.Need-returns
 returns c =
     let w = c .before .widening-shift .ensures in
-    sqrt-bits (c .before .before .args .significand) (c .before .before .args .exponent) (c .before .widening-shift .result) (c .nearest-root .result) _ (c .before .before .pre .1 .1) w
+    sqrt-bits (c .before .before .args .significand) (c .before .before .args .exponent)
+    (c .before .widening-shift .result) (c .nearest-root .result) _ (c .before .before .pre .1 .1) w
     (rw (widened-exact w) at (c .nearest-root .ensures)) (omega arith)
 
 add-result : tie.Need-add-result

@@ -29,7 +29,8 @@ sub-result : tie.Need-sub-result
 sub-result c = omega (arith, zeros-ge (c .before))
 
 returns-2 : tie.Need-returns-2
-returns-2 c = widened (c .before .args .significand) (c .before .args .exponent) _ (c .before .pre .0) (c .before .pre .1 .0) (omega (arith, zeros-ge (c .before)))
+returns-2 c =
+    widened (c .before .args .significand) (c .before .args .exponent) _ (c .before .pre .0) (c .before .pre .1 .0) (omega (arith, zeros-ge (c .before)))
 
 pub widening-shift-spec : {M : Type 1} → statement M
 widening-shift-spec =

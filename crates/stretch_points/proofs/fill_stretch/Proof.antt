@@ -52,12 +52,14 @@ loop-less c = search needs
 
 loop-again : tie.Need-loop-again Inv-loop μ-loop
 loop-again c =
-    let l = c .before .before .before .before .before .before .before .before .loop in
-    let a = c .before .before .before .before .before .before .before .before .before .before .before .args in
-    let h = c .before .before .before .before .before .before .before .loop-test .taken in
-    let put = c .before .before .put-three .ensures in
-    let point = c .before .before .before .before .point-of .ensures in
-    let answer = c .before .before .before .before .before .transform-point .ensures in
+    let c1 = c .before in let c2 = c1 .before in let c3 = c2 .before in let c4 = c3 .before in let c5 = c4 .before in let c6 = c5 .before in
+    let c7 = c6 .before in let c8 = c7 .before in let c9 = c8 .before in let c10 = c9 .before in let c11 = c10 .before in
+    let l = c8 .loop in
+    let a = c11 .args in
+    let h = c7 .loop-test .taken in
+    let put = c2 .put-three .ensures in
+    let point = c4 .point-of .ensures in
+    let answer = c5 .transform-point .ensures in
     let f : Float → PointAnswer = λ t. Rows·transformPoint (a .motion .now) t (a .p) in (
       refl,
       (
@@ -70,15 +72,18 @@ loop-again c =
     )
 
 same-length : tie.Need-same-length Inv-loop μ-loop
-same-length c = let e = c .before .loop .inv .1 .1 .0 in let h = c .before .before .before .before .pre in e ∙ sym h
+same-length c =
+    let c1 = c .before in let c2 = c1 .before in let c3 = c2 .before in let c4 = c3 .before in
+    let e = c1 .loop .inv .1 .1 .0 in let h = c4 .pre in e ∙ sym h
 
 returns : tie.Need-returns Inv-loop μ-loop
 returns c =
-    let l = c .before .loop in
-    let a = c .before .before .before .before .args in
+    let c1 = c .before in let c2 = c1 .before in let c3 = c2 .before in let c4 = c3 .before in
+    let l = c1 .loop in
+    let a = c4 .args in
     let f : Float → PointAnswer = λ t. Rows·transformPoint (a .motion .now) t (a .p) in
     sym (filled-end f (a .times .now) (l .answers) (l .i) (c .loop-test .left))
-    ∙ (l .inv .1 .1 .1 ∙ filled-floats f (a .times .now) (a .answers .now) (c .before .before .before .before .pre))
+    ∙ (l .inv .1 .1 .1 ∙ filled-floats f (a .times .now) (a .answers .now) (c4 .pre))
 
 pub fill-stretch-spec : {M : Type 1} → statement M
 fill-stretch-spec =

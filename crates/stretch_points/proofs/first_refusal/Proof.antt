@@ -45,29 +45,34 @@ loop-less c = search needs
 
 loop-again : tie.Need-loop-again Inv-loop μ-loop
 loop-again c =
-    let l = c .before .before .before .before .before .before .loop in
-    let a = c .before .before .before .before .before .before .before .before .args in
-    let h = c .before .before .before .before .before .loop-test .taken in
-    let e = c .before .before .before .transform-point .ensures in
+    let c1 = c .before in let c2 = c1 .before in let c3 = c2 .before in let c4 = c3 .before in
+    let c5 = c4 .before in let c6 = c5 .before in let c7 = c6 .before in let c8 = c7 .before in
+    let l = c6 .loop in
+    let a = c8 .args in
+    let h = c5 .loop-test .taken in
+    let e = c3 .transform-point .ensures in
     let f : Float → PointAnswer = λ t. Rows·transformPoint (a .motion .now) t (a .p) in
-    (refl, (omega (arith, h), refusal-next f (a .times .now) (l .i) h e (c .before .answer .given .1) ∙ l .inv .1 .1))
+    (refl, (omega (arith, h), refusal-next f (a .times .now) (l .i) h e (c1 .answer .given .1) ∙ l .inv .1 .1))
 
 enum-known-answer-2 : tie.Need-enum-known-answer-2 Inv-loop μ-loop
 enum-known-answer-2 c = search needs
 
 returns : tie.Need-returns Inv-loop μ-loop
 returns c =
-    let l = c .before .before .before .before .before .before .loop in
-    let a = c .before .before .before .before .before .before .before .before .args in
-    let h = c .before .before .before .before .before .loop-test .taken in
-    let e = c .before .before .before .transform-point .ensures in
+    let c1 = c .before in let c2 = c1 .before in let c3 = c2 .before in let c4 = c3 .before in
+    let c5 = c4 .before in let c6 = c5 .before in let c7 = c6 .before in let c8 = c7 .before in
+    let l = c6 .loop in
+    let a = c8 .args in
+    let h = c5 .loop-test .taken in
+    let e = c3 .transform-point .ensures in
     let f : Float → PointAnswer = λ t. Rows·transformPoint (a .motion .now) t (a .p) in
-    refusal-here f (a .times .now) (l .i) h e (c .before .answer2 .given .1) ∙ l .inv .1 .1
+    refusal-here f (a .times .now) (l .i) h e (c1 .answer2 .given .1) ∙ l .inv .1 .1
 
 returns-2 : tie.Need-returns-2 Inv-loop μ-loop
 returns-2 c =
-    let l = c .before .loop in
-    let a = c .before .before .before .args in
+    let c1 = c .before in let c2 = c1 .before in let c3 = c2 .before in
+    let l = c1 .loop in
+    let a = c3 .args in
     let f : Float → PointAnswer = λ t. Rows·transformPoint (a .motion .now) t (a .p) in
     refusal-end f (a .times .now) (l .i) (c .loop-test .left) ∙ l .inv .1 .1
 

@@ -16,7 +16,9 @@ same-length c = search needs
 
 returns : tie.Need-returns
 unfolding Rows·pointsPut
-returns c = rw (eq-eqb _ _ (c .before .before .before .before .if1 .taken)) (c .before .before .fill-stretch .ensures)
+returns c =
+    let c1 = c .before in let c2 = c1 .before in let c3 = c2 .before in let c4 = c3 .before in
+    rw (eq-eqb _ _ (c4 .if1 .taken)) (c2 .fill-stretch .ensures)
 
 returns-2 : tie.Need-returns-2
 unfolding Rows·pointsPut

@@ -25,13 +25,14 @@ not-one-requires-3 c κs = search needs
 returns : tie.Need-returns
 unfolding Matrix4x4·hasScale
 returns c =
+    let c1 = c .before in let c2 = c1 .before in let c3 = c2 .before in let c4 = c3 .before in let c5 = c4 .before in
     rw (
       c .not-one3 .ensures,
-      c .before .image-squared3 .ensures,
-      c .before .before .not-one2 .ensures,
-      c .before .before .before .image-squared2 .ensures,
-      c .before .before .before .before .not-one .ensures,
-      c .before .before .before .before .before .image-squared .ensures,
+      c1 .image-squared3 .ensures,
+      c2 .not-one2 .ensures,
+      c3 .image-squared2 .ensures,
+      c4 .not-one .ensures,
+      c5 .image-squared .ensures,
     )
 
 pub has-scale-spec : {M : Type 1} → statement M

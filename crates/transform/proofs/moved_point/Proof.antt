@@ -22,23 +22,25 @@ div-requires c κs = search needs
 returns : tie.Need-returns
 unfolding movedPoint
 returns c =
+    let c1 = c .before in let c2 = c1 .before in let c3 = c2 .before in let c4 = c3 .before in
     rw (
-      rw (c .before .mul-point4 .ensures) at (c .if1 .taken),
-      c .before .before .before .before .mul-point .ensures,
-      c .before .before .before .mul-point2 .ensures,
-      c .before .before .mul-point3 .ensures,
+      rw (c1 .mul-point4 .ensures) at (c .if1 .taken),
+      c4 .mul-point .ensures,
+      c3 .mul-point2 .ensures,
+      c2 .mul-point3 .ensures,
     )
 
 returns-2 : tie.Need-returns-2
 unfolding movedPoint
 returns-2 c =
+    let c1 = c .before in let c2 = c1 .before in let c3 = c2 .before in let c4 = c3 .before in let c5 = c4 .before in
     rw (
-      rw (c .before .before .mul-point4 .ensures) at (c .before .if1 .left),
+      rw (c2 .mul-point4 .ensures) at (c1 .if1 .left),
       c .div .ensures,
-      c .before .before .before .before .before .mul-point .ensures,
-      c .before .before .before .before .mul-point2 .ensures,
-      c .before .before .before .mul-point3 .ensures,
-      c .before .before .mul-point4 .ensures,
+      c5 .mul-point .ensures,
+      c4 .mul-point2 .ensures,
+      c3 .mul-point3 .ensures,
+      c2 .mul-point4 .ensures,
     )
 
 pub moved-point-spec : {M : Type 1} → statement M

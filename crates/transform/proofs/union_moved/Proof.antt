@@ -21,11 +21,15 @@ enum-known-r-2 c = search needs
 
 returns : tie.Need-returns
 unfolding BoundsAnswer·unionMoved
-returns c = rw (c .before .before .before .before .before .r .given .1, c .before .before .a .given .1, c .union-point .ensures)
+returns c =
+    let c1 = c .before in let c2 = c1 .before in let c3 = c2 .before in let c4 = c3 .before in let c5 = c4 .before in
+    rw (c5 .r .given .1, c2 .a .given .1, c .union-point .ensures)
 
 returns-2 : tie.Need-returns-2
 unfolding BoundsAnswer·unionMoved
-returns-2 c = rw (c .before .before .before .before .r .given .1, c .before .a2 .given .1)
+returns-2 c =
+    let c1 = c .before in let c2 = c1 .before in let c3 = c2 .before in let c4 = c3 .before in
+    rw (c4 .r .given .1, c1 .a2 .given .1)
 
 returns-3 : tie.Need-returns-3
 unfolding BoundsAnswer·unionMoved

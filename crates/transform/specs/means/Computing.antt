@@ -8,5 +8,6 @@ use Rattle.transform.specs.TransformBounds.{BoundsAnswer·fromMoved, Bou
 use Rattle.transform.specs.HasScale.{imageSquared, Matrix4x4·hasScale}
 
 unfoldable pub computing : Unit {0}
-unfolding inverse.computing bounds3.computing Transform·fromMatrix Transform·mul Transform·eq movedPoint PointAnswer·judged Transform·transformPoint movedVector BoundsAnswer·fromMoved BoundsAnswer·unionMoved unionCorner Transform·transformBounds imageSquared Matrix4x4·hasScale
+unfolding inverse.computing bounds3.computing Transform·fromMatrix Transform·mul Transform·eq movedPoint PointAnswer·judged Transform·transformPoint movedVector
+    BoundsAnswer·fromMoved BoundsAnswer·unionMoved unionCorner Transform·transformBounds imageSquared Matrix4x4·hasScale
 computing = tt

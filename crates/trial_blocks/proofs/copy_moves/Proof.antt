@@ -38,10 +38,11 @@ loop-less c = search needs
 
 loop-again : tie.Need-loop-again Inv-loop μ-loop
 loop-again c =
-    let l = c .before .before .loop in
-    let a = c .before .before .before .args in
-    let t = c .before .loop-test .taken in
-    let few = c .before .before .before .pre in (
+    let c1 = c .before in let c2 = c1 .before in let c3 = c2 .before in
+    let l = c2 .loop in
+    let a = c3 .args in
+    let t = c1 .loop-test .taken in
+    let few = c3 .pre in (
       refl,
       (
         omega (arith, t),

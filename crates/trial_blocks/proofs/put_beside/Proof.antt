@@ -25,21 +25,24 @@ mul-t18 c = search needs
 
 element-set-from-blocks-2 : tie.Need-element-set-from-blocks-2
 element-set-from-blocks-2 c =
-    let h = between (c .before .before .before .before .args .place) (c .before .before .before .before .args .n) (c .before .if1 .taken) .1 in
+    let c1 = c .before in let c2 = c1 .before in let c3 = c2 .before in let c4 = c3 .before in
+    let h = between (c4 .args .place) (c4 .args .n) (c1 .if1 .taken) .1 in
     omega (arith, h)
 
 returns : tie.Need-returns
 returns c =
-    let a = c .before .before .before .before .args in
-    let t = c .before .if1 .taken in
+    let c1 = c .before in let c2 = c1 .before in let c3 = c2 .before in let c4 = c3 .before in
+    let a = c4 .args in
+    let t = c1 .if1 .taken in
     λ h.
-    rw (c .before .before .before .first-beside .ensures)
+    rw (c3 .first-beside .ensures)
     (put-two (a .blocks .now) (a .beside .now) (a .n) (a .place) h t (between (a .place) (a .n) t .0))
 
 returns-2 : tie.Need-returns-2
 returns-2 c =
-    let a = c .before .before .before .args in
-    λ h. rw (c .before .before .first-beside .ensures) (put-one (a .blocks .now) (a .beside .now) (a .n) (a .place) h (c .if1 .left))
+    let c1 = c .before in let c2 = c1 .before in let c3 = c2 .before in
+    let a = c3 .args in
+    λ h. rw (c2 .first-beside .ensures) (put-one (a .blocks .now) (a .beside .now) (a .n) (a .place) h (c .if1 .left))
 
 pub put-beside-spec : {M : Type 1} → statement M
 put-beside-spec =

@@ -13,14 +13,16 @@ copy-moves-requires c κs = test-passed _ (c .before .before .args .place) (c .b
 
 put-beside-requires : tie.Need-put-beside-requires
 put-beside-requires c κs =
-    let passed = test-passed _ (c .before .before .before .before .args .place) (c .before .before .before .if1 .left) in
+    let c1 = c .before in let c2 = c1 .before in let c3 = c2 .before in let c4 = c3 .before in
+    let passed = test-passed _ (c4 .args .place) (c3 .if1 .left) in
     (passed .some, (passed .few, passed .inside))
 
 returns-2 : tie.Need-returns-2
 returns-2 c =
-    let a = c .before .before .before .before .before .args in
+    let c1 = c .before in let c2 = c1 .before in let c3 = c2 .before in let c4 = c3 .before in let c5 = c4 .before in
+    let a = c5 .args in
     λ h k some few inside.
-    let (n, front) = c .before .before .copy-moves .ensures h in
+    let (n, front) = c2 .copy-moves .ensures h in
     changed-front (a .moves .now) _ (a .beside .now) (a .place) some inside k n front (c .put-beside .ensures k)
 
 pub put-changed-spec : {M : Type 1} → statement M

@@ -9,21 +9,24 @@ integer-decode-requires c κs = search needs
 
 returns : tie.Need-returns
 returns c =
-    let s = c .before .before .before in
-    let d = c .before .before .integer-decode in
+    let c1 = c .before in let c2 = c1 .before in let c3 = c2 .before in
+    let s = c3 in
+    let d = c2 .integer-decode in
     angle-far (s .args .a) (s .good .0 .1) (d .result) (d .ensures) (c .if1 .taken)
 
 shifted-requires : tie.Need-shifted-requires
 shifted-requires c κs =
-    let s = c .before .before .before .before in
-    let d = c .before .before .before .integer-decode in
-    (angle-digits (s .args .a) (s .good .0 .1) (d .result) (d .ensures), c .before .if1 .left)
+    let c1 = c .before in let c2 = c1 .before in let c3 = c2 .before in let c4 = c3 .before in
+    let s = c4 in
+    let d = c3 .integer-decode in
+    (angle-digits (s .args .a) (s .good .0 .1) (d .result) (d .ensures), c1 .if1 .left)
 
 returns-2 : tie.Need-returns-2
 returns-2 c =
-    let s = c .before .before .before .before .before in
-    let d = c .before .before .before .before .integer-decode in
-    angle-near (s .args .a) (s .good .0 .1) (d .result) (d .ensures) (c .before .before .if1 .left) (c .shifted .result) (c .shifted .ensures)
+    let c1 = c .before in let c2 = c1 .before in let c3 = c2 .before in let c4 = c3 .before in let c5 = c4 .before in
+    let s = c5 in
+    let d = c4 .integer-decode in
+    angle-near (s .args .a) (s .good .0 .1) (d .result) (d .ensures) (c2 .if1 .left) (c .shifted .result) (c .shifted .ensures)
 
 pub angle-units-spec : {M : Type 1} → statement M
 angle-units-spec = tie.close (tie.spec integer-decode-requires returns shifted-requires returns-2)

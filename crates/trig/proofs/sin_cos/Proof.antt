@@ -12,9 +12,10 @@ sin-cos-in-requires c κs = search needs
 
 returns : tie.Need-returns
 returns c =
-    let t = c .before .before .table .ensures .0 in
+    let c1 = c .before in let c2 = c1 .before in let c3 = c2 .before in
+    let t = c2 .table .ensures .0 in
     let s = c .sin-cos-in .ensures in
-    let a = c .before .before .before .args .a in
+    let a = c3 .args .a in
     (sin-lent t a (s .0), cos-lent t a (s .1))
 
 pub sin-cos-spec : {M : Type 1} → statement M

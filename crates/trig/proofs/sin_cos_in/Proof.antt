@@ -20,12 +20,13 @@ units-sin-cos-requires c κs = search needs
 
 returns : tie.Need-returns
 returns c =
-    let t = c .before .before .before .before .before .args .table .now in
-    let a = c .before .before .before .before .before .args .a in
-    let b = c .before .before .before .before .abs in
-    let near = near-test a (b .result) true (b .ensures) (c .before .before .before .if1 .taken) in
-    let d = c .before .before .integer-decode in
-    let u = c .before .angle-units in
+    let c1 = c .before in let c2 = c1 .before in let c3 = c2 .before in let c4 = c3 .before in let c5 = c4 .before in
+    let t = c5 .args .table .now in
+    let a = c5 .args .a in
+    let b = c4 .abs in
+    let near = near-test a (b .result) true (b .ensures) (c3 .if1 .taken) in
+    let d = c2 .integer-decode in
+    let u = c1 .angle-units in
     let r = c .units-sin-cos in (
       sin-value (entry t) a near (u .result) (r .result .sin) (u .ensures) (d .result) (d .ensures) (r .ensures .0),
       cos-value (entry t) a near (u .result) (r .result .cos) (u .ensures) (r .ensures .1),

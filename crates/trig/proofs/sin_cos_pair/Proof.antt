@@ -15,10 +15,11 @@ sin-cos-in-requires-2 c κs = search needs
 
 returns : tie.Need-returns
 returns c =
-    let t = c .before .before .before .before .table .ensures .0 in
-    let p = c .before .before .sin-cos-in .ensures in
+    let c1 = c .before in let c2 = c1 .before in let c3 = c2 .before in let c4 = c3 .before in let c5 = c4 .before in
+    let t = c4 .table .ensures .0 in
+    let p = c2 .sin-cos-in .ensures in
     let q = c .sin-cos-in2 .ensures in
-    let a = c .before .before .before .before .before .args in
+    let a = c5 .args in
     (sin-lent t (a .x) (p .0), cos-lent t (a .x) (p .1), sin-lent t (a .y) (q .0), cos-lent t (a .y) (q .1))
 
 pub sin-cos-pair-spec : {M : Type 1} → statement M

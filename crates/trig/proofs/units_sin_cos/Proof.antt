@@ -17,7 +17,9 @@ units-float-requires : tie.Need-units-float-requires
 units-float-requires c κs = search needs
 
 sub-quarter-sine-in : tie.Need-sub-quarter-sine-in
-sub-quarter-sine-in c = folded-le (c .before .before .before .args .u) (c .before .before .folded .result) (c .before .before .folded .ensures)
+sub-quarter-sine-in c =
+    let c1 = c .before in let c2 = c1 .before in let c3 = c2 .before in
+    folded-le (c3 .args .u) (c2 .folded .result) (c2 .folded .ensures)
 
 quarter-sine-in-requires-2 : tie.Need-quarter-sine-in-requires-2
 quarter-sine-in-requires-2 c κs = search needs
@@ -27,11 +29,12 @@ units-float-requires-2 c κs = search needs
 
 returns : tie.Need-returns
 returns c =
-    let a = c .before .before .before .before .before .args in
-    let w = c .before .before .before .before .folded in
-    let s = c .before .before .before .quarter-sine-in in
-    let t = c .before .quarter-sine-in2 in (
-      c .before .before .units-float .ensures
+    let c1 = c .before in let c2 = c1 .before in let c3 = c2 .before in let c4 = c3 .before in let c5 = c4 .before in
+    let a = c5 .args in
+    let w = c4 .folded in
+    let s = c3 .quarter-sine-in in
+    let t = c1 .quarter-sine-in2 in (
+      c2 .units-float .ensures
           ∙ ap nearestFloat (sin-folded (entry (a .table .now)) (a .u) (w .result) (s .result) (w .ensures) (a .negative) (s .ensures)),
       c .units-float2 .ensures ∙ ap nearestFloat (cos-folded (entry (a .table .now)) (a .u) (w .result) (t .result) (w .ensures) (t .ensures)),
     )

@@ -20,7 +20,8 @@ returns-2 : tie.Need-returns-2
 returns-2 c =
     let some = c .before .before in
     let a = some .before .args in
-    window-clauses (a .moves .now) (a .b) (a .depth) (a .w) (ticks-refused (a .moves .now) (a .b) (a .depth) (a .w) (some .if1 .left) (c .before .refusal .ensures) (c .if2 .taken))
+    window-clauses (a .moves .now) (a .b) (a .depth) (a .w)
+    (ticks-refused (a .moves .now) (a .b) (a .depth) (a .w) (some .if1 .left) (c .before .refusal .ensures) (c .if2 .taken))
 
 cover-refusal-requires : tie.Need-cover-refusal-requires
 cover-refusal-requires c κs = search needs
@@ -31,7 +32,8 @@ returns-3 c =
     let some = ticks .before .before in
     let a = some .before .args in
     window-clauses (a .moves .now) (a .b) (a .depth) (a .w)
-    (arguments-refused (a .moves .now) (a .b) (a .depth) (a .w) (some .if1 .left) (sym (ticks .before .refusal .ensures) ∙ ticks .if2 .left) (c .before .cover-refusal .ensures) (c .if3 .taken))
+    (arguments-refused (a .moves .now) (a .b) (a .depth) (a .w) (some .if1 .left)
+    (sym (ticks .before .refusal .ensures) ∙ ticks .if2 .left) (c .before .cover-refusal .ensures) (c .if3 .taken))
 
 shared-slice-element-from-rows : tie.Need-shared-slice-element-from-rows
 shared-slice-element-from-rows c = search needs
@@ -70,7 +72,8 @@ returns-4 c =
     window-clauses (a .moves .now) (a .b) (a .depth) (a .w)
     (window-worked (a .moves .now) (a .b) (a .depth) (a .w) (some .if1 .left) (sym (ticks .before .refusal .ensures) ∙ ticks .if2 .left)
     (sym (box .before .cover-refusal .ensures) ∙ box .if3 .left)
-    (worked (a .moves .now) (a .b) (a .depth) (a .w) (slices .union-moves .result) (pose .union-pose .result) (c .before .union-moves2 .result) (c .union-moves3 .result) (some .if1 .left)
+    (worked (a .moves .now) (a .b) (a .depth) (a .w) (slices .union-moves .result) (pose .union-pose .result)
+    (c .before .union-moves2 .result) (c .union-moves3 .result) (some .if1 .left)
     (rw (slices .before .default .ensures) at (slices .union-moves .ensures))
     (rw (pose .before .asks-first .ensures, rows .from-rows .ensures) at (pose .union-pose .ensures))
     (c .before .union-moves2 .ensures) (c .union-moves3 .ensures)))

@@ -35,7 +35,13 @@ returns-2 : tie.Need-returns-2
 unfolding stageBoxes endPoseBoxes
 returns-2 c =
     let at = c .before .before in
-    rw (ne-eqb _ 0 (at .before .if1 .left), eq-eqb _ 1 (at .if2 .taken), c .union-pose .ensures, c .before .asks-end .ensures, at .before .before .from-rows .ensures)
+    rw (
+      ne-eqb _ 0 (at .before .if1 .left),
+      eq-eqb _ 1 (at .if2 .taken),
+      c .union-pose .ensures,
+      c .before .asks-end .ensures,
+      at .before .before .from-rows .ensures,
+    )
 
 belongs-requires : tie.Need-belongs-requires
 belongs-requires c κs = search needs
@@ -49,9 +55,17 @@ union-pose-requires-2 c κs = search needs
 returns-3 : tie.Need-returns-3
 unfolding stageBoxes equalPoseBoxes
 returns-3 c =
-    let belongs = c .before .before .before in
+    let c1 = c .before in let c2 = c1 .before in let c3 = c2 .before in
+    let belongs = c3 in
     let at = belongs .before in
-    rw (ne-eqb _ 0 (at .before .if1 .left), ne-eqb _ 1 (at .if2 .left), c .union-pose2 .ensures, c .before .before .max .ensures, belongs .belongs .ensures, at .before .before .from-rows .ensures)
+    rw (
+      ne-eqb _ 0 (at .before .if1 .left),
+      ne-eqb _ 1 (at .if2 .left),
+      c .union-pose2 .ensures,
+      c2 .max .ensures,
+      belongs .belongs .ensures,
+      at .before .before .from-rows .ensures,
+    )
 
 pub union-move-spec : {M : Type 1} → statement M
 union-move-spec =

@@ -30,10 +30,17 @@ loop-less c = search needs
 
 loop-again : tie.Need-loop-again Inv-loop μ-loop
 loop-again c =
-    let l = c .before .before .loop in
-    let a = c .before .before .before .args in
-    let t = c .before .loop-test .taken in
-    (refl, (omega (arith, t), pass-next (stageBoxes (a .b) (a .depth) (a .w) (a .stage)) (l .r) (c .union-move .result) (a .moves .now) (l .i) t (c .union-move .ensures) ∙ l .inv .1 .1))
+    let c1 = c .before in let c2 = c1 .before in let c3 = c2 .before in
+    let l = c2 .loop in
+    let a = c3 .args in
+    let t = c1 .loop-test .taken in (
+      refl,
+      (
+        omega (arith, t),
+        pass-next (stageBoxes (a .b) (a .depth) (a .w) (a .stage)) (l .r)
+            (c .union-move .result) (a .moves .now) (l .i) t (c .union-move .ensures) ∙ l .inv .1 .1,
+      ),
+    )
 
 returns : tie.Need-returns Inv-loop μ-loop
 returns c =

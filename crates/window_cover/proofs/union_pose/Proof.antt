@@ -19,12 +19,13 @@ union-bounds-requires c κs = search needs
 
 returns-2 : tie.Need-returns-2
 returns-2 c =
-    let a = c .before .before .before .before .args in
+    let c1 = c .before in let c2 = c1 .before in let c3 = c2 .before in let c4 = c3 .before in
+    let a = c4 .args in
     rw (
-      not-false (a .asked) (c .before .before .before .if1 .left),
+      not-false (a .asked) (c3 .if1 .left),
       c .union-bounds .ensures,
-      c .before .box-enclosure .ensures,
-      c .before .before .stored-enclosure .ensures,
+      c1 .box-enclosure .ensures,
+      c2 .stored-enclosure .ensures,
       stored-composition (a .pad) (a .t) (a .b),
     )
 

@@ -11,8 +11,9 @@ overlaps-requires c κs = search needs
 
 returns : tie.Need-returns
 returns c =
-    let a = c .before .before .before .args in
-    let t = c .before .before .overlaps in
+    let c1 = c .before in let c2 = c1 .before in let c3 = c2 .before in
+    let a = c3 .args in
+    let t = c2 .overlaps in
     slices-none (a .m) (a .b) (a .depth) (a .w) (a .r) (rw (t .ensures) at (not-true (a .m .«actually_animated» && t .result) (c .if1 .taken)))
 
 constants-requires : tie.Need-constants-requires
@@ -26,10 +27,11 @@ union-pieces-requires c κs = search needs
 
 returns-2 : tie.Need-returns-2
 returns-2 c =
-    let test = c .before .before .before in
-    let a = test .before .before .before .args in
+    let c1 = c .before in let c2 = c1 .before in let c3 = c2 .before in let c4 = c3 .before in let c5 = c4 .before in let c6 = c5 .before in
+    let test = c3 in
+    let a = c6 .args in
     let t = test .before .before .overlaps in
-    rw (c .union-pieces .ensures, c .before .share .ensures, c .before .before .constants .ensures)
+    rw (c .union-pieces .ensures, c1 .share .ensures, c2 .constants .ensures)
     (slices-pieces (a .m) (a .b) (a .depth) (a .w) (a .r) (rw (t .ensures) at (not-false (a .m .«actually_animated» && t .result) (test .if1 .left))))
 
 pub union-slices-spec : {M : Type 1} → statement M

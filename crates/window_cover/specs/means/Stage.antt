@@ -1,4 +1,5 @@
--- The three passes over a chain's moves in which a window's cover is worked, told by a number, so that one loop does them all. What the code does: no promise cites it.
+-- The three passes over a chain's moves in which a window's cover is worked, told by a number, so that one loop does them all.
+-- What the code does: no promise cites it.
 use Prim.Native.Nat.{ℕ}
 use mathlib.Core.Bool.{Bool, cond}
 use mathlib.Core.List.{List}

@@ -37,18 +37,21 @@ none-requires-2 c κs = search needs
 
 returns : tie.Need-returns Inv-loop μ-loop
 returns c =
-    let test = c .before in
+    let c1 = c .before in let c2 = c1 .before in let c3 = c2 .before in let c4 = c3 .before in
+    let c5 = c4 .before in let c6 = c5 .before in let c7 = c6 .before in
+    let test = c1 in
     let met = test .before in
     let l = met .before .before .loop in
-    let a = met .before .before .before .before .before .args in
+    let a = c7 .args in
     loop-refused (Moves·windowCover (a .moves .now) (a .b) (a .depth)) (Moves·windowCover (a .others .now) (a .other) (a .depth)) (a .ticks .now) (l .inv .1)
     (met .meeting-at .result) (met .before .loop-test .taken) (met .meeting-at .ensures) (test .if1 .taken) (c .none2 .ensures)
 
 add-requires : tie.Need-add-requires Inv-loop μ-loop
 add-requires c κs =
-    let met = c .before in
+    let c1 = c .before in let c2 = c1 .before in let c3 = c2 .before in let c4 = c3 .before in let c5 = c4 .before in let c6 = c5 .before in
+    let met = c1 in
     let l = met .before .before .loop in
-    let e = met .before .before .before .before .before in
+    let e = c6 in
     let a = e .args in
     loop-few (Moves·windowCover (a .moves .now) (a .b) (a .depth)) (Moves·windowCover (a .others .now) (a .other) (a .depth)) (a .ticks .now) (l .inv .1)
     (met .before .loop-test .taken) (e .pre)
@@ -64,10 +67,12 @@ loop-less c = search needs
 
 loop-again : tie.Need-loop-again Inv-loop μ-loop
 loop-again c =
-    let test = c .before in
+    let c1 = c .before in let c2 = c1 .before in let c3 = c2 .before in let c4 = c3 .before in
+    let c5 = c4 .before in let c6 = c5 .before in let c7 = c6 .before in
+    let test = c1 in
     let met = test .before in
     let l = met .before .before .loop in
-    let e = met .before .before .before .before .before in
+    let e = c7 in
     let a = e .args in (
       refl,
       loop-next (Moves·windowCover (a .moves .now) (a .b) (a .depth)) (Moves·windowCover (a .others .now) (a .other) (a .depth)) (a .ticks .now) (l .inv .1)
@@ -76,9 +81,11 @@ loop-again c =
 
 returns-2 : tie.Need-returns-2 Inv-loop μ-loop
 returns-2 c =
-    let l = c .before .loop in
-    let a = c .before .before .before .before .args in
-    loop-last (Moves·windowCover (a .moves .now) (a .b) (a .depth)) (Moves·windowCover (a .others .now) (a .other) (a .depth)) (a .ticks .now) (l .inv .1) (c .loop-test .left)
+    let c1 = c .before in let c2 = c1 .before in let c3 = c2 .before in let c4 = c3 .before in
+    let l = c1 .loop in
+    let a = c4 .args in
+    loop-last (Moves·windowCover (a .moves .now) (a .b) (a .depth))
+    (Moves·windowCover (a .others .now) (a .other) (a .depth)) (a .ticks .now) (l .inv .1) (c .loop-test .left)
 
 pub find-spec : {M : Type 1} → statement M
 find-spec =

@@ -77,29 +77,35 @@ returns t c =
     rw (sym (range .excludes-zero .ensures), c .if1 .taken) (sym (search-excluded (a .depth) (a .f) (a .i) (a .found)))
 
 newton-requires : (t : ℕ) → find-zeros-lts.Need-newton-requires (calls t) (find-zeros-at t) find-zeros.Post
-newton-requires t c κs = c .before .before .before .before .pre .1 .0
+newton-requires t c κs =
+    let c1 = c .before in let c2 = c1 .before in let c3 = c2 .before in let c4 = c3 .before in
+    c4 .pre .1 .0
 
 returns-2 : (t : ℕ) → find-zeros-lts.Need-returns-2 (calls t) (find-zeros-at t) find-zeros.Post
 returns-2 t c =
-    let mid = c .before .before .before in
+    let c1 = c .before in let c2 = c1 .before in let c3 = c2 .before in
+    let mid = c3 in
     let range = mid .before .before in
     let a = range .before .args in
     rw (
       c .accept .ensures,
-      c .before .newton .ensures,
+      c1 .newton .ensures,
       mid .midpoint .ensures,
       sym (range .excludes-zero .ensures),
       mid .before .if1 .left,
-      c .before .before .if2 .taken,
+      c2 .if2 .taken,
       search-newton (a .f) (a .i) (a .found),
     )
 
 end-at-requires : (t : ℕ) → find-zeros-lts.Need-end-at-requires (calls t) (find-zeros-at t) find-zeros.Post
-end-at-requires t c κs = c .before .before .before .before .pre .1 .0
+end-at-requires t c κs =
+    let c1 = c .before in let c2 = c1 .before in let c3 = c2 .before in let c4 = c3 .before in
+    c4 .pre .1 .0
 
 end-angles-requires : (t : ℕ) → find-zeros-lts.Need-end-angles-requires (calls t) (find-zeros-at t) find-zeros.Post
 end-angles-requires t c κs =
-    let pre = c .before .before .before .before .before .pre .1 in
+    let c1 = c .before in let c2 = c1 .before in let c3 = c2 .before in let c4 = c3 .before in let c5 = c4 .before in
+    let pre = c5 .pre .1 in
     (pre .0, (pre .1 .0 .0, c .end-at .ensures))
 
 sub-find-zeros : (t : ℕ) → find-zeros-lts.Need-sub-find-zeros (calls t) (find-zeros-at t) find-zeros.Post
@@ -107,32 +113,40 @@ sub-find-zeros t c = omega arith
 
 find-zeros-requires : (t : ℕ) → find-zeros-lts.Need-find-zeros-requires (calls t) (find-zeros-at t) find-zeros.Post
 find-zeros-requires t c κs =
-    let start = c .before .before .before .before .before .before .before in
-    (omega arith, (start .pre .1 .0, (rw (c .new .ensures) (c .before .end-angles .ensures), omega (arith, start .pre .1 .1 .1))))
+    let c1 = c .before in let c2 = c1 .before in let c3 = c2 .before in let c4 = c3 .before in
+    let c5 = c4 .before in let c6 = c5 .before in let c7 = c6 .before in
+    let start = c7 in
+    (omega arith, (start .pre .1 .0, (rw (c .new .ensures) (c1 .end-angles .ensures), omega (arith, start .pre .1 .1 .1))))
 
 add-examined : (t : ℕ) → find-zeros-lts.Need-add-examined (calls t) (find-zeros-at t) find-zeros.Post
 add-examined t c =
-    let lower = c .before .before .before .before in
-    let start = lower .before .before .before .before .before .before .before .before in
+    let c1 = c .before in let c2 = c1 .before in let c3 = c2 .before in let c4 = c3 .before in let c5 = c4 .before in let c6 = c5 .before in
+    let c7 = c6 .before in let c8 = c7 .before in let c9 = c8 .before in let c10 = c9 .before in let c11 = c10 .before in let c12 = c11 .before in
+    let lower = c4 in
+    let start = c12 in
     let few : lower .find-zeros .result .examined ≤ 511 = rw (lower .find-zeros .ensures) (few-examined _ (omega (arith, start .pre .1 .1 .1)) _ _ _) in
     omega (arith, few)
 
 returns-3 : (t : ℕ) → find-zeros-lts.Need-returns-3 (calls t) (find-zeros-at t) find-zeros.Post
 returns-3 t c =
-    let lower = c .before .before .before .before in
+    let c1 = c .before in let c2 = c1 .before in let c3 = c2 .before in let c4 = c3 .before in
+    let c5 = c4 .before in let c6 = c5 .before in let c7 = c6 .before in let c8 = c7 .before in
+    let lower = c4 in
     let half = lower .before in
-    let split = half .before .before .before in
+    let split = c8 in
     let mid = split .before in
     let range = mid .before .before in
     let a = range .before .args in
     let found = rw (half .new .ensures, mid .midpoint .ensures) at (lower .find-zeros .ensures) in
     rw (sym (range .excludes-zero .ensures), mid .before .if1 .left)
-    (sym (search-ends (a .depth) (a .f) (a .i) (a .found) (lower .find-zeros .result) (split .if2 .left) found (c .before .if3 .taken)))
+    (sym (search-ends (a .depth) (a .f) (a .i) (a .found) (lower .find-zeros .result) (split .if2 .left) found (c1 .if3 .taken)))
 
 end-angles-requires-2 : (t : ℕ) → find-zeros-lts.Need-end-angles-requires-2 (calls t) (find-zeros-at t) find-zeros.Post
 end-angles-requires-2 t c κs =
-    let middle = c .before .before .before .before .before .before in
-    let pre = middle .before .before .before .before .before .pre .1 in
+    let c1 = c .before in let c2 = c1 .before in let c3 = c2 .before in let c4 = c3 .before in let c5 = c4 .before in let c6 = c5 .before in
+    let c7 = c6 .before in let c8 = c7 .before in let c9 = c8 .before in let c10 = c9 .before in let c11 = c10 .before in
+    let middle = c6 in
+    let pre = c11 .pre .1 in
     (pre .0, (middle .end-at .ensures, pre .1 .0 .1))
 
 sub-find-zeros-2 : (t : ℕ) → find-zeros-lts.Need-sub-find-zeros-2 (calls t) (find-zeros-at t) find-zeros.Post
@@ -140,22 +154,31 @@ sub-find-zeros-2 t c = omega arith
 
 find-zeros-requires-2 : (t : ℕ) → find-zeros-lts.Need-find-zeros-requires-2 (calls t) (find-zeros-at t) find-zeros.Post
 find-zeros-requires-2 t c κs =
-    let split = c .before .before .before .before .before .before .before .before .before in
-    let pre = split .before .before .before .before .pre in
-    (omega (arith, split .if2 .left, pre .0), (pre .1 .0, (rw (c .new2 .ensures) (c .before .end-angles2 .ensures), omega (arith, pre .1 .1 .1))))
+    let c1 = c .before in let c2 = c1 .before in let c3 = c2 .before in let c4 = c3 .before in let c5 = c4 .before in
+    let c6 = c5 .before in let c7 = c6 .before in let c8 = c7 .before in let c9 = c8 .before in
+    let c10 = c9 .before in let c11 = c10 .before in let c12 = c11 .before in let c13 = c12 .before in
+    let split = c9 in
+    let pre = c13 .pre in
+    (omega (arith, split .if2 .left, pre .0), (pre .1 .0, (rw (c .new2 .ensures) (c1 .end-angles2 .ensures), omega (arith, pre .1 .1 .1))))
 
 add-examined-2 : (t : ℕ) → find-zeros-lts.Need-add-examined-2 (calls t) (find-zeros-at t) find-zeros.Post
 add-examined-2 t c =
-    let lower = c .before .before .before .before .before .before .before .before in
-    let start = lower .before .before .before .before .before .before .before .before in
+    let c1 = c .before in let c2 = c1 .before in let c3 = c2 .before in let c4 = c3 .before in let c5 = c4 .before in let c6 = c5 .before in
+    let c7 = c6 .before in let c8 = c7 .before in let c9 = c8 .before in let c10 = c9 .before in let c11 = c10 .before in
+    let c12 = c11 .before in let c13 = c12 .before in let c14 = c13 .before in let c15 = c14 .before in let c16 = c15 .before in
+    let lower = c8 in
+    let start = c16 in
     let few : lower .find-zeros .result .examined ≤ 511 = rw (lower .find-zeros .ensures) (few-examined _ (omega (arith, start .pre .1 .1 .1)) _ _ _) in
     omega (arith, few)
 
 add-examined-3 : (t : ℕ) → find-zeros-lts.Need-add-examined-3 (calls t) (find-zeros-at t) find-zeros.Post
 add-examined-3 t c =
-    let upper = c .before .before in
-    let lower = upper .before .before .before .before .before .before in
-    let start = lower .before .before .before .before .before .before .before .before in
+    let c1 = c .before in let c2 = c1 .before in let c3 = c2 .before in let c4 = c3 .before in let c5 = c4 .before in let c6 = c5 .before in
+    let c7 = c6 .before in let c8 = c7 .before in let c9 = c8 .before in let c10 = c9 .before in let c11 = c10 .before in
+    let c12 = c11 .before in let c13 = c12 .before in let c14 = c13 .before in let c15 = c14 .before in let c16 = c15 .before in
+    let upper = c2 in
+    let lower = c8 in
+    let start = c16 in
     let shallow = start .pre .1 .1 .1 in
     let few : lower .find-zeros .result .examined ≤ 511 = rw (lower .find-zeros .ensures) (few-examined _ (omega (arith, shallow)) _ _ _) in
     let few-2 : upper .find-zeros2 .result .examined ≤ 511 = rw (upper .find-zeros2 .ensures) (few-examined _ (omega (arith, shallow)) _ _ _) in
@@ -163,12 +186,14 @@ add-examined-3 t c =
 
 returns-4 : (t : ℕ) → find-zeros-lts.Need-returns-4 (calls t) (find-zeros-at t) find-zeros.Post
 returns-4 t c =
-    let upper = c .before .before in
+    let c1 = c .before in let c2 = c1 .before in let c3 = c2 .before in let c4 = c3 .before in let c5 = c4 .before in let c6 = c5 .before in
+    let c7 = c6 .before in let c8 = c7 .before in let c9 = c8 .before in let c10 = c9 .before in let c11 = c10 .before in let c12 = c11 .before in
+    let upper = c2 in
     let above = upper .before in
     let left = above .before .before in
-    let lower = left .before .before .before in
+    let lower = c8 in
     let below = lower .before in
-    let split = below .before .before .before in
+    let split = c12 in
     let mid = split .before in
     let range = mid .before .before in
     let a = range .before .args in
@@ -176,7 +201,8 @@ returns-4 t c =
     let found-2 = rw (above .new2 .ensures, mid .midpoint .ensures) at (upper .find-zeros2 .ensures) in
     rw (sym (range .excludes-zero .ensures), mid .before .if1 .left)
     (sym
-    (search-halves (a .depth) (a .f) (a .i) (a .found) (lower .find-zeros .result) (upper .find-zeros2 .result) (split .if2 .left) found (left .if3 .left) found-2))
+    (search-halves (a .depth) (a .f) (a .i) (a .found) (lower .find-zeros .result)
+    (upper .find-zeros2 .result) (split .if2 .left) found (left .if3 .left) found-2))
 
 pub +find-zeros-spec : {M : Type 1} → statement M
 +find-zeros-spec = close μ-find-zeros λ t. find-zeros-lts.spec (calls t)

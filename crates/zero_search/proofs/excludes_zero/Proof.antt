@@ -11,15 +11,18 @@ use Rattle.zero_search.proofs.excludes_zero.Statement.{statement}
 use Rattle.zero_search.proofs.excludes_zero.Tie as tie
 
 ends-known : (f : MotionDerivative) (i c : Interval) (a b : SinCos) → MotionDerivative·angles f i ≡ c → SinCosOf a (c .low) → SinCosOf b (c .high)
-    → MotionDerivative·excludesZeroAt f i (Interval·sinBetween c (a .sin) (b .sin)) (Interval·cosBetween c (a .cos) (b .cos)) ≡ MotionDerivative·excludesZero f i
+    → MotionDerivative·excludesZeroAt f i (Interval·sinBetween c (a .sin) (b .sin)) (Interval·cosBetween c (a .cos) (b .cos))
+    ≡ MotionDerivative·excludesZero f i
 unfolding MotionDerivative·excludesZero Interval·sin Interval·cos
 ends-known f i c a b e low high = rw (e, low .0, low .1, high .0, high .1)
 
 returns : tie.Need-returns
 returns c =
-    let cosines = c .before in
+    let c1 = c .before in let c2 = c1 .before in let c3 = c2 .before in let c4 = c3 .before in let c5 = c4 .before in
+    let c6 = c5 .before in let c7 = c6 .before in let c8 = c7 .before in let c9 = c8 .before in
+    let cosines = c1 in
     let sines = cosines .before in
-    let ends = sines .before .before .before .before .before .before .before .pre in
+    let ends = c9 .pre in
     rw (c .excludes-zero-at .ensures, cosines .cos-between .ensures, sines .sin-between .ensures)
     (ends-known _ _ _ _ _ (mul-ordered _ _ (sines .before .if1 .taken)) (ends .0) (ends .1))
 

@@ -38,13 +38,17 @@ end-at-requires : tie.Need-end-at-requires Inv-loop μ-loop
 end-at-requires c κs = search needs
 
 sin-cos-beside-requires : tie.Need-sin-cos-beside-requires Inv-loop μ-loop
-sin-cos-beside-requires c κs = (search needs, c .before .before .before .end-at .ensures)
+sin-cos-beside-requires c κs =
+    let c1 = c .before in let c2 = c1 .before in let c3 = c2 .before in
+    (search needs, c3 .end-at .ensures)
 
 returns : tie.Need-returns Inv-loop μ-loop
 returns c =
-    let slope = c .before in
-    let value = slope .before .before .before .before in
-    let loop = value .before .before .before .loop in
+    let c1 = c .before in let c2 = c1 .before in let c3 = c2 .before in let c4 = c3 .before in
+    let c5 = c4 .before in let c6 = c5 .before in let c7 = c6 .before in let c8 = c7 .before in
+    let slope = c1 in
+    let value = c5 in
+    let loop = c8 .loop in
     let v = value .value-at .ensures ∙ value-known _ _ _ (value .before .end-at .ensures) in
     let s = slope .slope-at .ensures ∙ slope-known _ _ _ (slope .before .sin-cos-beside .ensures) in
     sym (newton-stops _ (4 - loop .counter) _ _ _ v s (c .if1 .taken)) ∙ loop .inv .1
@@ -57,9 +61,11 @@ loop-less c = omega arith
 
 loop-again : tie.Need-loop-again Inv-loop μ-loop
 loop-again c =
-    let slope = c .before in
-    let value = slope .before .before .before .before in
-    let loop = value .before .before .before .loop in
+    let c1 = c .before in let c2 = c1 .before in let c3 = c2 .before in let c4 = c3 .before in
+    let c5 = c4 .before in let c6 = c5 .before in let c7 = c6 .before in let c8 = c7 .before in
+    let slope = c1 in
+    let value = c5 in
+    let loop = c8 .loop in
     let k = loop .counter in
     let v = value .value-at .ensures ∙ value-known _ _ _ (value .before .end-at .ensures) in
     let s = slope .slope-at .ensures ∙ slope-known _ _ _ (slope .before .sin-cos-beside .ensures) in

@@ -12,15 +12,18 @@ end-at-requires-2 c κs = search needs
 
 find-zeros-requires : tie.Need-find-zeros-requires
 find-zeros-requires c κs =
-    let high = c .before .before in
+    let c1 = c .before in let c2 = c1 .before in let c3 = c2 .before in let c4 = c3 .before in
+    let c5 = c4 .before in let c6 = c5 .before in let c7 = c6 .before in
+    let high = c2 in
     let low = high .before .before in
-    let table = low .before .before .before in
+    let table = c7 in
     (table .table .ensures .0, ((low .end-at .ensures, high .end-at2 .ensures), omega arith))
 
 returns : tie.Need-returns
 returns c =
-    let empty = c .before in
-    let low = empty .before .before .before .before in
+    let c1 = c .before in let c2 = c1 .before in let c3 = c2 .before in let c4 = c3 .before in let c5 = c4 .before in
+    let empty = c1 in
+    let low = c5 in
     rw (c .find-zeros .ensures, empty .empty .ensures, low .before .before .new .ensures)
 
 pub unit-search-spec : {M : Type 1} → statement M

@@ -19,7 +19,14 @@ returns c =
     let start = i .good .1 .0 .1 .1 in
     let end = i .good .1 .1 .0 .1 .1 in
     new-clauses (i .args .rigid) (i .args .start) (i .args .end) (start .0 .1) (start .1 .1 .0 .1) (end .0 .1) (end .1 .1 .0 .1)
-    (rw (← p .poses-refusal .ensures, ← s .kind-number .ensures, ← e .kind-number2 .ensures, ← k .first-refusal .ensures, ← n .first-refusal2 .ensures, ne-eqb _ 0 (c .before .if1 .taken)) (c .refused .ensures))
+    (rw (
+      ← p .poses-refusal .ensures,
+      ← s .kind-number .ensures,
+      ← e .kind-number2 .ensures,
+      ← k .first-refusal .ensures,
+      ← n .first-refusal2 .ensures,
+      ne-eqb _ 0 (c .before .if1 .taken),
+    ) (c .refused .ensures))
 
 returns-2 : tie.Need-returns-2
 unfolding AnimatedTransform·new
@@ -33,7 +40,14 @@ returns-2 c =
     let start = i .good .1 .0 .1 .1 in
     let end = i .good .1 .1 .0 .1 .1 in
     new-clauses (i .args .rigid) (i .args .start) (i .args .end) (start .0 .1) (start .1 .1 .0 .1) (end .0 .1) (end .1 .1 .0 .1)
-    (rw (← p .poses-refusal .ensures, ← s .kind-number .ensures, ← e .kind-number2 .ensures, ← k .first-refusal .ensures, ← n .first-refusal2 .ensures, eq-eqb _ 0 (c .before .if1 .left)) (c .from-poses .ensures))
+    (rw (
+      ← p .poses-refusal .ensures,
+      ← s .kind-number .ensures,
+      ← e .kind-number2 .ensures,
+      ← k .first-refusal .ensures,
+      ← n .first-refusal2 .ensures,
+      eq-eqb _ 0 (c .before .if1 .left),
+    ) (c .from-poses .ensures))
 
 pub new-spec : {M : Type 1} → statement M
 new-spec =

@@ -21,7 +21,9 @@ is-finite-requires-5 c κs = search needs
 
 returns : tie.Need-returns
 unfolding Derivative·isFinite
-returns c = rw (c .is-finite5 .ensures, c .before .is-finite4 .ensures, c .before .before .is-finite3 .ensures, c .before .before .before .is-finite2 .ensures, c .before .before .before .before .is-finite .ensures)
+returns c =
+    let c1 = c .before in let c2 = c1 .before in let c3 = c2 .before in let c4 = c3 .before in
+    rw (c .is-finite5 .ensures, c1 .is-finite4 .ensures, c2 .is-finite3 .ensures, c3 .is-finite2 .ensures, c4 .is-finite .ensures)
 
 pub is-finite-spec : {M : Type 1} → statement M
 is-finite-spec =

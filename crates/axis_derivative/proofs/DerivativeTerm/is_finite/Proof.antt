@@ -18,7 +18,9 @@ is-finite-requires-4 c κs = search needs
 
 returns : tie.Need-returns
 unfolding DerivativeTerm·isFinite
-returns c = rw (c .is-finite4 .ensures, c .before .is-finite3 .ensures, c .before .before .is-finite2 .ensures, c .before .before .before .is-finite .ensures)
+returns c =
+    let c1 = c .before in let c2 = c1 .before in let c3 = c2 .before in
+    rw (c .is-finite4 .ensures, c1 .is-finite3 .ensures, c2 .is-finite2 .ensures, c3 .is-finite .ensures)
 
 pub is-finite-spec : {M : Type 1} → statement M
 is-finite-spec =

@@ -23,7 +23,10 @@ along-z-requires c κs = search needs
 
 returns : tie.Need-returns
 unfolding Coefficients·new derivative Matrix4x4·transpose
-returns c = rw (c .along-z .ensures, c .before .before .before .along-y .ensures, c .before .before .before .before .before .before .along-x .ensures, c .before .before .before .before .before .before .before .before .before .transpose2 .ensures, c .before .before .before .before .before .before .before .before .before .before .transpose .ensures)
+returns c =
+    let c1 = c .before in let c2 = c1 .before in let c3 = c2 .before in let c4 = c3 .before in let c5 = c4 .before in
+    let c6 = c5 .before in let c7 = c6 .before in let c8 = c7 .before in let c9 = c8 .before in let c10 = c9 .before in
+    rw (c .along-z .ensures, c3 .along-y .ensures, c6 .along-x .ensures, c9 .transpose2 .ensures, c10 .transpose .ensures)
 
 pub new-spec : {M : Type 1} → statement M
 new-spec =

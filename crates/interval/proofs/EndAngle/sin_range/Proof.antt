@@ -5,14 +5,16 @@ use Rattle.interval.proofs.EndAngle.sin_range.Tie as tie
 
 returns : tie.Need-returns
 unfolding EndAngle·sinRange
-returns c = rw (
-  c .select2 .ensures,
-  c .before .max .ensures,
-  c .before .before .lies2 .ensures,
-  c .before .before .before .select .ensures,
-  c .before .before .before .before .min .ensures,
-  c .before .before .before .before .before .lies .ensures,
-)
+returns c =
+    let c1 = c .before in let c2 = c1 .before in let c3 = c2 .before in let c4 = c3 .before in let c5 = c4 .before in
+    rw (
+      c .select2 .ensures,
+      c1 .max .ensures,
+      c2 .lies2 .ensures,
+      c3 .select .ensures,
+      c4 .min .ensures,
+      c5 .lies .ensures,
+    )
 
 pub sin-range-spec : {M : Type 1} → statement M
 sin-range-spec = tie.close (tie.spec (λ c κs. tt) (λ c κs. tt) (λ c κs. tt) (λ c κs. tt) (λ c κs. tt) (λ c κs. tt) returns)

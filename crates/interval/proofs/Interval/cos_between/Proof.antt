@@ -5,13 +5,15 @@ use Rattle.interval.proofs.Interval.cos_between.Tie as tie
 
 returns : tie.Need-returns
 unfolding Interval·cosBetween
-returns c = rw (
-  c .new .ensures,
-  c .before .select3 .ensures,
-  c .before .before .straddles .ensures,
-  c .before .before .before .select2 .ensures,
-  c .before .before .before .before .select .ensures,
-)
+returns c =
+    let c1 = c .before in let c2 = c1 .before in let c3 = c2 .before in let c4 = c3 .before in
+    rw (
+      c .new .ensures,
+      c1 .select3 .ensures,
+      c2 .straddles .ensures,
+      c3 .select2 .ensures,
+      c4 .select .ensures,
+    )
 
 pub cos-between-spec : {M : Type 1} → statement M
 cos-between-spec = tie.close (tie.spec (λ c κs. tt) (λ c κs. tt) (λ c κs. tt) (λ c κs. tt) (λ c κs. tt) returns)

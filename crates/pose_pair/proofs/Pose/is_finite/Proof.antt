@@ -19,7 +19,9 @@ is-finite-requires-3 c κs = search needs
 
 returns : tie.Need-returns
 unfolding Pose·isFinite
-returns c = rw (c .is-finite3 .ensures, c .before .is-finite2 .ensures, c .before .before .to-rows .ensures, c .before .before .before .is-finite .ensures)
+returns c =
+    let c1 = c .before in let c2 = c1 .before in let c3 = c2 .before in
+    rw (c .is-finite3 .ensures, c1 .is-finite2 .ensures, c2 .to-rows .ensures, c3 .is-finite .ensures)
 
 pub is-finite-spec : {M : Type 1} → statement M
 is-finite-spec =

@@ -25,13 +25,14 @@ eq-requires-2 c κs = search needs
 returns : tie.Need-returns
 unfolding Transform·eq
 returns c =
+    let c1 = c .before in let c2 = c1 .before in let c3 = c2 .before in let c4 = c3 .before in let c5 = c4 .before in
     rw (
       c .eq2 .ensures,
-      c .before .to-rows4 .ensures,
-      c .before .before .to-rows3 .ensures,
-      c .before .before .before .eq .ensures,
-      c .before .before .before .before .to-rows2 .ensures,
-      c .before .before .before .before .before .to-rows .ensures,
+      c1 .to-rows4 .ensures,
+      c2 .to-rows3 .ensures,
+      c3 .eq .ensures,
+      c4 .to-rows2 .ensures,
+      c5 .to-rows .ensures,
     )
 
 pub eq-spec : {M : Type 1} → statement M

@@ -17,19 +17,21 @@ refused-requires c κs = search needs
 returns : tie.Need-returns
 unfolding Transform·fromMatrix
 returns c =
+    let c1 = c .before in let c2 = c1 .before in let c3 = c2 .before in let c4 = c3 .before in
     rw (
-      eq-eqb _ 0 (rw (c .before .before .before .before .inverse .ensures) at (c .before .before .if1 .taken)),
-      c .before .from-rows .ensures,
-      c .before .before .before .before .inverse .ensures,
+      eq-eqb _ 0 (rw (c4 .inverse .ensures) at (c2 .if1 .taken)),
+      c1 .from-rows .ensures,
+      c4 .inverse .ensures,
     )
 
 returns-2 : tie.Need-returns-2
 unfolding Transform·fromMatrix
 returns-2 c =
+    let c1 = c .before in let c2 = c1 .before in let c3 = c2 .before in
     rw (
-      ne-eqb _ 0 (rw (c .before .before .before .inverse .ensures) at (c .before .if1 .left)),
+      ne-eqb _ 0 (rw (c3 .inverse .ensures) at (c1 .if1 .left)),
       c .refused .ensures,
-      c .before .before .before .inverse .ensures,
+      c3 .inverse .ensures,
     )
 
 pub from-matrix-spec : {M : Type 1} → statement M

@@ -28,14 +28,15 @@ from-matrices-requires c κs = search needs
 returns : tie.Need-returns
 unfolding Transform·mul
 returns c =
+    let c1 = c .before in let c2 = c1 .before in let c3 = c2 .before in let c4 = c3 .before in let c5 = c4 .before in let c6 = c5 .before in
     rw (
       c .from-matrices .ensures,
-      c .before .mul2 .ensures,
-      c .before .before .to-rows4 .ensures,
-      c .before .before .before .to-rows3 .ensures,
-      c .before .before .before .before .mul .ensures,
-      c .before .before .before .before .before .to-rows2 .ensures,
-      c .before .before .before .before .before .before .to-rows .ensures,
+      c1 .mul2 .ensures,
+      c2 .to-rows4 .ensures,
+      c3 .to-rows3 .ensures,
+      c4 .mul .ensures,
+      c5 .to-rows2 .ensures,
+      c6 .to-rows .ensures,
     )
 
 pub mul-spec : {M : Type 1} → statement M

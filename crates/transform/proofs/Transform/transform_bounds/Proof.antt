@@ -35,17 +35,19 @@ union-corner-requires-7 c κs = search needs
 returns : tie.Need-returns
 unfolding Transform·transformBounds
 returns c =
-    bounds-clauses (c .before .before .before .before .before .before .before .before .before .before .before .args .self)
-    (c .before .before .before .before .before .before .before .before .before .before .before .args .b) (rw (
+    let c1 = c .before in let c2 = c1 .before in let c3 = c2 .before in let c4 = c3 .before in let c5 = c4 .before in let c6 = c5 .before in
+    let c7 = c6 .before in let c8 = c7 .before in let c9 = c8 .before in let c10 = c9 .before in let c11 = c10 .before in
+    bounds-clauses (c11 .args .self)
+    (c11 .args .b) (rw (
       c .union-corner7 .ensures,
-      c .before .union-corner6 .ensures,
-      c .before .before .union-corner5 .ensures,
-      c .before .before .before .union-corner4 .ensures,
-      c .before .before .before .before .union-corner3 .ensures,
-      c .before .before .before .before .before .union-corner2 .ensures,
-      c .before .before .before .before .before .before .union-corner .ensures,
-      c .before .before .before .before .before .before .before .from-moved .ensures,
-      c .before .before .before .before .before .before .before .before .transform-point .ensures .0,
+      c1 .union-corner6 .ensures,
+      c2 .union-corner5 .ensures,
+      c3 .union-corner4 .ensures,
+      c4 .union-corner3 .ensures,
+      c5 .union-corner2 .ensures,
+      c6 .union-corner .ensures,
+      c7 .from-moved .ensures,
+      c8 .transform-point .ensures .0,
     ))
 
 pub transform-bounds-spec : {M : Type 1} → statement M

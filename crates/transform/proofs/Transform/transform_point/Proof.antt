@@ -14,20 +14,22 @@ is-finite-requires c κs = search needs
 returns : tie.Need-returns
 unfolding Transform·transformPoint PointAnswer·judged
 returns c =
-    point-clauses (c .before .before .before .args .self) (c .before .before .before .args .p) (rw (
+    let c1 = c .before in let c2 = c1 .before in let c3 = c2 .before in
+    point-clauses (c3 .args .self) (c3 .args .p) (rw (
       rw (
-        c .before .is-finite .ensures,
-        c .before .before .moved-point .ensures,
+        c1 .is-finite .ensures,
+        c2 .moved-point .ensures,
       ) at (c .if1 .taken),
-      c .before .before .moved-point .ensures,
+      c2 .moved-point .ensures,
     ))
 
 returns-2 : tie.Need-returns-2
 unfolding Transform·transformPoint PointAnswer·judged
 returns-2 c =
-    point-clauses (c .before .before .before .args .self) (c .before .before .before .args .p) (rw (rw (
-      c .before .is-finite .ensures,
-      c .before .before .moved-point .ensures,
+    let c1 = c .before in let c2 = c1 .before in let c3 = c2 .before in
+    point-clauses (c3 .args .self) (c3 .args .p) (rw (rw (
+      c1 .is-finite .ensures,
+      c2 .moved-point .ensures,
     ) at (c .if1 .left)))
 
 pub transform-point-spec : {M : Type 1} → statement M
