@@ -1,5 +1,7 @@
-/* A move by one metre along x, and a chain that goes there and back, as plain and as rigid, asked from C. In the repository's root:
- *     rt staticlib api && cc -Wall -Wextra -I c c/example.c target/staticlib/libapi.a -o target/example && target/example
+/* A move by one metre along x, and a chain that goes there and back, as plain and as rigid, asked from C. In the repository's root, after `make`:
+ *     cc -Wall -Wextra -I c c/example.c target/lib/libjellyplain.a -o target/example && target/example
+ * and where the library is installed, with the shared one:
+ *     cc -Wall -Wextra c/example.c $(pkg-config --cflags --libs jellyplain) -o target/example && target/example
  */
 #include <stdio.h>
 
@@ -24,8 +26,9 @@ int main(void)
     float moved[3], pad[1], transform[2][4][4], bounds[6], points[9], covers[JELLYPLAIN_BOXES][6];
     uint32_t examined[3], starts[JELLYPLAIN_BOOMS];
 
-    if (jellyplain_layout() != JELLYPLAIN_LAYOUT) {
-        printf("the archive has another layout\n");
+    if (!jellyplain_compatible()) {
+        printf("the library has version %u and layout %u, and this program is for version %u and layout %u\n", (unsigned)jellyplain_version(), (unsigned)jellyplain_layout(),
+               (unsigned)JELLYPLAIN_VERSION, (unsigned)JELLYPLAIN_LAYOUT);
         return 1;
     }
 
@@ -77,7 +80,8 @@ int main(void)
     jellyplain_pose longer = end;
     longer.matrix[1][1] = 1.1f;
     printf("a boom that grows by a tenth, as rigid: refused with %d\n", jellyplain_build(true, &start, &longer, &move));
-    jellyplain_run run = jellyplain_refused_run(true, (jellyplain_pose[]){start, longer}, 2);
+    const jellyplain_pose grows[2] = {start, longer};
+    jellyplain_run run = jellyplain_refused_run(true, grows, 2);
     if (run.refusal == JELLYPLAIN_NONE)
         printf("the poses that are refused: %zu from place %zu on\n", run.length, run.place);
     if (jellyplain_build_chain(true, there_and_back, 3, &chain) == JELLYPLAIN_NONE && jellyplain_chain_cover(&chain, boom, 10, bounds) == JELLYPLAIN_NONE)

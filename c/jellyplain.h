@@ -1,11 +1,23 @@
-/* The functions of the archive libapi.a, which `rt staticlib api` writes to target/staticlib: a move by two poses, or a chain of up to 32 poses, is built once, kept by its
- * caller, and asked many times. Their contracts are proved in crates/api, whose specs/ say what each returns and leaves for all arguments; this header itself is not checked
- * against them, nor are its inline functions, each of which makes one call.
+/* The library jellyplain for C and C++: a move by two poses, or a chain of up to 32 poses, is built once, kept by its caller, and asked many times. `make` proves it and writes
+ * target/lib/libjellyplain.a and libjellyplain.so; `pkg-config jellyplain` says how to link it where it is installed. The functions' contracts are proved in crates/api, whose specs/ say what
+ * each returns and leaves for all arguments; this header itself is not checked against them, nor are its inline functions, each of which makes one call, jellyplain_compatible two.
  *
- * Each function answers a refusal number, 0 for none (the enum below), those of move files and of windows in a struct. Where nothing is refused it writes what it is lent for its answer, the
+ * Each function answers a refusal number, 0 for none (the enum below), some of them in a struct. Where nothing is refused it writes what it is lent for its answer, the
  * arguments that are not const, whole (those of move files the front of an array); after a refusal that is as it was. Any floats may be handed in. Pointers must be valid for the sizes that are written here and aligned for what they point to, and what is
  * written overlaps nothing else.
- * Nothing is kept between calls and nothing is allocated, so that calls from several threads need no lock.
+ * Nothing is kept between calls and nothing is allocated, so that calls from several threads need no lock. The functions need memcpy and memset, which a compiler's own code needs too, and nothing else from
+ * anywhere.
+ *
+ * What the guarantee asks of the thread that calls: its floating-point environment is the one that a program starts with. On x86-64 that is SSE's control word, MXCSR: round to nearest even, no
+ * flush to zero, no denormals-are-zero, every exception masked; (_mm_getcsr() & 0xffc0) == 0x1f80 says so. Otherwise a point may stand outside the cover that was reserved for it, and nothing
+ * refuses it; with the invalid operation unmasked an accepted cover may end the program by SIGFPE: c/tests/thread.c shows each. gcc's -ffast-math and -Ofast, given where a program is linked (before GCC 13 also a
+ * shared library), set both bits for zeros at its start, and a thread takes over the bits of the one that started it. The x87 control word plays no part. Calls leave the control bits as they are, and may set
+ * MXCSR's flags.
+ *
+ * The stack that a call takes is at most JELLYPLAIN_STACK bytes. By what is asked, in kB: points, pads and lists of times 10; building a move, its transform, a refused run 12; covers, windows and motion boxes
+ * 27; building a chain, joining two 34; reading a file 41; trying a pose 79; the others 2. tools/stack prints it from the library's code, and c/tests/stack.c sees it on a painted stack.
+ *
+ * For who compiles with -pedantic in C before C23: an array of boxes that isn't const is handed over as (const float (*)[6])boxes.
  */
 #ifndef JELLYPLAIN_H
 #define JELLYPLAIN_H
@@ -16,6 +28,13 @@
 
 #ifdef __cplusplus
 extern "C" {
+#endif
+
+/* Stands at each function whose answer may be a refusal: gcc and clang warn where it is passed over. */
+#if defined(__GNUC__)
+#define JELLYPLAIN_CHECKED __attribute__((warn_unused_result))
+#else
+#define JELLYPLAIN_CHECKED
 #endif
 
 /* A matrix of four rows at a time, and a pad of at least zero: how far beyond the boom the spray wets the ground then. */
@@ -31,6 +50,9 @@ typedef struct {
     float rows[45][4];
 } jellyplain_move;
 
+/* The bytes of stack that a call takes at most, with some to spare. */
+#define JELLYPLAIN_STACK 98304
+
 /* The most poses and moves that a chain has. */
 #define JELLYPLAIN_POSES 32
 #define JELLYPLAIN_MOVES 31
@@ -44,9 +66,19 @@ typedef struct {
     jellyplain_move moves[JELLYPLAIN_MOVES];
 } jellyplain_chain;
 
-/* The layout of these structs. The archive has been built with the same where jellyplain_layout() is this number. */
+/* The layout of these structs. The library has been built with the same where jellyplain_layout() is this number. */
 #define JELLYPLAIN_LAYOUT 3
 uint32_t jellyplain_layout(void);
+
+/* The version of this header, and of the library that is linked: 10000 * major + 100 * minor + patch. Another major version has another boundary, a greater minor one more functions. */
+#define JELLYPLAIN_VERSION 10000
+uint32_t jellyplain_version(void);
+
+/* Whether the library that is linked fits this header: the same major version and the same layout. To be asked once, at the program's start. */
+static inline bool jellyplain_compatible(void)
+{
+    return jellyplain_version() / 10000 == JELLYPLAIN_VERSION / 10000 && jellyplain_layout() == JELLYPLAIN_LAYOUT;
+}
 
 /* made by tools/numbers --write */
 enum jellyplain_refusal {
@@ -78,39 +110,39 @@ enum jellyplain_refusal {
 
 /* The move from one pose to another. A boom that neither stretches nor shears may be built as rigid: between the poses a turn and a shift alone, so that its covers are tighter.
  * Numbers 1 to 5 and 16; of a rigid one also 17 and 18, pose by pose, after 3. */
-uint8_t jellyplain_build(bool rigid, const jellyplain_pose *start, const jellyplain_pose *end, jellyplain_move *motion);
+JELLYPLAIN_CHECKED uint8_t jellyplain_build(bool rigid, const jellyplain_pose *start, const jellyplain_pose *end, jellyplain_move *motion);
 
 /* Where the point p stands at a time. Numbers 5 and 6. */
-uint8_t jellyplain_point(const jellyplain_move *motion, float time, const float p[3], float moved[3]);
+JELLYPLAIN_CHECKED uint8_t jellyplain_point(const jellyplain_move *motion, float time, const float p[3], float moved[3]);
 
 /* The pad at a time: between the times lerp of the two poses' pads, before and after them that pose's own, the larger throughout where the poses are equal. Numbers 5 and 6. */
-uint8_t jellyplain_pad(const jellyplain_move *motion, float time, float pad[1]);
+JELLYPLAIN_CHECKED uint8_t jellyplain_pad(const jellyplain_move *motion, float time, float pad[1]);
 
 /* The transform at a time: its matrix, and then its inverse. Numbers 4, 5 and 6. */
-uint8_t jellyplain_interpolate(const jellyplain_move *motion, float time, float transform[2][4][4]);
+JELLYPLAIN_CHECKED uint8_t jellyplain_interpolate(const jellyplain_move *motion, float time, float transform[2][4][4]);
 
 /* pbrt's motion box of a point: x0 y0 z0 x1 y1 z1, least corner and greatest corner. It is no cover. What it cost: how many intervals its search examined on x, y and z, at
  * most 511 each, and 0 where the poses are equal. Numbers 5, 6 and 9. */
-uint8_t jellyplain_bound_point_motion(const jellyplain_move *motion, const float p[3], float bounds[6], uint32_t examined[3]);
+JELLYPLAIN_CHECKED uint8_t jellyplain_bound_point_motion(const jellyplain_move *motion, const float p[3], float bounds[6], uint32_t examined[3]);
 
 /* pbrt's motion box of the box b. It is no cover. The counts are the sums over its eight corners, and 0 for a move without rotation, which needs no search.
  * Numbers 5, 6, 7 and 9. */
-uint8_t jellyplain_motion_bounds(const jellyplain_move *motion, const float b[6], float bounds[6], uint32_t examined[3]);
+JELLYPLAIN_CHECKED uint8_t jellyplain_motion_bounds(const jellyplain_move *motion, const float b[6], float bounds[6], uint32_t examined[3]);
 
 /* A box that holds every point of the box b at every time but NaN, and that point less and plus the pad at that time on each axis, each rounded; from 2^depth slices of the
  * move. A greater depth, up to 12, is not refused where a lesser was accepted, and its box lies in the lesser's. Numbers 5, 6, 7, 8 and 10. */
-uint8_t jellyplain_cover(const jellyplain_move *motion, const float b[6], uint32_t depth, float bounds[6]);
+JELLYPLAIN_CHECKED uint8_t jellyplain_cover(const jellyplain_move *motion, const float b[6], uint32_t depth, float bounds[6]);
 
 /* ---- chains, by their moves; the inline functions below take the struct */
 
 /* The moves of a chain of poses whose times rise strictly, one fewer than poses, into the front of `moves`; those behind them stay. Numbers 1, 2, 16, 12, 3, of a rigid
  * chain 17 and 18, pose by pose, then 4 and 5. */
-uint8_t jellyplain_build_moves(bool rigid, const jellyplain_pose *poses, size_t count, jellyplain_move moves[JELLYPLAIN_MOVES]);
+JELLYPLAIN_CHECKED uint8_t jellyplain_build_moves(bool rigid, const jellyplain_pose *poses, size_t count, jellyplain_move moves[JELLYPLAIN_MOVES]);
 
 /* The moves of two chains made one, with the pose that they share once, into the front of `moves`, the first's and then the second's; those behind them stay. It answers as the first
  * up to the shared time, as the second above it, and its cover is the union of theirs. Numbers 20 where the last pose of the first and the first of the second differ in a bit of
  * time, matrix or pad, or one chain is rigid and the other isn't, then 12 for more than 32 poses; before both 12 where either has no moves. */
-uint8_t jellyplain_moves_join(const jellyplain_move *first, size_t first_count, const jellyplain_move *second, size_t second_count, jellyplain_move moves[JELLYPLAIN_MOVES]);
+JELLYPLAIN_CHECKED uint8_t jellyplain_moves_join(const jellyplain_move *first, size_t first_count, const jellyplain_move *second, size_t second_count, jellyplain_move moves[JELLYPLAIN_MOVES]);
 
 /* A run's first place and its length and JELLYPLAIN_NONE, or 0, 0 and a refusal. */
 typedef struct {
@@ -121,28 +153,28 @@ typedef struct {
 
 /* Of poses that are refused as a chain, the shortest run of neighbouring ones that is refused with the same number, the leftmost among equals: one pose, as a move from it to itself, or two.
  * Place and length are 0 where the poses are a chain. Number 12, where they are refused with it. */
-jellyplain_run jellyplain_refused_run(bool rigid, const jellyplain_pose *poses, size_t count);
+JELLYPLAIN_CHECKED jellyplain_run jellyplain_refused_run(bool rigid, const jellyplain_pose *poses, size_t count);
 
 /* Where the point p stands at a time: a time equal to an inner pose's belongs to the earlier move. Numbers 5 and 6, and 12 for no moves. */
-uint8_t jellyplain_moves_point(const jellyplain_move *moves, size_t count, float time, const float p[3], float moved[3]);
+JELLYPLAIN_CHECKED uint8_t jellyplain_moves_point(const jellyplain_move *moves, size_t count, float time, const float p[3], float moved[3]);
 
 /* The pad at a time, of the move that the time belongs to. Numbers 5 and 6, and 12 for no moves. */
-uint8_t jellyplain_moves_pad(const jellyplain_move *moves, size_t count, float time, float pad[1]);
+JELLYPLAIN_CHECKED uint8_t jellyplain_moves_pad(const jellyplain_move *moves, size_t count, float time, float pad[1]);
 
 /* Where the point p stands at each time of a list that never falls, three places a time. Numbers 6, 13 and 5, and 12 for no moves; all places stay after a refusal. */
-uint8_t jellyplain_moves_points(const jellyplain_move *moves, size_t count, const float *times, size_t times_count, const float p[3], float *answers, size_t places);
+JELLYPLAIN_CHECKED uint8_t jellyplain_moves_points(const jellyplain_move *moves, size_t count, const float *times, size_t times_count, const float p[3], float *answers, size_t places);
 
 /* A box that holds every point of the box b at every time but NaN, less and plus its pad as above, from 2^depth slices of each move; greater depths as above.
  * Numbers 5, 6, 7, 8 and 10, and 12 for no moves. */
-uint8_t jellyplain_moves_cover(const jellyplain_move *moves, size_t count, const float b[6], uint32_t depth, float bounds[6]);
+JELLYPLAIN_CHECKED uint8_t jellyplain_moves_cover(const jellyplain_move *moves, size_t count, const float b[6], uint32_t depth, float bounds[6]);
 
 /* The cover of the box b if the pose at a place, counted from 0, were this one: what jellyplain_moves_cover answers of a chain that is built with it. Only the moves beside the
  * place are built, and `moves` stays as it is. Numbers 19 for a place beyond the last pose, then those of jellyplain_build_moves for the changed poses, then 6, 7, 8, 5 and 10. */
-uint8_t jellyplain_moves_try(const jellyplain_move *moves, size_t count, size_t place, const jellyplain_pose *pose, const float b[6], uint32_t depth, float bounds[6]);
+JELLYPLAIN_CHECKED uint8_t jellyplain_moves_try(const jellyplain_move *moves, size_t count, size_t place, const jellyplain_pose *pose, const float b[6], uint32_t depth, float bounds[6]);
 
 /* A box for each of 1 to 16 boxes that holds every point of it at every time but NaN, as jellyplain_moves_cover does, in order, the places behind them +0; and the union of them.
  * It costs far less than that query for each box. Numbers 14, then 5, 6, 7, 8 and 10 of the first refused box, and 12 for no moves; `covers` and `all` stay after a refusal. */
-uint8_t jellyplain_moves_covers(const jellyplain_move *moves, size_t count, const float (*boxes)[6], size_t boxes_count, uint32_t depth, float covers[JELLYPLAIN_BOXES][6],
+JELLYPLAIN_CHECKED uint8_t jellyplain_moves_covers(const jellyplain_move *moves, size_t count, const float (*boxes)[6], size_t boxes_count, uint32_t depth, float covers[JELLYPLAIN_BOXES][6],
                                 float all[6]);
 
 /* ---- two chains over one bay */
@@ -159,12 +191,12 @@ typedef struct {
 
 /* A box that holds every point of the box b at every time from one tick to a later one, both included, less and plus its pad as above; each move's share of the window is cut depth
  * times. Greater depths as above. Ticks may be infinite. Numbers 21 where the ticks don't rise, then 5, 6, 7, 8 and 10, and 12 for no moves. */
-uint8_t jellyplain_moves_window_cover(const jellyplain_move *moves, size_t count, const float b[6], uint32_t depth, float earlier, float later, float bounds[6]);
+JELLYPLAIN_CHECKED uint8_t jellyplain_moves_window_cover(const jellyplain_move *moves, size_t count, const float b[6], uint32_t depth, float earlier, float later, float bounds[6]);
 
 /* The windows between neighbouring ticks, counted from 0, in which the boxes of two chains meet, touching included, into the front of `places`, 0 behind them. In any other window, ticks included,
  * no point of b and no point of `other`, each less or plus its pad or anything between, are ever at the same place. A greater depth, up to 12, lists no other. Numbers 21 of the ticks, 6 and 7 of b, 6 and
  * 7 of `other`, 8, then 5 and 10, the earlier window first, then the first chain; 12 before all where a chain has no moves. All places stay after a refusal. */
-jellyplain_windows jellyplain_moves_windows(const jellyplain_move *moves, size_t count, const jellyplain_move *others, size_t others_count, const float b[6], const float other[6],
+JELLYPLAIN_CHECKED jellyplain_windows jellyplain_moves_windows(const jellyplain_move *moves, size_t count, const jellyplain_move *others, size_t others_count, const float b[6], const float other[6],
                                             uint32_t depth, const float *ticks, size_t ticks_count, uint32_t places[JELLYPLAIN_WINDOWS]);
 
 /* ---- move files */
@@ -187,11 +219,11 @@ typedef struct {
 
 /* The poses of a move file into the front of `poses`, with pads of +0 where the file has the old thirteen names, and its box; whether they make a chain is asked by
  * jellyplain_build_moves. Number 11; poses and box then stay. */
-jellyplain_file_read jellyplain_read_file(const uint8_t *bytes, size_t size, jellyplain_pose poses[JELLYPLAIN_FILE_POSES], float bounds[6]);
+JELLYPLAIN_CHECKED jellyplain_file_read jellyplain_read_file(const uint8_t *bytes, size_t size, jellyplain_pose poses[JELLYPLAIN_FILE_POSES], float bounds[6]);
 
 /* The poses of a chain and the box b as a move file, in the one way that it is written: fourteen names, lower-case digits, single spaces, line feeds, no space at a line's end. The text goes
  * into the front of `out`, and the bytes behind it stay. Numbers 6 and 7, then 15 where `size` is too small, and 12 for no moves; all bytes then stay. */
-jellyplain_written jellyplain_write_file(const jellyplain_move *moves, size_t count, const float b[6], uint8_t *out, size_t size);
+JELLYPLAIN_CHECKED jellyplain_written jellyplain_write_file(const jellyplain_move *moves, size_t count, const float b[6], uint8_t *out, size_t size);
 
 /* ---- a day of booms */
 
@@ -201,7 +233,7 @@ jellyplain_written jellyplain_write_file(const jellyplain_move *moves, size_t co
 /* The tick in which each of the first `count` booms starts, a cover and a run length of 1 to 1,000 ticks each; all wait from tick 0 and are taken in their order, and one starts where its box meets,
  * even by touching, no running boom's box. No two that run meet, and each starts no later than the sum of the others' run lengths. The places behind them are 0.
  * Numbers 22, then 6 and 7 of the first refused box; `starts` stays after a refusal. */
-uint8_t jellyplain_day(const float boxes[JELLYPLAIN_BOOMS][6], const uint32_t lengths[JELLYPLAIN_BOOMS], size_t count, uint32_t starts[JELLYPLAIN_BOOMS]);
+JELLYPLAIN_CHECKED uint8_t jellyplain_day(const float boxes[JELLYPLAIN_BOOMS][6], const uint32_t lengths[JELLYPLAIN_BOOMS], size_t count, uint32_t starts[JELLYPLAIN_BOOMS]);
 
 /* ---- the rows that a boom reaches */
 
@@ -217,14 +249,9 @@ typedef struct {
 /* The places, counted from 0, of those of 1 to 256 rows, each a box, that a cover meets, touching included, into the front of `places`, 0 behind them. A row that is not named holds no
  * point of the boom at any time, less or plus its pad or anything between, where the cover is one that this library gave for the boom's box: jellyplain_cover, jellyplain_moves_cover and the others.
  * Numbers 14 for no rows or more than 256, then 6 and 7 of the cover, then 6 and 7 of the first refused row; all places stay after a refusal. */
-jellyplain_reached jellyplain_reached_rows(const float cover[6], const float (*rows)[6], size_t rows_count, uint32_t places[JELLYPLAIN_ROWS]);
+JELLYPLAIN_CHECKED jellyplain_reached jellyplain_reached_rows(const float cover[6], const float (*rows)[6], size_t rows_count, uint32_t places[JELLYPLAIN_ROWS]);
 
-/* ---- the version */
-
-/* 10000 * major + 100 * minor + patch of the archive: 10000 is 1.0.0. */
-uint32_t jellyplain_version(void);
-
-static inline uint8_t jellyplain_build_chain(bool rigid, const jellyplain_pose *poses, size_t count, jellyplain_chain *chain)
+JELLYPLAIN_CHECKED static inline uint8_t jellyplain_build_chain(bool rigid, const jellyplain_pose *poses, size_t count, jellyplain_chain *chain)
 {
     uint8_t refusal = jellyplain_build_moves(rigid, poses, count, chain->moves);
     if (refusal == JELLYPLAIN_NONE)
@@ -233,7 +260,7 @@ static inline uint8_t jellyplain_build_chain(bool rigid, const jellyplain_pose *
 }
 
 /* `joined` is neither of the two. */
-static inline uint8_t jellyplain_chain_join(const jellyplain_chain *first, const jellyplain_chain *second, jellyplain_chain *joined)
+JELLYPLAIN_CHECKED static inline uint8_t jellyplain_chain_join(const jellyplain_chain *first, const jellyplain_chain *second, jellyplain_chain *joined)
 {
     uint8_t refusal = jellyplain_moves_join(first->moves, first->count, second->moves, second->count, joined->moves);
     if (refusal == JELLYPLAIN_NONE)
@@ -241,49 +268,49 @@ static inline uint8_t jellyplain_chain_join(const jellyplain_chain *first, const
     return refusal;
 }
 
-static inline uint8_t jellyplain_chain_point(const jellyplain_chain *chain, float time, const float p[3], float moved[3])
+JELLYPLAIN_CHECKED static inline uint8_t jellyplain_chain_point(const jellyplain_chain *chain, float time, const float p[3], float moved[3])
 {
     return jellyplain_moves_point(chain->moves, chain->count, time, p, moved);
 }
 
-static inline uint8_t jellyplain_chain_pad(const jellyplain_chain *chain, float time, float pad[1])
+JELLYPLAIN_CHECKED static inline uint8_t jellyplain_chain_pad(const jellyplain_chain *chain, float time, float pad[1])
 {
     return jellyplain_moves_pad(chain->moves, chain->count, time, pad);
 }
 
-static inline uint8_t jellyplain_chain_points(const jellyplain_chain *chain, const float *times, size_t times_count, const float p[3], float *answers, size_t places)
+JELLYPLAIN_CHECKED static inline uint8_t jellyplain_chain_points(const jellyplain_chain *chain, const float *times, size_t times_count, const float p[3], float *answers, size_t places)
 {
     return jellyplain_moves_points(chain->moves, chain->count, times, times_count, p, answers, places);
 }
 
-static inline uint8_t jellyplain_chain_cover(const jellyplain_chain *chain, const float b[6], uint32_t depth, float bounds[6])
+JELLYPLAIN_CHECKED static inline uint8_t jellyplain_chain_cover(const jellyplain_chain *chain, const float b[6], uint32_t depth, float bounds[6])
 {
     return jellyplain_moves_cover(chain->moves, chain->count, b, depth, bounds);
 }
 
-static inline uint8_t jellyplain_chain_try(const jellyplain_chain *chain, size_t place, const jellyplain_pose *pose, const float b[6], uint32_t depth, float bounds[6])
+JELLYPLAIN_CHECKED static inline uint8_t jellyplain_chain_try(const jellyplain_chain *chain, size_t place, const jellyplain_pose *pose, const float b[6], uint32_t depth, float bounds[6])
 {
     return jellyplain_moves_try(chain->moves, chain->count, place, pose, b, depth, bounds);
 }
 
-static inline uint8_t jellyplain_chain_covers(const jellyplain_chain *chain, const float (*boxes)[6], size_t boxes_count, uint32_t depth, float covers[JELLYPLAIN_BOXES][6],
+JELLYPLAIN_CHECKED static inline uint8_t jellyplain_chain_covers(const jellyplain_chain *chain, const float (*boxes)[6], size_t boxes_count, uint32_t depth, float covers[JELLYPLAIN_BOXES][6],
                                               float all[6])
 {
     return jellyplain_moves_covers(chain->moves, chain->count, boxes, boxes_count, depth, covers, all);
 }
 
-static inline uint8_t jellyplain_chain_window_cover(const jellyplain_chain *chain, const float b[6], uint32_t depth, float earlier, float later, float bounds[6])
+JELLYPLAIN_CHECKED static inline uint8_t jellyplain_chain_window_cover(const jellyplain_chain *chain, const float b[6], uint32_t depth, float earlier, float later, float bounds[6])
 {
     return jellyplain_moves_window_cover(chain->moves, chain->count, b, depth, earlier, later, bounds);
 }
 
-static inline jellyplain_windows jellyplain_chain_windows(const jellyplain_chain *chain, const jellyplain_chain *others, const float b[6], const float other[6], uint32_t depth,
+JELLYPLAIN_CHECKED static inline jellyplain_windows jellyplain_chain_windows(const jellyplain_chain *chain, const jellyplain_chain *others, const float b[6], const float other[6], uint32_t depth,
                                                           const float *ticks, size_t ticks_count, uint32_t places[JELLYPLAIN_WINDOWS])
 {
     return jellyplain_moves_windows(chain->moves, chain->count, others->moves, others->count, b, other, depth, ticks, ticks_count, places);
 }
 
-static inline jellyplain_written jellyplain_chain_write(const jellyplain_chain *chain, const float b[6], uint8_t *out, size_t size)
+JELLYPLAIN_CHECKED static inline jellyplain_written jellyplain_chain_write(const jellyplain_chain *chain, const float b[6], uint8_t *out, size_t size)
 {
     return jellyplain_write_file(chain->moves, chain->count, b, out, size);
 }
