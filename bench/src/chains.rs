@@ -43,7 +43,8 @@ pub fn compare_chains(random: &mut Random) {
     let last = (POSES - 1) as f32;
     let times: Vec<f32> = (0..TIMES).map(|k| last * k as f32 / (TIMES - 1) as f32).collect();
     let singles = || times.iter().for_each(|&time| asked(chain.point(black_box(time), p)));
-    compare("10,000 times, beside 10,000 points", 100, TIMES, &mut || asked(chain.points(black_box(&times), p)), &mut || singles());
+    let mut points = [[0.0; 3]; TIMES];
+    compare("10,000 times, beside 10,000 points", 100, TIMES, &mut || asked(chain.points(black_box(&times), p, black_box(&mut points))), &mut || singles());
     for count in [2, POSES] {
         compare_sets(&poses[..count], &bounds);
     }
@@ -122,7 +123,7 @@ fn compare_sets(poses: &[Pose], bounds: &Bounds) {
     let boxes = parts(bounds);
     for (depth, rounds) in [(8, 40), (12, 10)] {
         let each: Vec<Bounds> = boxes.iter().map(|b| chain.cover(b, depth).expect("a part of a box that is covered is covered")).collect();
-        assert_eq!(chain.covers(&boxes, depth).map(|covers| covers.each), Ok(each));
+        assert_eq!(chain.covers(&boxes, depth).expect("a set is covered where each of its boxes is").each, each);
         let name = format!("16 boxes of depth {depth}, {} moves", poses.len() - 1);
         let singles = || boxes.iter().for_each(|b| asked(chain.cover(black_box(b), depth)));
         compare(&name, rounds, 1, &mut || asked(chain.covers(black_box(&boxes), depth)), &mut || singles());

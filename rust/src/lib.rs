@@ -1,5 +1,5 @@
-//! A move by two poses, or a chain of up to 32: where a point of it stands at a time, and which box holds a box of it at every time. Safe functions over the library `api`, whose contracts are proved
-//! (`crates/api`); this package itself is not. It needs `rt staticlib api`, run once in the repository's root.
+//! A move by two poses, or a chain of up to 32: where a point of it stands at a time, and which box holds a box of it at every time. Safe functions over the library jellyplain, whose contracts are proved
+//! (`crates/api`); this package itself is not. It needs `make`, run once in the repository's root, or an installed library that `JELLYPLAIN_STATICLIB` names.
 //!
 //! A move is built once and asked many times:
 //!
@@ -20,13 +20,49 @@
 //! # Ok::<(), Refusal>(())
 //! ```
 //!
-//! Any floats may be handed in, NaN and infinities included; what can't be worked with is refused. Nothing panics, but for an archive that was built with another layout.
+//! Any floats may be handed in, NaN and infinities included; what can't be worked with is refused. What builds, reads a file or tries a day panics where the library that is linked is not
+//! [`compatible`], and nothing else panics.
+//!
+//! The package needs neither `std` nor an allocator: lists are kept in place ([`List`]), and what has no bound is lent by the caller ([`Chain::points`], [`Chain::write`]). A [`Chain`] takes 22 kB and a
+//! [`MoveFile`] 40 kB, wherever they are put; a call takes at most 96 kB of stack beside (`JELLYPLAIN_STACK` of c/jellyplain.h). That header also says what the guarantee asks of the thread's floating-point
+//! environment: that it is the one which a program starts with, as Rust asks too.
+
+#![no_std]
+
+#[cfg(test)]
+extern crate std;
 
 mod library;
+mod list;
 mod refusal;
 
+use core::ops::Range;
+pub use library::{BOOMS, BOXES, FILE_POSES, MOVES, WINDOWS};
+pub use list::List;
 pub use refusal::Refusal;
-use std::ops::Range;
+
+/// The bytes that hold the text of any chain and box.
+pub const TEXT: usize = 4161;
+
+/// The version of this package, as the library counts versions: 10000 * major + 100 * minor + patch.
+pub const VERSION: u32 = 10000 * part(env!("CARGO_PKG_VERSION_MAJOR")) + 100 * part(env!("CARGO_PKG_VERSION_MINOR")) + part(env!("CARGO_PKG_VERSION_PATCH"));
+
+const fn part(decimal: &str) -> u32 {
+    match u32::from_str_radix(decimal, 10) {
+        Ok(number) => number,
+        Err(_) => panic!("cargo gives a version's parts as decimals"),
+    }
+}
+
+/// The version of the library that is linked.
+pub fn version() -> u32 {
+    unsafe { library::jellyplain_version() }
+}
+
+/// Whether the library that is linked fits this package: the same major version, and the same layout of poses and moves. To be asked at a program's start by who would rather not panic later.
+pub fn compatible() -> bool {
+    library::fits(unsafe { library::jellyplain_layout() }, version())
+}
 
 /// Four rows of four numbers.
 pub type Matrix = [[f32; 4]; 4];
@@ -42,8 +78,9 @@ pub struct Pose {
     pub pad: f32,
 }
 
-/// A box: its least corner and its greatest.
+/// A box: its least corner and its greatest. The library reads it as 6 floats.
 #[derive(Clone, Copy, Debug, PartialEq)]
+#[repr(C)]
 pub struct Bounds {
     pub p_min: [f32; 3],
     pub p_max: [f32; 3],
@@ -117,7 +154,7 @@ impl Move {
     }
 
     fn build(rigid: bool, start: &Pose, end: &Pose) -> Result<Move, Refusal> {
-        library::check_layout();
+        library::check();
         let mut rows = library::EMPTY;
         let number = unsafe { library::jellyplain_build(rigid, start, end, &mut rows) };
         answered(number, Move { rows })
@@ -172,16 +209,16 @@ impl Move {
 }
 
 /// The answer to a set of boxes: a cover for each, in their order, and the union of them.
-#[derive(Clone, Debug, PartialEq)]
+#[derive(Clone, Copy, Debug, PartialEq)]
 pub struct Covers {
-    pub each: Vec<Bounds>,
+    pub each: List<Bounds, BOXES>,
     pub union: Bounds,
 }
 
 /// A built chain: the moves between neighbouring poses. It is only made by [`Chain::new`], [`Chain::rigid`] and [`Chain::join`], so that the guarantee of [`Chain::cover`] holds of every value of this type.
 #[derive(Clone, Debug)]
 pub struct Chain {
-    moves: Vec<library::Rows>,
+    moves: List<library::Rows, MOVES>,
 }
 
 impl Chain {
@@ -197,21 +234,21 @@ impl Chain {
     }
 
     fn build(rigid: bool, poses: &[Pose]) -> Result<Chain, Refusal> {
-        library::check_layout();
-        let mut moves = [library::EMPTY; library::MOVES];
-        let number = unsafe { library::jellyplain_build_moves(rigid, poses.as_ptr(), poses.len(), &mut moves) };
-        let count = if number == 0 { poses.len() - 1 } else { 0 };
-        answered(number, Chain { moves: moves[..count].to_vec() })
+        library::check();
+        let mut moves = List::filled(library::EMPTY);
+        let number = unsafe { library::jellyplain_build_moves(rigid, poses.as_ptr(), poses.len(), moves.places()) };
+        moves.shorten(if number == 0 { poses.len() - 1 } else { 0 });
+        answered(number, Chain { moves })
     }
 
     /// One chain of this one and another, with the pose that they share once: the same as that of all poses. Up to the shared time it answers as this chain, above it as the other,
     /// and its cover is the union of theirs. Refused with [`Refusal::Mismatch`] where the last pose here and the first there differ in a bit of time, matrix or pad, a zero's
     /// sign too, or one chain is rigid and the other isn't, then with [`Refusal::Chain`] for more than 32 poses.
     pub fn join(&self, other: &Chain) -> Result<Chain, Refusal> {
-        let (first, second, mut moves) = (&self.moves, &other.moves, [library::EMPTY; library::MOVES]);
-        let number = unsafe { library::jellyplain_moves_join(first.as_ptr(), first.len(), second.as_ptr(), second.len(), &mut moves) };
-        let count = if number == 0 { first.len() + second.len() } else { 0 };
-        answered(number, Chain { moves: moves[..count].to_vec() })
+        let (first, second, mut moves) = (&self.moves, &other.moves, List::filled(library::EMPTY));
+        let number = unsafe { library::jellyplain_moves_join(first.as_ptr(), first.len(), second.as_ptr(), second.len(), moves.places()) };
+        moves.shorten(if number == 0 { first.len() + second.len() } else { 0 });
+        answered(number, Chain { moves })
     }
 
     /// Of poses that [`Chain::new`] refuses, the places of the shortest run of neighbouring ones that is refused in the same way, the leftmost among equals: one pose, as a move from it to
@@ -226,7 +263,7 @@ impl Chain {
     }
 
     fn run(rigid: bool, poses: &[Pose]) -> Result<Range<usize>, Refusal> {
-        library::check_layout();
+        library::check();
         let run = unsafe { library::jellyplain_refused_run(rigid, poses.as_ptr(), poses.len()) };
         answered(run.refusal, run.place..run.place + run.length)
     }
@@ -251,12 +288,13 @@ impl Chain {
         answered(number, pad[0])
     }
 
-    /// Where a point stands at each time of a list that never falls. Refused with [`Refusal::Query`], [`Refusal::TimeList`] and [`Refusal::NotFinite`].
-    pub fn points(&self, times: &[f32], p: [f32; 3]) -> Result<Vec<[f32; 3]>, Refusal> {
-        let mut points = vec![[0.0; 3]; times.len()];
-        let (moves, answers) = (&self.moves, points.as_mut_ptr().cast::<f32>());
-        let number = unsafe { library::jellyplain_moves_points(moves.as_ptr(), moves.len(), times.as_ptr(), times.len(), &p, answers, 3 * times.len()) };
-        answered(number, points)
+    /// Where a point stands at each time of a list that never falls, into as many lent places, which a refusal leaves as they were. Refused with [`Refusal::Query`], [`Refusal::TimeList`], for another
+    /// number of places too, and [`Refusal::NotFinite`].
+    pub fn points(&self, times: &[f32], p: [f32; 3], points: &mut [[f32; 3]]) -> Result<(), Refusal> {
+        let (moves, answers) = (&self.moves, points.as_flattened_mut());
+        let number =
+            unsafe { library::jellyplain_moves_points(moves.as_ptr(), moves.len(), times.as_ptr(), times.len(), &p, answers.as_mut_ptr(), answers.len()) };
+        answered(number, ())
     }
 
     /// A box that holds every point of `b` at every time but NaN: [`Chain::point`] and [`Chain::points`] answer points inside it, and so they are less and plus [`Chain::pad`]. It
@@ -278,12 +316,11 @@ impl Chain {
     /// The covers of 1 to 16 boxes, each as [`Chain::cover`] gives it, and their union: no point of a box leaves that box's own cover at any time but NaN. It costs far less than a
     /// cover for each. Refused with [`Refusal::Set`], then as [`Chain::cover`] of the first box in order that is refused.
     pub fn covers(&self, boxes: &[Bounds], depth: u32) -> Result<Covers, Refusal> {
-        let asked: Vec<[f32; 6]> = boxes.iter().map(|b| b.to_array()).collect();
-        let (mut covers, mut union) = ([[0.0; 6]; library::BOXES], [0.0; 6]);
-        let number =
-            unsafe { library::jellyplain_moves_covers(self.moves.as_ptr(), self.moves.len(), asked.as_ptr(), asked.len(), depth, &mut covers, &mut union) };
-        let each = covers.into_iter().take(boxes.len()).map(Bounds::from_array).collect();
-        answered(number, Covers { each, union: Bounds::from_array(union) })
+        let (moves, mut covers, mut union) = (&self.moves, [[0.0; 6]; BOXES], [0.0; 6]);
+        // A box crosses as its six floats.
+        let asked = boxes.as_ptr().cast::<[f32; 6]>();
+        let number = unsafe { library::jellyplain_moves_covers(moves.as_ptr(), moves.len(), asked, boxes.len(), depth, &mut covers, &mut union) };
+        answered(number, Covers { each: List::front(covers.map(Bounds::from_array), boxes.len()), union: Bounds::from_array(union) })
     }
 
     /// A box that holds every point of `b` at every time from one tick to a later one, both included, as [`Chain::cover`] does at all times. Ticks may be infinite. Refused with
@@ -298,8 +335,8 @@ impl Chain {
     /// The windows between neighbouring ticks, counted from 0, in which the boxes that hold `b` here and `c` there meet, touching included. In any other window, ticks included, no point of
     /// `b` and none of `c`, each less or plus its pad or anything between, are ever at the same place; a greater depth, up to 12, lists no other. Refused with [`Refusal::Ticks`] unless 2 to 64 ticks rise strictly,
     /// with the numbers of `b`, of `c` and of the depth, then with [`Refusal::NotFinite`] or [`Refusal::SquaredLength`] of the first window that is refused.
-    pub fn windows(&self, other: &Chain, b: &Bounds, c: &Bounds, depth: u32, ticks: &[f32]) -> Result<Vec<u32>, Refusal> {
-        let (first, second, mut places) = (&self.moves, &other.moves, [0; library::WINDOWS]);
+    pub fn windows(&self, other: &Chain, b: &Bounds, c: &Bounds, depth: u32, ticks: &[f32]) -> Result<List<u32, WINDOWS>, Refusal> {
+        let (first, second, mut places) = (&self.moves, &other.moves, [0; WINDOWS]);
         let (b, c) = (b.to_array(), c.to_array());
         let windows = unsafe {
             library::jellyplain_moves_windows(
@@ -315,34 +352,43 @@ impl Chain {
                 &mut places,
             )
         };
-        answered(windows.refusal, places[..windows.count].to_vec())
+        answered(windows.refusal, List::front(places, windows.count))
     }
 
     /// The move file of the chain's poses and a box, in the one way that it is written, with fourteen names: [`MoveFile::read`] gives the same bits back, a bottom row's zeros as +0.
-    /// Refused with [`Refusal::Query`] and [`Refusal::Corners`].
-    pub fn write(&self, b: &Bounds) -> Result<String, Refusal> {
-        // 57 bytes of names, 126 for a pose, 72 for the box.
-        let mut text = vec![0; 129 + 126 * (self.moves.len() + 1)];
+    /// The text stands in the front of the lent bytes, for any chain in [`TEXT`] of them. Refused with [`Refusal::Query`] and [`Refusal::Corners`], then with [`Refusal::Room`] for too few bytes,
+    /// which a refusal leaves as they were.
+    ///
+    /// ```
+    /// # use jellyplain::{Bounds, Chain, Pose, Refusal, IDENTITY, TEXT};
+    /// # let poses = [0.0, 1.0].map(|time| Pose { time, matrix: IDENTITY, pad: 0.0 });
+    /// # let b = Bounds { p_min: [0.0; 3], p_max: [1.0; 3] };
+    /// let mut bytes = [0; TEXT];
+    /// let text: &str = Chain::new(&poses)?.write(&b, &mut bytes)?;
+    /// assert!(text.starts_with("time m00 m01") && text.ends_with("3f800000\n"));
+    /// # Ok::<(), Refusal>(())
+    /// ```
+    pub fn write<'a>(&self, b: &Bounds, text: &'a mut [u8]) -> Result<&'a str, Refusal> {
         let written = unsafe { library::jellyplain_write_file(self.moves.as_ptr(), self.moves.len(), &b.to_array(), text.as_mut_ptr(), text.len()) };
-        text.truncate(written.length);
-        answered(written.refusal, String::from_utf8(text).expect("the text is digits, spaces, names and line feeds"))
+        answered(written.refusal, &text[..written.length]).map(|text| core::str::from_utf8(text).expect("the text is digits, spaces, names and line feeds"))
     }
 }
 
 /// What a move file holds: any number of poses, and a box. Whether a chain can be built of the poses is asked by [`Chain::new`] and [`Chain::rigid`].
 #[derive(Clone, Debug, PartialEq)]
 pub struct MoveFile {
-    pub poses: Vec<Pose>,
+    pub poses: List<Pose, FILE_POSES>,
     pub bounds: Bounds,
 }
 
 impl MoveFile {
     /// Reads a file's bytes, whatever its spaces and the case of its digits; with the old thirteen names the pads are +0. Refused with [`Refusal::File`].
     pub fn read(bytes: &[u8]) -> Result<MoveFile, Refusal> {
-        library::check_layout();
-        let (mut poses, mut bounds) = ([Pose { time: 0.0, matrix: IDENTITY, pad: 0.0 }; library::FILE_POSES], [0.0; 6]);
-        let read = unsafe { library::jellyplain_read_file(bytes.as_ptr(), bytes.len(), &mut poses, &mut bounds) };
-        answered(read.refusal, MoveFile { poses: poses[..read.count].to_vec(), bounds: Bounds::from_array(bounds) })
+        library::check();
+        let (mut poses, mut bounds) = (List::filled(Pose { time: 0.0, matrix: IDENTITY, pad: 0.0 }), [0.0; 6]);
+        let read = unsafe { library::jellyplain_read_file(bytes.as_ptr(), bytes.len(), poses.places(), &mut bounds) };
+        poses.shorten(read.count);
+        answered(read.refusal, MoveFile { poses, bounds: Bounds::from_array(bounds) })
     }
 }
 
@@ -356,13 +402,14 @@ pub struct Boom {
 /// The tick in which each of 1 to 8 booms starts, in their order. All wait from tick 0; in each tick those whose run is over stop first, then the waiting ones are taken in order, and one starts if its
 /// cover meets, even by touching, no running boom's. No two that run ever have covers that meet, and each starts no later than the sum of the others' run lengths.
 /// Refused with [`Refusal::Day`], then with [`Refusal::Query`] and [`Refusal::Corners`] of the first cover in order that is refused.
-pub fn starting_ticks(booms: &[Boom]) -> Result<Vec<u32>, Refusal> {
-    let (mut boxes, mut lengths, mut starts) = ([[0.0; 6]; library::BOOMS], [0; library::BOOMS], [0; library::BOOMS]);
-    for (i, boom) in booms.iter().enumerate().take(library::BOOMS) {
+pub fn starting_ticks(booms: &[Boom]) -> Result<List<u32, BOOMS>, Refusal> {
+    library::check();
+    let (mut boxes, mut lengths, mut starts) = ([[0.0; 6]; BOOMS], [0; BOOMS], [0; BOOMS]);
+    for (i, boom) in booms.iter().enumerate().take(BOOMS) {
         (boxes[i], lengths[i]) = (boom.cover.to_array(), boom.ticks);
     }
     let number = unsafe { library::jellyplain_day(&boxes, &lengths, booms.len(), &mut starts) };
-    answered(number, starts.into_iter().take(booms.len()).collect())
+    answered(number, List::front(starts, booms.len()))
 }
 
 /// The rows that a boom reaches, by their places in the list that was asked about.

@@ -1,4 +1,4 @@
-//! The functions of the archive libapi.a, as crates/api/src/lib.rt exports them and c/jellyplain.h declares them. A reference to an array crosses as a thin pointer, so that
+//! The functions of the archive libjellyplain.a, as crates/api/src/lib.rt exports them and c/jellyplain.h declares them. A reference to an array crosses as a thin pointer, so that
 //! no length can be wrong, and a slice as a pointer and its length; references to be written are borrowed apart from all others.
 
 use crate::Pose;
@@ -76,6 +76,7 @@ extern "C" {
     pub fn jellyplain_motion_bounds(motion: &Rows, b: &[f32; 6], out: &mut [f32; 6], examined: &mut [u32; 3]) -> u8;
     pub fn jellyplain_cover(motion: &Rows, b: &[f32; 6], depth: u32, out: &mut [f32; 6]) -> u8;
     pub fn jellyplain_layout() -> u32;
+    pub fn jellyplain_version() -> u32;
     pub fn jellyplain_build_moves(rigid: bool, poses: *const Pose, count: usize, moves: &mut [Rows; MOVES]) -> u8;
     pub fn jellyplain_refused_run(rigid: bool, poses: *const Pose, count: usize) -> Run;
     pub fn jellyplain_moves_point(moves: *const Rows, count: usize, time: f32, p: &[f32; 3], moved: &mut [f32; 3]) -> u8;
@@ -124,10 +125,19 @@ extern "C" {
 /// The layout in which poses, moves and chains cross to the archive.
 pub const LAYOUT: u32 = 3;
 
-/// The archive that was linked has this package's layout, or the program stops here.
-pub fn check_layout() {
-    let layout = unsafe { jellyplain_layout() };
-    assert_eq!(layout, LAYOUT, "libapi.a has another layout than this package: run `rt staticlib api` in the repository's root");
+/// Whether a library of this layout and version is one that the package can call.
+pub fn fits(layout: u32, version: u32) -> bool {
+    layout == LAYOUT && version / 10000 == crate::VERSION / 10000
+}
+
+/// The library that was linked fits this package, or the program stops here.
+pub fn check() {
+    let (layout, version) = unsafe { (jellyplain_layout(), jellyplain_version()) };
+    assert!(
+        fits(layout, version),
+        "libjellyplain has version {version} and layout {layout}, and this package is for version {} and layout {LAYOUT}: run `make` in the repository's root",
+        crate::VERSION
+    );
 }
 
 #[cfg(test)]
@@ -144,6 +154,14 @@ mod tests {
             0
         );
         rows
+    }
+
+    /// A greater minor version or another patch fits, another major version or layout doesn't. What is linked is this package's very version.
+    #[test]
+    fn versions() {
+        assert!(fits(LAYOUT, crate::VERSION) && fits(LAYOUT, crate::VERSION + 100) && fits(LAYOUT, crate::VERSION + 1));
+        assert!(!fits(LAYOUT, crate::VERSION + 10000) && !fits(LAYOUT, crate::VERSION - 10000) && !fits(LAYOUT - 1, crate::VERSION));
+        assert_eq!((crate::version(), crate::compatible()), (crate::VERSION, true));
     }
 
     #[test]

@@ -1,4 +1,4 @@
-use std::fmt;
+use core::fmt;
 
 /// Why a move or a query is refused. The numbers are those that the library and the program `cover` give.
 // made by tools/numbers --write
@@ -127,7 +127,7 @@ impl fmt::Display for Refusal {
     }
 }
 
-impl std::error::Error for Refusal {}
+impl core::error::Error for Refusal {}
 
 #[cfg(test)]
 mod tests {

@@ -1,6 +1,6 @@
 //! Chains of poses: which move a time belongs to, lists of times, covers, sets of boxes, pads, rigid chains and refusals.
 
-use jellyplain::{Bounds, Chain, Covers, Matrix, Move, Pose, Refusal, IDENTITY};
+use jellyplain::{Bounds, Chain, Covers, Matrix, Move, Pose, Refusal, IDENTITY, TEXT};
 
 fn translation(x: f32) -> Matrix {
     let mut m = IDENTITY;
@@ -44,11 +44,17 @@ fn lists_of_times() {
     let p = [3.0, 0.5, -1.0];
     let times = [f32::NEG_INFINITY, 0.0, 0.0, 1.5, 2.0, 2.5, 3.0, 3.0, 4.5, 9.0];
     let each: Vec<[f32; 3]> = times.iter().map(|&time| chain.point(time, p).unwrap()).collect();
-    assert_eq!(chain.points(&times, p), Ok(each));
-    assert_eq!(chain.points(&[], p), Ok(vec![]));
-    assert_eq!(chain.points(&[1.0, 0.5], p), Err(Refusal::TimeList));
-    assert_eq!(chain.points(&[1.0, f32::NAN, 0.5], p), Err(Refusal::Query));
-    assert_eq!(chain.points(&[], [f32::INFINITY, 0.0, 0.0]), Err(Refusal::Query));
+    let mut points = [[7.0; 3]; 10];
+    assert_eq!(chain.points(&[1.0, 0.5], p, &mut points[..2]), Err(Refusal::TimeList));
+    assert_eq!(chain.points(&[1.0, f32::NAN, 0.5], p, &mut points[..3]), Err(Refusal::Query));
+    assert_eq!(chain.points(&[], [f32::INFINITY, 0.0, 0.0], &mut []), Err(Refusal::Query));
+    // A place too few, a place too many.
+    assert_eq!(chain.points(&times, p, &mut points[..9]), Err(Refusal::TimeList));
+    assert_eq!(chain.points(&times[..9], p, &mut points), Err(Refusal::TimeList));
+    assert_eq!(points, [[7.0; 3]; 10]);
+    assert_eq!(chain.points(&[], p, &mut []), Ok(()));
+    assert_eq!(chain.points(&times, p, &mut points), Ok(()));
+    assert_eq!(points[..], each);
 }
 
 #[test]
@@ -87,7 +93,9 @@ fn each_cover_of_a_set_is_that_boxs_own() {
         let boxes = parts(count);
         let each: Vec<Bounds> = boxes.iter().map(|b| chain.cover(b, depth).unwrap()).collect();
         let union = each.iter().copied().reduce(union).unwrap();
-        assert_eq!(chain.covers(&boxes, depth), Ok(Covers { each, union }));
+        let Covers { each: covers, union: all } = chain.covers(&boxes, depth).unwrap();
+        assert_eq!((covers.len(), all), (count, union));
+        assert_eq!(covers, each);
     }
 }
 
@@ -244,7 +252,7 @@ fn rigid_chains() {
     assert_ne!(rigid.point(0.5, [3.0, 0.5, -1.0]), plain.point(0.5, [3.0, 0.5, -1.0]));
     let between = |chain: &Chain| chain.moves().next().unwrap().interpolate(0.5).unwrap().matrix;
     assert_ne!(between(&rigid), between(&plain));
-    assert_eq!(rigid.write(&b), plain.write(&b));
+    assert_eq!(rigid.write(&b, &mut [0; TEXT]), plain.write(&b, &mut [0; TEXT]));
 }
 
 /// 17 and 18 pose by pose, after the whole chain's 3 and before 4 and 5.
@@ -308,7 +316,7 @@ fn joins() {
         let (first, second, whole) = (chain(&poses[..=place]), chain(&poses[place..=last]), chain(&poses[..=last]));
         let joined = first.join(&second).unwrap();
         assert_eq!(joined.moves().len(), last);
-        assert_eq!(joined.write(&b), whole.write(&b));
+        assert_eq!(joined.write(&b, &mut [0; TEXT]), whole.write(&b, &mut [0; TEXT]));
         let shared = place as f32;
         for time in [f32::NEG_INFINITY, 0.5, shared, shared.next_up(), f32::INFINITY] {
             let own = if time <= shared { &first } else { &second };

@@ -9,9 +9,9 @@ fn boom(low: f32, high: f32, ticks: u32) -> Boom {
 
 #[test]
 fn booms_that_meet_wait_for_each_other() {
-    assert_eq!(starting_ticks(&[boom(0.0, 2.0, 30), boom(2.0, 4.0, 20), boom(5.0, 6.0, 10)]), Ok(vec![0, 30, 0]));
-    assert_eq!(starting_ticks(&[boom(0.0, 2.0, 30), boom(1.0, 5.0, 20), boom(4.5, 6.0, 10)]), Ok(vec![0, 30, 0]));
-    assert_eq!(starting_ticks(&[boom(0.0, 1.0, 1000); 8]), Ok((0..8).map(|i| 1000 * i).collect()));
+    assert_eq!(starting_ticks(&[boom(0.0, 2.0, 30), boom(2.0, 4.0, 20), boom(5.0, 6.0, 10)]).unwrap(), [0, 30, 0]);
+    assert_eq!(starting_ticks(&[boom(0.0, 2.0, 30), boom(1.0, 5.0, 20), boom(4.5, 6.0, 10)]).unwrap(), [0, 30, 0]);
+    assert_eq!(starting_ticks(&[boom(0.0, 1.0, 1000); 8]).unwrap(), [0, 1000, 2000, 3000, 4000, 5000, 6000, 7000]);
 }
 
 /// No two that run meet, and each starts in time.

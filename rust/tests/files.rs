@@ -1,6 +1,6 @@
 //! Move files: read, written in one way, and read again.
 
-use jellyplain::{Bounds, Chain, MoveFile, Refusal};
+use jellyplain::{Bounds, Chain, MoveFile, Refusal, TEXT};
 
 const FILE: &str = include_str!("../../examples/swing.txt");
 
@@ -10,7 +10,7 @@ fn bits(file: &MoveFile) -> Vec<u32> {
 }
 
 fn rewritten(file: &MoveFile) -> String {
-    Chain::new(&file.poses).unwrap().write(&file.bounds).unwrap()
+    Chain::new(&file.poses).unwrap().write(&file.bounds, &mut [0; TEXT]).unwrap().to_owned()
 }
 
 #[test]
@@ -68,6 +68,10 @@ fn refused_files() {
     }
     let file = MoveFile::read(FILE.as_bytes()).unwrap();
     let chain = Chain::new(&file.poses).unwrap();
-    assert_eq!(chain.write(&Bounds { p_min: [f32::NAN; 3], p_max: [0.0; 3] }), Err(Refusal::Query));
-    assert_eq!(chain.write(&Bounds { p_min: [1.0; 3], p_max: [0.0; 3] }), Err(Refusal::Corners));
+    let mut text = [7; TEXT];
+    assert_eq!(chain.write(&Bounds { p_min: [f32::NAN; 3], p_max: [0.0; 3] }, &mut text), Err(Refusal::Query));
+    assert_eq!(chain.write(&Bounds { p_min: [1.0; 3], p_max: [0.0; 3] }, &mut text), Err(Refusal::Corners));
+    assert_eq!(chain.write(&file.bounds, &mut text[..380]), Err(Refusal::Room));
+    assert_eq!(text, [7; TEXT]);
+    assert_eq!(chain.write(&file.bounds, &mut text[..381]).map(str::len), Ok(381));
 }
