@@ -401,13 +401,14 @@ static void days(void)
 }
 
 #ifdef JELLYPLAIN_ROWS
-/* Boxes that a cover meets, touching included. */
+/* Rows that a cover meets, touching included. */
 static void rows(void)
 {
     const float boxes[3][6] = {{2, 0, 0, 3, 1, 1}, {1, 1, 1, 2, 2, 2}, {0, 0, 0, 1, 1, 1}};
     fill();
     jellyplain_reached reached = jellyplain_reached_rows(unit_box, boxes, 3, lent.rows);
-    EXPECT(reached.refusal == JELLYPLAIN_NONE && reached.count == 2 && lent.rows[0] == 1 && lent.rows[1] == 2);
+    EXPECT(reached.refusal == JELLYPLAIN_NONE && reached.count == 2 && lent.rows[0] == 1 && lent.rows[1] == 2 && lent.rows[2] == 0 && lent.rows[JELLYPLAIN_ROWS - 1] == 0);
+    REFUSED(14, jellyplain_reached_rows(unit_box, boxes, 0, lent.rows).refusal);
     REFUSED(6, jellyplain_reached_rows(nan_box, boxes, 3, lent.rows).refusal);
     REFUSED(7, jellyplain_reached_rows(crossed, boxes, 3, lent.rows).refusal);
 }
