@@ -10,7 +10,7 @@ fn main() {
     println!("cargo:rerun-if-changed={}", archive.display());
     if !archive.exists() {
         let advice = match named {
-            Some(_) => "JELLYPLAIN_STATICLIB names the folder that has it",
+            Some(_) => "JELLYPLAIN_STATICLIB has to name a folder that has it",
             None => "run `make` in the repository's root, or let JELLYPLAIN_STATICLIB name the folder that has it",
         };
         eprintln!("{} is missing: {advice}", archive.display());
