@@ -21,9 +21,10 @@ SHARED = libjellyplain.so.$(VERSION)
 
 all: static shared $(LIB)/jellyplain.pc
 
-# rt itself sees what has changed and has to be proved again; from nothing that takes about ten minutes.
+# rt itself sees what has changed and has to be proved again; from nothing that takes about a quarter of an hour. Where a proof fails no library is left, so that none of older sources is installed.
 static:
 	@command -v $(RT) >/dev/null || { echo "$(RT), the Rattle toolchain's command, is not on the PATH: nothing is proved and nothing built" >&2; exit 2; }
+	@rm -f $(LIB)/libjellyplain.*
 	$(RT) staticlib api
 	@mkdir -p $(LIB)
 	cp target/staticlib/libapi.a $(LIB)/libjellyplain.a

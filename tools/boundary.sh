@@ -3,7 +3,8 @@
 #   tools/boundary.sh            proves the library and builds target/lib by `make` first
 #   tools/boundary.sh --built    takes target/lib as it stands
 # One version everywhere; the names that the libraries export and need; the header without warnings, and a warning wherever a refusal is passed over; every function, called from C and from C++,
-# with either library (c/tests/calls.c); what is asked of the thread (c/tests/thread.c); the stack (c/tests/stack.c, tools/stack); an installed library, found by pkg-config, and taken away again;
+# with either library (c/tests/calls.c); what is asked of the thread (c/tests/thread.c); the stack (c/tests/stack.c, tools/stack); an installed library, found by pkg-config, and taken away again,
+# with the program of docs/for-engineers.md;
 # the Rust package's tests, and a program without std. What needs a command that isn't here is skipped, and said to be.
 # Exit status 1 where something is otherwise than it has to be, 2 where the library isn't there or isn't built. Nothing is written but below target/ and to a temporary folder.
 set -u
@@ -11,7 +12,7 @@ cd "$(dirname "$0")/.." || exit 2
 case "$*" in
 "") built=no ;;
 --built) built=yes ;;
-*) sed -n '2,9s/^# \{0,1\}//p' "$0"; exit 2 ;;
+*) sed -n '2,10s/^# \{0,1\}//p' "$0"; exit 2 ;;
 esac
 here() { command -v "$1" >/dev/null; }
 skipped() { echo "$1: skipped, there is no $2 here"; }
@@ -119,6 +120,12 @@ else
     skipped "pkg-config's answers for the installed library" pkg-config
 fi
 example -I "$where/include" -L "$where/lib" -ljellyplain || fail "c/example.c with the installed shared library"
+# The program of docs/for-engineers.md, as it stands there, prints what stands there.
+sed -n '/^```c$/,/^```$/{/^```/d;p}' docs/for-engineers.md >"$made/boom.c"
+quiet "$CC" -std=c99 "${warnings[@]}" -I "$where/include" "$made/boom.c" "$where/lib/libjellyplain.a" -o "$made/boom" || fail "the program of docs/for-engineers.md does not compile"
+said=$("$made/boom" <examples/swing.txt 2>&1) && grep -Fqx "    $said" docs/for-engineers.md || fail "the program of docs/for-engineers.md prints '$said' for examples/swing.txt"
+said=$("$made/boom" <examples/refused/pad.txt 2>&1)
+[ $? -eq 1 ] && grep -Fqx "    $said" docs/for-engineers.md || fail "the program of docs/for-engineers.md prints '$said' for examples/refused/pad.txt"
 printf '#include <stdint.h>\nuint32_t jellyplain_version(void);\nuint32_t jellyplain_version(void) { return %d; }\n' "$((number + 10000))" >"$made/other.c"
 quiet "$CC" -shared -fPIC "$made/other.c" -o "$made/other.so" || fail "a library of another version can't be made"
 LD_PRELOAD=$made/other.so LD_LIBRARY_PATH=$where/lib "$made/example" >"$made/printed"
