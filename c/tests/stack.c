@@ -132,7 +132,7 @@ int main(void)
     touched("nothing", nothing);
     size_t own = touched("nothing", nothing), most = 0;
     for (size_t i = 0; i < sizeof calls / sizeof calls[0]; i++) {
-        size_t taken = touched(calls[i].name, calls[i].function) - own;
+        size_t all = touched(calls[i].name, calls[i].function), taken = all > own ? all - own : 0;
         printf("%6zu %s\n", taken, calls[i].name);
         most = taken > most ? taken : most;
     }
