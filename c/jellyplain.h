@@ -17,7 +17,7 @@
  * The stack that a call takes is at most JELLYPLAIN_STACK bytes. By what is asked, in kB: points, pads and lists of times 10; building a move, its transform, a refused run 12; covers, windows and motion boxes
  * 27; building a chain, joining two 34; reading a file 41; trying a pose 79; the others 2. tools/stack prints it from the library's code, and c/tests/stack.c sees it on a painted stack.
  *
- * For who compiles with -pedantic in C before C23: an array of boxes that isn't const is handed over as (const float (*)[6])boxes.
+ * With -pedantic, in C before C23, an array of boxes that isn't const is handed over as (const float (*)[6])boxes.
  */
 #ifndef JELLYPLAIN_H
 #define JELLYPLAIN_H

@@ -59,7 +59,7 @@ pub fn version() -> u32 {
     unsafe { library::jellyplain_version() }
 }
 
-/// Whether the library that is linked fits this package: the same major version, and the same layout of poses and moves. To be asked at a program's start by who would rather not panic later.
+/// Whether the library that is linked fits this package: the same major version, and the same layout of poses and moves. To be asked at a program's start where a panic later is not wanted.
 pub fn compatible() -> bool {
     library::fits(unsafe { library::jellyplain_layout() }, version())
 }
