@@ -446,7 +446,7 @@ impl ReachedRows {
 /// # Ok::<(), Refusal>(())
 /// ```
 pub fn reached_rows(cover: &Bounds, rows: &[Bounds]) -> Result<ReachedRows, Refusal> {
-    library::check_layout();
+    library::check();
     // One row more than are taken tells that there are too many.
     let mut boxes = [[0.0; 6]; library::ROWS + 1];
     let count = rows.len().min(boxes.len());
@@ -454,9 +454,4 @@ pub fn reached_rows(cover: &Bounds, rows: &[Bounds]) -> Result<ReachedRows, Refu
     let mut places = [0; library::ROWS];
     let reached = unsafe { library::jellyplain_reached_rows(&cover.to_array(), boxes.as_ptr(), count, &mut places) };
     answered(reached.refusal, ReachedRows { places, count: reached.count })
-}
-
-/// The version of the archive that was linked: 10000 * major + 100 * minor + patch.
-pub fn version() -> u32 {
-    unsafe { library::jellyplain_version() }
 }

@@ -119,7 +119,6 @@ extern "C" {
     pub fn jellyplain_write_file(moves: *const Rows, count: usize, b: &[f32; 6], out: *mut u8, size: usize) -> Written;
     pub fn jellyplain_day(boxes: &[[f32; 6]; BOOMS], lengths: &[u32; BOOMS], count: usize, starts: &mut [u32; BOOMS]) -> u8;
     pub fn jellyplain_reached_rows(cover: &[f32; 6], rows: *const [f32; 6], rows_count: usize, places: &mut [u32; ROWS]) -> Reached;
-    pub fn jellyplain_version() -> u32;
 }
 
 /// The layout in which poses, moves and chains cross to the archive.
