@@ -1,4 +1,4 @@
-"""The table of refusal numbers, docs/REFUSALS.md, for the tools: `table` is its rows, `said` a refusal in words."""
+"""The table of refusal numbers, docs/REFUSALS.md, for the tools: `table` is its rows, `said` a refusal in words, `advised` the same and what to do."""
 import re
 from typing import NamedTuple
 
@@ -22,3 +22,9 @@ def table():
 def said(number):
     """`refused 12, a chain has ..`"""
     return "refused %d, %s" % (number, next((row.what for row in table() if row.number == number), "a number that is not known"))
+
+
+def advised(number):
+    """`refused 12: a chain has ..; set the times again ..`"""
+    row = next((row for row in table() if row.number == number), Refusal(number, "", "a number that is not known", "see docs/REFUSALS.md"))
+    return "refused %d: %s; %s" % (number, row.what, row.advice)

@@ -1,0 +1,504 @@
+#!/usr/bin/env python3
+"""Tests of tools/plan: answers, roundings, wrong input of every kind, and many damaged plans.
+
+  plan_test.py     exit status 1 where a test fails; 0 with a line where there is nothing to test with
+
+The library is what JELLYPLAIN_LIBRARY names, or is made from target/staticlib/libapi.a by the C compiler, or is target/lib/libjellyplain.so.1.
+"""
+import contextlib
+import copy
+import io
+import json
+import os
+import random
+import re
+import shutil
+import subprocess
+import sys
+import tempfile
+import unittest
+from fractions import Fraction
+
+sys.path.insert(0, os.path.dirname(os.path.abspath(__file__)))
+sys.dont_write_bytecode = True
+
+import binary32
+import pages
+from planning import answers, chains, command, files, library, reading, scene
+
+PLAN = os.path.join(pages.ROOT, "examples", "plan", "orchard.json")
+FOLDER = os.path.join(pages.ROOT, "examples", "plan", "orchard")
+QUESTIONS = ["covers", "nets", "rows", "windows", "day", "draw", "page"]
+SCRATCH = tempfile.mkdtemp()
+
+
+def made_library():
+    """The path of a library to test with, or None."""
+    archive = os.path.join(pages.ROOT, "target", "staticlib", "libapi.a")
+    compiler = shutil.which("cc") or shutil.which("gcc")
+    if os.environ.get("JELLYPLAIN_LIBRARY"):
+        return os.environ["JELLYPLAIN_LIBRARY"]
+    if compiler and os.path.exists(archive):
+        made = os.path.join(SCRATCH, "libjellyplain.so.1")
+        subprocess.run([compiler, "-shared", "-o", made, "-Wl,--whole-archive", archive, "-Wl,--no-whole-archive", "-lm"], check=True)
+        return made
+    return library.DEFAULT if os.path.exists(library.DEFAULT) else None
+
+
+def bytes_of(path):
+    with open(path, "rb") as file:
+        return file.read()
+
+
+def example():
+    """The example plan as Python values."""
+    return json.loads(bytes_of(PLAN))
+
+
+def run(*arguments):
+    """Exit status, what was written, and the lines on standard error."""
+    out, said = os.path.join(SCRATCH, "out"), io.StringIO()
+    with open(out, "w"):
+        pass
+    with contextlib.redirect_stderr(said):
+        status = command.main([*arguments, "-o", out])
+    with open(out, encoding="utf-8") as file:
+        return status, file.read(), said.getvalue().splitlines()
+
+
+def written(text, name="plan.json"):
+    path = os.path.join(SCRATCH, name)
+    with open(path, "wb") as file:
+        file.write(text if isinstance(text, bytes) else text.encode("utf-8", "surrogatepass"))
+    return path
+
+
+def ask(plan, question="covers", *options):
+    """Of a plan as Python values."""
+    return run(question, written(json.dumps(plan)), *options)
+
+
+def boom_of(**changes):
+    return {"name": "a", "mast": [0, 0, 0], "box": [0, -0.5, 1, 10, 0.5, 2], "poses": [{"time": 0, "heading": 0}, {"time": 10, "heading": 60}], **changes}
+
+
+def plan_of(*booms, **changes):
+    return {"booms": list(booms) or [boom_of()], **changes}
+
+
+def poses(*headings):
+    return [{"time": 10 * i, "heading": heading} for i, heading in enumerate(headings)]
+
+
+def read(path=PLAN):
+    return files.read_plan(path)
+
+
+def answered(path=PLAN):
+    return answers.Answers(library.Library(os.environ["JELLYPLAIN_LIBRARY"]), read(path))
+
+
+class Numbers(unittest.TestCase):
+    def test_rounded_to_both_sides(self):
+        rng = random.Random(1)
+        for _ in range(2000):
+            exact = Fraction(rng.randrange(-10 ** 12, 10 ** 12), rng.choice([1, 7, 1000, 10 ** 20, 10 ** 48]))
+            low, high, near = binary32.down(exact), binary32.up(exact), binary32.nearest(exact)
+            self.assertLessEqual(Fraction(low), exact)
+            self.assertGreaterEqual(Fraction(high), exact)
+            self.assertIn(near, (low, high))
+            for value in (low, high):
+                self.assertEqual(value, library.floats([value])[0])
+            self.assertTrue(low == high or abs(binary32.bits(low) - binary32.bits(high)) in (1, 0x80000000), (low, high))
+
+    def test_nearest_is_that_of_the_machine(self):
+        for value in (0.1, -0.1, 1e-45, 3e-46, 16777217, 16777219, 3.4028234e38):
+            self.assertEqual(binary32.nearest(Fraction(value)), library.floats([value])[0])
+        with self.assertRaises(OverflowError):
+            binary32.nearest(Fraction(10) ** 39)
+
+    def test_thousandths_go_outward(self):
+        self.assertEqual([binary32.decimal_text(binary32.thousandths(Fraction(v), up)) for v, up in [("-0.0001", False), ("-0.0001", True), ("1.2341", True), ("1.2341", False)]],
+                         ["-0.001", "0.000", "1.235", "1.234"])
+
+
+class Reach(unittest.TestCase):
+    """Covers, rows, nets, windows and the day of the example."""
+
+    @classmethod
+    def setUpClass(cls):
+        cls.found = answered()
+
+    def test_covers_hold_the_boom(self):
+        for answer in self.found.booms:
+            covers = answer.covers_in_plan(False)
+            for moved in scene.places(answer, scene.pose_times(answer.boom, 17)):
+                for cover, eight in zip(covers, moved):
+                    for p in eight:
+                        self.assertTrue(all(cover[i] - Fraction(1, 10 ** 9) <= Fraction(p[i]) <= cover[i + 3] + Fraction(1, 10 ** 9) for i in range(3)))
+
+    def test_metres_hold_the_covers(self):
+        lines = json.loads(run("covers", PLAN, "--format", "json")[1], parse_float=Fraction)["covers"]
+        for answer in self.found.booms:
+            line = next(line for line in lines if line["boom"] == answer.boom.name and line["of"] == "boom")
+            exact = answer.covers_in_plan(False)[0]
+            for i, corner in enumerate(["x0", "y0", "z0", "x1", "y1", "z1"]):
+                slack = (line[corner] - exact[i]) * (-1 if i < 3 else 1)
+                self.assertTrue(0 <= slack < Fraction(1, 1000), (corner, slack))
+
+    def test_csv_folder_is_the_same_plan(self):
+        for question in QUESTIONS:
+            options = ["--format", "json"] if question in command.FORMATS else []
+            self.assertEqual(run(question, PLAN, *options)[:2], run(question, FOLDER, *options)[:2], question)
+
+    def test_map_table_and_schedule_name_the_same_rows(self):
+        schedule = {line["boom"]: line["rows"] for line in json.loads(run("day", PLAN, "--format", "json")[1])["day"]}
+        table = {line["row"]: line["booms"] for line in json.loads(run("rows", PLAN, "--format", "json")[1])["rows"]}
+        features = json.loads(run("day", PLAN, "--format", "geojson")[1])["features"]
+        on_map = {f["properties"]["name"]: f["properties"]["rows"] for f in features if f["properties"]["what"] == "cover"}
+        rows_on_map = {f["properties"]["name"]: f["properties"]["booms"] for f in features if f["properties"]["what"] == "row"}
+        self.assertEqual(schedule, on_map)
+        self.assertEqual(table, rows_on_map)
+        self.assertEqual(table, {row: [boom for boom in schedule if row in schedule[boom]] for row in table})
+        self.assertEqual(set(re.findall('class="row" data-row="[0-9]+" fill="#d9ecc4"', run("draw", PLAN)[1])), {'class="row" data-row="%d" fill="#d9ecc4"' % i for i, row in enumerate(table.values()) if row})
+
+    def test_rows_that_touch_a_cover_are_never_missed(self):
+        mast = [1234567.1, -7654321.7, 3.3]
+        boom = boom_of(mast=mast)
+        found = json.loads(ask(plan_of(boom), "covers", "--format", "json")[1], parse_float=Fraction)["covers"][0]
+        answer = answers.Answers(library.Library(os.environ["JELLYPLAIN_LIBRARY"]), reading.plan(files.json_values(json.dumps(plan_of(boom))), "p")).booms[0]
+        exact = answer.covers_in_plan(False)[0]
+        edge = exact_decimal(exact[3])
+        text = json.dumps(plan_of(boom, rows=[{"name": "touching", "box": ["EDGE", -8e6, 2e6, 0]}, {"name": "beyond", "box": [1234600, -8e6, 2e6, 0]}])).replace('"EDGE"', edge)
+        rows = json.loads(run("rows", written(text), "--format", "json")[1])["rows"]
+        self.assertEqual([row["booms"] for row in rows], [["a"], []])
+        self.assertGreaterEqual(found["x1"], exact[3])
+
+    def test_more_than_256_rows(self):
+        rows = [{"name": "r%d" % i, "box": [0, i, 5, i + 0.5]} for i in range(-300, 300)]
+        found = json.loads(ask(plan_of(rows=rows), "rows", "--format", "json")[1])["rows"]
+        self.assertEqual([row["row"] for row in found if row["booms"]], ["r%d" % i for i in range(-1, 9)])
+
+    def test_rows_with_heights(self):
+        rows = [{"name": "bed", "box": [0, 0, 0, 5, 5, 0.5]}, {"name": "crown", "box": [0, 0, 0, 5, 5, 1.5]}, {"name": "any", "box": [0, 0, 5, 5]}]
+        self.assertEqual([row["booms"] for row in json.loads(ask(plan_of(rows=rows), "rows", "--format", "json")[1])["rows"]], [[], ["a"], ["a"]])
+
+    def test_origin_is_kept_at_the_mast(self):
+        near, far = [json.loads(ask(plan_of(boom_of(mast=[m, m, 0])), "covers", "--format", "json")[1], parse_float=Fraction)["covers"][0] for m in (0, 5000000)]
+        self.assertEqual([far[c] - near[c] for c in ("x0", "y0", "z0", "x1", "y1", "z1")], [5000000, 5000000, 0] * 2)
+
+    def test_nets(self):
+        def answer(net, height):
+            status, text, _ = ask(plan_of(nets=[{"name": "n", "height": height, **net}]), "nets", "--format", "json")
+            return json.loads(text)["nets"][0]["answer"]
+        self.assertEqual(answer({}, 2.1), "below")
+        self.assertEqual(answer({}, 2), "NOT BELOW")
+        self.assertEqual(answer({"region": [20, 20, 30, 30]}, 0), "not under it")
+        self.assertEqual(answer({"line": [-5, 5, 20, 5]}, 0), "NOT BELOW")
+        self.assertEqual(answer({"line": [9, 20, 20, 9]}, 0), "not under it")
+
+    def test_line_and_rectangle(self):
+        area = [Fraction(v) for v in (0, 0, 2, 1)]
+        for line, expected in [((-1, -1, 3, 3), True), ((-1, 0, 0, 1), True), ((-1, 1, 1, 3), False), ((0, 1, 0, 5), True), ((3, 0, 4, 0), False), ((1, 0.5, 1, 0.5), True), ((2, 1, 5, 9), True)]:
+            self.assertEqual(answers.line_touches([Fraction(v) for v in line], area), expected, line)
+
+    def test_windows(self):
+        self.assertEqual({k for pair, windows in self.found.windows.items() if pair == (0, 2) for k in windows}, {0, 1})
+        self.assertEqual([pair for pair, windows in self.found.windows.items() if windows], [(0, 2)])
+        whole = run("windows", PLAN, "--every", "1", "--format", "csv")[1]
+        self.assertIn("north-west,south-west,may meet,0.000,", whole)
+
+    def test_day(self):
+        runs = self.found.day
+        self.assertEqual([run.end - run.start for run in runs], [4, 4, 8, 12])
+        self.assertGreaterEqual(runs[2].start, runs[0].end)
+
+    def test_page_stands_by_itself(self):
+        text = run("page", PLAN)[1]
+        self.assertEqual(re.findall("https?://[^\"' ]*", text), ["http://www.w3.org/2000/svg"])
+        self.assertFalse(re.findall(r"<script[^>]*src|<link|@import|url\(|fetch|XMLHttp", text))
+        plan = example()
+        plan["name"] = plan["booms"][0]["name"] = "</script><b>&\"'"
+        text = ask(plan, "page")[1]
+        self.assertEqual(text.count("</script>"), 2)
+        self.assertNotIn("<b>&", text)
+
+
+def exact_decimal(value):
+    """A fraction whose denominator is a product of twos and fives as a decimal."""
+    places = 0
+    while (value * 10 ** places).denominator != 1:
+        places += 1
+    whole = value * 10 ** places
+    digits = str(abs(whole.numerator)).rjust(places + 1, "0")
+    return ("-" if whole < 0 else "") + (digits[:-places] + "." + digits[-places:] if places else digits)
+
+
+class Turns(unittest.TestCase):
+    def test_half_turn_is_refused_and_split(self):
+        for heading in (180, 200, -180, 360, 720, 179.95):
+            status, _, said = ask(plan_of(boom_of(poses=poses(0, heading))))
+            self.assertEqual((status, len(said)), (1, 1))
+            self.assertIn("poses 1 and 2: a turn of", said[0])
+            status, text, said = ask(plan_of(boom_of(poses=poses(0, heading))), "covers", "--split", "--format", "json")
+            self.assertEqual(status, 0, said)
+            self.assertIn("is split by", said[0])
+            self.assertLessEqual(json.loads(text)["covers"][0]["x0"], -10)
+        self.assertEqual(ask(plan_of(boom_of(poses=poses(0, 179.8))))[0], 0)
+
+    def test_too_many_parts_of_a_turn(self):
+        status, _, said = ask(plan_of(boom_of(poses=poses(0, 1e30))), "covers", "--split")
+        self.assertEqual((status, len(said)), (1, 1))
+        self.assertIn("a chain has at most 32 poses", said[0])
+
+    def test_half_turn_of_matrices_has_no_way(self):
+        turned = [{"time": 0, "matrix": [[1, 0, 0], [0, 1, 0], [0, 0, 1]]}, {"time": 1, "matrix": [[-1, 0, 0], [0, -1, 0], [0, 0, 1]]}]
+        for options in ([], ["--split"]):
+            status, _, said = ask(plan_of(boom_of(poses=turned)), "covers", *options)
+            self.assertEqual((status, len(said)), (1, 1))
+
+    def test_one_turn_in_three_spellings(self):
+        for kind in ("plain", "rigid"):
+            spelled = [[{"time": 0}, {"time": 9, **turn}] for turn in ({"heading": 90}, {"rotation": {"axis": [0, 0, 2], "degrees": 90}}, {"matrix": [[0, -1, 0], [1, 0, 0], [0, 0, 1]]})]
+            made = {ask(plan_of(boom_of(kind=kind, poses=p)))[1] for p in spelled}
+            self.assertEqual(len(made), 1, made)
+
+    def test_tilt_raises_the_far_end(self):
+        text = ask(plan_of(boom_of(box=[0, 0, 0, 10, 0, 0], poses=[{"time": 0, "tilt": 30}, {"time": 1, "tilt": 30, "heading": 1}])), "covers", "--format", "json")[1]
+        self.assertAlmostEqual(json.loads(text)["covers"][0]["z1"], 5, delta=0.05)
+
+
+class Times(unittest.TestCase):
+    def test_times_that_collapse(self):
+        late = [{"time": 100000.001, "heading": 0}, {"time": 100000.002, "heading": 10}]
+        self.assertEqual(ask(plan_of(boom_of(poses=late)))[0::2], (0, []))
+        both = plan_of(boom_of(), boom_of(name="b", poses=late))
+        status, _, said = ask(both)
+        self.assertEqual((status, len(said)), (0, 1))
+        self.assertIn("warning: boom 'b': poses 1 and 2: the times 100000.001 and 100000.002 are one float, 100000, on a clock that starts at 0", said[0])
+        status, _, said = ask(both, "windows")
+        self.assertEqual((status, len(said)), (1, 1))
+        self.assertIn("refused 12: ", said[0])
+        status, _, said = ask(plan_of(boom_of(poses=[{"time": 0}, {"time": 100000.001}, {"time": 100000.002}])))
+        self.assertEqual((status, len(said)), (1, 1))
+        self.assertIn("poses 2 and 3: the times 100000.001 and 100000.002 are one float", said[0])
+
+    def test_ticks_that_collapse(self):
+        status, _, said = ask(plan_of(boom_of(poses=[{"time": 0}, {"time": 1e9}]), boom_of(name="b", poses=[{"time": 0}, {"time": 10}])), "windows", "--every", "10000000")
+        self.assertEqual((status, len(said)), (0, 0))
+        status, _, said = ask(plan_of(boom_of(poses=[{"time": 0}, {"time": 1e9}, {"time": 1000000000.5}]), boom_of(name="b")), "windows")
+        self.assertEqual((status, len(said)), (1, 1))
+
+
+def damaged(change):
+    """The example with one change, as Python values."""
+    plan = example()
+    change(plan)
+    return json.dumps(plan)
+
+
+def put(*path):
+    """Sets the value at a path, the last of the arguments, or deletes where that is `delete`."""
+    *front, key, value = path
+
+    def change(plan):
+        place = plan
+        for step in front:
+            place = place[step]
+        if value == "delete":
+            del place[key]
+        else:
+            place[key] = value
+    return change
+
+
+class WrongPlans(unittest.TestCase):
+    """What is wrong gets one line, with its place, and its exit status."""
+    CASES = [
+        ("", 2, "it is not JSON"), ("{", 2, "it is not JSON"), ("[1, 2]", 2, "an object is wanted here, not a list"), ("null", 2, "not null"), ("{}", 2, "the key 'booms' is missing"),
+        ('{"booms": []}', 2, "there is no boom in it"), ('{"booms": 3}', 2, "a list is wanted here, not a number"), ("[" * 100000, 2, "lists within lists"),
+        ('{"booms": [], "booms": []}', 2, "the key 'booms' is there twice"), (b"\xff\xfe{}", 2, "it is not UTF-8"), ('{"a\\nb": 1}', 2, "unknown key 'a?b'"),
+        ('{"booms": [{"name": "\\ud800"}]}', 2, "is no name"),
+        (damaged(put("boms", [])), 2, "unknown key 'boms'; known are name"),
+        (damaged(put("booms", 0, "poses", 1, "tme", 3)), 2, "boom 'north-west': pose 2: unknown key 'tme'"),
+        (damaged(put("booms", 0, "poses", 1, "time", "delete")), 2, "boom 'north-west': pose 2: the key 'time' is missing"),
+        (damaged(put("booms", 0, "poses", 1, "time", "40")), 2, "pose 2: time: a number is wanted here, not text"),
+        (damaged(put("booms", 0, "poses", 1, "time", None)), 2, "not null"), (damaged(put("booms", 0, "poses", 1, "time", True)), 2, "not true or false"),
+        (damaged(put("booms", 0, "poses", 1, "time", float("nan"))), 2, "'NaN' is not a decimal number"), (damaged(put("booms", 0, "poses", 1, "time", float("inf"))), 2, "'Infinity' is not"),
+        (damaged(put("booms", 0, "poses", 1, "time", 1)).replace('"time": 1,', '"time": 1e400,'), 2, "1e400 is beyond the floats"),
+        (damaged(put("booms", 0, "poses", 1, "time", 1)).replace('"time": 1,', '"time": 1e999999999,'), 2, "is not a decimal number"),
+        (damaged(put("booms", 0, "poses", 1, "time", 1)).replace('"time": 1,', '"time": 1%s,' % ("0" * 5000)), 2, "at most 60 characters"),
+        (damaged(put("booms", 0, "poses", 1, "heading", 1e30)), 1, "a turn of 1e+30"),
+        (damaged(put("booms", 0, "poses", [])), 2, "boom 'north-west': there is no pose"), (damaged(put("booms", 0, "poses", "delete")), 2, "the key 'poses' is missing"),
+        (damaged(lambda plan: plan["booms"][0]["poses"].pop()), 1, "boom 'north-west': refused 12: a chain has fewer than 2 poses"),
+        (damaged(put("booms", 0, "poses", [{"time": t} for t in range(33)])), 1, "refused 12: "),
+        (damaged(put("booms", 0, "poses", 1, "time", 0)), 1, "refused 12: "), (damaged(put("booms", 0, "poses", 1, "time", -5)), 1, "refused 12: "),
+        (damaged(put("booms", 0, "poses", 1, "pad", -1)), 1, "boom 'north-west': pose 2: refused 16: a pad is below zero; set a pad of zero or more"),
+        (damaged(put("booms", 0, "poses", 1, "matrix", [[1, 0, 0]])), 2, "only one of 'heading' and 'matrix'"),
+        (damaged(put("booms", 0, "poses", 1, {"time": 40, "matrix": [[2, 0, 0], [0, 1, 0], [0, 0, 1]]})), 1, "pose 2: refused 17: "),
+        (damaged(put("booms", 0, "poses", 1, {"time": 40, "matrix": [[1, 0, 0], [0, 1, 0], [0, 0, -1]]})), 1, "refused 18: "),
+        (damaged(put("booms", 3, "poses", 1, {"time": 30, "matrix": [[0, 0, 0], [0, 1, 0], [0, 0, 1]]})), 1, "boom 'south-east': pose 2: refused 4: "),
+        (damaged(put("booms", 0, "poses", 1, {"time": 40, "rotation": {"axis": [0, 0, 0], "degrees": 3}})), 2, "rotation: the axis has no length"),
+        (damaged(put("booms", 0, "poses", 1, {"time": 40, "tilt": 3, "matrix": [[1, 0, 0], [0, 1, 0], [0, 0, 1]]})), 2, "'tilt' goes with 'heading'"),
+        (damaged(put("booms", 0, "poses", 1, "at", [1e38, 0, 0])), 2, "is beyond the floats"),
+        (damaged(put("booms", 0, "box", [0, 0, 0, 1, 1])), 2, "box: 6 numbers are wanted here, not 5"), (damaged(put("booms", 0, "box", [5, 0, 0, 1, 1, 1])), 1, "boom 'north-west': box: on x: refused 7: "),
+        (damaged(put("booms", 0, "boxes", [[0] * 6])), 2, "only one of 'box' and 'boxes'"), (damaged(put("booms", 2, "boxes", [])), 1, "boom 'south-west': refused 14: "),
+        (damaged(put("booms", 2, "boxes", [[0] * 6] * 17)), 1, "refused 14: "), (damaged(put("booms", 0, "kind", "stiff")), 2, "kind: plain or rigid is wanted here"),
+        (damaged(put("booms", 0, "kind", [])), 2, "kind: plain or rigid"), (damaged(put("booms", 1, "name", "north-west")), 2, "boom 'north-west': its name is there twice"),
+        (damaged(put("booms", 1, "name", "")), 2, "is no name"), (damaged(put("booms", 1, "name", "a;b")), 2, "is no name"), (damaged(put("booms", 1, "name", 5)), 2, "a name is wanted here"),
+        (damaged(put("booms", 1, "mast", "delete")), 2, "'at' is missing here, and the boom has no 'mast'"), (damaged(put("booms", 1, "run_ticks", 1.5)), 2, "run_ticks: 1.5 is not a whole number"),
+        (damaged(put("rows", 2, "name", "row 1")), 2, "row 'row 1': its name is there twice"), (damaged(put("rows", 2, "box", [0, 5, 1, 2])), 1, "row 'row 3': box: on y: refused 7: "),
+        (damaged(put("rows", {"a": 1})), 2, "a list is wanted here, not an object"), (damaged(put("rows", 2, None)), 2, "row 3: an object is wanted"),
+        (damaged(put("nets", 0, "height", "delete")), 2, "net 'hail net': the key 'height' is missing"), (damaged(put("nets", 0, "line", [0, 0, 1, 1])), 2, "only one of 'region' and 'line'"),
+        (damaged(put("depth", 13)), 1, "refused 8: "), (damaged(put("depth", -1)), 2, "depth: -1 is not a whole number"), (damaged(put("depth", 1)).replace('"depth": 1,', '"depth": 1e37,'), 2, "depth: 1e37"),
+        (damaged(put("tick_seconds", 0)), 2, "a number above 0"), (damaged(put("name", 7)), 2, "name: a name is wanted here"),
+    ]
+
+    def test_each(self):
+        for text, status, part in self.CASES:
+            found, _, said = run("covers", written(text))
+            self.assertEqual((found, len(said)), (status, 1), (part, said))
+            self.assertIn(part, said[0])
+            self.assertTrue(said[0].startswith("tools/plan: %s: " % os.path.join(SCRATCH, "plan.json")), said)
+
+    def test_byte_order_mark_is_passed_over(self):
+        self.assertEqual(run("covers", written(b"\xef\xbb\xbf" + bytes_of(PLAN)))[0], 0)
+
+    def test_days_that_are_refused(self):
+        nine = plan_of(*[boom_of(name="b%d" % i) for i in range(9)])
+        for plan in (nine, plan_of(boom_of(run_ticks=0)), plan_of(boom_of(run_ticks=1001)), plan_of(boom_of(), tick_seconds=0.001)):
+            status, _, said = ask(plan, "day")
+            self.assertEqual((status, len(said)), (1, 1))
+            self.assertIn("refused 22: ", said[0])
+        self.assertEqual(ask(nine)[0], 0)
+
+
+class WrongFolders(unittest.TestCase):
+    CASES = [
+        ("booms.csv", None, "there is no booms.csv"), ("poses.csv", None, "there is no poses.csv"), ("poses.csv", "", "poses.csv: it is empty"), ("poses.csv", "boom;time;x;y;z;heading\n", "separated by commas"),
+        ("poses.csv", "boom,time,x,y,z\n", "the column 'heading' is missing"), ("poses.csv", "boom,time,x,y,z,heading,heading\n", "is there twice"), ("poses.csv", "boom,time,x,y,z,heading\n", "there is no pose"),
+        ("poses.csv", "boom,time,x,y,z,heading\nnorth-west,0,0,0\n", "poses.csv: line 2: the cell of 'z' is empty"), ("poses.csv", "boom,time,x,y,z,heading\nnorth-west,0,0,0,0,0,0,0\n", "line 2: 8 cells for 6 columns"),
+        ("poses.csv", "boom,time,x,y,z,heading\nnobody,0,0,0,0,0\n", "line 2: there is no boom 'nobody'"), ("poses.csv", "boom,time,x,y,z,heading\nnorth-west,zero,0,0,0,0\n", "boom 'north-west': pose 1: time: 'zero' is not a decimal number"),
+        ("poses.csv", 'boom,time,x,y,z,heading\n"north-west,0,0,0,0,0\n', "it is not CSV"), ("poses.csv", "boom,time,x,y,z,heading\n\0\n", "poses.csv: "), ("poses.csv", b"boom,\xff", "it is not UTF-8"),
+        ("booms.csv", "boom,x0,y0,z0,x1,y1,z1\n", "there is no boom"), ("rows.csv", "row,x0,y0,x1,y1,z0,z1\na,0,0,1,1,5,\n", "rows.csv: line 2: z0 and z1"),
+        ("nets.csv", "net,height,x0\na,3,1\n", "nets.csv: line 2: x0, y0, x1 and y1 are all given"), ("settings.csv", "setting,value\ndeph,3\n", "settings.csv: line 2: 'deph' is no setting"),
+    ]
+
+    def test_each(self):
+        for file, text, part in self.CASES:
+            folder = os.path.join(SCRATCH, "folder")
+            shutil.rmtree(folder, ignore_errors=True)
+            shutil.copytree(FOLDER, folder)
+            os.remove(os.path.join(folder, file))
+            if text is not None:
+                written(text, os.path.join("folder", file))
+            status, _, said = run("covers", folder)
+            self.assertEqual(len(said), 1, (part, said))
+            self.assertEqual(status, 2, said)
+            self.assertIn(part, said[0])
+
+
+class WrongUsage(unittest.TestCase):
+    def test_arguments(self):
+        for arguments, part in [([], "required"), (["boxes", PLAN], "invalid choice"), (["covers"], "required"), (["covers", PLAN, "--format", "pdf"], "invalid choice"), (["covers", PLAN, "--deep"], "unrecognized"),
+                                (["covers", PLAN, "--depth", "x"], "--depth: 'x' is not a decimal number"), (["windows", PLAN, "--every", "0"], "--every: 0: seconds above 0"), (["windows", PLAN, "--format", "geojson"], "invalid choice"),
+                                (["covers", "/nowhere/plan.json"], "/nowhere/plan.json: No such file"), (["covers", os.path.join(FOLDER, "poses.csv")], "name the folder"), (["covers", SCRATCH], "there is no booms.csv"),
+                                (["covers", PLAN, "-o", "/nowhere/out"], "/nowhere/out: No such file"), (["covers", PLAN, "--library", "/nowhere/lib"], "run `make` first"), (["covers", PLAN, "--library", PLAN], "can't be loaded"),
+                                (["covers", "a\nb"], "a?b: No such file")]:
+            said = io.StringIO()
+            with contextlib.redirect_stderr(said):
+                status = command.main(arguments)
+            self.assertEqual((status, said.getvalue().count("\n")), (2, 1), (arguments, said.getvalue()))
+            self.assertIn(part, said.getvalue())
+
+    def test_the_program(self):
+        program = os.path.join(pages.ROOT, "tools", "plan")
+        asked = subprocess.run([program, "covers", PLAN], stdout=subprocess.PIPE, text=True, check=True).stdout
+        self.assertEqual(asked, run("covers", PLAN)[1])
+        self.assertEqual(subprocess.run([program, "covers", "-"], input=bytes_of(PLAN), stdout=subprocess.PIPE, check=True).stdout.decode(), asked)
+        self.assertIn("exit status", subprocess.run([program, "--help"], stdout=subprocess.PIPE, text=True, check=True).stdout.lower())
+        with open("/dev/full", "w") as full:
+            ended = subprocess.run([program, "covers", PLAN], stdout=full, stderr=subprocess.PIPE, text=True)
+        self.assertEqual((ended.returncode, ended.stderr.count("\n")), (2, 1), ended.stderr)
+
+
+STRANGE = [None, True, "", "x", [], {}, [[]], -1, 0, 1, 0.1, 1e-60, 1e10, 1e37, 1e300, -1e37, 3.4e38, float("nan"), float("-inf"), 2 ** 70, "plain", [1, 2, 3], [0] * 6, [[0] * 6], [5, 5, 5, 1, 1, 1], {"name": "q"}]
+
+
+def places_of(value, path=()):
+    yield path
+    for key, inner in (value.items() if isinstance(value, dict) else enumerate(value) if isinstance(value, list) else []):
+        yield from places_of(inner, (*path, key))
+
+
+def mutated(rng, plan):
+    """Some values of a plan replaced, left out, doubled or exchanged."""
+    plan = copy.deepcopy(plan)
+    for _ in range(rng.choice([1, 1, 1, 2, 4])):
+        path = rng.choice([path for path in places_of(plan) if path])
+        holder = plan
+        for step in path[:-1]:
+            holder = holder[step]
+        kind = rng.randrange(6)
+        if kind == 0:
+            del holder[path[-1]]
+        elif kind == 1 and isinstance(holder, list):
+            holder.insert(path[-1], copy.deepcopy(holder[path[-1]]))
+        elif kind == 2 and isinstance(holder, dict):
+            holder["q%d" % rng.randrange(3)] = holder.pop(path[-1])
+        elif kind == 3 and isinstance(holder[path[-1]], (int, float)):
+            holder[path[-1]] = rng.choice([-1, 1, 10, 1e-9, 1e9, 1e20, 1e30]) * holder[path[-1]] + rng.choice([0, 0, 1e-7, 180, 360])
+        else:
+            holder[path[-1]] = copy.deepcopy(rng.choice(STRANGE))
+    return json.dumps(plan)
+
+
+def scrambled(rng, text):
+    """Some characters of a text changed."""
+    for _ in range(rng.choice([1, 2, 5])):
+        i, j = rng.randrange(len(text)), rng.randrange(1, 12)
+        text = text[:i] + rng.choice(["", "0", "e", "-", ",", "]", "{", '"', "9999", "\n", "\\", "é", "\0"]) + text[i + rng.choice([0, 1, j]):]
+    return text
+
+
+class DamagedPlans(unittest.TestCase):
+    """Whatever is in a plan, there is an answer or one line, and never a fault of the tool's own."""
+
+    def hold(self, status, said, what):
+        self.assertIn(status, (0, 1, 2), what)
+        self.assertFalse(any("a fault of its own" in line for line in said), (said, what))
+        self.assertTrue(status == 0 or len(said) == 1, (said, what))
+        self.assertTrue(all(line.startswith("tools/plan: ") for line in said), said)
+
+    def test_json(self):
+        rng, plan, seen = random.Random(7), example(), {0: 0, 1: 0, 2: 0}
+        for i in range(500):
+            text = mutated(rng, plan) if i % 4 else scrambled(rng, json.dumps(plan))
+            question = rng.choice(QUESTIONS)
+            status, _, said = run(question, written(text), "--depth", "3", *rng.choice([[], [], ["--split"], ["--without-pads"]]))
+            self.hold(status, said, (i, question, text))
+            seen[status] += 1
+        self.assertGreater(min(seen.values()), 20, seen)
+
+    def test_csv(self):
+        rng = random.Random(8)
+        texts = {file: bytes_of(os.path.join(FOLDER, file)).decode() for file in sorted(os.listdir(FOLDER))}
+        folder = os.path.join(SCRATCH, "damaged")
+        os.makedirs(folder, exist_ok=True)
+        for i in range(150):
+            chosen = rng.choice(sorted(texts))
+            for file, text in texts.items():
+                written(scrambled(rng, text) if file == chosen else text, os.path.join("damaged", file))
+            question = rng.choice(QUESTIONS)
+            status, _, said = run(question, folder, "--depth", "3")
+            self.hold(status, said, (i, question, chosen))
+
+
+if __name__ == "__main__":
+    os.environ["JELLYPLAIN_LIBRARY"] = made_library() or ""
+    try:
+        if os.environ["JELLYPLAIN_LIBRARY"]:
+            unittest.main(verbosity=0)
+        print("tools/plan_test.py: skipped, there is neither target/lib/libjellyplain.so.1 nor target/staticlib/libapi.a with a C compiler")
+    finally:
+        shutil.rmtree(SCRATCH, ignore_errors=True)

@@ -1,0 +1,158 @@
+"""The command line of tools/plan."""
+import argparse
+import os
+import sys
+from dataclasses import replace
+
+from planning import chains, drawing, files, geojson, numbers, output, page, reading
+from planning.answers import Answers
+from planning.ending import Ending, bad, numbered, one_line
+from planning.library import DEFAULT, Library
+
+ABOUT = """\
+Answers a plan of booms in metres and seconds, through the proved library.
+
+PLAN is a JSON file, a folder of CSV files (booms.csv, poses.csv; rows.csv, nets.csv and settings.csv where there are such), or - for JSON from standard
+input; docs/for-planners.md has their layout. Lengths are in metres, times in seconds, angles in degrees against the clock seen from above; answers are
+rounded outward to the millimetre."""
+EPILOG = """\
+Exit status: 0 with an answer, 1 where the plan is refused (docs/REFUSALS.md has the numbers), 2 for bad usage, a bad file or no library; then one line on
+standard error says what and where. The library is target/lib/libjellyplain.so.1, which `make` writes, or what --library or JELLYPLAIN_LIBRARY names."""
+QUESTIONS = {
+    "covers": "the box that holds each boom at every time, without and with its spray",
+    "nets": "whether each boom's cover stays below each net that it stands under, and by how much",
+    "rows": "which booms reach each row",
+    "windows": "for each two booms, when they may meet",
+    "day": "from which tick to which each boom runs so that no two that run ever meet, and the rows that it reaches",
+    "draw": "the plan from above and from the side, as SVG",
+    "page": "one HTML page with a time slider, which needs nothing else",
+}
+FORMATS = {"covers": ["table", "csv", "json", "geojson"], "nets": ["table", "csv", "json", "geojson"], "rows": ["table", "csv", "json", "geojson"], "windows": ["table", "csv", "json"],
+           "day": ["table", "csv", "json", "geojson"]}
+
+
+class Parser(argparse.ArgumentParser):
+    """Says what is wrong with its arguments in one line."""
+
+    def error(self, message):
+        raise bad("%s; see tools/plan --help" % one_line(message))
+
+
+def depth(text):
+    return numbers.whole(text, 0, reading.MOST_DEPTH)
+
+
+def seconds(text):
+    value = numbers.exact(text)
+    if value <= 0:
+        raise bad("%s: seconds above 0 are wanted" % text)
+    return value
+
+
+def parser():
+    made = Parser(prog="tools/plan", description=ABOUT, epilog=EPILOG, formatter_class=argparse.RawDescriptionHelpFormatter, allow_abbrev=False)
+    questions = made.add_subparsers(dest="question", metavar="QUESTION", required=True)
+    for name, about in QUESTIONS.items():
+        one = questions.add_parser(name, help=about, description=about[0].upper() + about[1:] + ".", epilog=EPILOG, formatter_class=argparse.RawDescriptionHelpFormatter, allow_abbrev=False)
+        one.add_argument("plan", metavar="PLAN", help="a JSON file, a folder of CSV files, or -")
+        one.add_argument("-o", dest="out", metavar="FILE", help="write the answer to FILE (default: standard output)")
+        one.add_argument("--library", metavar="FILE", help="the shared library")
+        one.add_argument("--depth", metavar="N", help="0 to 12: each move is worked in 2^N slices; greater is tighter and slower (default: the plan's, or 10)")
+        one.add_argument("--split", action="store_true", help="set poses on the way where a turn has 180 degrees or more, which is refused otherwise")
+        one.add_argument("--without-pads", action="store_true", help="leave the spray aside in the covers, windows and the day (nets leave it aside anyway, rows never)")
+        if name in FORMATS:
+            one.add_argument("--format", choices=FORMATS[name], default="table", help="default: table")
+        if name in ("windows", "page"):
+            one.add_argument("--every", metavar="SECONDS", help="the length of a window (default: the plan's window_seconds, or a twentieth of the plan's time)")
+        if name in ("day", "page"):
+            one.add_argument("--tick", metavar="SECONDS", help="the length of a tick (default: the plan's tick_seconds, or 1)")
+        if name == "draw":
+            one.add_argument("--view", choices=["both", "above", "side"], default="both", help="default: both")
+            one.add_argument("--end-box", action="store_true", help="with a dashed box round each boom's end poses, which the boom may leave on the way")
+    return made
+
+
+def with_options(plan, options):
+    """The plan with what the command line says otherwise."""
+    for name, field, read in (("depth", "depth", depth), ("every", "window_seconds", seconds), ("tick", "tick_seconds", seconds)):
+        if getattr(options, name, None) is not None:
+            with reading.at("--" + name):
+                plan = replace(plan, **{field: read(getattr(options, name))})
+    return plan
+
+
+def with_short_turns(plan, split, warn):
+    booms = []
+    for boom in plan.booms:
+        with reading.at("boom '%s'" % boom.name):
+            booms.append(chains.with_turns_split(boom, split, warn))
+    return replace(plan, booms=tuple(booms))
+
+
+def text_of(answers, options):
+    """The answer to the question, as text."""
+    if options.question == "draw":
+        return drawing.picture(answers, options.view, options.end_box)
+    if options.question == "page":
+        return page.page(answers)
+    if options.format == "geojson":
+        return geojson.geojson_text(answers)
+    records, empty = {
+        "covers": (lambda: output.cover_records(answers, answers.with_pads), ""),
+        "nets": (lambda: output.net_records(answers), "the plan has no nets"),
+        "rows": (lambda: output.row_records(answers), "the plan has no rows"),
+        "windows": (lambda: output.window_records(answers), "the plan has one boom"),
+        "day": (lambda: output.day_records(answers), ""),
+    }[options.question]
+    return formatted(options, answers.plan.name, list(records()), empty)
+
+
+def formatted(options, name, records, empty):
+    if options.format == "table":
+        return output.table_text(records, empty)
+    if options.format == "json":
+        return output.json_text({"plan": name, "depth": options.used_depth, options.question: records}) + "\n"
+    if options.question == "rows":
+        records = [{"row": record["row"], "boom": boom} for record in records for boom in record["booms"] or [None]]
+    return output.csv_text(records)
+
+
+def warn_of_nets(answers, warn):
+    for (n, b), found in answers.nets.items():
+        if not found.below():
+            warn("boom '%s': its cover is not below net '%s'" % (answers.booms[b].boom.name, answers.plan.nets[n].name))
+
+
+def answered(options, warn):
+    library = Library(options.library or os.environ.get("JELLYPLAIN_LIBRARY") or DEFAULT)
+    with reading.at(one_line(options.plan)):
+        plan = with_options(files.read_plan(options.plan), options)
+        options.used_depth = plan.depth
+        try:
+            answers = Answers(library, with_short_turns(plan, options.split, warn), not options.without_pads, warn)
+            text = text_of(answers, options)
+        except OverflowError:
+            raise numbered(5)
+        if options.question in ("nets", "draw", "page"):
+            warn_of_nets(answers, warn)
+    files.write_text(options.out, text)
+
+
+def main(arguments):
+    """The exit status; warnings are printed only with an answer, so that what is wrong is one line."""
+    warnings = []
+    try:
+        options = parser().parse_args(arguments)
+        answered(options, warnings.append)
+    except Ending as ending:
+        print("tools/plan: " + one_line(ending.text, 1000), file=sys.stderr)
+        return ending.status
+    except (KeyboardInterrupt, MemoryError) as problem:
+        print("tools/plan: %s" % ("interrupted" if isinstance(problem, KeyboardInterrupt) else "out of memory"), file=sys.stderr)
+        return 2
+    except Exception as problem:        # not to be reached: whoever uses it is still told in one line
+        print("tools/plan: a fault of its own: %s: %s" % (type(problem).__name__, one_line(str(problem))), file=sys.stderr)
+        return 2
+    for text in dict.fromkeys(warnings):
+        print("tools/plan: %s: warning: %s" % (one_line(options.plan), one_line(text, 1000)), file=sys.stderr)
+    return 0
