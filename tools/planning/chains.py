@@ -59,8 +59,13 @@ def collapse_text(found, zero):
 
 
 def look_at_times(boom, start, warn):
-    """Refuses times that collapse on the boom's own clock, and warns of those that would on the plan's."""
+    """Says which times don't rise, refuses those that collapse on the boom's own clock, and warns of those that would on the plan's."""
     times, own = [pose.time for pose in boom.poses], boom.poses[0].time
+    if not 2 <= len(times) <= POSES:
+        raise numbered(12, "poses: %d; " % len(times))
+    for i, (a, b) in enumerate(pairs(times)):
+        if a >= b:
+            raise numbered(12, "%s: the times %s and %s don't rise; " % (places(i), shown(a), shown(b)))
     found = collapsed(times, own)
     if found:
         raise numbered(12, "%s: %s; set them further apart, or count from the start of the swing; " % (places(found[0]), collapse_text(found, own)))
