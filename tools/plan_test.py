@@ -422,6 +422,29 @@ class WrongUsage(unittest.TestCase):
         self.assertEqual((ended.returncode, ended.stderr.count("\n")), (2, 1), ended.stderr)
 
 
+class Docs(unittest.TestCase):
+    """What docs/for-planners.md shows is what is printed, and its pictures are those that are drawn."""
+
+    def test_commands(self):
+        page = bytes_of(os.path.join(pages.ROOT, "docs", "for-planners.md")).decode()
+        shown = re.findall(r"^    \$ tools/plan (.*)\n((?:    (?!\$ ).*\n)*)", page, re.M)
+        self.assertGreater(len(shown), 9)
+        here = os.getcwd()
+        os.chdir(pages.ROOT)
+        try:
+            for line, expected in shown:
+                if " -o " not in line:
+                    _, text, said = run(*line.split())
+                    self.assertEqual("".join("    %s\n" % l for l in text.splitlines() + said), expected, line)
+        finally:
+            os.chdir(here)
+
+    def test_pictures(self):
+        for picture, plan, options in (("orchard", "orchard", []), ("guarantee", "guarantee", ["--end-box", "--view", "above"])):
+            drawn = run("draw", os.path.join(pages.ROOT, "examples", "plan", plan + ".json"), *options)[1]
+            self.assertEqual(drawn, bytes_of(os.path.join(pages.ROOT, "docs", picture + ".svg")).decode(), picture)
+
+
 STRANGE = [None, True, "", "x", [], {}, [[]], -1, 0, 1, 0.1, 1e-60, 1e10, 1e37, 1e300, -1e37, 3.4e38, float("nan"), float("-inf"), 2 ** 70, "plain", [1, 2, 3], [0] * 6, [[0] * 6], [5, 5, 5, 1, 1, 1], {"name": "q"}]
 
 

@@ -24,9 +24,10 @@ fi
 if command -v python3 >/dev/null; then
     tools/trusted --check || fail "tools/trusted --check: docs/GUARANTEE.md and the definitions differ"
     tools/numbers --check || fail "tools/numbers --check: a text and the table of refusal numbers differ"
+    python3 tools/plan_test.py 2>&1 || fail "tools/plan_test.py: a test of tools/plan above fails"
     tools/certificate --stamp
 else
-    echo "tools/trusted --check, tools/numbers --check and tools/certificate --stamp: skipped, there is no python3 here"
+    echo "tools/trusted --check, tools/numbers --check, tools/plan_test.py and tools/certificate --stamp: skipped, there is no python3 here"
 fi
 echo "$verdict"
 exit "$status"

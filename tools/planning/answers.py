@@ -176,7 +176,7 @@ class Answers:
     def look_at_plan_clock(self, boom):
         found = chains.collapsed([pose.time for pose in boom.poses], self.plan.start())
         if found:
-            raise numbered(12, "boom '%s': %s: %s; " % (boom.name, chains.places(found[0]), chains.collapse_text(found, self.plan.start())))
+            raise numbered(12, "boom '%s': %s: %s; set its swing nearer to the plan's start; " % (boom.name, chains.places(found[0]), chains.collapse_text(found, self.plan.start())))
 
     def asked_in_parts(self, chain, other, box, other_box):
         """The library takes 64 ticks at a time; parts share a tick."""
