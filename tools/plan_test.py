@@ -23,8 +23,9 @@ sys.path.insert(0, os.path.dirname(os.path.abspath(__file__)))
 sys.dont_write_bytecode = True
 
 import binary32
+import move_files
 import pages
-from planning import answers, chains, command, files, library, reading, scene
+from planning import answers, chains, command, files, library, numbers, reading, scene
 
 PLAN = os.path.join(pages.ROOT, "examples", "plan", "orchard.json")
 FOLDER = os.path.join(pages.ROOT, "examples", "plan", "orchard")
@@ -168,7 +169,7 @@ class Reach(unittest.TestCase):
         found = json.loads(ask(plan_of(boom), "covers", "--format", "json")[1], parse_float=Fraction)["covers"][0]
         answer = answers.Answers(library.Library(os.environ["JELLYPLAIN_LIBRARY"]), reading.plan(files.json_values(json.dumps(plan_of(boom))), "p")).booms[0]
         exact = answer.covers_in_plan(False)[0]
-        edge = exact_decimal(exact[3])
+        edge = numbers.exact_text(exact[3])
         text = json.dumps(plan_of(boom, rows=[{"name": "touching", "box": ["EDGE", -8e6, 2e6, 0]}, {"name": "beyond", "box": [1234600, -8e6, 2e6, 0]}])).replace('"EDGE"', edge)
         rows = json.loads(run("rows", written(text), "--format", "json")[1])["rows"]
         self.assertEqual([row["booms"] for row in rows], [["a"], []])
@@ -182,6 +183,11 @@ class Reach(unittest.TestCase):
     def test_rows_with_heights(self):
         rows = [{"name": "bed", "box": [0, 0, 0, 5, 5, 0.5]}, {"name": "crown", "box": [0, 0, 0, 5, 5, 1.5]}, {"name": "any", "box": [0, 0, 5, 5]}]
         self.assertEqual([row["booms"] for row in json.loads(ask(plan_of(rows=rows), "rows", "--format", "json")[1])["rows"]], [[], ["a"], ["a"]])
+
+    def test_origin_is_kept_near_a_carriage(self):
+        poses_at = [{"time": 0, "at": [900, 0, 0]}, {"time": 9, "at": [910, 0, 0], "heading": 60}]
+        made = [ask(plan_of(boom_of(mast=mast, poses=poses_at)))[1] for mast in ([0, 0, 0], [905, 0, 0])]
+        self.assertEqual(made[0], made[1])
 
     def test_origin_is_kept_at_the_mast(self):
         near, far = [json.loads(ask(plan_of(boom_of(mast=[m, m, 0])), "covers", "--format", "json")[1], parse_float=Fraction)["covers"][0] for m in (0, 5000000)]
@@ -213,6 +219,17 @@ class Reach(unittest.TestCase):
         self.assertEqual([run.end - run.start for run in runs], [4, 4, 8, 12])
         self.assertGreaterEqual(runs[2].start, runs[0].end)
 
+    def test_move_files_hold_the_poses(self):
+        folder, said = os.path.join(SCRATCH, "moves"), io.StringIO()
+        with contextlib.redirect_stderr(said), contextlib.redirect_stdout(io.TextIOWrapper(io.BytesIO())):
+            self.assertEqual(command.main(["moves", PLAN, "-o", folder]), 0, said.getvalue())
+        self.assertEqual(sorted(os.listdir(folder)), ["north-east.txt", "north-west.txt", "south-east.txt", "south-west.2.txt", "south-west.txt"])
+        for answer in self.found.booms:
+            values = move_files.read(bytes_of(os.path.join(folder, answer.boom.name + ".txt")))
+            poses = [chains.pose_floats(pose, answer.origin, answer.own, True) for pose in answer.boom.poses]
+            expected = [value for time, entries, pad in poses for value in (time, *entries[:12], pad)] + answer.boxes[0]
+            self.assertEqual(values, [binary32.bits(value) for value in expected])
+
     def test_page_stands_by_itself(self):
         text = run("page", PLAN)[1]
         self.assertEqual(re.findall("https?://[^\"' ]*", text), ["http://www.w3.org/2000/svg"])
@@ -222,16 +239,6 @@ class Reach(unittest.TestCase):
         text = ask(plan, "page")[1]
         self.assertEqual(text.count("</script>"), 2)
         self.assertNotIn("<b>&", text)
-
-
-def exact_decimal(value):
-    """A fraction whose denominator is a product of twos and fives as a decimal."""
-    places = 0
-    while (value * 10 ** places).denominator != 1:
-        places += 1
-    whole = value * 10 ** places
-    digits = str(abs(whole.numerator)).rjust(places + 1, "0")
-    return ("-" if whole < 0 else "") + (digits[:-places] + "." + digits[-places:] if places else digits)
 
 
 class Turns(unittest.TestCase):
@@ -433,7 +440,7 @@ class Docs(unittest.TestCase):
         os.chdir(pages.ROOT)
         try:
             for line, expected in shown:
-                if " -o " not in line:
+                if " -o " not in line:      # the others write files
                     _, text, said = run(*line.split())
                     self.assertEqual("".join("    %s\n" % l for l in text.splitlines() + said), expected, line)
         finally:

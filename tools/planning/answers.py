@@ -41,14 +41,14 @@ def line_touches(line, area):
 
 
 class BoomAnswer:
-    """A boom near its mast: its chains with pads and without, their covers as floats of that frame, and the rows that it reaches."""
+    """A boom in a frame of its own: its chains with pads and without, their covers as floats of that frame, and the rows that it reaches."""
 
     def __init__(self, library, boom, plan):
-        self.boom, self.own = boom, boom.poses[0].time
+        self.boom, self.own, self.origin = boom, boom.poses[0].time, boom.origin()
         self.boxes = [chains.outward(box) for box in boom.boxes]
         self.sprays = any(pose.pad for pose in boom.poses)
-        self.bare = chains.build(library, boom, boom.mast, self.own, False)
-        self.spray = chains.build(library, boom, boom.mast, self.own, True) if self.sprays else self.bare
+        self.bare = chains.build(library, boom, self.origin, self.own, False)
+        self.spray = chains.build(library, boom, self.origin, self.own, True) if self.sprays else self.bare
         try:
             self.bare_covers, self.bare_union = self.bare.covers(self.boxes, plan.depth)
             self.spray_covers, self.spray_union = self.spray.covers(self.boxes, plan.depth) if self.sprays else (self.bare_covers, self.bare_union)
@@ -61,8 +61,8 @@ class BoomAnswer:
     def local_row(self, row):
         """A row in the boom's frame, exactly, and then outward to floats; without heights it goes from the least float to the greatest."""
         x0, y0, x1, y1 = row.area
-        z0, z1 = row.heights or (self.boom.mast[2],) * 2
-        box = chains.outward(shifted((x0, y0, z0, x1, y1, z1), self.boom.mast, -1))
+        z0, z1 = row.heights or (self.origin[2],) * 2
+        box = chains.outward(shifted((x0, y0, z0, x1, y1, z1), self.origin, -1))
         return box if row.heights else [*box[:2], -LARGEST, *box[3:5], LARGEST]
 
     def reached(self, library, covers):
@@ -71,7 +71,7 @@ class BoomAnswer:
 
     def in_plan(self, cover):
         """A cover of the boom's frame in the plan's, exactly."""
-        return shifted(cover, self.boom.mast)
+        return shifted(cover, self.origin)
 
     def covers_in_plan(self, with_spray):
         return [self.in_plan(cover) for cover in (self.spray_covers if with_spray else self.bare_covers)]
@@ -154,12 +154,12 @@ class Answers:
         return [binary32.nearest(tick - self.plan.start()) for tick in self.ticks]
 
     def tick_text(self, k, above):
-        """A tick in the plan's seconds, the float's own value, rounded to the millisecond away from the window."""
+        """A tick in the plan's seconds, the float's own value, rounded to the millisecond, up or down."""
         return binary32.decimal_text(binary32.thousandths(Fraction(self.float_ticks[k]) + self.plan.start(), above))
 
     @cached_property
     def windows(self):
-        """For each two booms, by their places, the windows in which they may meet; both stand in one frame, between their masts, and on the plan's clock."""
+        """For each two booms, by their places, the windows in which they may meet; both stand in one frame, between their origins, and on the plan's clock."""
         return {(i, j): self.windows_of(self.booms[i], self.booms[j]) for i, j in itertools.combinations(range(len(self.booms)), 2)}
 
     def windows_of(self, one, other):
@@ -190,7 +190,7 @@ class Answers:
         start, own = self.plan.start(), answer.own
         if start != own:
             self.look_at_plan_clock(answer.boom)
-        chain = chains.build(self.library, answer.boom, answer.boom.mast, start, True)
+        chain = chains.build(self.library, answer.boom, answer.origin, start, True)
         try:
             return [answer.reached(self.library, [chain.window_cover(box, self.plan.depth, a, b) for box in answer.boxes]) for a, b in zip(self.float_ticks, self.float_ticks[1:])]
         except Refused as refusal:

@@ -100,5 +100,5 @@ def build(library, boom, frame, zero, with_pads):
 
 
 def middle(booms):
-    """A frame for several booms: the middle of their masts, in whole metres."""
-    return tuple(Fraction(round((min(axis) + max(axis)) / 2)) for axis in zip(*[boom.mast for boom in booms]))
+    """A frame for several booms: the middle of their origins, in whole metres."""
+    return tuple(Fraction(round((min(axis) + max(axis)) / 2)) for axis in zip(*[boom.origin() for boom in booms]))

@@ -4,7 +4,7 @@ import os
 import sys
 from dataclasses import replace
 
-from planning import chains, drawing, files, geojson, numbers, output, page, reading
+from planning import chains, drawing, files, geojson, moves, numbers, output, page, reading
 from planning.answers import Answers
 from planning.ending import Ending, bad, numbered, one_line
 from planning.library import DEFAULT, Library
@@ -24,11 +24,12 @@ QUESTIONS = {
     "rows": "which booms reach each row",
     "windows": "for each two booms, when they may meet",
     "day": "from which tick to which each boom runs so that no two that run ever meet, and the rows that it reaches",
+    "moves": "each boom's chain as a move file in the folder of -o, with the frame and the clock that it stands in",
     "draw": "the plan from above and from the side, as SVG",
     "page": "one HTML page with a time slider, which needs nothing else",
 }
 FORMATS = {"covers": ["table", "csv", "json", "geojson"], "nets": ["table", "csv", "json", "geojson"], "rows": ["table", "csv", "json", "geojson"], "windows": ["table", "csv", "json"],
-           "day": ["table", "csv", "json", "geojson"]}
+           "day": ["table", "csv", "json", "geojson"], "moves": ["table", "csv", "json"]}
 
 
 class Parser(argparse.ArgumentParser):
@@ -55,7 +56,10 @@ def parser():
     for name, about in QUESTIONS.items():
         one = questions.add_parser(name, help=about, description=about[0].upper() + about[1:] + ".", epilog=EPILOG, formatter_class=argparse.RawDescriptionHelpFormatter, allow_abbrev=False)
         one.add_argument("plan", metavar="PLAN", help="a JSON file, a folder of CSV files, or -")
-        one.add_argument("-o", dest="out", metavar="FILE", help="write the answer to FILE (default: standard output)")
+        if name == "moves":
+            one.add_argument("-o", dest="folder", metavar="FOLDER", required=True, help="where the files go; the table of them goes to standard output")
+        else:
+            one.add_argument("-o", dest="out", metavar="FILE", help="write the answer to FILE (default: standard output)")
         one.add_argument("--library", metavar="FILE", help="the shared library")
         one.add_argument("--depth", metavar="N", help="0 to 12: each move is worked in 2^N slices; greater is tighter and slower (default: the plan's, or 10)")
         one.add_argument("--split", action="store_true", help="set poses on the way where a turn has 180 degrees or more, which is refused otherwise")
@@ -103,6 +107,7 @@ def text_of(answers, options):
         "rows": (lambda: output.row_records(answers), "the plan has no rows"),
         "windows": (lambda: output.window_records(answers), "the plan has one boom"),
         "day": (lambda: output.day_records(answers), ""),
+        "moves": (lambda: moves.write_moves(answers, options.folder), ""),
     }[options.question]
     return formatted(options, answers.plan.name, list(records()), empty)
 
@@ -135,7 +140,7 @@ def answered(options, warn):
             raise numbered(5)
         if options.question in ("nets", "draw", "page"):
             warn_of_nets(answers, warn)
-    files.write_text(options.out, text)
+    files.write_text(getattr(options, "out", None), text)
 
 
 def main(arguments):

@@ -7,7 +7,7 @@ from planning.ending import bad, one_line
 
 LAYOUT, MAJOR = 3, 1
 DEFAULT = os.path.join(pages.ROOT, "target", "lib", "libjellyplain.so.1")
-MOVES, BOXES, WINDOWS, TICKS, BOOMS, ROWS = 31, 16, 63, 64, 8, 256
+MOVES, BOXES, WINDOWS, TICKS, BOOMS, ROWS, TEXT = 31, 16, 63, 64, 8, 256, 4161
 Box = ctypes.c_float * 6
 Point = ctypes.c_float * 3
 Move = ctypes.c_float * 180
@@ -39,6 +39,7 @@ FUNCTIONS = {
     "moves_window_cover": (REFUSED, [POINTER, SIZE, POINTER, DEPTH, FLOAT, FLOAT, POINTER]),
     "moves_windows": (CountStruct, [POINTER, SIZE, POINTER, SIZE, POINTER, POINTER, DEPTH, POINTER, SIZE, POINTER]),
     "day": (REFUSED, [POINTER, POINTER, SIZE, POINTER]),
+    "write_file": (CountStruct, [POINTER, SIZE, POINTER, POINTER, SIZE]),
     "reached_rows": (CountStruct, [POINTER, POINTER, SIZE, POINTER]),
 }
 
@@ -141,6 +142,13 @@ class Chain:
         bounds = Box()
         checked(self.functions["moves_window_cover"](self.moves, self.count, Box(*box), depth, earlier, later, bounds))
         return list(bounds)
+
+    def file(self, box):
+        """The chain and a box as the bytes of a move file."""
+        out = (ctypes.c_uint8 * TEXT)()
+        answer = self.functions["write_file"](self.moves, self.count, Box(*box), out, TEXT)
+        checked(answer.refusal)
+        return bytes(out[:answer.count])
 
     def points(self, times, point):
         """Where a point of the boom stands at each of some times that never fall."""

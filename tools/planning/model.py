@@ -104,6 +104,10 @@ class Boom:
     poses: tuple
     run_ticks: Optional[int]
 
+    def origin(self):
+        """The middle of the places where it stands: the mast, or the middle of a carriage's way. A cover's slack grows with the distance from it."""
+        return tuple((min(axis) + max(axis)) / 2 for axis in zip(*[pose.at for pose in self.poses]))
+
     def duration(self):
         return max(pose.time for pose in self.poses) - min(pose.time for pose in self.poses)
 

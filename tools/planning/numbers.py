@@ -34,6 +34,15 @@ def whole(text, least, most):
     return int(value)
 
 
+def exact_text(value):
+    """All digits of a fraction that is a decimal number."""
+    places = 0
+    while (value * 10 ** places).denominator != 1:
+        places += 1
+    digits = str(abs(value * 10 ** places)).rjust(places + 1, "0")
+    return ("-" if value < 0 else "") + (digits[:-places] + "." + digits[-places:] if places else digits)
+
+
 def shown(value):
     """A fraction for people: its decimal digits, at most 12 behind the point."""
     text = format(Decimal(value.numerator) / Decimal(value.denominator), ".12f").rstrip("0").rstrip(".")

@@ -66,12 +66,13 @@ def stretches(windows):
 
 
 def window_records(answers):
+    """Ends are rounded to the safe side: of a time in which two may meet outward, of one in which they never do inward."""
     for (i, j), windows in answers.windows.items():
         names = {"boom": answers.booms[i].boom.name, "other": answers.booms[j].boom.name}
         for first, last in stretches(windows):
             yield {**names, "answer": "may meet", "from": Plain(answers.tick_text(first, False)), "to": Plain(answers.tick_text(last + 1, True))}
         if not windows:
-            yield {**names, "answer": "never meet", "from": Plain(answers.tick_text(0, False)), "to": Plain(answers.tick_text(len(answers.ticks) - 1, True))}
+            yield {**names, "answer": "never meet", "from": Plain(answers.tick_text(0, True)), "to": Plain(answers.tick_text(len(answers.ticks) - 1, False))}
 
 
 def day_records(answers):

@@ -27,12 +27,12 @@ def corners(box):
 def places(answer, times):
     """For each time and each of a boom's boxes its eight corners where the point query says they are, in the plan's frame, for drawing."""
     floats = [binary32.nearest(time - answer.own) for time in times]
-    mast = [float(v) for v in answer.boom.mast]
+    origin = [float(v) for v in answer.origin]
     try:
         paths = [[answer.bare.points(floats, corner) for corner in corners(box)] for box in answer.boxes]
     except Refused as refusal:
         raise numbered(refusal.number, "boom '%s': a corner: " % answer.boom.name)
-    return [[[[m + v for m, v in zip(mast, path[k])] for path in box] for box in paths] for k in range(len(times))]
+    return [[[[o + v for o, v in zip(origin, path[k])] for path in box] for box in paths] for k in range(len(times))]
 
 
 def pose_times(boom, between):
