@@ -161,7 +161,8 @@ class Reach(unittest.TestCase):
         self.assertEqual(schedule, on_map)
         self.assertEqual(table, rows_on_map)
         self.assertEqual(table, {row: [boom for boom in schedule if row in schedule[boom]] for row in table})
-        self.assertEqual(set(re.findall('class="row" data-row="[0-9]+" fill="#d9ecc4"', run("draw", PLAN)[1])), {'class="row" data-row="%d" fill="#d9ecc4"' % i for i, row in enumerate(table.values()) if row})
+        drawn = re.findall('data-row="([0-9]+)" fill="#d9ecc4"', run("draw", PLAN)[1])
+        self.assertEqual(drawn, [str(i) for i, booms in enumerate(table.values()) if booms])
 
     def test_rows_that_touch_a_cover_are_never_missed(self):
         mast = [1234567.1, -7654321.7, 3.3]
@@ -229,6 +230,10 @@ class Reach(unittest.TestCase):
             poses = [chains.pose_floats(pose, answer.origin, answer.own, True) for pose in answer.boom.poses]
             expected = [value for time, entries, pad in poses for value in (time, *entries[:12], pad)] + answer.boxes[0]
             self.assertEqual(values, [binary32.bits(value) for value in expected])
+        program = os.path.join(pages.ROOT, "target", "bin", "cover")
+        if os.path.exists(program):
+            printed = subprocess.run([program], input=bytes_of(os.path.join(folder, "south-east.txt")), stdout=subprocess.PIPE, check=True).stdout.split()[6:]
+            self.assertEqual([int(word, 16) for word in printed], [binary32.bits(value) for value in self.found.booms[3].spray_covers[0]])
 
     def test_page_stands_by_itself(self):
         text = run("page", PLAN)[1]
@@ -331,7 +336,8 @@ class WrongPlans(unittest.TestCase):
         (damaged(put("booms", 0, "poses", 1, "time", "delete")), 2, "boom 'north-west': pose 2: the key 'time' is missing"),
         (damaged(put("booms", 0, "poses", 1, "time", "40")), 2, "pose 2: time: a number is wanted here, not text"),
         (damaged(put("booms", 0, "poses", 1, "time", None)), 2, "not null"), (damaged(put("booms", 0, "poses", 1, "time", True)), 2, "not true or false"),
-        (damaged(put("booms", 0, "poses", 1, "time", float("nan"))), 2, "'NaN' is not a decimal number"), (damaged(put("booms", 0, "poses", 1, "time", float("inf"))), 2, "'Infinity' is not"),
+        (damaged(put("booms", 0, "poses", 1, "time", float("nan"))), 2, "'NaN' is not a decimal number"),
+        (damaged(put("booms", 0, "poses", 1, "time", float("inf"))), 2, "'Infinity' is not"),
         (damaged(put("booms", 0, "poses", 1, "time", 1)).replace('"time": 1,', '"time": 1e400,'), 2, "1e400 is beyond the floats"),
         (damaged(put("booms", 0, "poses", 1, "time", 1)).replace('"time": 1,', '"time": 1e999999999,'), 2, "is not a decimal number"),
         (damaged(put("booms", 0, "poses", 1, "time", 1)).replace('"time": 1,', '"time": 1%s,' % ("0" * 5000)), 2, "at most 60 characters"),
@@ -339,7 +345,8 @@ class WrongPlans(unittest.TestCase):
         (damaged(put("booms", 0, "poses", [])), 2, "boom 'north-west': there is no pose"), (damaged(put("booms", 0, "poses", "delete")), 2, "the key 'poses' is missing"),
         (damaged(lambda plan: plan["booms"][0]["poses"].pop()), 1, "boom 'north-west': poses: 1; refused 12: a chain has fewer than 2 poses"),
         (damaged(put("booms", 0, "poses", [{"time": t} for t in range(33)])), 1, "refused 12: "),
-        (damaged(put("booms", 0, "poses", 1, "time", 0)), 1, "refused 12: "), (damaged(put("booms", 0, "poses", 1, "time", -5)), 1, "poses 1 and 2: the times 0 and -5 don't rise; refused 12: "),
+        (damaged(put("booms", 0, "poses", 1, "time", 0)), 1, "refused 12: "),
+        (damaged(put("booms", 0, "poses", 1, "time", -5)), 1, "poses 1 and 2: the times 0 and -5 don't rise; refused 12: "),
         (damaged(put("booms", 0, "poses", 1, "pad", -1)), 1, "boom 'north-west': pose 2: refused 16: a pad is below zero; set a pad of zero or more"),
         (damaged(put("booms", 0, "poses", 1, "matrix", [[1, 0, 0]])), 2, "only one of 'heading' and 'matrix'"),
         (damaged(put("booms", 0, "poses", 1, {"time": 40, "matrix": [[2, 0, 0], [0, 1, 0], [0, 0, 1]]})), 1, "pose 2: refused 17: "),
@@ -348,16 +355,23 @@ class WrongPlans(unittest.TestCase):
         (damaged(put("booms", 0, "poses", 1, {"time": 40, "rotation": {"axis": [0, 0, 0], "degrees": 3}})), 2, "rotation: the axis has no length"),
         (damaged(put("booms", 0, "poses", 1, {"time": 40, "tilt": 3, "matrix": [[1, 0, 0], [0, 1, 0], [0, 0, 1]]})), 2, "'tilt' goes with 'heading'"),
         (damaged(put("booms", 0, "poses", 1, "at", [1e38, 0, 0])), 2, "is beyond the floats"),
-        (damaged(put("booms", 0, "box", [0, 0, 0, 1, 1])), 2, "box: 6 numbers are wanted here, not 5"), (damaged(put("booms", 0, "box", [5, 0, 0, 1, 1, 1])), 1, "boom 'north-west': box: on x: refused 7: "),
+        (damaged(put("booms", 0, "box", [0, 0, 0, 1, 1])), 2, "box: 6 numbers are wanted here, not 5"),
+        (damaged(put("booms", 0, "box", [5, 0, 0, 1, 1, 1])), 1, "boom 'north-west': box: on x: refused 7: "),
         (damaged(put("booms", 0, "boxes", [[0] * 6])), 2, "only one of 'box' and 'boxes'"), (damaged(put("booms", 2, "boxes", [])), 1, "boom 'south-west': refused 14: "),
         (damaged(put("booms", 2, "boxes", [[0] * 6] * 17)), 1, "refused 14: "), (damaged(put("booms", 0, "kind", "stiff")), 2, "kind: plain or rigid is wanted here"),
         (damaged(put("booms", 0, "kind", [])), 2, "kind: plain or rigid"), (damaged(put("booms", 1, "name", "north-west")), 2, "boom 'north-west': its name is there twice"),
-        (damaged(put("booms", 1, "name", "")), 2, "is no name"), (damaged(put("booms", 1, "name", "a;b")), 2, "is no name"), (damaged(put("booms", 1, "name", 5)), 2, "a name is wanted here"),
-        (damaged(put("booms", 1, "mast", "delete")), 2, "'at' is missing here, and the boom has no 'mast'"), (damaged(put("booms", 1, "run_ticks", 1.5)), 2, "run_ticks: 1.5 is not a whole number"),
+        (damaged(put("booms", 1, "name", "")), 2, "is no name"),
+        (damaged(put("booms", 1, "name", "a;b")), 2, "is no name"),
+        (damaged(put("booms", 1, "name", 5)), 2, "a name is wanted here"),
+        (damaged(put("booms", 1, "mast", "delete")), 2, "'at' is missing here, and the boom has no 'mast'"),
+        (damaged(put("booms", 1, "run_ticks", 1.5)), 2, "run_ticks: 1.5 is not a whole number"),
         (damaged(put("rows", 2, "name", "row 1")), 2, "row 'row 1': its name is there twice"), (damaged(put("rows", 2, "box", [0, 5, 1, 2])), 1, "row 'row 3': box: on y: refused 7: "),
         (damaged(put("rows", {"a": 1})), 2, "a list is wanted here, not an object"), (damaged(put("rows", 2, None)), 2, "row 3: an object is wanted"),
-        (damaged(put("nets", 0, "height", "delete")), 2, "net 'hail net': the key 'height' is missing"), (damaged(put("nets", 0, "line", [0, 0, 1, 1])), 2, "only one of 'region' and 'line'"),
-        (damaged(put("depth", 13)), 1, "refused 8: "), (damaged(put("depth", -1)), 2, "depth: -1 is not a whole number"), (damaged(put("depth", 1)).replace('"depth": 1,', '"depth": 1e37,'), 2, "depth: 1e37"),
+        (damaged(put("nets", 0, "height", "delete")), 2, "net 'hail net': the key 'height' is missing"),
+        (damaged(put("nets", 0, "line", [0, 0, 1, 1])), 2, "only one of 'region' and 'line'"),
+        (damaged(put("depth", 13)), 1, "refused 8: "),
+        (damaged(put("depth", -1)), 2, "depth: -1 is not a whole number"),
+        (damaged(put("depth", 1)).replace('"depth": 1,', '"depth": 1e37,'), 2, "depth: 1e37"),
         (damaged(put("tick_seconds", 0)), 2, "a number above 0"), (damaged(put("name", 7)), 2, "name: a name is wanted here"),
     ]
 
@@ -382,13 +396,23 @@ class WrongPlans(unittest.TestCase):
 
 class WrongFolders(unittest.TestCase):
     CASES = [
-        ("booms.csv", None, "there is no booms.csv"), ("poses.csv", None, "there is no poses.csv"), ("poses.csv", "", "poses.csv: it is empty"), ("poses.csv", "boom;time;x;y;z;heading\n", "separated by commas"),
-        ("poses.csv", "boom,time,x,y,z\n", "the column 'heading' is missing"), ("poses.csv", "boom,time,x,y,z,heading,heading\n", "is there twice"), ("poses.csv", "boom,time,x,y,z,heading\n", "there is no pose"),
-        ("poses.csv", "boom,time,x,y,z,heading\nnorth-west,0,0,0\n", "poses.csv: line 2: the cell of 'z' is empty"), ("poses.csv", "boom,time,x,y,z,heading\nnorth-west,0,0,0,0,0,0,0\n", "line 2: 8 cells for 6 columns"),
-        ("poses.csv", "boom,time,x,y,z,heading\nnobody,0,0,0,0,0\n", "line 2: there is no boom 'nobody'"), ("poses.csv", "boom,time,x,y,z,heading\nnorth-west,zero,0,0,0,0\n", "boom 'north-west': pose 1: time: 'zero' is not a decimal number"),
-        ("poses.csv", 'boom,time,x,y,z,heading\n"north-west,0,0,0,0,0\n', "it is not CSV"), ("poses.csv", "boom,time,x,y,z,heading\n\0\n", "poses.csv: "), ("poses.csv", b"boom,\xff", "it is not UTF-8"),
+        ("booms.csv", None, "there is no booms.csv"),
+        ("poses.csv", None, "there is no poses.csv"),
+        ("poses.csv", "", "poses.csv: it is empty"),
+        ("poses.csv", "boom;time;x;y;z;heading\n", "separated by commas"),
+        ("poses.csv", "boom,time,x,y,z\n", "the column 'heading' is missing"),
+        ("poses.csv", "boom,time,x,y,z,heading,heading\n", "is there twice"),
+        ("poses.csv", "boom,time,x,y,z,heading\n", "there is no pose"),
+        ("poses.csv", "boom,time,x,y,z,heading\nnorth-west,0,0,0\n", "poses.csv: line 2: the cell of 'z' is empty"),
+        ("poses.csv", "boom,time,x,y,z,heading\nnorth-west,0,0,0,0,0,0,0\n", "line 2: 8 cells for 6 columns"),
+        ("poses.csv", "boom,time,x,y,z,heading\nnobody,0,0,0,0,0\n", "line 2: there is no boom 'nobody'"),
+        ("poses.csv", "boom,time,x,y,z,heading\nnorth-west,zero,0,0,0,0\n", "boom 'north-west': pose 1: time: 'zero' is not a decimal number"),
+        ("poses.csv", 'boom,time,x,y,z,heading\n"north-west,0,0,0,0,0\n', "it is not CSV"),
+        ("poses.csv", "boom,time,x,y,z,heading\n\0\n", "poses.csv: "),
+        ("poses.csv", b"boom,\xff", "it is not UTF-8"),
         ("booms.csv", "boom,x0,y0,z0,x1,y1,z1\n", "there is no boom"), ("rows.csv", "row,x0,y0,x1,y1,z0,z1\na,0,0,1,1,5,\n", "rows.csv: line 2: z0 and z1"),
-        ("nets.csv", "net,height,x0\na,3,1\n", "nets.csv: line 2: x0, y0, x1 and y1 are all given"), ("settings.csv", "setting,value\ndeph,3\n", "settings.csv: line 2: 'deph' is no setting"),
+        ("nets.csv", "net,height,x0\na,3,1\n", "nets.csv: line 2: x0, y0, x1 and y1 are all given"),
+        ("settings.csv", "setting,value\ndeph,3\n", "settings.csv: line 2: 'deph' is no setting"),
     ]
 
     def test_each(self):
@@ -406,12 +430,28 @@ class WrongFolders(unittest.TestCase):
 
 
 class WrongUsage(unittest.TestCase):
+    CASES = [
+        ([], "required"),
+        (["boxes", PLAN], "invalid choice"),
+        (["covers"], "required"),
+        (["covers", PLAN, "--format", "pdf"], "invalid choice"),
+        (["covers", PLAN, "--deep"], "unrecognized"),
+        (["covers", PLAN, "--depth", "x"], "--depth: 'x' is not a decimal number"),
+        (["windows", PLAN, "--every", "0"], "--every: 0: seconds above 0"),
+        (["windows", PLAN, "--format", "geojson"], "invalid choice"),
+        (["moves", PLAN], "required"),
+        (["moves", PLAN, "-o", PLAN], "File exists"),
+        (["covers", "/nowhere/plan.json"], "/nowhere/plan.json: No such file"),
+        (["covers", os.path.join(FOLDER, "poses.csv")], "name the folder"),
+        (["covers", SCRATCH], "there is no booms.csv"),
+        (["covers", PLAN, "-o", "/nowhere/out"], "/nowhere/out: No such file"),
+        (["covers", PLAN, "--library", "/nowhere/lib"], "run `make` first"),
+        (["covers", PLAN, "--library", PLAN], "can't be loaded"),
+        (["covers", "a\nb"], "a?b: No such file"),
+    ]
+
     def test_arguments(self):
-        for arguments, part in [([], "required"), (["boxes", PLAN], "invalid choice"), (["covers"], "required"), (["covers", PLAN, "--format", "pdf"], "invalid choice"), (["covers", PLAN, "--deep"], "unrecognized"),
-                                (["covers", PLAN, "--depth", "x"], "--depth: 'x' is not a decimal number"), (["windows", PLAN, "--every", "0"], "--every: 0: seconds above 0"), (["windows", PLAN, "--format", "geojson"], "invalid choice"),
-                                (["covers", "/nowhere/plan.json"], "/nowhere/plan.json: No such file"), (["covers", os.path.join(FOLDER, "poses.csv")], "name the folder"), (["covers", SCRATCH], "there is no booms.csv"),
-                                (["covers", PLAN, "-o", "/nowhere/out"], "/nowhere/out: No such file"), (["covers", PLAN, "--library", "/nowhere/lib"], "run `make` first"), (["covers", PLAN, "--library", PLAN], "can't be loaded"),
-                                (["covers", "a\nb"], "a?b: No such file")]:
+        for arguments, part in self.CASES:
             said = io.StringIO()
             with contextlib.redirect_stderr(said):
                 status = command.main(arguments)
@@ -452,7 +492,8 @@ class Docs(unittest.TestCase):
             self.assertEqual(drawn, bytes_of(os.path.join(pages.ROOT, "docs", picture + ".svg")).decode(), picture)
 
 
-STRANGE = [None, True, "", "x", [], {}, [[]], -1, 0, 1, 0.1, 1e-60, 1e10, 1e37, 1e300, -1e37, 3.4e38, float("nan"), float("-inf"), 2 ** 70, "plain", [1, 2, 3], [0] * 6, [[0] * 6], [5, 5, 5, 1, 1, 1], {"name": "q"}]
+STRANGE = [None, True, "", "x", [], {}, [[]], -1, 0, 1, 0.1, 1e-60, 1e10, 1e37, 1e300, -1e37, 3.4e38, float("nan"), float("-inf"),
+           2 ** 70, "plain", [1, 2, 3], [0] * 6, [[0] * 6], [5, 5, 5, 1, 1, 1], {"name": "q"}]
 
 
 def places_of(value, path=()):

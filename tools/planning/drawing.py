@@ -93,9 +93,9 @@ def boom_parts(found, view):
     """Each boom at its first pose, some times on the way, and its last pose, the last the strongest; and the path of its far end."""
     for i, times in enumerate(found.moved):
         for k, boxes in enumerate(times):
-            strength = 0.45 if k == len(times) - 1 else 0.25 if k == 0 else 0.1
-            for eight in boxes:
-                yield svg.polyline(view.outline(eight), f'fill="{colour(i)}" fill-opacity="{strength}" stroke="{colour(i)}" stroke-width="0.8" stroke-opacity="{0.9 if strength > 0.1 else 0.4}"', closed=True)
+            strength, edge = (0.45, 0.9) if k == len(times) - 1 else (0.25, 0.9) if k == 0 else (0.1, 0.4)
+            style = f'fill="{colour(i)}" fill-opacity="{strength}" stroke="{colour(i)}" stroke-width="0.8" stroke-opacity="{edge}"'
+            yield from (svg.polyline(view.outline(eight), style, closed=True) for eight in boxes)
 
 
 def cover_parts(found, view):
@@ -170,6 +170,7 @@ def above_parts(found, end_box, with_booms=True):
 
 def side_parts(found, with_booms=True):
     labels = Labels(found.side)
+    labels.taken += [found.side.ends(box) for answer in found.answers.booms for box in answer.covers_in_plan(False)]
     stretch = found.side.scales[1] / found.side.scales[0]
     yield from found.side.axes("From the side" + (", heights drawn %.2g times larger" % stretch if stretch > 1.05 else ""))
     yield ground(found)
