@@ -112,9 +112,17 @@ class Answers:
         """The names of the rows that a boom reaches."""
         return [self.plan.rows[place].name for place in self.booms[i].rows]
 
+    @cached_property
+    def booms_of_rows(self):
+        """For each row the names of the booms that reach it."""
+        found = [[] for _ in self.plan.rows]
+        for answer in self.booms:
+            for place in answer.rows:
+                found[place].append(answer.boom.name)
+        return found
+
     def reached_by(self, place):
-        """The names of the booms that reach a row."""
-        return [answer.boom.name for answer in self.booms if place in answer.rows]
+        return self.booms_of_rows[place]
 
     # ---- nets
 

@@ -6,6 +6,7 @@ from planning import scene
 from planning.scene import DRY, LEFT, NET, REACHED, WIDTH, Scene, box_round, colour
 
 BETWEEN = 3
+MOST_ROW_NAMES = 100                    # more of them would not be read
 LINE = 20
 END_BOX = 'fill="none" stroke="#000000" stroke-width="1.4" stroke-dasharray="6 4"'
 PATH = 'fill="none" stroke="#777777" stroke-width="0.9"'
@@ -53,7 +54,8 @@ def row_parts(found, labels):
         fill = REACHED if found.answers.reached_by(place) else DRY
         yield found.above.box(box, f'class="row" data-row="{place}" fill="{fill}" stroke="#9aa58c" stroke-width="0.6"')
         left, top, right, bottom = found.above.ends(box)
-        labels.put(row.name, [(left + 4, (top + bottom) / 2 + 4, "start"), (right - 4, (top + bottom) / 2 + 4, "end"), (left + 4, top - 3, "start")], size=11, fill="#44513a")
+        if len(plan.rows) <= MOST_ROW_NAMES:
+            labels.put(row.name, [(left + 4, (top + bottom) / 2 + 4, "start"), (right - 4, (top + bottom) / 2 + 4, "end"), (left + 4, top - 3, "start")], size=11, fill="#44513a")
 
 
 def net_parts(found, view, labels):

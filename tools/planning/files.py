@@ -23,6 +23,8 @@ COLUMNS = {
 def text_of(path):
     """A file's text in UTF-8; a byte order mark is passed over."""
     try:
+        if path == "-" and sys.stdin is None:
+            raise bad("standard input is closed")
         if path == "-":
             data = sys.stdin.buffer.read(MOST_BYTES + 1)
         else:
@@ -161,6 +163,8 @@ def net(line, cells):
 
 def write_text(path, text):
     """To a file, or to standard output without one."""
+    if path is None and sys.stdout is None:
+        raise bad("standard output is closed")
     try:
         if path is None:
             sys.stdout.buffer.write(text.encode("utf-8"))

@@ -101,15 +101,15 @@ def positive(value):
 
 def listed(value, what, read):
     """Named things, each name once."""
-    found = []
+    found = {}
     for i, entry in enumerate(wanted(value, list, "a list")):
         name = one_line(entry["name"], MOST_NAME) if type(entry) is dict and type(entry.get("name")) is str else None
         with at("%s '%s'" % (what, name) if name else "%s %d" % (what, i + 1)):
             thing = read(entry)
-            if any(thing.name == other.name for other in found):
+            if thing.name in found:
                 raise bad("its name is there twice")
-            found.append(thing)
-    return tuple(found)
+            found[thing.name] = thing
+    return tuple(found.values())
 
 
 # ---- booms
