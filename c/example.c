@@ -88,6 +88,12 @@ int main(void)
         printf("reserved as rigid: %g %g %g to %g %g %g\n", bounds[0], bounds[1], bounds[2], bounds[3], bounds[4], bounds[5]);
     if (jellyplain_day(day_boxes, lengths, 3, starts) == JELLYPLAIN_NONE)
         printf("three booms start in ticks %u, %u and %u\n", (unsigned)starts[0], (unsigned)starts[1], (unsigned)starts[2]);
+    const float rows[4][6] = {{-1, -5, -1, -0.25f, 5, 1}, {0, -5, -1, 0.5f, 5, 1}, {1, -5, -1, 1.5f, 5, 1}, {2, -5, -1, 2.5f, 5, 1}};
+    uint32_t wet[JELLYPLAIN_ROWS];
+    jellyplain_reached reached = jellyplain_reached_rows(bounds, rows, 4, wet);
+    if (reached.refusal == JELLYPLAIN_NONE && reached.count == 2)
+        printf("of 4 rows the boom reaches numbers %u and %u\n", (unsigned)wet[0], (unsigned)wet[1]);
+    printf("the library's version: %u\n", (unsigned)jellyplain_version());
     printf("at depth 13: refused with %d\n", jellyplain_cover(&move, boom, 13, bounds));
     return 0;
 }

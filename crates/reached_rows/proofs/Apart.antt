@@ -1,5 +1,5 @@
 -- A row that is not named holds no padded point: `rows-apart`, of any cover, since the cover holds every such point and does not meet the row;
--- `kept-rows-apart`, of the cover of a built chain, by the guarantee of its cover. The clauses of the query, from what was named: `rows-refused`, `rows-named`.
+-- `kept-rows-apart`, of the cover of a built chain, by that cover's guarantee. The clauses of the query, from what was named: `rows-refused`, `rows-named`.
 use Prim.Native.Nat.{ℕ, zero, suc, _+_, _-_, _<_}
 use mathlib.Core.Logic.{inl, inr}
 use mathlib.Core.Path.{_≡_, refl, sym, subst}
@@ -32,18 +32,18 @@ one-of-cond : (b : Bool) (n k : ℕ) (ks : List ℕ) → OneOf n ks → OneOf n 
 one-of-cond true n k ks h = inr h
 one-of-cond false n k ks h = h
 
-met-named : (cover : Bounds3f) (first k : ℕ) (rows : List Bounds3f) → k < length rows
-    → Bounds3f·meets cover (rowAt rows k) ≡ true → OneOf (first + k) (metFrom cover first rows)
+met-named : (cover : Bounds3f) (first k : ℕ) (rows : List Bounds3f) → k < length rows → Bounds3f·meets cover (rowAt rows k) ≡ true
+    → OneOf (first + k) (metFrom cover first rows)
 unfolding metFrom
 met-named cover first k [] h m = absurd (omega (arith, h))
 met-named cover first zero (row ∷ rows) h m = rw m (inl (omega arith))
 met-named cover first (suc k) (row ∷ rows) h m =
     let s : first + suc k ≡ suc first + k = omega arith in
-    rw s (one-of-cond (Bounds3f·meets cover row) (suc first + k) first
-    (metFrom cover (suc first) rows) (met-named cover (suc first) k rows (omega (arith, h)) m))
+    let later = met-named cover (suc first) k rows (omega (arith, h)) m in
+    rw s (one-of-cond (Bounds3f·meets cover row) (suc first + k) first (metFrom cover (suc first) rows) later)
 
-not-met : (cover : Bounds3f) (rows : List Bounds3f) (k : ℕ) → k < length rows
-    → (OneOf k (metFrom cover 0 rows) → ⊥) → Bounds3f·meets cover (rowAt rows k) ≡ false
+not-met : (cover : Bounds3f) (rows : List Bounds3f) (k : ℕ) → k < length rows → (OneOf k (metFrom cover 0 rows) → ⊥)
+    → Bounds3f·meets cover (rowAt rows k) ≡ false
 not-met cover rows k h off = go (Bounds3f·meets cover (rowAt rows k)) refl
   where
     go : (b : Bool) → Bounds3f·meets cover (rowAt rows k) ≡ b → b ≡ false
@@ -91,13 +91,7 @@ module _ (cover : Bounds3f) (rows : List Bounds3f) (old : List ℕ) where
   unfolding reachedRows rowsLeft
   rows-named {new} {count} e h =
       let named = metFrom cover 0 rows in
-      let front : named ≡ take count new = sym (rw (h .front, h .counted) (take-append-seam named (replicate (maxRows - length named) 0))) in (
-        sym e,
-        (
-          rw e (h .counted),
-          (
-            rw e (h .front),
-            (λ _. subst (RowsApart cover rows) front (rows-apart cover rows), λ _. subst (KeptRowsApart cover rows) front (kept-rows-apart cover rows)),
-          ),
-        ),
-      )
+      let front : named ≡ take count new = sym (rw (h .front, h .counted) (take-append-seam named (replicate (maxRows - length named) 0))) in
+      let apart = subst (RowsApart cover rows) front (rows-apart cover rows) in
+      let kept = subst (KeptRowsApart cover rows) front (kept-rows-apart cover rows) in
+      (sym e, (rw e (h .counted), (rw e (h .front), (λ _. apart, λ _. kept))))

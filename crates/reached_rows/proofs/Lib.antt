@@ -2,3 +2,4 @@
 pub mod Numbers
 pub mod Loop
 pub mod Apart
+pub mod Cases

@@ -1,5 +1,5 @@
--- The rows as a loop names them. The invariant, `Loop`: the places named so far, with those among the rows that are left, are all of them:
--- `loop-first`, `loop-met`, `loop-missed`, `loop-last`.
+-- The rows as a loop names them. The invariant, `Loop`: the places named so far, with those among the rows that are left, are all of them: `loop-first`,
+-- `loop-met`, `loop-missed`, `loop-last`.
 use Prim.Native.Nat.{ℕ, suc, _+_, _-_, _≤_, _<_}
 use mathlib.Core.Path.{_≡_, refl, sym, ap, subst, _∙_}
 use mathlib.Core.Bool.{true, false}
@@ -28,8 +28,8 @@ set-at [] z k zs = refl
 set-at (x ∷ ks) z k zs = rw (set-at ks z k zs)
 
 -- ---- one more place
-holds-add : {ks places : List ℕ} {count : ℕ} (k : ℕ) → Named·Holds ks places count
-    → length ks < maxRows → Named·Holds (ks ++ (k ∷ [])) (set places count k) (count + 1)
+holds-add : {ks places : List ℕ} {count : ℕ} (k : ℕ) → Named·Holds ks places count → length ks < maxRows
+    → Named·Holds (ks ++ (k ∷ [])) (set places count k) (count + 1)
 holds-add {ks} {places} {count} k h l =
     let m = maxRows - length ks - 1 in
     let e : maxRows - length ks ≡ suc m = omega (arith, l) in

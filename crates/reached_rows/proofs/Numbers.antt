@@ -1,5 +1,5 @@
--- The number of a list of rows, test by test: `count-first`, `cover-next`, `rows-last`. Rows that are not refused are at most 256, `accepted-few`;
--- the number is 0, 6, 7 or 14, `rows-number`. What the loop over the rows has judged: `number-here`, `number-next`, `number-end`.
+-- The number of a list of rows, test by test: `count-first`, `cover-next`, `rows-last`. Rows that are not refused are at most 256, `accepted-few`; the number
+-- is 0, 6, 7 or 14, `rows-number`. What the loop over the rows has judged: `number-here`, `number-next`, `number-end`.
 use Prim.Native.Nat.{ℕ, suc, _+_, _≤_, _<_}
 use mathlib.Core.Logic.{inl, inr}
 use mathlib.Core.Path.{_≡_, refl, sym, ap, _∙_}
@@ -41,7 +41,8 @@ module _ (cover : Bounds3f) (rows : List Bounds3f) where
   pub accepted-few : rowsRefusal cover rows ≡ 0 → length rows ≤ maxRows
   unfolding rowsRefusal
   accepted-few e =
-      go (eqb (length rows) 0) (ltb maxRows (length rows)) (ltb-false maxRows (length rows)) (first-none (cond (isBadCount (length rows)) 14 0) _ e .0)
+      let n = length rows in
+      go (eqb n 0) (ltb maxRows n) (ltb-false maxRows n) (first-none (cond (isBadCount n) 14 0) _ e .0)
     where
       go : (s t : Bool) → (t ≡ false → length rows ≤ maxRows) → _≡_ {A = ℕ} (cond (s || t) 14 0) 0 → length rows ≤ maxRows
       go true t f z = absurd (eqb-false 14 0 refl z)

@@ -13,8 +13,8 @@ use Rattle.motion_chain.specs.Chain.{firstNumber, stage}
 abbrev pub maxRows : ℕ
 maxRows = 256
 
--- "No rows or more than 256 are 14, judged first; then 6 and 7 of the cover; then 6 and 7 of the rows,
--- of which the first refused one in order gives the number"; 0 is none
+-- "No rows or more than 256 are 14, judged first; then 6 and 7 of the cover; then 6 and 7 of the rows, of which the first refused one in order gives the
+-- number"; 0 is none
 unfoldable pub rowsRefusal : Bounds3f → List Bounds3f → ℕ
 rowsRefusal cover rows =
     firstNumber (cond (eqb (length rows) 0 || ltb maxRows (length rows)) 14 0 ∷ Bounds3f·refusal cover ∷ stage Bounds3f·refusal rows ∷ [])

@@ -2,13 +2,12 @@
 -- `RowsApart`, whatever cover it is, of a chain, of a set or of a window; and in the words of who keeps the chain whose cover was handed in, `KeptRowsApart`.
 -- The statements of `rows-apart` and `kept-rows-apart`.
 --
---   OneOf k ks                   k is one of the places ks that were named                                            crates/transform/specs/Answer.antt
---   PaddedInside cover pad q     q is inside the cover, by itself and less and plus the pad, each rounded               crates/motion_pad/specs/Grow.antt
---   padded pad answer            the points from the answered point less the pad to it plus the pad, on each axis
---                                crates/window_meetings/specs/Theorem.antt
---   Moves·reached moves time p   where the padded point p of the boom may be at a time, asked of the rows               crates/window_pairs/specs/Kept.antt
---   Moves·Built moves            the rows are what building left, those of a chain or of one move                       crates/chain_rows/specs/Theorem.antt
---   Moves·cover moves b depth    the cover query of a kept chain                                                        crates/chain_rows/specs/Kept.antt
+--   OneOf k ks                   k is one of the places ks that were named                                      crates/transform/specs/Answer.antt
+--   PaddedInside cover pad q     q is inside the cover, by itself and less and plus the pad, each rounded         crates/motion_pad/specs/Grow.antt
+--   padded pad answer            the points from the answered point less the pad to it plus the pad               crates/window_meetings/specs/Theorem.antt
+--   Moves·reached moves time p   where the padded point p of the boom may be at a time, asked of the rows         crates/window_pairs/specs/Kept.antt
+--   Moves·Built moves            the rows are what building left, those of a chain or of one move                 crates/chain_rows/specs/Theorem.antt
+--   Moves·cover moves b depth    the cover query of a kept chain                                                  crates/chain_rows/specs/Kept.antt
 use Prim.Native.Nat.{ℕ, _<_}
 use mathlib.Core.Path.{_≡_}
 use mathlib.Core.Bool.{not}
@@ -45,8 +44,8 @@ pub record RowApart (moves : List Rows) (time : Float) (p : Point3f) (row : Boun
   pub answered : PointAnswer·refusal (Moves·transformPoint moves time p) ≡ 0
   pub apart : (q : Point3f) → Inside (Moves·reached moves time p) q → Inside row q → ⊥
 
--- Of every built chain whose cover of the box b, at any depth, is accepted and is the one handed in: at any time but NaN,
--- every point of b is answered, and none of the points at which it may be, pad and all, is inside a row that is not among ks.
+-- Of every built chain whose cover of the box b, at any depth, is accepted and is the one handed in: at any time but NaN, every point of b is answered, and
+-- none of the points at which it may be, pad and all, is inside a row that is not among ks.
 abbrev pub KeptRowsApart : Bounds3f → List Bounds3f → List ℕ → Type 0
 KeptRowsApart cover rows ks =
     (moves : List Rows) (b : Bounds3f) (depth k : ℕ) (time : Float) (p : Point3f)

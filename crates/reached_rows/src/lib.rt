@@ -31,13 +31,13 @@ fn first_refusal(rows: &[[f32; 6]]) -> u8
     ensures value { λ r. ⌜ r ≡ stage Bounds3f·refusal (map Bounds3f·ofList (now (rows .entry))) ⌝ }
 {
     let n = rows.len();
-    let mut i = 0;
-    while i < n {
-        let number = bounds_query::refusal(lent_arrays::bounds(&rows[i]));
+    let mut k = 0;
+    while k < n {
+        let number = bounds_query::refusal(lent_arrays::bounds(&rows[k]));
         if number != 0 {
             return number;
         }
-        i += 1;
+        k += 1;
     }
     0
 }
@@ -78,9 +78,9 @@ fn name_rows(cover: Bounds3f, rows: &[[f32; 6]]) -> Named
     Named { places, count }
 }
 
-// Puts the places, counted from 0, of the rows that the cover meets, touching included, into the first of the lent places, 0 into the others, and gives
-// how many there are. Refused with 14 for no rows or more than 256, then with 6 and 7 of the cover, then with 6 or 7 of the first refused row in order;
-// a refusal leaves the places as they came. A row that is not named holds no padded point of a boom whose cover this is. Accuracy: exact.
+// Puts the places, counted from 0, of the rows that the cover meets, touching included, into the first of the lent places, 0 into the others, and gives how
+// many there are. Refused with 14 for no rows or more than 256, then with 6 and 7 of the cover, then with 6 or 7 of the first refused row in order; a refusal
+// leaves the places as they came. A row that is not named holds no padded point of a boom whose cover this is. Accuracy: exact.
 pub fn list_rows(cover: Bounds3f, rows: &[[f32; 6]], places: &mut [u32; 256]) -> Reached
     ensures refusal { λ r. ⌜ r .refusal ≡ rowsRefusal cover (map Bounds3f·ofList (now (rows .entry))) ⌝ }
     ensures count { λ r. ⌜ r .count ≡ length (reachedRows cover (map Bounds3f·ofList (now (rows .entry)))) ⌝ }

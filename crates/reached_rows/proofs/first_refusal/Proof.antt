@@ -1,4 +1,4 @@
--- `first_refusal` meets its contract: no row before i is refused, so that the number is that of the rows from i on.
+-- `first_refusal` meets its contract: no row before k is refused, so that the number is that of the rows from k on.
 use Prim.Native.Nat.{_-_, _<_}
 use mathlib.Core.Path.{_≡_, refl, sym, ap, _∙_}
 use native.Mathlib.Omega.{arith}
@@ -10,10 +10,10 @@ use Rattle.reached_rows.proofs.first_refusal.Statement.{statement}
 use Rattle.reached_rows.proofs.first_refusal.Tie as tie
 
 abbrev Inv-loop : tie.InvT-loop
-Inv-loop rows n i₀ i = (n ≡ length rows) × (numberFrom rows i ≡ numberFrom rows 0)
+Inv-loop rows n k₀ k = (n ≡ length rows) × (numberFrom rows k ≡ numberFrom rows 0)
 
 abbrev μ-loop : tie.MeasureT-loop
-μ-loop rows n i₀ i = n - i
+μ-loop rows n k₀ k = n - k
 
 loop-holds : tie.Need-loop-holds Inv-loop μ-loop
 loop-holds c = (refl, refl)
@@ -32,33 +32,31 @@ refusal-requires c κs = search needs
 
 returns : tie.Need-returns Inv-loop μ-loop
 returns c =
-    let c1 = c .before in let c2 = c1 .before in let c3 = c2 .before in let c4 = c3 .before in let c5 = c4 .before in let c6 = c5 .before in
-    let l = c5 .loop in
-    let a = c6 .args in
-    let h : l .i < length (a .rows .now) = omega (arith, l .inv .0, c4 .loop-test .taken) in
-    let n = c1 .refusal .ensures ∙ ap Bounds3f·refusal (c2 .bounds .ensures) in
-    sym (number-here (a .rows .now) (l .i) h n (c .if1 .taken)) ∙ l .inv .1
+    let l = c .before .before .before .before .before .loop in
+    let a = c .before .before .before .before .before .before .args in
+    let h : l .k < length (a .rows .now) = omega (arith, l .inv .0, c .before .before .before .before .loop-test .taken) in
+    let n = c .before .refusal .ensures ∙ ap Bounds3f·refusal (c .before .before .bounds .ensures) in
+    sym (number-here (a .rows .now) (l .k) h n (c .if1 .taken)) ∙ l .inv .1
 
-add-i : tie.Need-add-i Inv-loop μ-loop
-add-i c = search needs
+add-k : tie.Need-add-k Inv-loop μ-loop
+add-k c = search needs
 
 loop-less : tie.Need-loop-less Inv-loop μ-loop
 loop-less c = search needs
 
 loop-again : tie.Need-loop-again Inv-loop μ-loop
 loop-again c =
-    let c1 = c .before in let c2 = c1 .before in let c3 = c2 .before in let c4 = c3 .before in let c5 = c4 .before in let c6 = c5 .before in
-    let l = c5 .loop in
-    let a = c6 .args in
-    let h : l .i < length (a .rows .now) = omega (arith, l .inv .0, c4 .loop-test .taken) in
-    let n = sym (c1 .refusal .ensures ∙ ap Bounds3f·refusal (c2 .bounds .ensures)) ∙ c .if1 .left in
-    (l .inv .0, number-next (a .rows .now) (l .i) h n ∙ l .inv .1)
+    let l = c .before .before .before .before .before .loop in
+    let a = c .before .before .before .before .before .before .args in
+    let h : l .k < length (a .rows .now) = omega (arith, l .inv .0, c .before .before .before .before .loop-test .taken) in
+    let n = sym (c .before .refusal .ensures ∙ ap Bounds3f·refusal (c .before .before .bounds .ensures)) ∙ c .if1 .left in
+    (l .inv .0, number-next (a .rows .now) (l .k) h n ∙ l .inv .1)
 
 returns-2 : tie.Need-returns-2 Inv-loop μ-loop
 returns-2 c =
     let l = c .before .loop in
     let a = c .before .before .args in
-    sym (number-end (a .rows .now) (l .i) (omega (arith, l .inv .0, c .loop-test .left))) ∙ l .inv .1
+    sym (number-end (a .rows .now) (l .k) (omega (arith, l .inv .0, c .loop-test .left))) ∙ l .inv .1
 
 pub first-refusal-spec : {M : Type 1} → statement M
 first-refusal-spec =
@@ -72,7 +70,7 @@ first-refusal-spec =
     bounds-requires
     refusal-requires
     returns
-    add-i
+    add-k
     loop-less
     loop-again
     returns-2)

@@ -30,8 +30,8 @@ returns-2 c =
     let named = c .before in
     let number = named .before in
     let a = number .before .before .args in
-    rows-named (a .cover) (map Bounds3f·ofList (a .rows .now)) (a .places .now)
-    (sym (number .before .refusal .ensures) ∙ number .if1 .left) (named .name-rows .ensures)
+    let none = sym (number .before .refusal .ensures) ∙ number .if1 .left in
+    rows-named (a .cover) (map Bounds3f·ofList (a .rows .now)) (a .places .now) none (named .name-rows .ensures)
 
 pub list-rows-spec : {M : Type 1} → statement M
 list-rows-spec = tie.close (tie.spec refusal-requires returns name-rows-requires returns-2)

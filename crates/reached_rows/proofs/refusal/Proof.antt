@@ -35,9 +35,8 @@ returns-3 c =
     let box = c .before in
     let count = box .before .before in
     let a = count .before .args in
-    c .first-refusal .ensures
-    ∙ sym (rows-last (a .cover) (map Bounds3f·ofList (a .rows .now))
-    (same-count (a .rows .now) ∙ count .if1 .left) (sym (box .before .refusal .ensures) ∙ box .if2 .left))
+    let none = sym (box .before .refusal .ensures) ∙ box .if2 .left in
+    c .first-refusal .ensures ∙ sym (rows-last (a .cover) (map Bounds3f·ofList (a .rows .now)) (same-count (a .rows .now) ∙ count .if1 .left) none)
 
 pub refusal-spec : {M : Type 1} → statement M
 refusal-spec = tie.close (tie.spec returns refusal-requires returns-2 first-refusal-requires returns-3)
