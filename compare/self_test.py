@@ -165,6 +165,9 @@ def changed(change, question, answer):
             return answer_of([all_boxes] + [covers[0]] * len(covers))
         if change == "last_missing" and len(covers) > 1:
             return answer_of([all_boxes] + covers[:-1])
+    if change == "row_left_off" and word == "rows" and answer.startswith(b"ok "):
+        places = answer.split()[2:]
+        return b" ".join([b"ok", b"%d" % (len(places) - 1)] + places[:-1]) if places else answer
     if word == "day" and answer.startswith(b"ok"):
         if change == "all_at_once":
             return b"ok" + b" 0" * (len(answer.split()) - 1)
@@ -304,7 +307,7 @@ def trial(title, kind, changes, different, shown=(), sides=None, cases=40):
     """`different` is how many differences are to be told; None for some. The changes are on some sides, or on the project's alone."""
     if len(sys.argv) > 1 and not set(kind.split(",")) & set(sys.argv[1:]):
         return None
-    is_of_chains = kind in ("chains", "rigid", "sets", "texts", "trials", "joins", "stretches", "windows", "arcs", "days", "files")
+    is_of_chains = kind in ("chains", "rigid", "sets", "texts", "trials", "joins", "stretches", "windows", "arcs", "days", "rows", "files")
     sides = sides or ("--chain-answers" if is_of_chains else "--answers",)
     with tempfile.TemporaryDirectory() as folder:
         command = [os.path.join(HERE, "run"), "--no-build", "--kinds", kind, "--moves", str(cases), "--chains", str(cases), "--files", str(cases), "--show", "100"]
@@ -415,6 +418,9 @@ def main():
         trial("another number of one day's refusal", "days", ["refusal"], 1),
         trial("all booms started at once, on both sides", "days", ["all_at_once"], None, ["day: two booms that run meet"], BOTH_OF_CHAINS),
         trial("a boom that starts late, on both sides", "days", ["one_late"], None, ["day: a boom starts late"], BOTH_OF_CHAINS),
+        trial("rows as they are", "rows", [], 0, cases=200),
+        trial("another number of one refusal of rows", "rows", ["refusal"], 1),
+        trial("the last row that is reached left off", "rows", ["row_left_off"], None, ["rows"]),
         trial("files as they are", "files", ["file"], 0, cases=200),
         trial("a digit of one file's box and of one file's refusal", "files", ["wrong_file"], 2, ["cover, the program"], cases=200),
         trial("a space at the end of one rewritten file", "files", ["wrong_text"], None, ["rewrite, the program"], cases=200),

@@ -1,6 +1,6 @@
 #!/usr/bin/env bash
 # Makes the fixed lists that the tests replay, questions in stdin and their expected answer lines in stdout: of crates/answers the groups below, in this order,
-# and of crates/chain_answers those of chains, sets, arcs, texts, rigid chains, poses that are tried, joined chains, refused stretches, windows of two and days. Each group's expected values come from outside the libraries:
+# and of crates/chain_answers those of chains, sets, arcs, texts, rigid chains, poses that are tried, joined chains, refused stretches, windows of two, days and rows. Each group's expected values come from outside the libraries:
 #   numbers                                        hardware float arithmetic   tools/number_vectors.rs
 #   angles                                         exact fractions             tools/angle_vectors.py
 #   matrices, boxes, zeros, moves, their queries   the original Rust, and for covers a second implementation beside it   oracle/ (which says where it looks for pbrt-rust's sources)
@@ -13,6 +13,7 @@
 #   refused stretches                              every run built, the shortest first, in oracle/
 #   windows of two chains                          a second implementation, in oracle/
 #   days of booms                                  a second implementation, tick by tick
+#   rows that a boom reaches                       a second implementation, in oracle/
 set -eu
 cd "$(dirname "$0")/.."
 made=$(mktemp -d)
@@ -53,6 +54,7 @@ mkdir -p crates/chain_answers
     "$vectors" stretches 60 1 | awk '/^#/ { k++ } k % 11 == 9'
     "$vectors" windows 40 1
     "$vectors" days 150 1
+    "$vectors" rows 100 1
 } >crates/chain_answers/stdin
 "$made/oracle/release/chain_answers" <crates/chain_answers/stdin >crates/chain_answers/stdout
 wc -l crates/answers/stdin crates/answers/stdout crates/chain_answers/stdin crates/chain_answers/stdout

@@ -41,6 +41,7 @@ const KINDS: &[&str] = &[
     "stretches",
     "windows",
     "days",
+    "rows",
     "files",
 ];
 
@@ -48,10 +49,10 @@ const HELP: &str = "\
 compare/run [--moves N] [--chains N] [--seed N] [--kinds A,B,..] [--files N] [--no-build] ..
 
   --moves N              cases of each kind beside the fixed ones                20000
-  --chains N             chains, with their questions, sets, texts, trials, joins, stretches, windows and days   a quarter of the moves
+  --chains N             chains, with their questions, sets, texts, trials, joins, stretches, windows, days and rows   a quarter of the moves
   --files N              files for the programs `cover`, `rewrite`, `stretch`    a tenth of the moves
   --seed N               the same seed makes the same cases                      7
-  --kinds A,B            some of: numbers angles matrices boxes moves bounds motion covers chains rigid sets texts trials arcs joins stretches windows days files; all of them without it
+  --kinds A,B            some of: numbers angles matrices boxes moves bounds motion covers chains rigid sets texts trials arcs joins stretches windows days rows files; all of them without it
   --show N               how many differences are printed                        10
   --workers N            batches worked at once                                  the number of processors
   --no-build             takes the project's programs as they stand
@@ -133,7 +134,7 @@ const BATCH_BYTES: usize = 1 << 18;
 const BATCH_FILES: u64 = 200;
 
 fn are_chains(kind: &str) -> bool {
-    matches!(kind, "chains" | "rigid" | "sets" | "texts" | "trials" | "joins" | "stretches" | "windows" | "days")
+    matches!(kind, "chains" | "rigid" | "sets" | "texts" | "trials" | "joins" | "stretches" | "windows" | "days" | "rows")
 }
 
 /// Cuts what `vectors` prints for a kind into batches: before a move, or anywhere as long as there was none; chains at the comment before a case.

@@ -7,6 +7,7 @@ use crate::day::{starting_ticks, Boom};
 use crate::file::File;
 use crate::judged::{point_values, Judged, Kind, Move};
 use crate::lines::{bounds, bytes, counted, float, floats, matrix, matrix_floats, parts, read, whole, Answer, Session, Values};
+use crate::rows::reached_rows;
 use crate::windows::Window;
 
 /// The words of a question behind its name.
@@ -37,6 +38,7 @@ const QUESTIONS: &[(&str, Question)] = &[
     ("windows", windows),
     ("wcover", window_cover),
     ("day", day),
+    ("rows", rows),
 ];
 
 const SLOTS: usize = 4;
@@ -328,6 +330,14 @@ fn day(_: &mut Slots, words: Words) -> Answer {
     Some(starting_ticks(&booms).map(|starts| starts.iter().fold(Values::default(), |values, start| values.number(*start as usize))))
 }
 
+/// rows BOX BOX*
+fn rows(_: &mut Slots, words: Words) -> Answer {
+    let values = list(words)?;
+    let (boxes, []) = values.as_chunks() else { return None };
+    let (cover, rows) = boxes.split_first()?;
+    Some(reached_rows(cover, rows).map(|met| met.iter().fold(Values::default().number(met.len()), |values, place| values.number(*place))))
+}
+
 #[cfg(test)]
 mod tests {
     use super::*;
@@ -460,6 +470,10 @@ mod tests {
             "day 00000000 00000000 00000000 00000000 00000000 00000000",
             "day 00000000 00000000 00000000 00000000 00000000 00000000 x",
             "day 00000000 00000000 00000000 00000000 00000000 1 00000000",
+            "rows",
+            "rows 0",
+            "rows 00000000 00000000 00000000 00000000 00000000",
+            "rows 00000000 00000000 00000000 00000000 00000000 00000000 00000000",
             "sin 00000000",
             "acosn",
             "acosn 0",

@@ -26,7 +26,7 @@ pub const FILE: u8 = 11;
 pub const CHAIN: u8 = 12;
 /// A list of times that falls, or answers that aren't three places a time.
 pub const TIME_LIST: u8 = 13;
-/// A set of no boxes, or of more than 16.
+/// A set of no boxes, or of more than 16; no rows, or more than 256.
 pub const SET: u8 = 14;
 /// A buffer too short for the text of a file.
 pub const ROOM: u8 = 15;

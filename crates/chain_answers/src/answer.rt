@@ -3,6 +3,7 @@
 use crate::chains;
 use crate::files;
 use crate::question::Question;
+use crate::rows;
 use question_lines::put_text;
 
 // Answers a question.
@@ -22,6 +23,9 @@ pub fn put_answer(
     }
     if kind == 15 {
         return chains::stretch(q.rigid, floats / 18, x, out, at);
+    }
+    if kind == 18 {
+        return rows::reached(floats / 6, x, out, at);
     }
     if 3 < wholes[0] {
         return put_error(out, at);

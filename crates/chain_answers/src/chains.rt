@@ -282,7 +282,8 @@ pub fn covers(
     put_set(refusal, &union, &covers, count, out, at)
 }
 
-fn put_boxes(x: &[f32; 900], boxes: &mut [[f32; 6]]) {
+// As many boxes as there are places for.
+pub fn put_boxes(x: &[f32; 900], boxes: &mut [[f32; 6]]) {
     let mut i = 0;
     while i < boxes.len() {
         boxes[i] = bounds_at(x, i);

@@ -1,10 +1,11 @@
-// A test program: answers questions about chains of poses and days of booms, a question a line of standard input, an answer line each, in order, so that any
-// other implementation can be compared with the library through a pipe. What is read at once is answered before more is read.
+// A test program: answers questions about chains of poses, days of booms and rows, a question a line of standard input, an answer line each, in order, so that
+// any other implementation can be compared with the library through a pipe. What is read at once is answered before more is read.
 mod answer;
 mod chains;
 mod day;
 mod files;
 mod question;
+mod rows;
 
 use question_lines::part;
 

@@ -13,7 +13,7 @@ pub struct Question {
 
 // Of each question: how many poses the slot that it asks must have, where a move by itself counts as one; and what follows the name: how many whole numbers,
 // whether the word that says how a chain is built, how many floats at least, and how many floats each thing has of which any number may follow, 0 for none.
-const SHAPES: [[usize; 5]; 18] = [
+const SHAPES: [[usize; 5]; 19] = [
     [0, 1, 1, 0, 18], // chain S KIND P*
     [0, 1, 1, 36, 0], // lone S KIND P P
     [1, 1, 0, 4, 0], // cpoint S T X Y Z
@@ -32,6 +32,7 @@ const SHAPES: [[usize; 5]; 18] = [
     [0, 0, 1, 0, 18], // stretch KIND P*
     [2, 3, 0, 12, 1], // windows A B D BOXA BOXB T*
     [2, 2, 0, 8, 0], // wcover S D BOX T0 T1
+    [0, 0, 0, 6, 6], // rows BOX BOX*
 ];
 
 // The question of a line, its whole numbers and floats put into `wholes` and x.
@@ -42,9 +43,9 @@ pub fn parse(line: &[u8], wholes: &mut [u64; 4], x: &mut [f32; 900]) -> Question
     let end = word_end(line, 0);
     let kind = position(
         part(line, 0, end),
-        b"chain lone cpoint ctimes ccover cinterp cparts cmotion cpmotion cset acosn write cpad try join stretch windows wcover",
+        b"chain lone cpoint ctimes ccover cinterp cparts cmotion cpmotion cset acosn write cpad try join stretch windows wcover rows",
     );
-    if 18 <= kind {
+    if 19 <= kind {
         return malformed();
     }
     let shape = SHAPES[kind];

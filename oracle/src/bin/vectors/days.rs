@@ -88,7 +88,7 @@ impl Random {
     }
 
     /// Boxes of a field of few whole metres, so that many touch; or any.
-    fn field_box(&mut self, size: usize) -> [f32; 6] {
+    pub fn field_box(&mut self, size: usize) -> [f32; 6] {
         let mut b = [0.0; 6];
         for axis in 0..3 {
             let low = self.below(size) as f32;

@@ -6,6 +6,7 @@ mod chains;
 mod days;
 mod joins;
 mod rigid;
+mod rows;
 mod sets;
 mod stretches;
 mod texts;
@@ -569,6 +570,7 @@ const KINDS: &[&str] = &[
     "stretches",
     "windows",
     "days",
+    "rows",
 ];
 
 /// A box that a matrix carries: turned about, mirrored, carried to infinity, with wp of zero and a bottom row that isn't 0 0 0 1.
@@ -1190,6 +1192,7 @@ fn main() {
         "rigid" => (rigid::fixed, rigid::random),
         "stretches" => (stretches::fixed, stretches::random),
         "days" => (days::fixed, days::random),
+        "rows" => (rows::fixed, rows::random),
         _ => usage(),
     };
     // Each kind has numbers of its own, whatever the seed. A kind more leaves those of the others as they are.
