@@ -32,10 +32,11 @@ refusal-requires c κs = search needs
 
 returns : tie.Need-returns Inv-loop μ-loop
 returns c =
-    let l = c .before .before .before .before .before .loop in
-    let a = c .before .before .before .before .before .before .args in
-    let h : l .k < length (a .rows .now) = omega (arith, l .inv .0, c .before .before .before .before .loop-test .taken) in
-    let n = c .before .refusal .ensures ∙ ap Bounds3f·refusal (c .before .before .bounds .ensures) in
+    let c1 = c .before in let c2 = c1 .before in let c3 = c2 .before in let c4 = c3 .before in let c5 = c4 .before in let c6 = c5 .before in
+    let l = c5 .loop in
+    let a = c6 .args in
+    let h : l .k < length (a .rows .now) = omega (arith, l .inv .0, c4 .loop-test .taken) in
+    let n = c1 .refusal .ensures ∙ ap Bounds3f·refusal (c2 .bounds .ensures) in
     sym (number-here (a .rows .now) (l .k) h n (c .if1 .taken)) ∙ l .inv .1
 
 add-k : tie.Need-add-k Inv-loop μ-loop
@@ -46,10 +47,11 @@ loop-less c = search needs
 
 loop-again : tie.Need-loop-again Inv-loop μ-loop
 loop-again c =
-    let l = c .before .before .before .before .before .loop in
-    let a = c .before .before .before .before .before .before .args in
-    let h : l .k < length (a .rows .now) = omega (arith, l .inv .0, c .before .before .before .before .loop-test .taken) in
-    let n = sym (c .before .refusal .ensures ∙ ap Bounds3f·refusal (c .before .before .bounds .ensures)) ∙ c .if1 .left in
+    let c1 = c .before in let c2 = c1 .before in let c3 = c2 .before in let c4 = c3 .before in let c5 = c4 .before in let c6 = c5 .before in
+    let l = c5 .loop in
+    let a = c6 .args in
+    let h : l .k < length (a .rows .now) = omega (arith, l .inv .0, c4 .loop-test .taken) in
+    let n = sym (c1 .refusal .ensures ∙ ap Bounds3f·refusal (c2 .bounds .ensures)) ∙ c .if1 .left in
     (l .inv .0, number-next (a .rows .now) (l .k) h n ∙ l .inv .1)
 
 returns-2 : tie.Need-returns-2 Inv-loop μ-loop

@@ -33,29 +33,33 @@ meets-requires c κs = search needs
 
 mul-places : tie.Need-mul-places Inv-loop μ-loop
 mul-places c =
-    let l = c .before .before .before .before .before .loop in
-    let e = c .before .before .before .before .before .before in
-    let h : l .i < length (e .args .rows .now) = omega (arith, l .inv .0, c .before .before .before .before .loop-test .taken) in
+    let c1 = c .before in let c2 = c1 .before in let c3 = c2 .before in let c4 = c3 .before in let c5 = c4 .before in let c6 = c5 .before in
+    let l = c5 .loop in
+    let e = c6 in
+    let h : l .i < length (e .args .rows .now) = omega (arith, l .inv .0, c4 .loop-test .taken) in
     omega (arith, loop-few (e .args .cover) (e .args .rows .now) (l .inv .1) h (e .pre))
 
 array-write-places : tie.Need-array-write-places Inv-loop μ-loop
 array-write-places c =
-    let l = c .before .before .before .before .before .loop in
-    let e = c .before .before .before .before .before .before in
-    loop-few (e .args .cover) (e .args .rows .now) (l .inv .1) (omega (arith, l .inv .0, c .before .before .before .before .loop-test .taken)) (e .pre)
+    let c1 = c .before in let c2 = c1 .before in let c3 = c2 .before in let c4 = c3 .before in let c5 = c4 .before in let c6 = c5 .before in
+    let l = c5 .loop in
+    let e = c6 in
+    loop-few (e .args .cover) (e .args .rows .now) (l .inv .1) (omega (arith, l .inv .0, c4 .loop-test .taken)) (e .pre)
 
 add-count : tie.Need-add-count Inv-loop μ-loop
 add-count c =
-    let l = c .before .before .before .before .before .loop in
-    let e = c .before .before .before .before .before .before in
-    let h : l .i < length (e .args .rows .now) = omega (arith, l .inv .0, c .before .before .before .before .loop-test .taken) in
+    let c1 = c .before in let c2 = c1 .before in let c3 = c2 .before in let c4 = c3 .before in let c5 = c4 .before in let c6 = c5 .before in
+    let l = c5 .loop in
+    let e = c6 in
+    let h : l .i < length (e .args .rows .now) = omega (arith, l .inv .0, c4 .loop-test .taken) in
     omega (arith, loop-few (e .args .cover) (e .args .rows .now) (l .inv .1) h (e .pre))
 
 add-place : tie.Need-add-place Inv-loop μ-loop
 add-place c =
-    let l = c .before .before .before .before .before .loop in
-    let e = c .before .before .before .before .before .before in
-    omega (arith, l .inv .0, l .inv .1 .same-place, c .before .before .before .before .loop-test .taken, e .pre)
+    let c1 = c .before in let c2 = c1 .before in let c3 = c2 .before in let c4 = c3 .before in let c5 = c4 .before in let c6 = c5 .before in
+    let l = c5 .loop in
+    let e = c6 in
+    omega (arith, l .inv .0, l .inv .1 .same-place, c4 .loop-test .taken, e .pre)
 
 add-i : tie.Need-add-i Inv-loop μ-loop
 add-i c = search needs
@@ -65,11 +69,12 @@ loop-less c = search needs
 
 loop-again : tie.Need-loop-again Inv-loop μ-loop
 loop-again c =
-    let met = c .before in
-    let l = met .before .before .before .before .loop in
-    let e = met .before .before .before .before .before in
+    let c1 = c .before in let c2 = c1 .before in let c3 = c2 .before in let c4 = c3 .before in let c5 = c4 .before in let c6 = c5 .before in
+    let met = c1 in
+    let l = c5 .loop in
+    let e = c6 in
     let a = e .args in
-    let h : l .i < length (a .rows .now) = omega (arith, l .inv .0, met .before .before .before .loop-test .taken) in
+    let h : l .i < length (a .rows .now) = omega (arith, l .inv .0, c4 .loop-test .taken) in
     let m = sym (met .meets .ensures ∙ ap (Bounds3f·meets (a .cover)) (met .before .bounds .ensures)) in (
       refl,
       ⊎-elim (λ w. loop-met (a .cover) (a .rows .now) (l .inv .1) h (e .pre) (m ∙ w .0 .taken) (w .1) (w .2))
