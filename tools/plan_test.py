@@ -9,6 +9,7 @@ import contextlib
 import copy
 import io
 import json
+import math
 import os
 import random
 import re
@@ -244,6 +245,52 @@ class Reach(unittest.TestCase):
         text = ask(plan, "page")[1]
         self.assertEqual(text.count("</script>"), 2)
         self.assertNotIn("<b>&", text)
+
+
+class RealNumbers(unittest.TestCase):
+    """Booms that turn about their masts by sines and cosines of the machine: in the printed boxes, over rows that are named, and close to one another only in windows that are listed."""
+
+    def some_plan(self, rng):
+        base, booms = [rng.choice([0, 1200, 583000.25]), rng.choice([0, 4507721.125])], []
+        for name in ("a", "b"):
+            time, heading, at = rng.choice([0, 20.5]), rng.uniform(-180, 180), [round(b + rng.uniform(-20, 20), 3) for b in base]
+            poses_at = []
+            for k in range(rng.choice([2, 3, 4])):
+                poses_at.append({"time": round(time, 2), "heading": round(heading, 3), "at": [*at, 0.2 * k]})
+                time, heading = time + rng.uniform(5, 40), heading + rng.uniform(-150, 150)
+            booms.append(boom_of(name=name, mast=[*at, 0], kind=rng.choice(["plain", "rigid"]), box=[0, -0.4, 1.75, 18, 0.4, 2.25], poses=poses_at))
+        rows = [{"name": "r%d" % k, "box": [base[0] - 30, base[1] - 40 + 4 * k, base[0] + 10, base[1] - 39 + 4 * k]} for k in range(20)]
+        return plan_of(*booms, rows=rows, window_seconds=3)
+
+    def points(self, boom, time):
+        """Places along the boom's sides and middle at a time, by real-number geometry."""
+        first, *_, last = poses_of = boom["poses"]
+        time = min(max(time, first["time"]), last["time"])
+        a, b = next((a, b) for a, b in zip(poses_of, poses_of[1:]) if time <= b["time"])
+        share = (time - a["time"]) / (b["time"] - a["time"])
+        angle = math.radians(a["heading"] + (b["heading"] - a["heading"]) * share)
+        for x in range(19):
+            for y in (-0.4, 0, 0.4):
+                yield a["at"][0] + x * math.cos(angle) - y * math.sin(angle), a["at"][1] + x * math.sin(angle) + y * math.cos(angle), 2 + a["at"][2] + (b["at"][2] - a["at"][2]) * share
+
+    def test_some_plans(self):
+        rng, met = random.Random(3), 0
+        for _ in range(12):
+            plan = self.some_plan(rng)
+            covers, rows, windows = [json.loads(ask(plan, question, "--format", "json")[1])[question] for question in ("covers", "rows", "windows")]
+            end = max(pose["time"] for boom in plan["booms"] for pose in boom["poses"])
+            for time in [end * k / 60 for k in range(61)]:
+                moved = [list(self.points(boom, time)) for boom in plan["booms"]]
+                for boom, cover, points in zip(plan["booms"], covers, moved):
+                    self.assertTrue(all(cover["x0"] <= x <= cover["x1"] and cover["y0"] <= y <= cover["y1"] and cover["z0"] <= z <= cover["z1"] for x, y, z in points))
+                    for row, named in zip(plan["rows"], rows):
+                        x0, y0, x1, y1 = row["box"]
+                        over = any(x0 + 0.001 <= x <= x1 - 0.001 and y0 + 0.001 <= y <= y1 - 0.001 for x, y, _ in points)
+                        self.assertTrue(not over or boom["name"] in named["booms"], (row, time))
+                if any(math.dist(p, q) < 0.1 for p in moved[0] for q in moved[1]):
+                    met += 1
+                    self.assertTrue(any(w["answer"] == "may meet" and w["from"] - 0.01 <= time <= w["to"] + 0.01 for w in windows), time)
+        self.assertGreater(met, 0)
 
 
 class Turns(unittest.TestCase):
