@@ -205,6 +205,40 @@ class Reach(unittest.TestCase):
         self.assertEqual(answer({"line": [-5, 5, 20, 5]}, 0), "NOT BELOW")
         self.assertEqual(answer({"line": [9, 20, 20, 9]}, 0), "not under it")
 
+    def test_each_number_is_rounded_in_its_direction(self):
+        plan = reading.plan(files.json_values(json.dumps(plan_of(
+            boom_of(mast=[0.3, 0.3, 0.3], box=[0.1, 0.7, 0.1, 0.7, 0.7, 0.7], poses=[{"time": 0, "pad": 0.7}, {"time": 1, "pad": 0.1}]), rows=[{"name": "r", "box": [0.1, 0.7, 0.7, 0.1, 0.7, 0.7]}]))), "p")
+        answer = answers.Answers(library.Library(os.environ["JELLYPLAIN_LIBRARY"]), plan).booms[0]
+        row = plan.rows[0]
+        exact_row = [row.area[0], row.area[1], row.heights[0], row.area[2], row.area[3], row.heights[1]]
+        for exact, floats in ((plan.booms[0].boxes[0], answer.boxes[0]), ([v - Fraction(3, 10) for v in exact_row], answer.local_rows[0])):
+            self.assertTrue(all(Fraction(floats[i]) < exact[i] for i in range(3)) and all(Fraction(floats[i]) > exact[i] for i in range(3, 6)))
+        for pose in plan.booms[0].poses:
+            self.assertGreater(Fraction(chains.pose_floats(pose, (0, 0, 0), 0, True)[2]), pose.pad)
+            self.assertEqual(chains.pose_floats(pose, (0, 0, 0), 0, False)[2], 0)
+
+    def test_spray_is_asked_for_rows_and_not_for_nets(self):
+        wet = boom_of(poses=[{"time": 0, "pad": 3}, {"time": 10, "heading": 60, "pad": 3}])
+        plan = plan_of(wet, rows=[{"name": "beside", "box": [11, -3, 12, -2]}], nets=[{"name": "n", "height": 2.5}])
+        self.assertEqual(json.loads(ask(plan, "rows", "--format", "json")[1])["rows"][0]["booms"], ["a"])
+        self.assertEqual(json.loads(ask(plan, "nets", "--format", "json")[1])["nets"][0]["answer"], "below")
+        plan["booms"] = [boom_of()]
+        self.assertEqual(json.loads(ask(plan, "rows", "--format", "json")[1])["rows"][0]["booms"], [])
+
+    def test_spray_keeps_booms_apart(self):
+        wet = [boom_of(name=name, mast=[x, 0, 0], poses=[{"time": 0, "pad": 3}, {"time": 10, "heading": 10, "pad": 3}]) for name, x in (("a", 0), ("b", 13))]
+        starts = [[line["start_tick"] for line in json.loads(ask(plan_of(*wet), "day", "--format", "json", *options)[1])["day"]] for options in ([], ["--without-pads"])]
+        self.assertEqual(starts, [[0, 10], [0, 0]])
+        said = [json.loads(ask(plan_of(*wet), "windows", "--format", "json", *options)[1])["windows"][0]["answer"] for options in ([], ["--without-pads"])]
+        self.assertEqual(said, ["may meet", "never meet"])
+
+    def test_a_cover_that_touches_a_net_is_not_below(self):
+        top = self.found.booms[3].covers_in_plan(False)[0][5]
+        for height, expected in ((top, "NOT BELOW"), (top + Fraction(1, 2 ** 40), "below")):
+            text = damaged(lambda plan: plan["nets"].append({"name": "n", "height": "HEIGHT"})).replace('"HEIGHT"', numbers.exact_text(height))
+            found = json.loads(run("nets", written(text), "--format", "json")[1])["nets"]
+            self.assertEqual([line["answer"] for line in found if (line["net"], line["boom"]) == ("n", "south-east")], [expected])
+
     def test_line_and_rectangle(self):
         area = [Fraction(v) for v in (0, 0, 2, 1)]
         for line, expected in [((-1, -1, 3, 3), True), ((-1, 0, 0, 1), True), ((-1, 1, 1, 3), False), ((0, 1, 0, 5), True), ((3, 0, 4, 0), False), ((1, 0.5, 1, 0.5), True), ((2, 1, 5, 9), True)]:
