@@ -250,6 +250,11 @@ class Reach(unittest.TestCase):
         whole = run("windows", PLAN, "--every", "1", "--format", "csv")[1]
         self.assertIn("north-west,south-west,may meet,0.000,", whole)
 
+    def test_more_than_63_windows(self):
+        found = json.loads(ask(plan_of(boom_of(), boom_of(name="b")), "windows", "--every", "0.075", "--format", "json")[1])["windows"]
+        self.assertEqual(found, [{"boom": "a", "other": "b", "answer": "may meet", "from": 0, "to": 10}])
+        self.assertEqual(ask(plan_of(boom_of(), boom_of(name="b")), "windows", "--every", "0.0099")[0], 1)
+
     def test_day(self):
         runs = self.found.day
         self.assertEqual([run.end - run.start for run in runs], [4, 4, 8, 12])
