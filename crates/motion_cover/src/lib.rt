@@ -11,6 +11,7 @@ use pose_steps::IntervalVector;
 use pose_steps::JudgedQuaternion;
 use pose_steps::JudgedVector;
 use pose_steps::PoseConstants;
+use quaternion::SLERP_THRESHOLD;
 use transform::BoundsAnswer;
 use transform::Transform;
 ghost use Prim.Native.Nat.{_^_, _≤_};
@@ -114,7 +115,7 @@ fn border_at(table: &[u32; 2049], a: PoseConstants, t: f32) -> Border
     requires { ⌜ now table ≡ sineTable ⌝ }
     ensures value { λ r. ⌜ r ≡ Border·at a t ⌝ }
 {
-    if a.cos_theta > 0.9995 {
+    if a.cos_theta > SLERP_THRESHOLD {
         let angle = EndAngle {
             angle: 0.0,
             units: 0,
@@ -145,7 +146,7 @@ fn slerp_enclosure(
         low: from.t,
         high: to.t,
     };
-    if a.cos_theta > 0.9995 {
+    if a.cos_theta > SLERP_THRESHOLD {
         return pose_slerp::slerp_near_enclosure(m, a.r0, a.r1, t);
     }
     let x = from.angle;

@@ -1,4 +1,5 @@
--- A number of units with a sign as a natural number, 2 ^ 30 more than it is (excess 2 ^ 30): what the code carries, from 0 for -1 to 2 ^ 31 for 1.
+-- A number of units with a sign as a natural number, 2 ^ 30 more than it is (excess 2 ^ 30), from 0 for -1 to 2 ^ 31 for 1: what the code carries,
+-- and what the arc cosine's search compares.
 use Prim.Native.Nat.{ℕ, suc, _+_, _-_, _^_}
 use lib.IntN.{ℤ, pos, negsuc}
 use Rattle.trig.specs.Units.{sinUnits}

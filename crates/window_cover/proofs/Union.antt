@@ -13,12 +13,12 @@ use Rattle.bounds3.specs.Bounds3f.{Bounds3f·default}
 use Rattle.transform.specs.declared.BoundsAnswer.{BoundsAnswer}
 use Rattle.transform.specs.declared.BoundsAnswer.the-variants.{Bounds}
 use Rattle.bounds_answers.specs.UnionAll.{BoundsAnswer·unionAll}
+use Rattle.bounds_answers.proofs.UnionAll.{union-append}
 use Rattle.animated_transform.specs.declared.AnimatedTransform.{AnimatedTransform}
 use Rattle.motion_rows.specs.Rows.{AnimatedTransform·fromRows}
 use Rattle.motion_chain.specs.Chain.{Chain·moves}
 use Rattle.chain_rows.specs.Kept.{Moves·chain}
 use Rattle.window_times.specs.declared.Window.{Window}
-use Rattle.bounds_answers.proofs.UnionAll.{union-append}
 use Rattle.chain_window.specs.Cover.{sliceBoxes, firstPoseBoxes, endPoseBoxes, equalPoseBoxes, isNil, boxesFrom, windowBoxes, Chain·encloseWindow}
 use Rattle.window_cover.specs.means.Stage.{stageBoxes}
 

@@ -50,6 +50,7 @@ findZeros d f i z = search d (MotionDerivative·excludesZero f i) f i z
 abbrev pub searchDepth : ℕ
 searchDepth = 8
 
+-- `Interval::new(0.0, 1.0)`
 abbrev pub searchedInterval : Interval
 searchedInterval = Interval·new positiveZero one
 

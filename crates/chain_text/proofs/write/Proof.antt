@@ -49,7 +49,8 @@ returns-2 c =
     let some = judged .before .if1 .left in
     let a = c7 .args in
     let e = c .refused2 .ensures in
-    all-refused (a .moves .now) (a .b) (a .out .now) some _ _ _ _ (omega arith) (judged .refusal .ensures) (room .room-refusal .ensures) (first .first-refusal .ensures)
+    all-refused (a .moves .now) (a .b) (a .out .now) some _ _ _ _ (omega arith)
+    (judged .refusal .ensures) (room .room-refusal .ensures) (first .first-refusal .ensures)
     (c1 .if2 .taken) _ _ (e .1) (e .0)
 
 put-requires : tie.Need-put-requires
@@ -79,7 +80,8 @@ returns-3 c =
     let judged = room .before in
     let some = judged .before .if1 .left in
     let a = c10 .args in
-    all-written (a .moves .now) (a .b) (a .out .now) some _ _ _ _ (omega arith) (judged .refusal .ensures) (room .room-refusal .ensures) (first .first-refusal .ensures)
+    all-written (a .moves .now) (a .b) (a .out .now) some _ _ _ _ (omega arith)
+    (judged .refusal .ensures) (room .room-refusal .ensures) (first .first-refusal .ensures)
     (put .before .before .if2 .left) _ (put .put .ensures)
 
 pub write-spec : {M : Type 1} → statement M
