@@ -1,7 +1,7 @@
 #!/usr/bin/env bash
 # The test command of README.md: `rt ci`, and before its verdict what refused each must-fail edit, what `cover` prints for the examples, the library's tests in C, C++ and Rust where compilers are at
-# hand, and, where python3 is at hand, whether the list of definitions in docs/GUARANTEE.md and every text made from docs/REFUSALS.md are up to date, and the stamp from which tools/certificate tells
-# commit, toolchain, programs and library.
+# hand, and, where python3 is at hand, whether the list of definitions in docs/GUARANTEE.md and every text made from docs/REFUSALS.md are up to date, the tests of tools/plan, and the stamp from which
+# tools/certificate tells commit, toolchain, programs and library.
 # An edit that is refused only because a proof file no longer fits the code fails the run, and so does an example whose box is not the expected one.
 set -u
 cd "$(dirname "$0")/.." || exit 2
