@@ -135,7 +135,7 @@ def end_boxes(found, labels):
             far = max(path, key=lambda p: outside(p, box))
             x, y = found.above.place(far[0], far[1])
             yield f'<circle cx="{svg.coordinate(x)}" cy="{svg.coordinate(y)}" r="3.5" fill="#000000"/>'
-            labels.put("on the way the tip is %.1f m outside it" % outside(far, box), [(x - 8, y - 16, "end"), (x + 8, y - 16, "start"), (x - 8, y + 24, "end")])
+            labels.put("on the way the tip is %.1f m outside the dashed box" % outside(far, box), [(x - 8, y - 16, "end"), (x + 8, y - 16, "start"), (x - 8, y + 24, "end")])
 
 
 def outside(p, box):
