@@ -2,15 +2,16 @@
 -- A built move's constants are finite, and the angle between its rotations is at most a quarter turn, since the second was turned to the first's side.
 use mathlib.Core.Path.{_≡_}
 use mathlib.Core.Logic.{_⊎_}
-use Prim.Native.Nat.{ℕ}
+use Prim.Native.Nat.{ℕ, zero, suc}
 use mathlib.Core.List.{List, [], _∷_}
+use lib.ListN.{getD}
 use lib.Dec.{T}
 use lib.Ieee.{Float}
 use lib.Ieee.Scale.{finite}
 use Rattle.rounding.specs.Order.{_≼_}
 use Rattle.trig_laws.specs.Range.{quarterTurnFloat}
 use Rattle.matrix4x4.specs.declared.Matrix4x4.{Matrix4x4}
-use Rattle.matrix4x4.specs.Rows.{positiveZero}
+use Rattle.matrix4x4.specs.Rows.{Row, Matrix4x4·toRows, positiveZero}
 use Rattle.bounds3.specs.declared.Point3f.{Point3f}
 use Rattle.bounds3.specs.declared.Bounds3f.{Bounds3f}
 use Rattle.bounds3.specs.List.{Point3f·list}
@@ -23,6 +24,7 @@ use Rattle.formula.specs.Promise.{Pairwise, NarrowerAll}
 use Rattle.pose_steps.specs.declared.PoseConstants.{PoseConstants}
 use Rattle.pose_steps.specs.declared.PoseAnswer.{PoseAnswer}
 use Rattle.pose_steps.specs.declared.IntervalVector.{IntervalVector}
+use Rattle.pose_steps.specs.declared.IntervalRow.{IntervalRow}
 use Rattle.pose_steps.specs.declared.IntervalMatrix.{IntervalMatrix}
 use Rattle.pose_steps.specs.declared.JudgedVector.{JudgedVector}
 use Rattle.pose_steps.specs.declared.JudgedQuaternion.{JudgedQuaternion}
@@ -56,28 +58,35 @@ pub record FiniteScale (s : Matrix4x4) : Type 0 where
 abbrev pub quarterInterval : Interval
 quarterInterval = record { low = positiveZero; high = quarterTurnFloat }
 
+-- The three upper rows of a matrix, by number.
+abbrev pub IntervalMatrix·row : IntervalMatrix → ℕ → IntervalRow
+IntervalMatrix·row M zero = M .r0
+IntervalMatrix·row M (suc zero) = M .r1
+IntervalMatrix·row M (suc (suc i)) = M .r2
+
+abbrev pub Matrix4x4·row : Matrix4x4 → ℕ → Row
+Matrix4x4·row m i = getD (Matrix4x4·toRows m) i []
+
+-- R holds between each of the three upper rows of M and the row of m with the same number.
+pub record EachRow {A B X Y : Type 0} (row : A → ℕ → X) (row' : B → ℕ → Y) (R : X → Y → Type 0) (M : A) (m : B) : Type 0 where
+  pub r0 : R (row M 0) (row' m 0)
+  pub r1 : R (row M 1) (row' m 1)
+  pub r2 : R (row M 2) (row' m 2)
+
 -- Each entry of the three upper rows is finite and lies in its interval.
-pub record EnclosesMatrix (M : IntervalMatrix) (m : Matrix4x4) : Type 0 where
-  pub r0 : Pairwise Encloses (IntervalRow·list (M .r0)) (entries (m .r0))
-  pub r1 : Pairwise Encloses (IntervalRow·list (M .r1)) (entries (m .r1))
-  pub r2 : Pairwise Encloses (IntervalRow·list (M .r2)) (entries (m .r2))
+abbrev pub EnclosesMatrix : IntervalMatrix → Matrix4x4 → Type 0
+EnclosesMatrix = EachRow IntervalMatrix·row Matrix4x4·row (λ R r. Pairwise Encloses (IntervalRow·list R) (entries r))
 
 -- The same of the nine entries that the scale's lerp reads.
-pub record EnclosesScale (M : IntervalMatrix) (m : Matrix4x4) : Type 0 where
-  pub r0 : Pairwise Encloses (IntervalRow·three (M .r0)) (three (m .r0))
-  pub r1 : Pairwise Encloses (IntervalRow·three (M .r1)) (three (m .r1))
-  pub r2 : Pairwise Encloses (IntervalRow·three (M .r2)) (three (m .r2))
+abbrev pub EnclosesScale : IntervalMatrix → Matrix4x4 → Type 0
+EnclosesScale = EachRow IntervalMatrix·row Matrix4x4·row (λ R r. Pairwise Encloses (IntervalRow·three R) (three r))
 
 -- Each interval lies in its counterpart, which is finite.
-pub record RefinesMatrix (M M' : IntervalMatrix) : Type 0 where
-  pub r0 : Pairwise Refines (IntervalRow·list (M .r0)) (IntervalRow·list (M' .r0))
-  pub r1 : Pairwise Refines (IntervalRow·list (M .r1)) (IntervalRow·list (M' .r1))
-  pub r2 : Pairwise Refines (IntervalRow·list (M .r2)) (IntervalRow·list (M' .r2))
+abbrev pub RefinesMatrix : IntervalMatrix → IntervalMatrix → Type 0
+RefinesMatrix = EachRow IntervalMatrix·row IntervalMatrix·row (λ R R'. Pairwise Refines (IntervalRow·list R) (IntervalRow·list R'))
 
-pub record RefinesScale (M M' : IntervalMatrix) : Type 0 where
-  pub r0 : Pairwise Refines (IntervalRow·three (M .r0)) (IntervalRow·three (M' .r0))
-  pub r1 : Pairwise Refines (IntervalRow·three (M .r1)) (IntervalRow·three (M' .r1))
-  pub r2 : Pairwise Refines (IntervalRow·three (M .r2)) (IntervalRow·three (M' .r2))
+abbrev pub RefinesScale : IntervalMatrix → IntervalMatrix → Type 0
+RefinesScale = EachRow IntervalMatrix·row IntervalMatrix·row (λ R R'. Pairwise Refines (IntervalRow·three R) (IntervalRow·three R'))
 
 -- Nothing is refused, and the matrix lies in M.
 pub record EnclosesPose (M : IntervalMatrix) (r : PoseAnswer) : Type 0 where
