@@ -1,4 +1,4 @@
--- A move that isn't refused keeps its kind and its poses' times and pads: `new-kept`, and of a built move's pads `built-pads`.
+-- A move that isn't refused keeps its kind and its poses' times and pads: `new-kept`, `built-kept`.
 use Prim.Native.Nat.{ℕ}
 use mathlib.Core.Path.{_≡_, refl, subst}
 use mathlib.Core.Bool.{Bool, true, false, cond}
@@ -71,7 +71,3 @@ new-kept rigid start end =
 
 pub built-kept : {m : AnimatedTransform} (b : Built m) → Kept (b .rigid) (b .start) (b .end) m
 built-kept b = subst (AnswerKept (b .rigid) (b .start) (b .end)) (b .accepted) (new-kept (b .rigid) (b .start) (b .end)) refl
-
--- The pads of a built move are its poses' own.
-pub built-pads : {m : AnimatedTransform} (b : Built m) → (m .pad0 ≡ b .start .pad) × (m .pad1 ≡ b .end .pad)
-built-pads b = let k = built-kept b in (k .start-pad, k .end-pad)

@@ -203,10 +203,6 @@ unfolding cosUnits
 cos-second u g h = sin-third (u + quarterTurn) (omega arith) (omega arith)
     ∙ ap (λ (x : ℕ). 2 ^ 30 - quarterSine x) (let e : u + quarterTurn - 2 * quarterTurn ≡ u - quarterTurn = omega arith in e)
 
-pub cos-zero : biased (cosUnits 0) ≡ 2 ^ 31
-unfolding computing
-cos-zero = refl
-
 pub cos-half-turn : biased (cosUnits (2 * quarterTurn)) ≡ 0
 unfolding computing
 cos-half-turn = refl
