@@ -165,6 +165,21 @@ class Reach(unittest.TestCase):
         drawn = re.findall('data-row="([0-9]+)" fill="#d9ecc4"', run("draw", PLAN)[1])
         self.assertEqual(drawn, [str(i) for i, booms in enumerate(table.values()) if booms])
 
+    def test_map_tells_the_day_and_the_windows(self):
+        def of_booms(question):
+            features = json.loads(run(question, PLAN, "--format", "geojson")[1])["features"]
+            return {f["properties"]["name"]: f["properties"] for f in features if f["properties"]["what"] == "cover"}
+        day = of_booms("day")
+        for line in json.loads(run("day", PLAN, "--format", "json")[1])["day"]:
+            self.assertEqual({key: day[line["boom"]][key] for key in ("start_tick", "end_tick", "from", "to")}, {key: line[key] for key in ("start_tick", "end_tick", "from", "to")})
+        windows = of_booms("windows")
+        met = [line for line in json.loads(run("windows", PLAN, "--format", "json")[1])["windows"] if line["answer"] == "may meet"]
+        self.assertTrue(met)
+        for name, properties in windows.items():
+            self.assertEqual(sorted((m["boom"], m["from"], m["to"]) for m in properties["may_meet"]),
+                             sorted((line["other"] if line["boom"] == name else line["boom"], line["from"], line["to"]) for line in met if name in (line["boom"], line["other"])))
+        self.assertNotIn("may_meet", day["north-west"])
+
     def test_rows_that_touch_a_cover_are_never_missed(self):
         mast = [1234567.1, -7654321.7, 3.3]
         boom = boom_of(mast=mast)
@@ -524,7 +539,7 @@ class WrongUsage(unittest.TestCase):
         (["covers", PLAN, "--deep"], "unrecognized"),
         (["covers", PLAN, "--depth", "x"], "--depth: 'x' is not a decimal number"),
         (["windows", PLAN, "--every", "0"], "--every: 0: seconds above 0"),
-        (["windows", PLAN, "--format", "geojson"], "invalid choice"),
+        (["moves", PLAN, "-o", SCRATCH, "--format", "geojson"], "invalid choice"),
         (["moves", PLAN], "required"),
         (["moves", PLAN, "-o", PLAN], "File exists"),
         (["covers", "/nowhere/plan.json"], "/nowhere/plan.json: No such file"),

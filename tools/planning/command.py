@@ -28,7 +28,7 @@ QUESTIONS = {
     "draw": "the plan from above and from the side, as SVG",
     "page": "one HTML page with a time slider, which needs nothing else",
 }
-FORMATS = {"covers": ["table", "csv", "json", "geojson"], "nets": ["table", "csv", "json", "geojson"], "rows": ["table", "csv", "json", "geojson"], "windows": ["table", "csv", "json"],
+FORMATS = {"covers": ["table", "csv", "json", "geojson"], "nets": ["table", "csv", "json", "geojson"], "rows": ["table", "csv", "json", "geojson"], "windows": ["table", "csv", "json", "geojson"],
            "day": ["table", "csv", "json", "geojson"], "moves": ["table", "csv", "json"]}
 
 
@@ -100,7 +100,7 @@ def text_of(answers, options):
     if options.question == "page":
         return page.page(answers)
     if options.format == "geojson":
-        return geojson.geojson_text(answers)
+        return geojson.geojson_text(answers, options.question)
     records, empty = {
         "covers": (lambda: output.cover_records(answers, answers.with_pads), ""),
         "nets": (lambda: output.net_records(answers), "the plan has no nets"),

@@ -1,7 +1,7 @@
 """The map: rows, nets, masts and covers as GeoJSON features, in metres of the plan's frame."""
 from fractions import Fraction
 
-from planning.output import above, below, json_text, outward
+from planning.output import above, below, day_records, json_text, outward, window_records
 
 
 def rectangle(area):
@@ -17,7 +17,22 @@ def area_of(box):
     return [box[0], box[1], box[3], box[4]]
 
 
-def features(answers):
+def told(answers, question):
+    """What the answer to the question says of each boom, by its name, beside what every map has."""
+    if question == "day":
+        return {record["boom"]: {key: record[key] for key in ("start_tick", "end_tick", "from", "to")} for record in day_records(answers)}
+    if question != "windows":
+        return {answer.boom.name: {} for answer in answers.booms}
+    found = {answer.boom.name: {"may_meet": []} for answer in answers.booms}
+    for record in window_records(answers):
+        if record["answer"] == "may meet":
+            for one, other in ((record["boom"], record["other"]), (record["other"], record["boom"])):
+                found[one]["may_meet"].append({"boom": other, "from": record["from"], "to": record["to"]})
+    return found
+
+
+def features(answers, question):
+    more = told(answers, question)
     for place, row in enumerate(answers.plan.rows):
         yield feature(rectangle(row.area), what="row", name=row.name, booms=answers.reached_by(place))
     for net in answers.plan.nets:
@@ -27,7 +42,7 @@ def features(answers):
         yield feature({"type": "Point", "coordinates": [below(v + Fraction(1, 2000)) for v in answer.boom.mast[:2]]}, what="mast", name=name)
         for sprays in [False] + [True] * answer.sprays:
             for cover in answer.covers_in_plan(sprays):
-                yield feature(rectangle(area_of(cover)), what="cover", name=name, of="boom and spray" if sprays else "boom", z0=below(cover[2]), z1=above(cover[5]), rows=rows)
+                yield feature(rectangle(area_of(cover)), what="cover", name=name, of="boom and spray" if sprays else "boom", z0=below(cover[2]), z1=above(cover[5]), rows=rows, **more[name])
 
 
 def net_geometry(net):
@@ -40,5 +55,5 @@ def net_geometry(net):
     return None
 
 
-def geojson_text(answers):
-    return json_text({"type": "FeatureCollection", "name": answers.plan.name, "units": "metres of the plan's frame", "features": list(features(answers))}) + "\n"
+def geojson_text(answers, question):
+    return json_text({"type": "FeatureCollection", "name": answers.plan.name, "units": "metres of the plan's frame", "features": list(features(answers, question))}) + "\n"
