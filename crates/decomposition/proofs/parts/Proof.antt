@@ -2,7 +2,7 @@
 use borrow.Author.Tests.{eq-eqb, ne-eqb}
 use mathlib.Core.Path.{_≡_}
 use Rattle.matrix_quaternion.specs.FromMatrix.{Quaternion·fromMatrix}
-use Rattle.decomposition.specs.Decompose.{parts}
+use Rattle.decomposition.specs.Decompose.{scaleBy, parts}
 use borrow.Author.Needs.{needs}
 use Rattle.decomposition.proofs.parts.Statement.{statement}
 use Rattle.decomposition.proofs.parts.Tie as tie
@@ -31,7 +31,8 @@ returns c =
     let c1 = c .before in let c2 = c1 .before in let c3 = c2 .before in let c4 = c3 .before in
     let c5 = c4 .before in let c6 = c5 .before in let c7 = c6 .before in
     let rotation : c3 .quaternion-from-matrix .result ≡ Quaternion·fromMatrix (c7 .args .r) = c3 .quaternion-from-matrix .ensures in
-    rw (← c6 .inverse .ensures, eq-eqb _ 0 (c4 .if1 .taken), ← rotation, ← c2 .to-rows .ensures, ← c1 .scale-by .ensures) (c .judged .ensures)
+    let scale : c1 .scale-by .result ≡ scaleBy (c7 .args .rigid) (c2 .to-rows .result) (c7 .args .m) = c1 .scale-by .ensures in
+    rw (← c6 .inverse .ensures, eq-eqb _ 0 (c4 .if1 .taken), ← rotation, ← c2 .to-rows .ensures, ← scale) (c .judged .ensures)
 
 returns-2 : tie.Need-returns-2
 unfolding parts
