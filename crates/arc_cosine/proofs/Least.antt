@@ -16,7 +16,7 @@ use Rattle.sine_table.specs.Table.{quarterTurn}
 use Rattle.trig.specs.Units.{cosUnits}
 use Rattle.arc_cosine.specs.Acos.{leastFrom, leastAngle}
 use Rattle.trig.specs.Biased.{biased}
-use Rattle.trig.proofs.Units.{minus-above, minus-below, cos-unbiased, cos-falls}
+use Rattle.trig.proofs.Units.{minus-above, minus-below, minus-le, cos-unbiased, cos-falls}
 
 -- ---- the least that passes a test
 
@@ -50,15 +50,6 @@ least-below p (suc d) j u a b t = elim (eq-or-lt-of-le a) [
     go false k h = h
 
 -- ---- the test, of biased numbers
-
-pub minus-le : (a b c : ℕ) → a ≤ b → leZ (minus a c) (minus b c) ≡ true
-minus-le a b c h = go (decLe c a) (decLe c b)
-  where
-    go : Dec (c ≤ a) → Dec (c ≤ b) → leZ (minus a c) (minus b c) ≡ true
-    go (yes p) (yes q) = rw (minus-above a c p, minus-above b c q) (le-leb (a - c) (b - c) (omega arith))
-    go (yes p) (no q) = absurd (omega arith)
-    go (no p) (yes q) = rw (minus-below a c (omega arith), minus-above b c q)
-    go (no p) (no q) = rw (minus-below a c (omega arith), minus-below b c (omega arith)) (le-leb (c - suc b) (c - suc a) (omega arith))
 
 pub minus-gt : (a b c : ℕ) → b < a → leZ (minus a c) (minus b c) ≡ false
 minus-gt a b c h = go (decLe c a) (decLe c b)

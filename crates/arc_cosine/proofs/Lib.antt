@@ -2,3 +2,4 @@ pub mod Least
 pub mod Halving
 pub mod Floor
 pub mod Values
+pub mod Range

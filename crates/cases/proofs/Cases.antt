@@ -13,7 +13,7 @@ use Rattle.trig.specs.Units.{cosUnits}
 use Rattle.arc_cosine.specs.Acos.{floorUnits, acos}
 use Rattle.trig.specs.Biased.{biased}
 use Rattle.trig.specs.means.Computing as trig
-use Rattle.trig_laws.proofs.Acos.{acos-unique}
+use Rattle.arc_cosine.proofs.Range.{acos-unique}
 use Rattle.animated_transform.specs.means.Computing as building
 use Rattle.motion_point.specs.means.Computing as point
 use Rattle.motion_cover.specs.means.Computing as cover

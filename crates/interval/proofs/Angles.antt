@@ -1,12 +1,12 @@
 -- The sine and the cosine of an interval of angles are interval extensions, and inclusion isotone: `sin-extends`, `cos-extends`, `sin-isotone`, `cos-isotone`.
--- Rests on `trig_laws`, which has both for two ends.
+-- Rests on the laws of `trig`, which has both for two ends.
 use lib.Ieee.{Float, binary32, ofBits, le}
 use lib.Ieee.Fits.{and-i, and-l, and-r}
 use Rattle.rounding.specs.Order.{_≼_}
 use Rattle.rounding.proofs.Order.{≼-trans}
 use Rattle.trig.specs.SinCos.{sin, cos}
-use Rattle.trig_laws.specs.Range.{Angle, fullTurnFloat}
-use Rattle.trig_laws.proofs.Range
+use Rattle.trig.specs.Range.{Angle, fullTurnFloat}
+use Rattle.trig.proofs.Range
 use Rattle.interval.specs.declared.Interval.{Interval}
 use Rattle.interval.specs.Contains.{Contains, Subset}
 use Rattle.interval.specs.Enclosure.{Interval·sinEnclosure, Interval·cosEnclosure, Judged·judge, Judged·sinEnclosure, Judged·cosEnclosure}

@@ -11,7 +11,7 @@ use Rattle.sine_table.specs.Table.{quarterTurn}
 use Rattle.trig.specs.declared.SinCos.{SinCos}
 use Rattle.trig.specs.Units.{angleUnits}
 use Rattle.trig.specs.SinCos.{sin, cos}
-use Rattle.trig_laws.specs.Range.{lies, sinLow, sinHigh, cosLow, cosHigh}
+use Rattle.trig.specs.Range.{lies, sinLow, sinHigh, cosLow, cosHigh}
 use Rattle.interval.specs.Enclosure.{Interval·sinEnclosure, Interval·cosEnclosure}
 use Rattle.interval.specs.declared.EndAngle.{EndAngle}
 use Rattle.interval.specs.means.EndAngle.{EndAngle·fromSinCos, EndAngle·new, EndAngle·sinRange, EndAngle·cosRange}

@@ -17,8 +17,8 @@ use Rattle.trig.specs.Biased.{biased, biasedSin}
 use Rattle.trig.specs.Units.{angleUnits, cosUnits}
 use Rattle.trig.specs.SinCos.{sin, cos}
 use Rattle.trig.specs.means.Computing.{computing}
-use Rattle.trig_laws.specs.Range.{Angle, fullTurnFloat, lies, sinLow, sinHigh, cosLow, cosHigh}
-use Rattle.trig_laws.proofs.Monotone.{biasedFloat, sin-at, cos-at}
+use Rattle.trig.specs.Range.{Angle, fullTurnFloat, lies, sinLow, sinHigh, cosLow, cosHigh}
+use Rattle.trig.proofs.Monotone.{biasedFloat, sin-at, cos-at}
 use Rattle.interval.specs.Interval.{Interval·new, Interval·point, Interval·hull, Interval·ofFour}
 use Rattle.interval.specs.Enclosure.{Interval·addEnclosure, Interval·subEnclosure, Interval·mulEnclosure, Interval·divEnclosure}
 use Rattle.interval.specs.Enclosure.{Interval·sqrtEnclosure, Interval·sinEnclosure, Interval·cosEnclosure}

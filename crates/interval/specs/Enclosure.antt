@@ -7,7 +7,7 @@ use lib.Ieee.{binary32, ofBits, le}
 use lib.Ieee.Scale.{finite}
 use Rattle.refusal.specs.First.{firstRefusal}
 use Rattle.square_root.specs.SquareRoot.{sqrt}
-use Rattle.trig_laws.specs.Range.{sinLow, sinHigh, cosLow, cosHigh, fullTurnFloat}
+use Rattle.trig.specs.Range.{sinLow, sinHigh, cosLow, cosHigh, fullTurnFloat}
 use Rattle.float32.specs.Operators.{_⊕_, _⊖_, _⊗_, _⊘_}
 use Rattle.interval.specs.declared.Interval.{Interval}
 use Rattle.interval.specs.declared.Judged.{Judged}

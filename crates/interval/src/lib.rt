@@ -5,7 +5,7 @@ use refusal::first_refusal;
 use trig::SinCos;
 ghost use mathlib.Core.Path.{_≡_};
 ghost use Rattle.trig.specs.SinCos.{sin, cos};
-ghost use Rattle.trig_laws.specs.Range.{lies};
+ghost use Rattle.trig.specs.Range.{lies};
 ghost use Rattle.interval.specs.Interval.{Interval·new, Interval·point, Interval·hull, Interval·ofFour, Interval·add, Interval·sub, Interval·mul};
 ghost use Rattle.interval.specs.Interval.{Interval·straddles, Interval·sinBetween, Interval·sin, Interval·cosBetween, Interval·cos};
 ghost use Rattle.interval.specs.Enclosure.{notFinite, notPositive, Judged·judge, Judged·addEnclosure, Judged·subEnclosure, Judged·mulEnclosure};

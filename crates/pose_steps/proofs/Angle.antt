@@ -15,8 +15,8 @@ use Rattle.float32.specs.Operators.{one}
 use Rattle.float32.specs.MinMax.{minNum, maxNum}
 use Rattle.float32.specs.Clamp.{clamp}
 use Rattle.arc_cosine.specs.Acos.{acos, inDomain}
-use Rattle.trig_laws.specs.Range.{quarterTurnFloat, fullTurnFloat}
-use Rattle.trig_laws.proofs.Acos.{acos-range, acos-quarter}
+use Rattle.trig.specs.Range.{quarterTurnFloat, fullTurnFloat}
+use Rattle.arc_cosine.proofs.Range.{acos-range, acos-quarter}
 use Rattle.matrix4x4.specs.Rows.{positiveZero}
 use Rattle.vector3.specs.declared.Vector3f.{Vector3f}
 use Rattle.quaternion.specs.declared.Quaternion.{Quaternion}

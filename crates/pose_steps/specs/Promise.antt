@@ -9,7 +9,7 @@ use lib.Dec.{T}
 use lib.Ieee.{Float}
 use lib.Ieee.Scale.{finite}
 use Rattle.rounding.specs.Order.{_≼_}
-use Rattle.trig_laws.specs.Range.{quarterTurnFloat}
+use Rattle.trig.specs.Range.{quarterTurnFloat}
 use Rattle.matrix4x4.specs.declared.Matrix4x4.{Matrix4x4}
 use Rattle.matrix4x4.specs.Rows.{Row, Matrix4x4·toRows, positiveZero}
 use Rattle.bounds3.specs.declared.Point3f.{Point3f}

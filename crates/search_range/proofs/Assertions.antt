@@ -8,7 +8,7 @@ use Rattle.rounding.specs.Order.{_≼_}
 use Rattle.rounding.proofs.Order.{≼-trans}
 use Rattle.float32.specs.MinMax.{minNum, maxNum}
 use Rattle.float32.specs.Operators.{_⊗_, positiveZero, two}
-use Rattle.trig_laws.specs.Range.{quarterTurnFloat, halfTurnFloat}
+use Rattle.trig.specs.Range.{quarterTurnFloat, halfTurnFloat}
 use Rattle.interval.specs.declared.Interval.{Interval}
 use Rattle.interval.specs.Contains.{Contains, Subset, Finite}
 use Rattle.interval.specs.Interval.{Interval·new, Interval·point, Interval·hull, Interval·ofFour, Interval·mul}

@@ -3,7 +3,7 @@
 use mathlib.Core.Path.{sym, subst}
 use lib.Ieee.{Float}
 use Rattle.rounding.specs.Order.{_≼_}
-use Rattle.trig_laws.specs.Range.{quarterTurnFloat}
+use Rattle.trig.specs.Range.{quarterTurnFloat}
 use Rattle.quaternion.specs.Quaternion.{Quaternion·dot}
 use Rattle.float32.specs.Operators.{positiveZero}
 use Rattle.animated_transform.specs.declared.AnimatedTransform.{AnimatedTransform}

@@ -23,8 +23,8 @@ use Rattle.float32.specs.Operators.{_⊕_, _⊖_, _⊗_, positiveZero, one, two
 use Rattle.float32.specs.Clamp.{clamp}
 use Rattle.trig.specs.SinCos.{near}
 use Rattle.arc_cosine.specs.Acos.{inDomain, leastAngle, floorUnits, acos}
-use Rattle.trig_laws.specs.Range.{quarterTurnFloat, halfTurnFloat, fullTurnFloat}
-use Rattle.trig_laws.proofs.Monotone.{angle-near}
+use Rattle.trig.specs.Range.{quarterTurnFloat, halfTurnFloat, fullTurnFloat}
+use Rattle.trig.proofs.Monotone.{angle-near}
 use Rattle.quaternion.specs.Quaternion.{Quaternion·dot}
 use Rattle.interval.specs.declared.Interval.{Interval}
 use Rattle.interval.specs.Contains.{Contains, Subset, Finite}

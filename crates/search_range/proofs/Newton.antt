@@ -10,7 +10,7 @@ use lib.Ieee.Fits.{sub-fits}
 use Rattle.float32.specs.Abs.{abs}
 use Rattle.float32.specs.Operators.{_⊕_, _⊖_, _⊗_, _⊘_, positiveZero, two}
 use Rattle.trig.specs.SinCos.{cos}
-use Rattle.trig_laws.proofs.Monotone.{sin-far}
+use Rattle.trig.proofs.Monotone.{sin-far}
 use Rattle.motion_derivative.specs.declared.MotionDerivative.{MotionDerivative}
 use Rattle.motion_derivative.specs.Derivative.{MotionDerivative·valueAt, MotionDerivative·value}
 use Rattle.motion_derivative.specs.Derivative.{MotionDerivative·slopeAt, MotionDerivative·slope, MotionDerivative·newton}

@@ -4,3 +4,5 @@ pub mod OverTable
 pub mod Shift
 pub mod Fixed
 pub mod Values
+pub mod Monotone
+pub mod Range

@@ -9,8 +9,9 @@ use native.Mathlib.Nat.{le-trans, eq-or-lt-of-le}
 use native.Mathlib.Decide.{decLe, decLt}
 use native.Mathlib.Omega.{arith}
 use borrow.Author.Tests.{le-leb, lt-leb}
-use mathlib.Core.Bool.{Bool, cond}
+use mathlib.Core.Bool.{Bool, true, cond}
 use lib.IntN.{pos, negsuc, negℤ}
+use lib.Signed.{leZ}
 use lib.Ieee.{minus}
 use Rattle.sine_table.specs.Table.{quarterTurn, sineTable}
 use Rattle.sine_table.specs.QuarterSine.{quarterSineOver, quarterSine, entry}
@@ -31,6 +32,15 @@ minus-above a c h = ap (λ (t : Bool). cond t (pos (a - c)) (negsuc (c - suc a))
 
 pub minus-below : (a c : ℕ) → a < c → minus a c ≡ negsuc (c - suc a)
 minus-below a c h = ap (λ (t : Bool). cond t (pos (a - c)) (negsuc (c - suc a))) (lt-leb c a h)
+
+pub minus-le : (a b c : ℕ) → a ≤ b → leZ (minus a c) (minus b c) ≡ true
+minus-le a b c h = go (decLe c a) (decLe c b)
+  where
+    go : Dec (c ≤ a) → Dec (c ≤ b) → leZ (minus a c) (minus b c) ≡ true
+    go (yes p) (yes q) = rw (minus-above a c p, minus-above b c q) (le-leb (a - c) (b - c) (omega arith))
+    go (yes p) (no q) = absurd (omega arith)
+    go (no p) (yes q) = rw (minus-below a c (omega arith), minus-above b c q)
+    go (no p) (no q) = rw (minus-below a c (omega arith), minus-below b c (omega arith)) (le-leb (c - suc b) (c - suc a) (omega arith))
 
 -- From -2 ^ 30 on the bias is taken off again.
 pub unbiased-positive : (n : ℕ) → minus (biased (pos n)) (2 ^ 30) ≡ pos n

@@ -19,7 +19,7 @@ use Rattle.rounding.proofs.Arithmetic.{sub-rounds, sub-mono, div-rounds, div-mo
 use Rattle.float32.specs.Operators.{_⊖_, _⊘_, one}
 use Rattle.float_bits.specs.Decode.{integerDecode}
 use Rattle.float_bits.proofs.Decode.{decode-value}
-use Rattle.trig_laws.proofs.Monotone.{numNeg-none}
+use Rattle.trig.proofs.Monotone.{numNeg-none}
 use Rattle.interval.specs.Contains.{Contains}
 use Rattle.unit_interval.specs.Unit.{unitInterval, dt}
 

@@ -15,7 +15,7 @@ use Rattle.rounding.proofs.Monotone.{Rounds, rounds-mono}
 use Rattle.rounding.proofs.Arithmetic.{mul-rounds}
 use Rattle.float32.specs.Operators.{_⊗_, one}
 use Rattle.own_rounding.proofs.OwnRounding.{own-rounding}
-use Rattle.trig_laws.proofs.Monotone.{numNeg-none}
+use Rattle.trig.proofs.Monotone.{numNeg-none}
 use Rattle.interval.specs.Contains.{Contains}
 use Rattle.unit_interval.specs.Unit.{unitInterval}
 use Rattle.unit_interval.proofs.DtUnit.{+0, zero-finite, zero-rounds}

@@ -3,7 +3,7 @@ use lib.Ieee.{add, sub, mul, div, neg, isNan, lt, eq, le, round, ofBits}
 use Rattle.float32.specs.MinMax.{minNum, maxNum}
 use Rattle.square_root.specs.SquareRoot.{isqrtBelow, isqrt, stickySqrt, roundSqrt, sqrt}
 use Rattle.trig.specs.means.Computing as trig
-use Rattle.trig_laws.specs.Range.{sinLow, sinHigh, cosLow, cosHigh}
+use Rattle.trig.specs.Range.{sinLow, sinHigh, cosLow, cosHigh}
 use Rattle.interval.specs.Interval.{Interval·new, Interval·hull, Interval·ofFour, Interval·add, Interval·sub}
 use Rattle.interval.specs.Interval.{Interval·mul, Interval·sinBetween, Interval·sin, Interval·cosBetween, Interval·cos}
 use Rattle.interval.specs.Enclosure.{Interval·addEnclosure, Interval·subEnclosure, Interval·mulEnclosure, Interval·divEnclosure}

@@ -7,7 +7,7 @@ use Rattle.sine_table.specs.Table.{quarterTurn}
 use Rattle.trig.specs.declared.SinCos.{SinCos}
 use Rattle.trig.specs.Units.{angleUnits}
 use Rattle.trig.specs.SinCos.{sin, cos}
-use Rattle.trig_laws.specs.Range.{lies, rangeLow, rangeHigh}
+use Rattle.trig.specs.Range.{lies, rangeLow, rangeHigh}
 use Rattle.interval.specs.declared.Interval.{Interval}
 use Rattle.interval.specs.declared.EndAngle.{EndAngle}
 

@@ -16,13 +16,13 @@ use Rattle.rounding.proofs.Corners.{Bounds}
 use Rattle.rounding.proofs.Rational.{numNeg}
 use Rattle.sine_table.specs.Table.{quarterTurn}
 use Rattle.trig.specs.Units.{cosUnits}
 use Rattle.arc_cosine.specs.Acos.{inDomain, leastAngle, floorUnits, acos}
 use Rattle.trig.specs.Biased.{biased}
 use Rattle.trig.specs.means.Computing.{computing}
 use Rattle.arc_cosine.proofs.Floor.{unit-finite}
 use Rattle.arc_cosine.proofs.Least.{leastAngle-unique, leastAngle-le, leastAngle-below}
-use Rattle.trig_laws.specs.Range.{quarterTurnFloat, halfTurnFloat}
-use Rattle.trig_laws.proofs.Monotone.{numNeg-none}
+use Rattle.trig.specs.Range.{quarterTurnFloat, halfTurnFloat}
+use Rattle.trig.proofs.Monotone.{numNeg-none}
 
 acos-in : (c : Float) → inDomain c ≡ true → acos c ≡ round binary32 false (leastAngle (floorUnits c)) (2 ^ 28)
 unfolding acos

@@ -17,13 +17,13 @@ use Rattle.rounding.proofs.Corners.{Bounds}
 use Rattle.float32.specs.Operators.{one}
 use Rattle.float32.proofs.MinMax.{min-left, min-right, max-left, max-right, min-picks, max-picks}
 use Rattle.sine_table.specs.Table.{quarterTurn}
 use Rattle.trig.specs.Units.{angleUnits, cosUnits}
 use Rattle.trig.specs.SinCos.{sin, cos}
 use Rattle.trig.specs.Biased.{biased, biasedSin}
 use Rattle.trig.proofs.Units.{sin-below-end, sin-above-end, cos-below-end, cos-above-end}
-use Rattle.trig_laws.specs.Range.{Angle, lies, rangeLow, rangeHigh, sinLow, sinHigh, cosLow, cosHigh}
-use Rattle.trig_laws.proofs.Monotone.{biasedFloat, biased-mono, angleUnits-mono, angle-finite}
-use Rattle.trig_laws.proofs.Monotone.{angle-units-le, angle-near, sin-at, cos-at, sin-unit, cos-unit}
+use Rattle.trig.specs.Range.{Angle, lies, rangeLow, rangeHigh, sinLow, sinHigh, cosLow, cosHigh}
+use Rattle.trig.proofs.Monotone.{biasedFloat, biased-mono, angleUnits-mono, angle-finite}
+use Rattle.trig.proofs.Monotone.{angle-units-le, angle-near, sin-at, cos-at, sin-unit, cos-unit}
 
 -- ---- w lies from u to v
 

@@ -1,3 +1,0 @@
-pub mod Monotone
-pub mod Range
-pub mod Acos
