@@ -1,2 +1,1 @@
 pub mod EqualAngles
-pub mod Clauses

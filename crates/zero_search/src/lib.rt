@@ -4,9 +4,9 @@ ghost use mathlib.Core.Path.{_≡_};
 ghost use Prim.Native.Nat.{_≤_};
 ghost use Rattle.sine_table.specs.Table.{sineTable};
 ghost use Rattle.interval.specs.Interval.{Interval·new};
-ghost use Rattle.motion_derivative.specs.Derivative.{MotionDerivative·excludesZero, MotionDerivative·newton};
+ghost use Rattle.motion_derivative.specs.Derivative.{MotionDerivative·excludesZero};
 ghost use Rattle.zero_search.specs.Search.{midpoint, findZeros, unitSearch, intervalFindZeros};
-ghost use Rattle.zero_search.specs.means.EndAngles.{SinCosOf, AngleAt, AnglesAt};
+ghost use Rattle.zero_search.specs.means.EndAngles.{AngleAt, AnglesAt};
 use interval::Interval;
 use interval::IntervalSinCos;
 use motion_derivative::MotionDerivative;
@@ -15,8 +15,6 @@ use zero_list::Zeros;
 
 // How often the interval from 0 to 1 is halved.
 const DEPTH: u32 = 8;
-
-const NEWTON_STEPS: u32 = 4;
 
 // What a search finds, and how many intervals it examines: each once, also one that the range test leaves out.
 pub struct Search {
@@ -41,36 +39,6 @@ fn end_at(table: &[u32; 2049], f: MotionDerivative, t: f32) -> SinCos
     ensures value { λ r. ⌜ AngleAt f t r ⌝ }
 {
     trig::sin_cos_in(table, 2.0 * f.theta * t)
-}
-
-// The sine and the cosine of y, where those of x are known: equal angles have the same.
-fn sin_cos_beside(table: &[u32; 2049], x: f32, angle: SinCos, y: f32) -> SinCos
-    requires { ⌜ now table ≡ sineTable ⌝ ∗ ⌜ SinCosOf angle x ⌝ }
-    ensures value { λ r. ⌜ SinCosOf r y ⌝ }
-{
-    if x == y {
-        return angle;
-    }
-    trig::sin_cos_in(table, y)
-}
-
-// Newton's steps from `start`, which stop where the value or the slope is zero.
-fn newton(table: &[u32; 2049], f: MotionDerivative, start: f32) -> f32
-    requires { ⌜ now table ≡ sineTable ⌝ }
-    ensures value { λ r. ⌜ r ≡ MotionDerivative·newton f 4 start ⌝ }
-{
-    let mut t = start;
-    for _ in 0..NEWTON_STEPS {
-        let angle = end_at(table, f, t);
-        let value = f.value_at(t, angle);
-        let beside = sin_cos_beside(table, 2.0 * f.theta * t, angle, 2.0 * t * f.theta);
-        let slope = f.slope_at(t, beside);
-        if (value == 0.0) | (slope == 0.0) {
-            return t;
-        }
-        t = t - value / slope;
-    }
-    t
 }
 
 // The angles at the ends of `Interval::new(a, b)`: those at a and b where a is below b, as it is unless rounding makes them equal.
@@ -134,7 +102,7 @@ fn find_zeros(
     }
     let mid = midpoint(i);
     if depth == 0 {
-        let zeros = found.accept(i, newton(table, f, mid));
+        let zeros = found.accept(i, newton_method::newton(table, f, mid));
         return Search { zeros, examined: 1 };
     }
     let middle = end_at(table, f, mid);

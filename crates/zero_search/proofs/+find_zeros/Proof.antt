@@ -1,6 +1,7 @@
 -- `find_zeros` meets its contract, by the clauses of `search`; the depth falls. The counts add up to no more than 1023 (`few-examined`).
 use mathlib.Core.Path.{sym}
 use native.Mathlib.Omega.{arith}
+use Rattle.newton_method.proofs.OverTable.{newton-lent}
 use Rattle.zero_search.proofs.Clauses.{search-excluded, search-newton, search-ends, search-halves}
 use Rattle.zero_search.proofs.Examined.{few-examined}
 use Prim.Native.Nat.{ℕ, _<_, _≤_}
@@ -21,8 +22,8 @@ use Rattle.zero_search.proofs.excludes_zero.Reads as excludes-zero-read
 use Rattle.zero_search.proofs.excludes_zero.Kinds as excludes-zero-kinds
 use Rattle.zero_search.proofs.midpoint.Reads as midpoint-reads
 use Rattle.zero_search.proofs.midpoint.Kinds as midpoint-kinds
-use Rattle.zero_search.proofs.newton.Reads as newton-reads
-use Rattle.zero_search.proofs.newton.Kinds as newton-kinds
+use Rattle.newton_method.proofs.newton.Reads as newton-reads
+use Rattle.newton_method.proofs.newton.Kinds as newton-kinds
 use Rattle.zero_search.proofs.+find_zeros.{statement}
 use Rattle.zero_search.proofs.+find_zeros.Tie.{close}
 
@@ -76,20 +77,16 @@ returns t c =
     let a = range .before .args in
     rw (sym (range .excludes-zero .ensures), c .if1 .taken) (sym (search-excluded (a .depth) (a .f) (a .i) (a .found)))
 
-newton-requires : (t : ℕ) → find-zeros-lts.Need-newton-requires (calls t) (find-zeros-at t) find-zeros.Post
-newton-requires t c κs =
-    let c1 = c .before in let c2 = c1 .before in let c3 = c2 .before in let c4 = c3 .before in
-    c4 .pre .1 .0
-
 returns-2 : (t : ℕ) → find-zeros-lts.Need-returns-2 (calls t) (find-zeros-at t) find-zeros.Post
 returns-2 t c =
     let c1 = c .before in let c2 = c1 .before in let c3 = c2 .before in
     let mid = c3 in
     let range = mid .before .before in
-    let a = range .before .args in
+    let start = range .before in
+    let a = start .args in
     rw (
       c .accept .ensures,
-      c1 .newton .ensures,
+      newton-lent (a .f) (start .pre .1 .0) 4 _ (c1 .newton .ensures),
       mid .midpoint .ensures,
       sym (range .excludes-zero .ensures),
       mid .before .if1 .left,
@@ -211,7 +208,7 @@ pub +find-zeros-spec : {M : Type 1} → statement M
     (excludes-zero-requires t)
     (returns t)
     (λ c κs. tt)
-    (newton-requires t)
+    (λ c κs. tt)
     (λ c κs. tt)
     (returns-2 t)
     (end-at-requires t)
