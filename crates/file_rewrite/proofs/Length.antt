@@ -2,9 +2,9 @@
 use Prim.Native.Nat.{ℕ, _+_, _*_, _≤_}
 use native.Mathlib.Omega.{arith}
 use mathlib.Core.Path.{_≡_, refl, sym, ap}
-use mathlib.Core.Bool.{false, cond}
+use mathlib.Core.Bool.{false}
 use mathlib.Core.List.{List, [], _∷_}
-use lib.Dec.{eqb, ltb}
+use lib.Dec.{eqb}
 use lib.Ieee.{Float}
 use lib.ListN.{length}
 use Rattle.control_flow.proofs.Choice.{cond-keeps}
@@ -18,8 +18,8 @@ use Rattle.built_poses.specs.Poses.{placesPerPose, Poses·lists, Chain·poses}
 use Rattle.built_poses.proofs.Built.{built-poses}
 use Rattle.motion_file.specs.declared.MoveFile.{MoveFile}
 use Rattle.motion_file.specs.Layout.{MoveFile·read, MoveFile·poses}
-use Rattle.motion_text.specs.Answer.{zerosInFront, refusalText}
-use Rattle.motion_text.proofs.Written.{length-refusal}
+use Rattle.motion_text.specs.Answer.{refusalText}
+use Rattle.motion_text.proofs.Written.{refusal-bound}
 use Rattle.motion_answer.proofs.Posed.{built-count}
 use Rattle.file_text.specs.Text.{Chain·text}
 use Rattle.file_text.specs.Theorem.{boxOf}
@@ -28,11 +28,7 @@ use Rattle.file_rewrite.specs.Rewrite.{boxedText, ChainAnswer·text, rew
 use Rattle.file_rewrite.specs.Theorem.{longestText}
 
 refusal-length : (n : ℕ) → length (refusalText n) ≤ longestText
-refusal-length n =
-    let few : zerosInFront n ≤ 2 =
-    cond-keeps (λ (z : ℕ). z ≤ 2) (ltb n 10) 2 (cond (ltb n 100) 1 0) (omega arith)
-    (cond-keeps (λ (z : ℕ). z ≤ 2) (ltb n 100) 1 0 (omega arith) (omega arith)) in
-    omega (arith, length-refusal n (zerosInFront n) refl few)
+refusal-length n = omega (arith, refusal-bound n)
 
 -- ---- a chain's text
 each-long : (lists : List (List Float)) → Each (λ pose. placesPerPose ≤ length pose) (Poses·lists (Poses·ofLists lists))

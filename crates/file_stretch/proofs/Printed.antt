@@ -4,9 +4,8 @@ use Prim.Native.Nat.{ℕ, _+_, _-_, _≤_}
 use native.Mathlib.Nat.{min-le-left}
 use native.Mathlib.Omega.{arith}
 use mathlib.Core.Path.{_≡_, refl, sym, ap, _∙_}
-use mathlib.Core.Bool.{Bool, true, false, cond}
+use mathlib.Core.Bool.{false}
 use mathlib.Core.List.{List, _++_}
-use lib.Dec.{ltb}
 use lib.Ieee.{Float}
 use lib.ListN.{length, take, drop, length-append, length-take, length-drop}
 use lib.Seq.{take-at, take-all}
@@ -21,9 +20,9 @@ use Rattle.motion_file.specs.Text.{ascii}
 use Rattle.motion_file.specs.Layout.{MoveFile·read, MoveFile·poses}
 use Rattle.motion_file.specs.Front as lent
 use Rattle.motion_file.proofs.Files.{poses-length}
-use Rattle.motion_text.specs.Answer.{zerosInFront, refusalText, textLeft, lengthIn}
+use Rattle.motion_text.specs.Answer.{refusalText, textLeft, lengthIn}
 use Rattle.motion_text.proofs.Pastes.{lengthIn-fits}
-use Rattle.motion_text.proofs.Written.{length-refusal}
+use Rattle.motion_text.proofs.Written.{refusal-bound}
 use Rattle.file_stretch.specs.Stretch.{linesText, runText, posesText, stretchText}
 use Rattle.file_stretch.proofs.Pieces.{front-size, both-written}
 
@@ -31,17 +30,6 @@ use Rattle.file_stretch.proofs.Pieces.{front-size, both-written}
 -- what a function that puts a text into the front of a buffer with room gives
 abbrev pub Put : List ℕ → List ℕ → List ℕ → ℕ → Type 0
 Put text buffer after r = (r ≡ length text) × ((after ≡ textLeft text buffer) × (r ≤ 32))
-
-zeros-bound : (n : ℕ) → zerosInFront n ≤ 2
-zeros-bound n = go (ltb n 10) (ltb n 100)
-  where
-    go : (p q : Bool) → cond p 2 (cond q 1 0) ≤ 2
-    go true q = omega arith
-    go false true = omega arith
-    go false false = omega arith
-
-pub refusal-bound : (n : ℕ) → length (refusalText n) ≤ 12
-refusal-bound n = omega (arith, length-refusal n (zerosInFront n) refl (zeros-bound n))
 
 pub refusal-put : (n : ℕ) (buffer after : List ℕ) (r : ℕ) → 32 ≤ length buffer → r ≡ lengthIn (refusalText n) buffer → after ≡ textLeft (refusalText n) buffer
     → Put (refusalText n) buffer after r

@@ -5,7 +5,7 @@ ghost use mathlib.Core.Path.{_≡_};
 ghost use mathlib.Core.List.{_++_};
 ghost use lib.ListN.{length, take};
 ghost use Rattle.chain_poses.specs.Poses.{Poses·ofLists};
-ghost use Rattle.motion_text.specs.Answer.{zerosInFront, textLeft, lengthIn};
+ghost use Rattle.motion_text.specs.Answer.{textLeft, lengthIn};
 ghost use Rattle.file_stretch.specs.Stretch.{linesText, runText, posesText, stretchText};
 
 // The last decimal digit of a number.
@@ -14,20 +14,6 @@ fn digit(n: usize) -> u8
 {
     let d = (n % 10) as u8;
     48 + d
-}
-
-// How many of the three decimal digits of a number below 1,000 are zeros in front of it.
-fn zeros_in_front(n: usize) -> usize
-    ensures value { λ r. ⌜ r ≡ zerosInFront n ⌝ }
-    ensures bound { λ r. ⌜ r ≤ 2 ⌝ }
-{
-    if n < 10 {
-        2
-    } else if n < 100 {
-        1
-    } else {
-        0
-    }
 }
 
 // Puts two texts, one behind the other, into the front of `out`.
@@ -59,8 +45,8 @@ fn put_lines(first: usize, last: usize, out: &mut [u8]) -> usize
         b' ',
     ];
     let end = [digit(last / 100), digit(last / 10), digit(last), b'\n'];
-    let a = zeros_in_front(first);
-    let b = zeros_in_front(last);
+    let a = motion_text::zeros_in_front(first);
+    let b = motion_text::zeros_in_front(last);
     motion_text::write_text(b"lines ", out);
     put_two(&start[a..], &end[b..], &mut out[6..]);
     17 - a - b

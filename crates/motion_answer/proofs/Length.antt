@@ -2,25 +2,14 @@
 use Prim.Native.Nat.{ℕ, _≤_}
 use native.Mathlib.Omega.{arith}
 use mathlib.Core.Path.{refl}
-use mathlib.Core.Bool.{Bool, true, false, cond}
 use mathlib.Core.List.{List}
-use lib.Dec.{ltb}
 use lib.ListN.{length}
 use Rattle.bounds3.specs.List.{Bounds3f·list}
 use Rattle.transform.specs.declared.BoundsAnswer.{BoundsAnswer}
 use Rattle.transform.specs.declared.BoundsAnswer.the-variants.{Bounds, Refused}
-use Rattle.motion_text.specs.Answer.{zerosInFront}
-use Rattle.motion_text.proofs.Written.{length-bounds, length-refusal}
+use Rattle.motion_text.proofs.Written.{length-bounds, refusal-bound}
 use Rattle.motion_answer.specs.Answer.{MoveFile·cover, BoundsAnswer·text, answerText}
 use Rattle.motion_answer.specs.Theorem.{longestText}
-
-zeros-few : (n : ℕ) → zerosInFront n ≤ 2
-zeros-few n = go (ltb n 10) (ltb n 100)
-  where
-    go : (a b : Bool) → cond a 2 (cond b 1 0) ≤ 2
-    go true b = omega arith
-    go false true = omega arith
-    go false false = omega arith
 
 pub answer-length : (bytes : List ℕ) → length (answerText bytes) ≤ longestText
 unfolding answerText BoundsAnswer·text
@@ -28,4 +17,4 @@ answer-length bytes = go (MoveFile·cover bytes)
   where
     go : (c : BoundsAnswer) → length (BoundsAnswer·text c) ≤ 72
     go (Bounds box) = omega (arith, length-bounds (Bounds3f·list box) refl)
-    go (Refused n) = omega (arith, length-refusal n (zerosInFront n) refl (zeros-few n))
+    go (Refused n) = omega (arith, refusal-bound n)

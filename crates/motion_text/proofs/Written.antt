@@ -1,5 +1,6 @@
 -- The line of values as it is written, value by value: `length-values`, `values-word`, `values-separator`,
--- and `values-turn`, what one value with its separator adds to a buffer. Rests on `Pastes.antt`.
+-- and `values-turn`, what one value with its separator adds to a buffer; how long a refusal's text is: `length-refusal`, `refusal-bound`.
+-- Rests on `Pastes.antt`.
 use Prim.Native.Nat.{ℕ, zero, suc, _+_, _-_, _*_, _≤_, _<_}
 use native.Mathlib.Nat.{add-assoc, not-suc-le-zero}
 use native.Mathlib.Numerals.{add-one}
@@ -100,3 +101,14 @@ length-number (suc (suc (suc z))) n h = absurd (omega arith)
 pub length-refusal : (n z : ℕ) → z ≡ zerosInFront n → z ≤ 2 → length (refusalText n) ≡ 12 - z
 unfolding refusalText ascii
 length-refusal n z e h = rw (← e, length-number z n h) (omega arith)
+
+zeros-few : (n : ℕ) → zerosInFront n ≤ 2
+zeros-few n = go (ltb n 10) (ltb n 100)
+  where
+    go : (p q : Bool) → cond p 2 (cond q 1 0) ≤ 2
+    go true q = omega arith
+    go false true = omega arith
+    go false false = omega arith
+
+pub refusal-bound : (n : ℕ) → length (refusalText n) ≤ 12
+refusal-bound n = omega (arith, length-refusal n (zerosInFront n) refl (zeros-few n))

@@ -61,7 +61,7 @@ pub fn write_refusal(number: u8, out: &mut [u8]) -> usize
         48 + number % 10,
         b'\n',
     ];
-    let zeros = zeros_in_front(number);
+    let zeros = zeros_in_front(number as usize);
     let size = 12 - zeros;
     if out.len() < size {
         return 0;
@@ -71,10 +71,10 @@ pub fn write_refusal(number: u8, out: &mut [u8]) -> usize
     size
 }
 
-// How many of a number's three decimal digits are zeros in front of it.
-fn zeros_in_front(number: u8) -> usize
-    ensures { λ r. ⌜ r ≡ zerosInFront number ⌝ }
-    ensures { λ r. ⌜ r ≤ 2 ⌝ }
+// How many of the three decimal digits of a number below 1,000 are zeros in front of it. Accuracy: exact.
+pub fn zeros_in_front(number: usize) -> usize
+    ensures value { λ r. ⌜ r ≡ zerosInFront number ⌝ }
+    ensures bound { λ r. ⌜ r ≤ 2 ⌝ }
 {
     if number < 10 {
         2
