@@ -16,6 +16,7 @@ use lib.Ieee.Bits.{ofBits-fits}
 use lib.Ieee.Fits.{and-i}
 use Rattle.hexadecimal.specs.Word.{number}
 use Rattle.bounds3.specs.List.{Bounds3f·list, Bounds3f·ofList}
+use Rattle.matrix4x4.specs.IsAffine.{bottomRow}
 use Rattle.motion_chain.specs.Chain.{every, Chain}
 use Rattle.motion_chain.specs.Built.{Each}
 use Rattle.built_poses.specs.Poses.{placesPerPose}
@@ -24,7 +25,7 @@ use Rattle.motion_file.specs.Text.{lineFeed, split}
 use Rattle.motion_file.specs.declared.MoveFile.{MoveFile}
 use Rattle.motion_file.specs.Layout.{names, values, poseNames, paddedNames, boundsNames, layout, words, valueOf, allValues, fits, valuesOf, conforms, maxBytes}
 use Rattle.motion_file.specs.Layout.{poseLines, keepsColumns, hasPads, keepsLayout, MoveFile·departs}
-use Rattle.motion_file.specs.Layout.{MoveFile·contents, bottomRow, poseOfValues, poseOf, MoveFile·read, MoveFile·poses}
+use Rattle.motion_file.specs.Layout.{MoveFile·contents, poseOfValues, poseOf, MoveFile·read, MoveFile·poses}
 use Rattle.motion_file.proofs.Shapes.{Shaped, AllShaped, poses-shaped}
 use Rattle.file_text.specs.Text.{poseColumns, poseValues, Chain·text, MoveFile·written}
 use Rattle.file_text.specs.RoundTrip.{Floats, TextHolds}

@@ -13,14 +13,14 @@ use lib.Ieee.Fits.{and-i}
 use lib.ListN.{length, getD, List·getD-append}
 use lib.Seq.{getD-append-add}
 use Rattle.animated_transform.specs.declared.AnimatedTransformAnswer.{AnimatedTransformAnswer}
-use Rattle.matrix4x4.specs.IsAffine.{Matrix4x4·isAffine}
+use Rattle.matrix4x4.specs.IsAffine.{bottomRow, Matrix4x4·isAffine}
 use Rattle.pose_pair.specs.declared.Pose.{Pose}
 use Rattle.pose_pair.specs.Pose.{Pose·isBinary32, Pose·isAffine}
 use Rattle.motion_chain.specs.Chain.{neighbours, every, stage, chainRefusal, Chain, ChainAnswer, built, refused, ChainAnswer·refusal}
 use Rattle.motion_chain.specs.Chain.{ChainAnswer·fromMoves, Chain·new}
 use Rattle.lent_arrays.specs.Arrays.{Pose·ofList}
 use Rattle.chain_poses.specs.Poses.{Poses·ofLists}
-use Rattle.motion_file.specs.Layout.{bottomRow, hasPads, MoveFile·poses}
+use Rattle.motion_file.specs.Layout.{hasPads, MoveFile·poses}
 use Rattle.motion_file.proofs.Shapes.{Shaped, AllShaped, poses-shaped}
 
 -- ---- the times and pads

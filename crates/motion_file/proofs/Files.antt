@@ -14,11 +14,12 @@ use lib.Dec.{eqb, leb, ltb}
 use lib.ListN.{length, getD, set, take, drop, replicate, length-replicate, length-map, length-drop, List·getD-append, List·getD-eq-default}
 use lib.Seq.{take-at, take-append-le, getD-append-add, getD-drop, drop-cons, length-take-le, sets, sets-eq}
 use borrow.Author.Tests.{le-leb, lt-leb, eqb-true, eq-eqb, ne-eqb}
+use Rattle.matrix4x4.specs.IsAffine.{bottomRow}
 use Rattle.motion_file.specs.Text.{lineFeed, split}
 use Rattle.motion_file.specs.Layout.{Line, names, values, poseNames, paddedNames, boundsNames}
 use Rattle.motion_file.specs.Layout.{layout, words, valueOf, allValues, areValues, fits, conforms}
 use Rattle.motion_file.specs.Layout.{maxBytes, maxPoseLines, poseLines, keepsColumns, hasPads, keepsLayout}
-use Rattle.motion_file.specs.Layout.{valuesOf, bottomRow, poseOfValues, poseOf, MoveFile·departs, MoveFile·contents, MoveFile·read, MoveFile·poses}
+use Rattle.motion_file.specs.Layout.{valuesOf, poseOfValues, poseOf, MoveFile·departs, MoveFile·contents, MoveFile·read, MoveFile·poses}
 use Rattle.motion_file.specs.means.Columns.{MoveFile·readAs, MoveFile·posesAs}
 use Rattle.motion_file.specs.declared.MoveFile.{MoveFile}
 use Rattle.motion_file.specs.Front.{front}

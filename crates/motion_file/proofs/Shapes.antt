@@ -12,10 +12,11 @@ use lib.ListN.{length, getD, take, drop, replicate, length-map, List·getD-eq-de
 use lib.Seq.{length-take-le}
 use borrow.Author.Tests.{eqb-true}
 use Rattle.hexadecimal.specs.Word.{number}
+use Rattle.matrix4x4.specs.IsAffine.{bottomRow}
 use Rattle.motion_file.specs.Text.{lineFeed, split}
 use Rattle.motion_file.specs.Layout.{Line, names, values, poseNames, paddedNames, boundsNames}
 use Rattle.motion_file.specs.Layout.{layout, words, valueOf, allValues, fits, valuesOf, conforms}
-use Rattle.motion_file.specs.Layout.{maxBytes, poseLines, keepsColumns, hasPads, keepsLayout, bottomRow, poseOf, MoveFile·poses}
+use Rattle.motion_file.specs.Layout.{maxBytes, poseLines, keepsColumns, hasPads, keepsLayout, poseOf, MoveFile·poses}
 
 pub record Shaped (padded : Bool) (pose : List Float) : Type 0 where
   pub read : List Float

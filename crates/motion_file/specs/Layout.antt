@@ -1,13 +1,15 @@
--- The layout of a move file and what such a file says: `layout`, `conforms`, `MoveFile·read`, `MoveFile·poses`. Document 01, "File and program": a line of
--- names, then lines of values in that order; values are eight hexadecimal digits of either case, the float's bits; one or more spaces stand between words,
--- none before the first or after the last; every line ends in a line feed; a file has at most 65,536 bytes. Whatever departs from it is refused with 11, and
--- every number is then +0. A NaN's bits all mean the one NaN. Rests on `Text.antt` and on the digits of `hexadecimal`.
+-- The layout of a move file and what such a file says: `layout`, `conforms`, `MoveFile·read`, `MoveFile·poses`. Document 01, "File and
+-- program": a line of names, then lines of values in that order; values are eight hexadecimal digits of either case, the float's bits; one or more spaces
+-- stand between words, none before the first or after the last; every line ends in a line feed; a file has at most 65,536 bytes. Whatever departs from it
+-- is refused with 11, and every number is then +0. A NaN's bits all mean the one NaN. Rests on `Text.antt`, the digits of `hexadecimal` and the bottom row
+-- of `matrix4x4`.
 use Prim.Native.Nat.{ℕ, _+_, _-_}
 use mathlib.Core.Bool.{Bool, true, false, cond, _&&_}
 use mathlib.Core.List.{List, [], _∷_, _++_, map}
 use lib.Dec.{eqb, leb}
 use lib.ListN.{length, getD, take, drop, replicate}
 use lib.Ieee.{Float, binary32, ofBits}
+use Rattle.matrix4x4.specs.IsAffine.{bottomRow}
 use Rattle.hexadecimal.specs.Word.{digitsOnly, number}
 use Rattle.motion_file.specs.Text.{ascii, lineFeed, space, split, singleSpaced, equal}
 use Rattle.motion_file.specs.declared.MoveFile.{MoveFile}
@@ -114,12 +116,8 @@ MoveFile·contents lines =
 unfoldable pub MoveFile·read : List ℕ → MoveFile
 MoveFile·read bytes = cond (keepsLayout bytes) (MoveFile·contents (split lineFeed bytes)) MoveFile·departs
 
--- "The bottom row is 0 0 0 1."
-abbrev pub bottomRow : List Float
-bottomRow = ofBits binary32 0 ∷ ofBits binary32 0 ∷ ofBits binary32 0 ∷ ofBits binary32 0x3f800000 ∷ []
-
--- the pose of a line's values: its time, the four rows of its matrix, and its pad; document 02, "Pads for the spray": "A file with the old thirteen names has
--- pads of +0"
+-- the pose of a line's values: its time, the four rows of its matrix ("The bottom row is 0 0 0 1."), and its pad; document 02, "Pads for the spray": "A file
+-- with the old thirteen names has pads of +0"
 abbrev pub poseOfValues : List Float → List Float
 poseOfValues read = take 13 read ++ (bottomRow ++ (getD read 13 (ofBits binary32 0) ∷ []))
 

@@ -8,10 +8,11 @@ use lib.Ieee.{Float, nan}
 use lib.ListN.{getD}
 use lib.Seq.{getD-append-add}
 use Rattle.float32.specs.Operators.{positiveZero}
+use Rattle.matrix4x4.specs.IsAffine.{bottomRow}
 use Rattle.pose_pair.specs.declared.Pose.{Pose}
 use Rattle.lent_arrays.specs.Arrays.{Pose·ofList}
 use Rattle.chain_poses.specs.Poses.{Poses·ofLists}
-use Rattle.motion_file.specs.Layout.{bottomRow, hasPads, MoveFile·poses}
+use Rattle.motion_file.specs.Layout.{hasPads, MoveFile·poses}
 use Rattle.motion_file.proofs.Shapes.{Shaped, AllShaped, poses-shaped}
 use Rattle.unpadded_chain.specs.Unpadded.{Unpadded, ThirteenUnpadded}
 
