@@ -17,12 +17,11 @@ use Rattle.chain_poses.specs.Poses.{Poses·ofLists}
 use Rattle.built_poses.specs.Poses.{placesPerPose, Poses·lists, Chain·poses}
 use Rattle.built_poses.proofs.Built.{built-poses}
 use Rattle.motion_file.specs.declared.MoveFile.{MoveFile}
-use Rattle.motion_file.specs.Layout.{MoveFile·read, MoveFile·poses}
+use Rattle.motion_file.specs.Layout.{MoveFile·read, MoveFile·box, MoveFile·poses}
 use Rattle.motion_text.specs.Answer.{refusalText}
 use Rattle.motion_text.proofs.Written.{refusal-bound}
 use Rattle.motion_answer.proofs.Posed.{built-count}
 use Rattle.file_text.specs.Text.{Chain·text}
-use Rattle.file_text.specs.Theorem.{boxOf}
 use Rattle.file_text.proofs.Length.{move-text-length}
 use Rattle.file_rewrite.specs.Rewrite.{boxedText, ChainAnswer·text, rewrittenText}
 use Rattle.file_rewrite.specs.Theorem.{longestText}
@@ -52,8 +51,8 @@ pub rewritten-length : (bytes : List ℕ) → length (rewrittenText bytes) ≤ l
 unfolding rewrittenText ChainAnswer·text boxedText
 rewritten-length bytes =
     cond-keeps (λ (text : List ℕ). length text ≤ longestText) (eqb (MoveFile·read bytes .refusal) 0)
-    (ChainAnswer·text (Chain·new false (Poses·ofLists (MoveFile·poses bytes))) (boxOf bytes)) (refusalText (MoveFile·read bytes .refusal))
-    (go (Chain·new false (Poses·ofLists (MoveFile·poses bytes))) refl (boxOf bytes)) (refusal-length (MoveFile·read bytes .refusal))
+    (ChainAnswer·text (Chain·new false (Poses·ofLists (MoveFile·poses bytes))) (MoveFile·box bytes)) (refusalText (MoveFile·read bytes .refusal))
+    (go (Chain·new false (Poses·ofLists (MoveFile·poses bytes))) refl (MoveFile·box bytes)) (refusal-length (MoveFile·read bytes .refusal))
   where
     go : (a : ChainAnswer) → Chain·new false (Poses·ofLists (MoveFile·poses bytes)) ≡ a → (b : Bounds3f) → length (ChainAnswer·text a b) ≤ longestText
     go (built c) e b =

@@ -9,10 +9,9 @@ use Rattle.bounds_query.specs.Query.{Bounds3f·refusal}
 use Rattle.motion_chain.specs.Chain.{ChainAnswer, built, refused, Chain·new}
 use Rattle.chain_poses.specs.Poses.{Poses·ofLists}
 use Rattle.motion_file.specs.declared.MoveFile.{MoveFile}
-use Rattle.motion_file.specs.Layout.{MoveFile·read, MoveFile·poses}
+use Rattle.motion_file.specs.Layout.{MoveFile·read, MoveFile·box, MoveFile·poses}
 use Rattle.motion_text.specs.Answer.{refusalText}
 use Rattle.file_text.specs.Text.{Chain·text}
-use Rattle.file_text.specs.Theorem.{boxOf}
 
 -- a text, or the refusal of the box in it
 unfoldable pub boxedText : Bounds3f → List ℕ → List ℕ
@@ -26,5 +25,5 @@ ChainAnswer·text (refused n) b = refusalText n
 -- the text that is printed for a file's bytes
 unfoldable pub rewrittenText : List ℕ → List ℕ
 rewrittenText bytes =
-    cond (eqb (MoveFile·read bytes .refusal) 0) (ChainAnswer·text (Chain·new false (Poses·ofLists (MoveFile·poses bytes))) (boxOf bytes))
+    cond (eqb (MoveFile·read bytes .refusal) 0) (ChainAnswer·text (Chain·new false (Poses·ofLists (MoveFile·poses bytes))) (MoveFile·box bytes))
     (refusalText (MoveFile·read bytes .refusal))

@@ -11,14 +11,14 @@ use mathlib.Core.List.{List, [], _∷_, _++_, map}
 use lib.ListN.{length, getD, take}
 use lib.Ieee.{Float, binary32, ofBits}
 use Rattle.bounds3.specs.declared.Bounds3f.{Bounds3f}
-use Rattle.bounds3.specs.List.{Bounds3f·list, Bounds3f·ofList}
+use Rattle.bounds3.specs.List.{Bounds3f·list}
 use Rattle.matrix4x4.specs.IsAffine.{bottomRow}
 use Rattle.bounds_query.specs.Query.{Bounds3f·refusal}
 use Rattle.motion_chain.specs.Chain.{Chain, Chain·moves, built, Chain·new}
 use Rattle.motion_chain.specs.Built.{Each}
 use Rattle.chain_poses.specs.Poses.{Poses·ofLists}
 use Rattle.built_poses.specs.Poses.{Chain·poses, placesPerPose, Poses·lists}
-use Rattle.motion_file.specs.Layout.{MoveFile·read, MoveFile·poses}
+use Rattle.motion_file.specs.Layout.{MoveFile·read, MoveFile·box, MoveFile·poses}
 use Rattle.file_text.specs.Text.{poseColumns, poseValues, MoveFile·text, Chain·text, MoveFile·written}
 use Rattle.file_text.specs.RoundTrip.{Floats}
 
@@ -82,22 +82,18 @@ WrittenRead f = length (MoveFile·poses f) ≤ maxPaddedLines → (MoveFile·rea
 abbrev pub SameWritten : List ℕ → List ℕ → Type 0
 SameWritten f g = HoldSame f g ↔ (MoveFile·written f ≡ MoveFile·written g)
 
--- a file's box, of the values `x0 y0 z0 x1 y1 z1`
-abbrev pub boxOf : List ℕ → Bounds3f
-boxOf bytes = Bounds3f·ofList (MoveFile·read bytes .bounds)
-
 -- "accepted files (refused neither for layout, chain nor box)": c is a file's chain
 pub record MoveFile·Accepted (bytes : List ℕ) (c : Chain) : Type 0 where
   pub layout : MoveFile·read bytes .refusal ≡ 0
   pub chain : Chain·new false (Poses·ofLists (MoveFile·poses bytes)) ≡ built c
-  pub box : Bounds3f·refusal (boxOf bytes) ≡ 0
+  pub box : Bounds3f·refusal (MoveFile·box bytes) ≡ 0
 
 -- what is written of an accepted file's chain and box is its written form,
 abbrev pub AcceptedWritten : List ℕ → Chain → Type 0
-AcceptedWritten f c = MoveFile·Accepted f c → Chain·text c (boxOf f) ≡ MoveFile·written f
+AcceptedWritten f c = MoveFile·Accepted f c → Chain·text c (MoveFile·box f) ≡ MoveFile·written f
 
 -- and "Two accepted files .. hold the same bits exactly when their written forms are the same bytes."
 abbrev pub SameBits : List ℕ → List ℕ → Type 0
 SameBits f g =
     (c d : Chain) → MoveFile·Accepted f c → MoveFile·Accepted g d
-    → (HoldSame f g ↔ (Chain·text c (boxOf f) ≡ Chain·text d (boxOf g)))
+    → (HoldSame f g ↔ (Chain·text c (MoveFile·box f) ≡ Chain·text d (MoveFile·box g)))

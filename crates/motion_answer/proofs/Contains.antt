@@ -19,10 +19,10 @@ use Rattle.motion_chain.specs.Chain.{Chain, ChainAnswer, built, refused, ChainA
 use Rattle.motion_chain.specs.Built.{BuiltChain}
 use Rattle.motion_chain.proofs.Cover.{chain-cover-answered, chain-contains}
 use Rattle.chain_poses.specs.Poses.{Poses·ofLists}
-use Rattle.motion_file.specs.Layout.{MoveFile·read, MoveFile·poses}
+use Rattle.motion_file.specs.Layout.{MoveFile·read, MoveFile·box, MoveFile·poses}
 use Rattle.motion_text.specs.Answer.{textLeft, lengthIn}
 use Rattle.motion_text.proofs.Pastes.{Wrote}
-use Rattle.motion_answer.specs.Answer.{coverDepth, ChainAnswer·cover, MoveFile·chain, MoveFile·box, MoveFile·cover, BoundsAnswer·text, answerText}
+use Rattle.motion_answer.specs.Answer.{coverDepth, ChainAnswer·cover, MoveFile·chain, MoveFile·cover, BoundsAnswer·text, answerText}
 use Rattle.motion_answer.specs.Theorem.{FileContainsMotion, AnswerContainsMotion, longestText}
 use Rattle.motion_answer.proofs.Built.{poses-binary32, new-none}
 use Rattle.motion_answer.proofs.Length.{answer-length}

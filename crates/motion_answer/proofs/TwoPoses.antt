@@ -20,8 +20,8 @@ use Rattle.motion_chain.proofs.TwoPoses.{two-poses, single-move}
 use Rattle.lent_arrays.specs.Arrays.{Pose·ofList}
 use Rattle.chain_poses.specs.Poses.{Poses·ofLists}
 use Rattle.motion_file.specs.Text.{lineFeed, split}
-use Rattle.motion_file.specs.Layout.{poseLines, poseOf, keepsLayout, MoveFile·departs, MoveFile·contents, MoveFile·read, MoveFile·poses}
-use Rattle.motion_answer.specs.Answer.{coverDepth, ChainAnswer·cover, MoveFile·chain, MoveFile·box, MoveFile·cover}
+use Rattle.motion_file.specs.Layout.{poseLines, poseOf, keepsLayout, MoveFile·departs, MoveFile·contents, MoveFile·read, MoveFile·box, MoveFile·poses}
+use Rattle.motion_answer.specs.Answer.{coverDepth, ChainAnswer·cover, MoveFile·chain, MoveFile·cover}
 use Rattle.motion_answer.specs.TwoPoses.{moveCover, TwoPoseFile}
 use Rattle.motion_answer.proofs.Built.{poses-affine}
 

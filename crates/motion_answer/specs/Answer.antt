@@ -6,13 +6,13 @@ use mathlib.Core.Bool.{false, cond}
 use mathlib.Core.List.{List}
 use lib.Dec.{eqb}
 use Rattle.bounds3.specs.declared.Bounds3f.{Bounds3f}
-use Rattle.bounds3.specs.List.{Bounds3f·list, Bounds3f·ofList}
+use Rattle.bounds3.specs.List.{Bounds3f·list}
 use Rattle.transform.specs.declared.BoundsAnswer.{BoundsAnswer}
 use Rattle.transform.specs.declared.BoundsAnswer.the-variants.{Bounds, Refused}
 use Rattle.motion_chain.specs.Chain.{ChainAnswer, built, refused, Chain·new, Chain·cover}
 use Rattle.chain_poses.specs.Poses.{Poses·ofLists}
 use Rattle.motion_file.specs.declared.MoveFile.{MoveFile}
-use Rattle.motion_file.specs.Layout.{MoveFile·read, MoveFile·poses}
+use Rattle.motion_file.specs.Layout.{MoveFile·read, MoveFile·box, MoveFile·poses}
 use Rattle.motion_text.specs.Answer.{boundsText, refusalText}
 
 -- "The program `cover` .. prints the depth-10 cover"
@@ -27,10 +27,6 @@ ChainAnswer·cover (refused n) b = Refused n
 -- what building answers to a file's poses
 unfoldable pub MoveFile·chain : List ℕ → ChainAnswer
 MoveFile·chain bytes = Chain·new false (Poses·ofLists (MoveFile·poses bytes))
-
--- a file's box, of the values `x0 y0 z0 x1 y1 z1`, "least corner, greatest corner"
-abbrev pub MoveFile·box : List ℕ → Bounds3f
-MoveFile·box bytes = Bounds3f·ofList (MoveFile·read bytes .bounds)
 
 -- the cover that a file asks for
 unfoldable pub MoveFile·cover : List ℕ → BoundsAnswer

@@ -19,8 +19,9 @@ use Rattle.transform.specs.Answer.{BoundsAnswer·refusal, BoundsAnswer·bounds}
 use Rattle.motion_cover.specs.Theorem.{MovedInside}
 use Rattle.motion_chain.specs.Chain.{Chain, built, Chain·transformPoint, Chain·padAt}
 use Rattle.motion_chain.specs.Built.{BuiltChain}
+use Rattle.motion_file.specs.Layout.{MoveFile·box}
 use Rattle.motion_text.specs.Answer.{boundsText, refusalText}
-use Rattle.motion_answer.specs.Answer.{MoveFile·chain, MoveFile·box, MoveFile·cover}
+use Rattle.motion_answer.specs.Answer.{MoveFile·chain, MoveFile·cover}
 
 -- The file's poses build a chain, and its points, from the file's box, are inside the cover.
 pub record FileContainsMotion (bytes : List ℕ) (cover : Bounds3f) : Type 0 where

@@ -14,8 +14,8 @@ use Rattle.animated_transform.specs.New.{AnimatedTransform·new}
 use Rattle.motion_cover.specs.Cover.{AnimatedTransform·cover}
 use Rattle.motion_chain.specs.Chain.{every}
 use Rattle.lent_arrays.specs.Arrays.{Pose·ofList}
-use Rattle.motion_file.specs.Layout.{MoveFile·poses}
-use Rattle.motion_answer.specs.Answer.{coverDepth, MoveFile·box, MoveFile·cover}
+use Rattle.motion_file.specs.Layout.{MoveFile·box, MoveFile·poses}
+use Rattle.motion_answer.specs.Answer.{coverDepth, MoveFile·cover}
 
 -- document 01's program: building's number, or the cover of the box under the move
 abbrev pub moveCover : AnimatedTransformAnswer → Bounds3f → BoundsAnswer

@@ -1,4 +1,4 @@
--- The layout of a move file and what such a file says: `layout`, `conforms`, `MoveFile·read`, `MoveFile·poses`. Document 01, "File and
+-- The layout of a move file and what such a file says: `layout`, `conforms`, `MoveFile·read`, `MoveFile·box`, `MoveFile·poses`. Document 01, "File and
 -- program": a line of names, then lines of values in that order; values are eight hexadecimal digits of either case, the float's bits; one or more spaces
 -- stand between words, none before the first or after the last; every line ends in a line feed; a file has at most 65,536 bytes. Whatever departs from it
 -- is refused with 11, and every number is then +0. A NaN's bits all mean the one NaN. Rests on `Text.antt`, the digits of `hexadecimal` and the bottom row
@@ -9,6 +9,8 @@ use mathlib.Core.List.{List, [], _∷_, _++_, map}
 use lib.Dec.{eqb, leb}
 use lib.ListN.{length, getD, take, drop, replicate}
 use lib.Ieee.{Float, binary32, ofBits}
+use Rattle.bounds3.specs.declared.Bounds3f.{Bounds3f}
+use Rattle.bounds3.specs.List.{Bounds3f·ofList}
 use Rattle.matrix4x4.specs.IsAffine.{bottomRow}
 use Rattle.hexadecimal.specs.Word.{digitsOnly, number}
 use Rattle.motion_file.specs.Text.{ascii, lineFeed, space, split, singleSpaced, equal}
@@ -115,6 +117,10 @@ MoveFile·contents lines =
 -- what a file says
 unfoldable pub MoveFile·read : List ℕ → MoveFile
 MoveFile·read bytes = cond (keepsLayout bytes) (MoveFile·contents (split lineFeed bytes)) MoveFile·departs
+
+-- a file's box, of the values `x0 y0 z0 x1 y1 z1`, "least corner, greatest corner"
+abbrev pub MoveFile·box : List ℕ → Bounds3f
+MoveFile·box bytes = Bounds3f·ofList (MoveFile·read bytes .bounds)
 
 -- the pose of a line's values: its time, the four rows of its matrix ("The bottom row is 0 0 0 1."), and its pad; document 02, "Pads for the spray": "A file
 -- with the old thirteen names has pads of +0"

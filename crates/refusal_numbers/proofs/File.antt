@@ -35,9 +35,9 @@ use Rattle.motion_chain.specs.Chain.{Chain, ChainAnswer, built, refused, ChainA
 use Rattle.motion_chain.specs.Built.{Each}
 use Rattle.chain_poses.specs.Poses.{Poses·ofLists}
 use Rattle.motion_file.specs.declared.MoveFile.{MoveFile}
-use Rattle.motion_file.specs.Layout.{MoveFile·departs, MoveFile·read, MoveFile·poses}
+use Rattle.motion_file.specs.Layout.{MoveFile·departs, MoveFile·read, MoveFile·box, MoveFile·poses}
 use Rattle.motion_file.proofs.Files.{read-refusals}
-use Rattle.motion_answer.specs.Answer.{coverDepth, ChainAnswer·cover, MoveFile·chain, MoveFile·box, MoveFile·cover}
+use Rattle.motion_answer.specs.Answer.{coverDepth, ChainAnswer·cover, MoveFile·chain, MoveFile·cover}
 use Rattle.motion_answer.proofs.Built.{poses-affine}
 use Rattle.motion_answer.proofs.Contains.{file-answered}
 use Rattle.refusal_numbers.proofs.Chain.{building-numbered}

@@ -16,12 +16,11 @@ use Rattle.bounds_query.specs.Query.{Bounds3f·isOrdered, Bounds3f·refusal}
 use Rattle.motion_chain.specs.Chain.{Chain, ChainAnswer, built, refused, ChainAnswer·refusal, Chain·new}
 use Rattle.chain_poses.specs.Poses.{Poses·ofLists}
 use Rattle.motion_file.specs.declared.MoveFile.{MoveFile}
-use Rattle.motion_file.specs.Layout.{MoveFile·departs, MoveFile·read, MoveFile·poses}
+use Rattle.motion_file.specs.Layout.{MoveFile·departs, MoveFile·read, MoveFile·box, MoveFile·poses}
 use Rattle.motion_file.proofs.Files.{read-refusals}
 use Rattle.motion_text.specs.Answer.{refusalText}
 use Rattle.motion_answer.proofs.Built.{poses-affine}
 use Rattle.file_text.specs.Text.{Chain·text, MoveFile·written}
-use Rattle.file_text.specs.Theorem.{boxOf}
 use Rattle.file_text.proofs.Same.{accepted-written}
 use Rattle.chain_text.specs.Write.{written, refused as refusedBy, TextAnswer·refusal, roomRefusal, Moves·text, Moves·writeRefusal, Moves·write}
 use Rattle.file_rewrite.specs.Rewrite.{boxedText, ChainAnswer·text, rewrittenText}
@@ -98,22 +97,23 @@ module _ (bytes : List ℕ) where
   unfolding rewrittenText
   departed e = rw e
 
-  kept : MoveFile·read bytes .refusal ≡ 0 → rewrittenText bytes ≡ ChainAnswer·text answer (boxOf bytes)
+  kept : MoveFile·read bytes .refusal ≡ 0 → rewrittenText bytes ≡ ChainAnswer·text answer (MoveFile·box bytes)
   unfolding rewrittenText
   kept z = rw (eq-eqb (MoveFile·read bytes .refusal) 0 z)
 
-  refused-text : (n : ℕ) → answer ≡ refused n → ChainAnswer·text answer (boxOf bytes) ≡ refusalText n
+  refused-text : (n : ℕ) → answer ≡ refused n → ChainAnswer·text answer (MoveFile·box bytes) ≡ refusalText n
   unfolding ChainAnswer·text
   refused-text n e = rw e
 
-  boxed : (c : Chain) → answer ≡ built c → (Bounds3f·refusal (boxOf bytes) ≡ 0 → ⊥)
-      → ChainAnswer·text answer (boxOf bytes) ≡ refusalText (Bounds3f·refusal (boxOf bytes))
+  boxed : (c : Chain) → answer ≡ built c → (Bounds3f·refusal (MoveFile·box bytes) ≡ 0 → ⊥)
+      → ChainAnswer·text answer (MoveFile·box bytes) ≡ refusalText (Bounds3f·refusal (MoveFile·box bytes))
   unfolding ChainAnswer·text boxedText
-  boxed c e h = rw (e, ne-eqb (Bounds3f·refusal (boxOf bytes)) 0 h)
+  boxed c e h = rw (e, ne-eqb (Bounds3f·refusal (MoveFile·box bytes)) 0 h)
 
-  own : (c : Chain) → answer ≡ built c → Bounds3f·refusal (boxOf bytes) ≡ 0 → ChainAnswer·text answer (boxOf bytes) ≡ Chain·text c (boxOf bytes)
+  own : (c : Chain) → answer ≡ built c → Bounds3f·refusal (MoveFile·box bytes) ≡ 0
+      → ChainAnswer·text answer (MoveFile·box bytes) ≡ Chain·text c (MoveFile·box bytes)
   unfolding ChainAnswer·text boxedText
-  own c e h = rw (e, eq-eqb (Bounds3f·refusal (boxOf bytes)) 0 h)
+  own c e h = rw (e, eq-eqb (Bounds3f·refusal (MoveFile·box bytes)) 0 h)
 
   refused-numbered : MoveFile·read bytes .refusal ≡ 0 → (n : ℕ) → answer ≡ refused n → Printed bytes
   refused-numbered z n e =
@@ -130,15 +130,15 @@ module _ (bytes : List ℕ) where
       unlike n c e = subst T (sym (ap isBuilt e)) tt
 
   built-numbered : MoveFile·read bytes .refusal ≡ 0 → (c : Chain) → answer ≡ built c → Printed bytes
-  built-numbered z c e = go (eqb (Bounds3f·refusal (boxOf bytes)) 0) refl
+  built-numbered z c e = go (eqb (Bounds3f·refusal (MoveFile·box bytes)) 0) refl
     where
-      go : (p : Bool) → eqb (Bounds3f·refusal (boxOf bytes)) 0 ≡ p → Printed bytes
+      go : (p : Bool) → eqb (Bounds3f·refusal (MoveFile·box bytes)) 0 ≡ p → Printed bytes
       go true h =
-          let none = eqb-true (Bounds3f·refusal (boxOf bytes)) 0 h in
+          let none = eqb-true (Bounds3f·refusal (MoveFile·box bytes)) 0 h in
           form (kept z ∙ own c e none ∙ accepted-written bytes c (record { layout = z; chain = e; box = none }))
       go false h =
-          let some = eqb-false (Bounds3f·refusal (boxOf bytes)) 0 h in
-          number (Bounds3f·refusal (boxOf bytes)) (of-box (box-number (boxOf bytes)) some) (kept z ∙ boxed c e some)
+          let some = eqb-false (Bounds3f·refusal (MoveFile·box bytes)) 0 h in
+          number (Bounds3f·refusal (MoveFile·box bytes)) (of-box (box-number (MoveFile·box bytes)) some) (kept z ∙ boxed c e some)
 
   chain-numbered : MoveFile·read bytes .refusal ≡ 0 → (a : ChainAnswer) → answer ≡ a → Printed bytes
   chain-numbered z (built c) e = built-numbered z c e

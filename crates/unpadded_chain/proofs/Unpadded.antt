@@ -39,8 +39,8 @@ use Rattle.box_set.specs.Set.{maxBoxes, SetAnswer, SetAnswer·joined, SetAnswer
 use Rattle.box_set.specs.Set as set
 use Rattle.chain_poses.specs.Poses.{Poses·ofLists}
 use Rattle.motion_file.specs.declared.MoveFile.{MoveFile}
-use Rattle.motion_file.specs.Layout.{MoveFile·read, MoveFile·poses}
-use Rattle.motion_answer.specs.Answer.{coverDepth, ChainAnswer·cover, MoveFile·chain, MoveFile·box, MoveFile·cover}
+use Rattle.motion_file.specs.Layout.{MoveFile·read, MoveFile·box, MoveFile·poses}
+use Rattle.motion_answer.specs.Answer.{coverDepth, ChainAnswer·cover, MoveFile·chain, MoveFile·cover}
 use Rattle.motion_answer.proofs.Built.{poses-binary32}
 use Rattle.unpadded_chain.specs.Unpadded.{Chain·coverUnpadded, ChainAnswer·coverUnpadded, MoveFile·coverUnpadded}
 use Rattle.unpadded_chain.specs.Unpadded.{Unpadded, ZeroAccepted, ChainUnpadded, FileUnpadded}

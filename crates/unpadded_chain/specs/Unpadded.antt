@@ -24,8 +24,8 @@ use Rattle.box_set.specs.Set.{SetAnswer, Boxes·covers}
 use Rattle.box_set.specs.Set as set
 use Rattle.chain_poses.specs.Poses.{Poses·ofLists}
 use Rattle.motion_file.specs.declared.MoveFile.{MoveFile}
-use Rattle.motion_file.specs.Layout.{hasPads, MoveFile·read, MoveFile·poses}
-use Rattle.motion_answer.specs.Answer.{coverDepth, MoveFile·chain, MoveFile·box, MoveFile·cover}
+use Rattle.motion_file.specs.Layout.{hasPads, MoveFile·read, MoveFile·box, MoveFile·poses}
+use Rattle.motion_answer.specs.Answer.{coverDepth, MoveFile·chain, MoveFile·cover}
 
 -- ---- without pads
 
