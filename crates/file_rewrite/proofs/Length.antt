@@ -20,6 +20,7 @@ use Rattle.motion_file.specs.declared.MoveFile.{MoveFile}
 use Rattle.motion_file.specs.Layout.{MoveFile·read, MoveFile·box, MoveFile·poses}
 use Rattle.motion_text.specs.Answer.{refusalText}
 use Rattle.motion_text.proofs.Written.{refusal-bound}
+use Rattle.motion_answer.specs.Answer.{MoveFile·chain}
 use Rattle.motion_answer.proofs.Posed.{built-count}
 use Rattle.file_text.specs.Text.{Chain·text}
 use Rattle.file_text.proofs.Length.{move-text-length}
@@ -48,13 +49,13 @@ chain-length lists c b s =
     (omega (arith, move-text-length (Poses·lists (Poses·ofLists lists)) (Bounds3f·list b) (each-long lists) refl, lists-count lists, few))
 
 pub rewritten-length : (bytes : List ℕ) → length (rewrittenText bytes) ≤ longestText
-unfolding rewrittenText ChainAnswer·text boxedText
+unfolding MoveFile·chain rewrittenText ChainAnswer·text boxedText
 rewritten-length bytes =
     cond-keeps (λ (text : List ℕ). length text ≤ longestText) (eqb (MoveFile·read bytes .refusal) 0)
-    (ChainAnswer·text (Chain·new false (Poses·ofLists (MoveFile·poses bytes))) (MoveFile·box bytes)) (refusalText (MoveFile·read bytes .refusal))
-    (go (Chain·new false (Poses·ofLists (MoveFile·poses bytes))) refl (MoveFile·box bytes)) (refusal-length (MoveFile·read bytes .refusal))
+    (ChainAnswer·text (MoveFile·chain bytes) (MoveFile·box bytes)) (refusalText (MoveFile·read bytes .refusal))
+    (go (MoveFile·chain bytes) refl (MoveFile·box bytes)) (refusal-length (MoveFile·read bytes .refusal))
   where
-    go : (a : ChainAnswer) → Chain·new false (Poses·ofLists (MoveFile·poses bytes)) ≡ a → (b : Bounds3f) → length (ChainAnswer·text a b) ≤ longestText
+    go : (a : ChainAnswer) → MoveFile·chain bytes ≡ a → (b : Bounds3f) → length (ChainAnswer·text a b) ≤ longestText
     go (built c) e b =
         cond-keeps (λ (text : List ℕ). length text ≤ longestText) (eqb (Bounds3f·refusal b) 0) (Chain·text c b) (refusalText (Bounds3f·refusal b))
         (chain-length (MoveFile·poses bytes) c b e) (refusal-length (Bounds3f·refusal b))

@@ -25,6 +25,7 @@ use Rattle.motion_text.specs.Answer.{refusalText}
 use Rattle.motion_text.proofs.Pastes.{Wrote, wrote-none, lengthIn-fits, front-counts}
 use Rattle.chain_text.specs.Write.{written, refused as refusedBy, Moves·text, Moves·writeRefusal, Moves·write, TextAnswer·length, TextAnswer·left}
 use Rattle.chain_text.proofs.Kept.{kept-text}
+use Rattle.motion_answer.specs.Answer.{MoveFile·chain}
 use Rattle.motion_answer.proofs.Built.{new-none}
 use Rattle.file_rewrite.specs.Rewrite.{boxedText, ChainAnswer·text, rewrittenText}
 
@@ -92,7 +93,7 @@ module _ (bytes : List ℕ) (file : MoveFile) (e : file ≡ MoveFile·read bytes
   pub file-printed : (old left : List (List Float)) (b : Bounds3f) → file .refusal ≡ 0
       → left ≡ lent.front (MoveFile·poses bytes) old → b ≡ Bounds3f·ofList (file .bounds)
       → rewrittenText bytes ≡ ChainAnswer·text (Chain·new false (Poses·ofLists (take (file .count) left))) b
-  unfolding rewrittenText
+  unfolding MoveFile·chain rewrittenText
   file-printed old left b h el eb =
       let poses = MoveFile·poses bytes in
       let whole : take (file .count) left ≡ poses = rw (el, e) (take-at poses (drop (length poses) old) (MoveFile·read bytes .count) (poses-length bytes)) in

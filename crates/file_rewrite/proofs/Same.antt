@@ -14,6 +14,7 @@ use Rattle.motion_chain.specs.Chain.{Chain, built, Chain·new}
 use Rattle.chain_poses.specs.Poses.{Poses·ofLists}
 use Rattle.motion_file.specs.declared.MoveFile.{MoveFile}
 use Rattle.motion_file.specs.Layout.{MoveFile·read, MoveFile·box, MoveFile·poses}
+use Rattle.motion_answer.specs.Answer.{MoveFile·chain}
 use Rattle.file_text.specs.Text.{Chain·text, MoveFile·text, MoveFile·written}
 use Rattle.file_text.specs.Theorem.{maxPaddedLines, MoveFile·Accepted, HoldSame}
 use Rattle.file_text.proofs.Written.{built-room}
@@ -22,7 +23,7 @@ use Rattle.file_rewrite.specs.Rewrite.{boxedText, ChainAnswer·text, rew
 use Rattle.file_rewrite.specs.Theorem.{RewrittenSame, RewrittenAgain}
 
 chain-form : (f : List ℕ) (c : Chain) → MoveFile·Accepted f c → rewrittenText f ≡ Chain·text c (MoveFile·box f)
-unfolding rewrittenText ChainAnswer·text boxedText
+unfolding MoveFile·chain rewrittenText ChainAnswer·text boxedText
 chain-form f c a = rw (eq-eqb (MoveFile·read f .refusal) 0 (a .layout), a .chain, eq-eqb (Bounds3f·refusal (MoveFile·box f)) 0 (a .box))
 
 pub rewritten-form : (f : List ℕ) (c : Chain) → MoveFile·Accepted f c → rewrittenText f ≡ MoveFile·written f

@@ -1,17 +1,17 @@
 -- What the program `rewrite` prints for a move file: `rewrittenText`, the file's one form or its refusal. 11 "precedes all others" (document 01);
 -- then come building's numbers, then 6 and 7 of the box. Definitions only.
 use Prim.Native.Nat.{ℕ}
-use mathlib.Core.Bool.{false, cond}
+use mathlib.Core.Bool.{cond}
 use mathlib.Core.List.{List}
 use lib.Dec.{eqb}
 use Rattle.bounds3.specs.declared.Bounds3f.{Bounds3f}
 use Rattle.bounds_query.specs.Query.{Bounds3f·refusal}
-use Rattle.motion_chain.specs.Chain.{ChainAnswer, built, refused, Chain·new}
-use Rattle.chain_poses.specs.Poses.{Poses·ofLists}
+use Rattle.motion_chain.specs.Chain.{ChainAnswer, built, refused}
 use Rattle.motion_file.specs.declared.MoveFile.{MoveFile}
-use Rattle.motion_file.specs.Layout.{MoveFile·read, MoveFile·box, MoveFile·poses}
+use Rattle.motion_file.specs.Layout.{MoveFile·read, MoveFile·box}
 use Rattle.motion_text.specs.Answer.{refusalText}
 use Rattle.file_text.specs.Text.{Chain·text}
+use Rattle.motion_answer.specs.Answer.{MoveFile·chain}
 
 -- a text, or the refusal of the box in it
 unfoldable pub boxedText : Bounds3f → List ℕ → List ℕ
@@ -25,5 +25,5 @@ ChainAnswer·text (refused n) b = refusalText n
 -- the text that is printed for a file's bytes
 unfoldable pub rewrittenText : List ℕ → List ℕ
 rewrittenText bytes =
-    cond (eqb (MoveFile·read bytes .refusal) 0) (ChainAnswer·text (Chain·new false (Poses·ofLists (MoveFile·poses bytes))) (MoveFile·box bytes))
+    cond (eqb (MoveFile·read bytes .refusal) 0) (ChainAnswer·text (MoveFile·chain bytes) (MoveFile·box bytes))
     (refusalText (MoveFile·read bytes .refusal))

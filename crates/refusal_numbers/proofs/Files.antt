@@ -19,6 +19,7 @@ use Rattle.motion_file.specs.declared.MoveFile.{MoveFile}
 use Rattle.motion_file.specs.Layout.{MoveFile·departs, MoveFile·read, MoveFile·box, MoveFile·poses}
 use Rattle.motion_file.proofs.Files.{read-refusals}
 use Rattle.motion_text.specs.Answer.{refusalText}
+use Rattle.motion_answer.specs.Answer.{MoveFile·chain}
 use Rattle.motion_answer.proofs.Built.{poses-affine}
 use Rattle.file_text.specs.Text.{Chain·text, MoveFile·written}
 use Rattle.file_text.proofs.Same.{accepted-written}
@@ -98,7 +99,7 @@ module _ (bytes : List ℕ) where
   departed e = rw e
 
   kept : MoveFile·read bytes .refusal ≡ 0 → rewrittenText bytes ≡ ChainAnswer·text answer (MoveFile·box bytes)
-  unfolding rewrittenText
+  unfolding MoveFile·chain rewrittenText
   kept z = rw (eq-eqb (MoveFile·read bytes .refusal) 0 z)
 
   refused-text : (n : ℕ) → answer ≡ refused n → ChainAnswer·text answer (MoveFile·box bytes) ≡ refusalText n
