@@ -9,10 +9,11 @@ use lib.ListN.{length}
 use Rattle.refusal.specs.First.{firstRefusal}
 use Rattle.matrix4x4.specs.Rows.{Rows}
 use Rattle.transform.specs.Answer.{OneOf}
+use Rattle.pose_bits.specs.Bits.{Pose·sameBits}
 use Rattle.motion_chain.specs.Chain.{maxPoses}
 use Rattle.built_poses.specs.Poses.{Chain·isRigid}
 use Rattle.chain_rows.specs.Kept.{Moves·chain}
-use Rattle.joined_chains.specs.Join.{Pose·sameBits, Chain·lastPose, Chain·firstPose, Chain·joinedPoses, mismatchRefusal, Chain·joinRefusal}
+use Rattle.joined_chains.specs.Join.{Chain·lastPose, Chain·firstPose, Chain·joinedPoses, mismatchRefusal, Chain·joinRefusal}
 use Rattle.chain_join.specs.Rows.{Moves·joinRefusal}
 
 pub moves-join-number : (first second : List Rows) → OneOf (Moves·joinRefusal first second) (0 ∷ 12 ∷ 20 ∷ [])

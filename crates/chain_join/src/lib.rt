@@ -3,58 +3,16 @@
 use refusal::first_refusal;
 ghost use Prim.Native.Nat.{_+_, _<_, _≤_};
 ghost use mathlib.Core.Path.{_≡_};
-ghost use mathlib.Core.Bool.{true, Bool·beq};
+ghost use mathlib.Core.Bool.{Bool·beq};
 ghost use lib.ListN.{length};
 ghost use lib.Seq.{paste};
-ghost use Rattle.motion_rows.specs.Rows.{matrixAt, AnimatedTransform·fromRows};
-ghost use Rattle.built_poses.specs.Poses.{AnimatedTransform·startPose, AnimatedTransform·endPose};
+ghost use Rattle.motion_rows.specs.Rows.{AnimatedTransform·fromRows};
 ghost use Rattle.motion_chain.specs.Chain.{Chain};
 ghost use Rattle.chain_rows.specs.Kept.{Moves·chain};
 ghost use Rattle.chain_rows.specs.Theorem.{Moves·Holds};
-ghost use Rattle.joined_chains.specs.Join.{Float·sameBits, Row·sameBits, Matrix4x4·sameBits, Pose·sameBits};
 ghost use Rattle.joined_chains.specs.Join.{Chain·lastPose, Chain·firstPose, mismatchRefusal, countRefusal};
 ghost use Rattle.chain_join.specs.Rows.{Moves·joinRefusal, Moves·joinLeft};
 ghost use Rattle.chain_join.specs.Theorem.{Joined};
-
-// Two floats of the same bits are one float.
-fn same_bits(x: f32, y: f32) -> bool
-    ensures value { λ r. ⌜ r ≡ Float·sameBits x y ⌝ }
-    ensures same { λ r. ⌜ (r ≡ true → x ≡ y) ⌝ }
-{
-    let a = hexadecimal::bits_of_float(x);
-    let b = hexadecimal::bits_of_float(y);
-    a == b
-}
-
-fn same_row(a: [f32; 4], b: [f32; 4]) -> bool
-    ensures value { λ r. ⌜ r ≡ Row·sameBits a b ⌝ }
-    ensures same { λ r. ⌜ (r ≡ true → a ≡ b) ⌝ }
-{
-    same_bits(a[0], b[0]) & same_bits(a[1], b[1]) & same_bits(a[2], b[2]) & same_bits(a[3], b[3])
-}
-
-// The end's matrix of a block and the start's of another.
-fn same_matrix(last: &[[f32; 4]; 45], first: &[[f32; 4]; 45]) -> bool
-    ensures value { λ r. ⌜ r ≡ Matrix4x4·sameBits (matrixAt (now (last .entry)) 8) (matrixAt (now (first .entry)) 0) ⌝ }
-    ensures same { λ r. ⌜ (r ≡ true → matrixAt (now (last .entry)) 8 ≡ matrixAt (now (first .entry)) 0) ⌝ }
-{
-    same_row(last[8], first[0])
-        & same_row(last[9], first[1])
-        & same_row(last[10], first[2])
-        & same_row(last[11], first[3])
-}
-
-// The end's pose of a block and the start's of another.
-fn same_pose(last: &[[f32; 4]; 45], first: &[[f32; 4]; 45]) -> bool
-    ensures value { λ r. ⌜ r ≡ Pose·sameBits (AnimatedTransform·endPose (AnimatedTransform·fromRows (now (last .entry))))
-        (AnimatedTransform·startPose (AnimatedTransform·fromRows (now (first .entry)))) ⌝ }
-    ensures same { λ r. ⌜ (r ≡ true → AnimatedTransform·endPose (AnimatedTransform·fromRows (now (last .entry)))
-        ≡ AnimatedTransform·startPose (AnimatedTransform·fromRows (now (first .entry)))) ⌝ }
-{
-    same_bits(last[17][3], first[16][3])
-        & same_matrix(last, first)
-        & same_bits(last[44][1], first[44][0])
-}
 
 // The kinds of two moves, rigid or not.
 fn same_kind(a: &[[f32; 4]; 45], b: &[[f32; 4]; 45]) -> bool
@@ -70,7 +28,9 @@ fn mismatch_refusal(first: &[[[f32; 4]; 45]], second: &[[[f32; 4]; 45]]) -> u8
     ensures value { λ r. ⌜ r ≡ mismatchRefusal (Moves·chain (now (first .entry))) (Moves·chain (now (second .entry))) ⌝ }
     ensures same { λ r. ⌜ (r ≡ 0 → Chain·lastPose (Moves·chain (now (first .entry))) ≡ Chain·firstPose (Moves·chain (now (second .entry)))) ⌝ }
 {
-    if same_pose(&first[first.len() - 1], &second[0]) & same_kind(&first[0], &second[0]) {
+    let last = kept_poses::end_pose(&first[first.len() - 1]);
+    let start = kept_poses::start_pose(&second[0]);
+    if pose_bits::same_pose(&last, &start) & same_kind(&first[0], &second[0]) {
         0
     } else {
         20

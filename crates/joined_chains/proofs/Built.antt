@@ -13,6 +13,7 @@ use lib.Ieee.Fits.{and-l, and-r, and-i}
 use Rattle.refusal.proofs.First.{first-zero}
 use Rattle.pose_pair.specs.declared.Pose.{Pose}
 use Rattle.pose_pair.specs.Pose.{Pose·isBinary32}
+use Rattle.pose_bits.specs.Bits.{Pose·sameBits}
 use Rattle.animated_transform.specs.declared.AnimatedTransform.{AnimatedTransform}
 use Rattle.animated_transform.specs.declared.AnimatedTransformAnswer.{AnimatedTransformAnswer}
 use Rattle.animated_transform.specs.New.{AnimatedTransform·new}
@@ -23,7 +24,7 @@ use Rattle.motion_chain.specs.MoveAt.{lastFrom}
 use Rattle.motion_chain.proofs.Built.{first-none, first-each, checks-passed, new-built}
 use Rattle.built_poses.specs.Poses.{AnimatedTransform·startPose, AnimatedTransform·endPose, Chain·poses, Chain·isRigid}
 use Rattle.built_poses.proofs.Built.{built-poses, built-kind}
-use Rattle.joined_chains.specs.Join.{Pose·sameBits, Chain·lastPose, Chain·firstPose, Chain·joinedPoses}
+use Rattle.joined_chains.specs.Join.{Chain·lastPose, Chain·firstPose, Chain·joinedPoses}
 use Rattle.joined_chains.specs.Join.{mismatchRefusal, countRefusal, Chain·joinRefusal, Chain·join}
 use Rattle.joined_chains.specs.Theorem.{Chain·append, Joins}
 

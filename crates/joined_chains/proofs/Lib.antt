@@ -1,4 +1,3 @@
 pub mod Union
-pub mod Bits
 pub mod Built
 pub mod Answers

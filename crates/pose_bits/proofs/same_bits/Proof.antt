@@ -1,8 +1,8 @@
 -- `same_bits` compares bits; a float of binary32 is told by them (`bits-clauses`).
 use borrow.Author.Needs.{needs}
-use Rattle.chain_join.proofs.Same.{bits-clauses}
-use Rattle.chain_join.proofs.same_bits.Statement.{statement}
-use Rattle.chain_join.proofs.same_bits.Tie as tie
+use Rattle.pose_bits.proofs.Same.{bits-clauses}
+use Rattle.pose_bits.proofs.same_bits.Statement.{statement}
+use Rattle.pose_bits.proofs.same_bits.Tie as tie
 
 bits-of-float-requires : tie.Need-bits-of-float-requires
 bits-of-float-requires c κs = search needs
