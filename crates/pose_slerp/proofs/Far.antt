@@ -55,10 +55,6 @@ squares-point x y z w =
       add-point (x ⊗ x ⊕ y ⊗ y) (z ⊗ z),
     ) (add-point (x ⊗ x ⊕ y ⊗ y ⊕ z ⊗ z) (w ⊗ w))
 
-length-point : (x y z w : Float)
-    → Interval·sqrtEnclosure (squares (Interval·point x) (Interval·point y) (Interval·point z) (Interval·point w)) ≡ Interval·point (length x y z w)
-length-point x y z w = ap Interval·sqrtEnclosure (squares-point x y z w) ∙ sqrt-point (x ⊗ x ⊕ y ⊗ y ⊕ z ⊗ z ⊕ w ⊗ w)
-
 abbrev point-finite : (x : Float) → T (finite x) → Finite (Interval·point x)
 point-finite x f = record { low = f; high = f }
 

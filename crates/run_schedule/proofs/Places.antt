@@ -27,10 +27,6 @@ either-true : (s t : Bool) → (s || t) ≡ true → (s ≡ true) ⊎ (t ≡ tru
 either-true true t e = inl refl
 either-true false t e = inr e
 
-or-right : (s t : Bool) → t ≡ true → (s || t) ≡ true
-or-right true t e = refl
-or-right false t e = e
-
 pub some-false : (n : ℕ) (test : ℕ → Bool) → someBelow n test ≡ false → (i : ℕ) → i < n → test i ≡ false
 unfolding someBelow
 some-false zero test e i h = absurd (omega (arith, h))

@@ -1,4 +1,3 @@
 pub mod Slices
 pub mod DtUnit
-pub mod Scale
 mod Cases
