@@ -202,7 +202,7 @@ pub extern "C" fn jellyplain_cover(
     ensures finer { λ r. ⌜ (r ≡ 0 → KeptCoverFiner (now (motion .entry)) (now (b .entry)) depth (now (bounds .exit))) ⌝ }
 {
     lent_arrays::put_bounds(
-        motion_cover::cover(
+        cover_query::cover(
             motion_rows::from_rows(motion),
             lent_arrays::bounds(b),
             depth,

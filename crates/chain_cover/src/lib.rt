@@ -27,7 +27,7 @@ fn union_move(
 {
     bounds_query::union_bounds(
         r,
-        motion_cover::cover(motion_rows::from_rows(&moves[i]), b, depth),
+        cover_query::cover(motion_rows::from_rows(&moves[i]), b, depth),
     )
 }
 
@@ -43,7 +43,7 @@ pub fn cover(moves: &[[[f32; 4]; 45]], b: Bounds3f, depth: u32) -> BoundsAnswer
     if moves.len() == 0 {
         return BoundsAnswer::Refused(12);
     }
-    let mut r = motion_cover::cover(motion_rows::from_rows(&moves[0]), b, depth);
+    let mut r = cover_query::cover(motion_rows::from_rows(&moves[0]), b, depth);
     let mut i = 1;
     let n = moves.len();
     while i < n {

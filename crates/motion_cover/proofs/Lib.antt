@@ -6,4 +6,3 @@ pub mod Proper
 pub mod Stored
 pub mod Slices
 mod Values
-mod Borders

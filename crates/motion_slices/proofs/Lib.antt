@@ -1,0 +1,2 @@
+mod Borders
+mod Reached
