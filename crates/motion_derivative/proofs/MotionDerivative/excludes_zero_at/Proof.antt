@@ -5,7 +5,7 @@ use Rattle.motion_derivative.proofs.MotionDerivative.excludes_zero_at.T
 
 returns : tie.Need-returns
 unfolding MotionDerivative·excludesZeroAt
-returns c = cc
+returns c = rw (c .before .before .before .range-at .ensures)
 
 pub excludes-zero-at-spec : {M : Type 1} → statement M
 excludes-zero-at-spec = tie.close (tie.spec (λ c κs. tt) returns)
