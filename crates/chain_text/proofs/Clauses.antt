@@ -1,11 +1,11 @@
--- What `write` gives and leaves in the three ways that it ends: `no-moves`, `all-refused`, `all-written`.
+-- Which number `write` gives: `none-number`, `some-number`, `accepted`; and what it leaves, in the two ways that it ends: `all-refused`, `all-written`.
 use Prim.Native.Nat.{ℕ, _+_, _*_, _<_, _≤_}
 use native.Mathlib.Omega.{arith}
 use mathlib.Core.Path.{_≡_, refl, sym, _∙_}
 use mathlib.Core.List.{List}
 use mathlib.Core.Bool.{Bool, true, false, cond}
-use borrow.Author.Tests.{eq-eqb, ne-eqb, le-leb, leb-true}
-use lib.Dec.{leb}
+use borrow.Author.Tests.{eq-eqb, ne-eqb, eqb-false, le-leb, leb-true}
+use lib.Dec.{eqb, leb}
 use lib.ListN.{length, take, drop}
 use lib.Seq.{take-append-seam}
 use Rattle.refusal.proofs.First.{first-zero}
@@ -33,7 +33,6 @@ unfolding textLeft
 front-taken text old h = rw (le-leb (length text) (length old) h) (take-append-seam text (drop (length text) old))
 
 -- ---- numbers
--- nothing is refused only where neither is, and the text has room
 room-none : (room size : ℕ) → roomRefusal room size ≡ 0 → size ≤ room
 room-none room size = go (leb size room) refl
   where
@@ -41,50 +40,47 @@ room-none room size = go (leb size room) refl
     go true e h = leb-true size room e
     go false e h = absurd (omega (arith, h))
 
-module _ (rows : List Rows) (b : Bounds3f) (old : List ℕ) where
-  abbrev number₀ : ℕ
-  number₀ = Moves·writeRefusal rows b (length old)
-
-  answer-refused : (number₀ ≡ 0 → ⊥) → Moves·write rows b (length old) ≡ refused number₀
-  unfolding Moves·write
-  answer-refused h = rw (ne-eqb number₀ 0 h)
-
-  answer-written : number₀ ≡ 0 → Moves·write rows b (length old) ≡ written (Moves·text rows b)
-  unfolding Moves·write
-  answer-written e = rw (eq-eqb number₀ 0 e)
-
-  none-number : length rows ≡ 0 → number₀ ≡ 12
+module _ (rows : List Rows) (b : Bounds3f) (size : ℕ) where
+  pub none-number : length rows ≡ 0 → 12 ≡ Moves·writeRefusal rows b size
   unfolding Moves·writeRefusal
   none-number e = rw (eq-eqb (length rows) 0 e)
 
-  some-number : (length rows ≡ 0 → ⊥) → number₀ ≡ firstRefusal (Bounds3f·refusal b) (roomRefusal (length old) (length (Moves·text rows b)))
+  pub some-number : (length rows ≡ 0 → ⊥) → {text judged room r : ℕ} → text ≡ 255 + 126 * length rows → judged ≡ Bounds3f·refusal b
+      → room ≡ roomRefusal size text → r ≡ firstRefusal judged room → r ≡ Moves·writeRefusal rows b size
   unfolding Moves·writeRefusal
-  some-number h = rw (ne-eqb (length rows) 0 h)
+  some-number some el ej er en =
+      en ∙ rw (ej, er, el, ne-eqb (length rows) 0 some, text-length rows b (omega (arith, some)))
 
-  refused-clauses : (number size : ℕ) → number ≡ number₀ → (number ≡ 0 → ⊥) → size ≡ 0 → Clauses rows b number size old old
-  refused-clauses number size en n es =
-      rw (answer-refused (λ z. n (en ∙ z))) (en, (es, (refl, λ z. absurd (n z))))
+  -- nothing is refused only where there is a move and the text has room
+  pub accepted : Moves·writeRefusal rows b size ≡ 0 → (0 < length rows) × (255 + 126 * length rows ≤ size)
+  unfolding Moves·writeRefusal
+  accepted = go (eqb (length rows) 0) (eqb-false (length rows) 0)
+    where
+      go : (t : Bool) → (t ≡ false → length rows ≡ 0 → ⊥)
+          → cond t 12 (firstRefusal (Bounds3f·refusal b) (roomRefusal size (length (Moves·text rows b)))) ≡ 0
+          → (0 < length rows) × (255 + 126 * length rows ≤ size)
+      go true f z = absurd (omega (arith, z))
+      go false f z =
+          let some = f refl in
+          let h : 0 < length rows = omega (arith, some) in
+          let fit = room-none size (length (Moves·text rows b)) (first-zero (Bounds3f·refusal b) (roomRefusal size (length (Moves·text rows b))) z .1) in
+          (h, omega (arith, fit, text-length rows b h))
 
-  pub no-moves : length rows ≡ 0 → (number size : ℕ) → number ≡ 12 → size ≡ 0 → Clauses rows b number size old old
-  no-moves e number size en es = refused-clauses number size (en ∙ sym (none-number e)) (λ z. absurd (omega (arith, en, z))) es
+module _ (rows : List Rows) (b : Bounds3f) (old : List ℕ) {number : ℕ} (e : number ≡ Moves·writeRefusal rows b (length old)) where
+  pub all-refused : (number ≡ 0 → ⊥) → Clauses rows b number 0 old old
+  all-refused n = rw answer (refl, (refl, (refl, λ z. absurd (n z))))
+    where
+      answer : Moves·write rows b (length old) ≡ refused number
+      answer = unfold Moves·write in rw (← e, ne-eqb number 0 n)
 
-  module _ (some : length rows ≡ 0 → ⊥) (length₀ judged room number : ℕ) (el : length₀ ≡ 255 + 126 * length rows) (ej : judged ≡ Bounds3f·refusal b)
-      (er : room ≡ roomRefusal (length old) length₀) (en : number ≡ firstRefusal judged room) where
-    text-size : length₀ ≡ length (Moves·text rows b)
-    text-size = el ∙ sym (text-length rows b (omega (arith, some)))
-
-    same-number : number ≡ number₀
-    same-number = en ∙ rw (ej, er, text-size) (sym (some-number some))
-
-    pub all-refused : (number ≡ 0 → ⊥) → (refusal size : ℕ) → refusal ≡ number → size ≡ 0 → Clauses rows b refusal size old old
-    all-refused n refusal size e es = refused-clauses refusal size (e ∙ same-number) (λ z. n (sym e ∙ z)) es
-
-    pub has-room : number ≡ 0 → 255 + 126 * length rows ≤ length old
-    has-room z = omega (arith, room-none (length old) length₀ (sym er ∙ first-zero judged room (sym en ∙ z) .1), el)
-
-    pub all-written : number ≡ 0 → (after : List ℕ) → after ≡ textLeft (Moves·text rows b) old → Clauses rows b 0 length₀ old after
-    all-written z after ea =
-        let text = Moves·text rows b in
-        let fit : length text ≤ length old = omega (arith, has-room z, el, text-size) in
-        let taken : take length₀ after ≡ text = rw (text-size, ea) (front-taken text old fit) in
-        rw (answer-written (sym same-number ∙ z)) (refl, (text-size, (ea, λ _. rw taken (written-back rows b))))
+  pub all-written : number ≡ 0 → {size : ℕ} → size ≡ 255 + 126 * length rows → (after : List ℕ) → after ≡ textLeft (Moves·text rows b) old
+      → Clauses rows b 0 size old after
+  all-written z {size} es after ea =
+      let text = Moves·text rows b in
+      let (some, fit) = accepted rows b (length old) (sym e ∙ z) in
+      let own : size ≡ length text = es ∙ sym (text-length rows b some) in
+      let taken : take size after ≡ text = rw (own, ea) (front-taken text old (omega (arith, fit, es, own))) in
+      rw answer (refl, (own, (ea, λ _. rw taken (written-back rows b))))
+    where
+      answer : Moves·write rows b (length old) ≡ written (Moves·text rows b)
+      answer = unfold Moves·write in rw (← e, eq-eqb number 0 z)

@@ -7,10 +7,12 @@ ghost use mathlib.Core.List.{map};
 ghost use lib.ListN.{length, take};
 ghost use lib.Seq.{paste};
 ghost use Rattle.bounds3.specs.List.{Bounds3f·list};
+ghost use Rattle.lent_arrays.specs.Arrays.{Pose·ofList};
 ghost use Rattle.motion_text.specs.Answer.{boundsText, textLeft};
 ghost use Rattle.file_text.specs.Text.{valuesText, linesText};
-ghost use Rattle.chain_text.specs.means.Lines.{Rows·startValues, Rows·endValues};
-ghost use Rattle.chain_text.specs.Write.{poseLine, Moves·text, roomRefusal, Moves·write, TextAnswer·refusal, TextAnswer·length, TextAnswer·left};
+ghost use Rattle.chain_text.specs.means.Lines.{Rows·endValues};
+ghost use Rattle.chain_text.specs.Write.{Pose·values, Moves·text, roomRefusal, Moves·writeRefusal, Moves·write};
+ghost use Rattle.chain_text.specs.Write.{TextAnswer·refusal, TextAnswer·length, TextAnswer·left};
 ghost use Rattle.chain_text.specs.Theorem.{WrittenBack};
 
 // The bytes of the line of names, of a pose's line, and of the box's two lines.
@@ -28,57 +30,33 @@ pub struct Written {
 }
 
 // The values of a pose's line: the time, the upper three rows of the matrix, and the pad.
-fn pose_values(time: f32, r0: [f32; 4], r1: [f32; 4], r2: [f32; 4], pad: f32) -> [f32; 14]
-    ensures { λ r. ⌜ r ≡ poseLine time r0 r1 r2 pad ⌝ }
+fn line_values(pose: [f32; 18]) -> [f32; 14]
+    ensures { λ r. ⌜ r ≡ Pose·values (Pose·ofList pose) ⌝ }
 {
     [
-        time,
-        r0[0],
-        r0[1],
-        r0[2],
-        r0[3],
-        r1[0],
-        r1[1],
-        r1[2],
-        r1[3],
-        r2[0],
-        r2[1],
-        r2[2],
-        r2[3],
-        pad,
+        pose[0],
+        pose[1],
+        pose[2],
+        pose[3],
+        pose[4],
+        pose[5],
+        pose[6],
+        pose[7],
+        pose[8],
+        pose[9],
+        pose[10],
+        pose[11],
+        pose[12],
+        pose[17],
     ]
 }
 
-fn start_values(motion: &[[f32; 4]; 45]) -> [f32; 14]
-    ensures { λ r. ⌜ r ≡ Rows·startValues (now (motion .entry)) ⌝ }
-{
-    pose_values(
-        motion[16][3],
-        motion[0],
-        motion[1],
-        motion[2],
-        motion[44][0],
-    )
-}
-
-fn end_values(motion: &[[f32; 4]; 45]) -> [f32; 14]
-    ensures { λ r. ⌜ r ≡ Rows·endValues (now (motion .entry)) ⌝ }
-{
-    pose_values(
-        motion[17][3],
-        motion[8],
-        motion[9],
-        motion[10],
-        motion[44][1],
-    )
-}
-
 // Puts a pose's line into `out` from `at` on.
-fn put_pose(values: [f32; 14], out: &mut [u8], at: usize)
+fn put_pose(pose: [f32; 18], out: &mut [u8], at: usize)
     requires { ⌜ at + 126 ≤ length (now out) ⌝ }
-    ensures { λ _. ⌜ now (out .exit) ≡ paste (now (out .entry)) at (valuesText values) 126 ⌝ }
+    ensures { λ _. ⌜ now (out .exit) ≡ paste (now (out .entry)) at (valuesText (Pose·values (Pose·ofList pose))) 126 ⌝ }
 {
-    motion_text::write_values(&values, &mut out[at..]);
+    motion_text::write_values(&line_values(pose), &mut out[at..]);
 }
 
 // Puts the box's lines into `out` from `at` on.
@@ -97,7 +75,11 @@ fn put_ends(moves: &[[[f32; 4]; 45]], out: &mut [u8])
 {
     let mut i = 0;
     while i < moves.len() {
-        put_pose(end_values(&moves[i]), out, NAMES + POSE + POSE * i);
+        put_pose(
+            kept_poses::end_pose(&moves[i]),
+            out,
+            NAMES + POSE + POSE * i,
+        );
         i += 1;
     }
 }
@@ -112,7 +94,7 @@ fn put(moves: &[[[f32; 4]; 45]], b: Bounds3f, out: &mut [u8])
         b"time m00 m01 m02 m03 m10 m11 m12 m13 m20 m21 m22 m23 pad\n",
         out,
     );
-    put_pose(start_values(&moves[0]), out, NAMES);
+    put_pose(kept_poses::start_pose(&moves[0]), out, NAMES);
     put_ends(moves, out);
     put_bounds(b, out, NAMES + POSE + POSE * moves.len());
 }
@@ -124,10 +106,23 @@ fn room_refusal(length: usize, room: usize) -> u8
     if length <= room { 0 } else { 15 }
 }
 
-fn refused(refusal: u8) -> Written
-    ensures { λ r. ⌜ (r .length ≡ 0) × (r .refusal ≡ refusal) ⌝ }
+// The length of the text of a chain of so many moves and a box.
+fn text_length(moves: &[[[f32; 4]; 45]]) -> usize
+    ensures { λ r. ⌜ r ≡ 255 + 126 * length (now (moves .entry)) ⌝ }
 {
-    Written { length: 0, refusal }
+    NAMES + POSE * (moves.len() + 1) + BOX
+}
+
+// 12 where there are no moves, then 6 or 7 of the box, then 15 where `size` places are too few for the text, and 0.
+fn write_refusal(moves: &[[[f32; 4]; 45]], b: Bounds3f, size: usize) -> u8
+    ensures { λ r. ⌜ r ≡ Moves·writeRefusal (now (moves .entry)) b size ⌝ }
+{
+    if moves.len() == 0 {
+        return 12;
+    }
+    let judged = bounds_query::refusal(b);
+    let room = room_refusal(text_length(moves), size);
+    first_refusal(judged, room)
 }
 
 // Writes the poses of a kept chain and the box b as a move file into the front of `out`, and gives the length of the text;
@@ -139,16 +134,16 @@ pub fn write(moves: &[[[f32; 4]; 45]], b: Bounds3f, out: &mut [u8]) -> Written
     ensures left { λ _. ⌜ now (out .exit) ≡ TextAnswer·left (Moves·write (now (moves .entry)) b (length (now (out .entry)))) (now (out .entry)) ⌝ }
     ensures written_back { λ r. ⌜ (r .refusal ≡ 0 → WrittenBack (now (moves .entry)) b (take (r .length) (now (out .exit)))) ⌝ }
 {
-    if moves.len() == 0 {
-        return refused(12);
-    }
-    let length = NAMES + POSE * (moves.len() + 1) + BOX;
-    let judged = bounds_query::refusal(b);
-    let room = room_refusal(length, out.len());
-    let number = first_refusal(judged, room);
+    let number = write_refusal(moves, b, out.len());
     if number != 0 {
-        return refused(number);
+        return Written {
+            length: 0,
+            refusal: number,
+        };
     }
     put(moves, b, out);
-    Written { length, refusal: 0 }
+    Written {
+        length: text_length(moves),
+        refusal: 0,
+    }
 }

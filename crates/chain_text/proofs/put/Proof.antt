@@ -12,11 +12,11 @@ slice-aggregate-write-text c = search needs
 write-text-requires : tie.Need-write-text-requires
 write-text-requires c κs = search needs
 
-shared-slice-element-start-values : tie.Need-shared-slice-element-start-values
-shared-slice-element-start-values c = search needs
+shared-slice-element-start-pose : tie.Need-shared-slice-element-start-pose
+shared-slice-element-start-pose c = search needs
 
-start-values-requires : tie.Need-start-values-requires
-start-values-requires c κs = search needs
+start-pose-requires : tie.Need-start-pose-requires
+start-pose-requires c κs = search needs
 
 put-pose-requires : tie.Need-put-pose-requires
 put-pose-requires c κs = search needs
@@ -49,12 +49,12 @@ returns c =
     let bounds = c2 in
     let ends = c6 in
     let pose = c10 in
-    let values = pose .before .before in
+    let start = pose .before .before in
     let names = c16 in
     let entry = c20 in
     let a = entry .args in
-    put-all (a .moves .now) (a .b) (entry .pre .0) (a .out .now) (entry .pre .1) _ _ _ _ (names .write-text .ensures .1)
-    (rw (values .start-values .ensures) at (pose .put-pose .ensures)) (ends .put-ends .ensures) (bounds .put-bounds .ensures)
+    put-all (a .moves .now) (a .b) (entry .pre .0) (a .out .now) (entry .pre .1) (start .start-pose .ensures) _ _ _ _ (names .write-text .ensures .1)
+    (pose .put-pose .ensures) (ends .put-ends .ensures) (bounds .put-bounds .ensures)
 
 pub put-spec : {M : Type 1} → statement M
 put-spec =
@@ -62,8 +62,8 @@ put-spec =
     (tie.spec
     slice-aggregate-write-text
     write-text-requires
-    shared-slice-element-start-values
-    start-values-requires
+    shared-slice-element-start-pose
+    start-pose-requires
     put-pose-requires
     put-ends-requires
     add-put-bounds

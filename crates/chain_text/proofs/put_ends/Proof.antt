@@ -21,14 +21,14 @@ loop-holds c =
     let a = c .before .args in
     (omega arith, refl, paste-zero (a .out .now) 183 (endsText (a .moves .now)))
 
-mul-end-values : tie.Need-mul-end-values Inv-loop μ-loop
-mul-end-values c = search needs
+mul-end-pose : tie.Need-mul-end-pose Inv-loop μ-loop
+mul-end-pose c = search needs
 
-shared-slice-element-end-values : tie.Need-shared-slice-element-end-values Inv-loop μ-loop
-shared-slice-element-end-values c = search needs
+shared-slice-element-end-pose : tie.Need-shared-slice-element-end-pose Inv-loop μ-loop
+shared-slice-element-end-pose c = search needs
 
-end-values-requires : tie.Need-end-values-requires Inv-loop μ-loop
-end-values-requires c κs = search needs
+end-pose-requires : tie.Need-end-pose-requires Inv-loop μ-loop
+end-pose-requires c κs = search needs
 
 add-put-pose : tie.Need-add-put-pose Inv-loop μ-loop
 add-put-pose c = search needs
@@ -59,8 +59,7 @@ loop-again c =
     let e = c9 in
     let a = e .args in
     let h = c6 .loop-test .taken in
-    let line = rw (c4 .end-values .ensures) at (c2 .put-pose .ensures) in
-    let turn = put-end (a .out .now) (a .moves .now) (e .pre) (l .i) h (l .out) _ (l .inv .2) line in
+    let turn = put-end (a .out .now) (a .moves .now) (e .pre) (l .i) h (c4 .end-pose .ensures) (l .out) _ (l .inv .2) (c2 .put-pose .ensures) in
     (omega (arith, h), ap length turn ∙ ends-size (a .out .now) (a .moves .now) (e .pre) (l .i + 1) (omega (arith, h)), turn)
 
 same-length : tie.Need-same-length Inv-loop μ-loop
@@ -80,9 +79,9 @@ put-ends-spec =
     Inv-loop
     μ-loop
     loop-holds
-    mul-end-values
-    shared-slice-element-end-values
-    end-values-requires
+    mul-end-pose
+    shared-slice-element-end-pose
+    end-pose-requires
     add-put-pose
     mul-put-pose
     add-put-pose-2
