@@ -19,7 +19,6 @@ use Rattle.bounds3.specs.Finite.{Bounds3f·isFinite}
 use Rattle.bounds3.specs.Inside.{Inside}
 use Rattle.bounds3.proofs.Finite.{low-finite, box-finite, union-finite}
 use Rattle.bounds3.proofs.Union.{union-inside-left}
-use Rattle.matrix4x4.specs.declared.Matrix4x4.{Matrix4x4}
 use Rattle.transform.specs.declared.Transform.{Transform}
 use Rattle.transform.specs.declared.BoundsAnswer.{BoundsAnswer}
 use Rattle.transform.specs.declared.BoundsAnswer.the-variants.{Bounds, Refused}
@@ -31,12 +30,10 @@ use Rattle.unit_interval.proofs.Slices.{slice-unit}
 use Rattle.formula.specs.Promise.{Pairwise}
 use Rattle.pose_steps.specs.declared.IntervalVector.{IntervalVector}
 use Rattle.pose_steps.specs.declared.JudgedVector.{JudgedVector}
-use Rattle.pose_steps.specs.Pose.{entries, allFinite}
 use Rattle.pose_steps.specs.Enclose.{IntervalVector·list, IntervalMatrix·point, Pose·encloseTransformPoint}
 use Rattle.pose_steps.specs.Enclose.{Pose·enclosePoint, Bounds3f·intervals, IntervalVector·bounds}
-use Rattle.pose_steps.specs.Promise.{RefinesMatrix, InOrder}
-use Rattle.pose_steps.proofs.Rows.{points-refine}
-use Rattle.pose_steps.proofs.Finite.{matrix-each}
+use Rattle.pose_steps.specs.Promise.{InOrder}
+use Rattle.pose_steps.proofs.Finite.{stored-refines}
 use Rattle.pose_steps.proofs.Isotone.{transformPoint-isotone, point-isotone}
 use Rattle.pose_steps.proofs.Box.{subset-refines, refines-order, order-refl}
 use Rattle.animated_transform.specs.declared.AnimatedTransform.{AnimatedTransform}
@@ -136,11 +133,6 @@ box-refines b e =
     let (f, x, y, z) = refusal-accepted b e in
     let o : InOrder b = record { x = x; y = y; z = z } in
     subset-refines b o f (order-refl o)
-
-stored-refines : (m : Matrix4x4) → T (allFinite m) → RefinesMatrix (IntervalMatrix·point m) (IntervalMatrix·point m)
-stored-refines m h =
-    let (p, q, r) = matrix-each m h in
-    record { r0 = points-refine (entries (m .r0)) p; r1 = points-refine (entries (m .r1)) q; r2 = points-refine (entries (m .r2)) r }
 
 stored-proper : {pad : Float} → Pad·Judged pad → (t : Transform) → StoredPose t → (b : Bounds3f) → BoxRefines b → Proper (Transform·enclosePadded pad t b)
 unfolding Transform·enclosePadded Transform·encloseBounds

@@ -1,5 +1,6 @@
 -- What a test for finite numbers says of each: of a quaternion (`quaternion-each`), of a matrix's upper rows (`matrix-each`), and of
--- the nine entries of S (`scale-each`). So a stored matrix that passed the test encloses itself with equal ends (`stored-encloses`).
+-- the nine entries of S (`scale-each`). So a stored matrix that passed the test encloses itself with equal ends (`stored-encloses`) and lies in itself
+-- (`stored-refines`).
 use Prim.Native.Nat.{ℕ}
 use mathlib.Core.Bool.{Bool, _&&_}
 use lib.Dec.{T}
@@ -12,8 +13,8 @@ use Rattle.quaternion.specs.declared.Quaternion.{Quaternion}
 use Rattle.quaternion.specs.IsFinite.{Quaternion·isFinite}
 use Rattle.pose_steps.specs.Pose.{Quaternion·list, entries, allFinite}
 use Rattle.pose_steps.specs.Enclose.{IntervalMatrix·point}
-use Rattle.pose_steps.specs.Promise.{AllFinite, FiniteScale, EnclosesMatrix}
-use Rattle.pose_steps.proofs.Rows.{points-enclose}
+use Rattle.pose_steps.specs.Promise.{AllFinite, FiniteScale, EnclosesMatrix, RefinesMatrix}
+use Rattle.pose_steps.proofs.Rows.{points-enclose, points-refine}
 
 four-each : (a b c d : Bool) → T (a && b && c && d) → T a × T b × T c × T d
 four-each a b c d h =
@@ -48,3 +49,8 @@ pub stored-encloses : (m : Matrix4x4) → T (allFinite m) → EnclosesMatrix (In
 stored-encloses m h =
     let (p, q, r) = matrix-each m h in
     record { r0 = points-enclose (entries (m .r0)) p; r1 = points-enclose (entries (m .r1)) q; r2 = points-enclose (entries (m .r2)) r }
+
+pub stored-refines : (m : Matrix4x4) → T (allFinite m) → RefinesMatrix (IntervalMatrix·point m) (IntervalMatrix·point m)
+stored-refines m h =
+    let (p, q, r) = matrix-each m h in
+    record { r0 = points-refine (entries (m .r0)) p; r1 = points-refine (entries (m .r1)) q; r2 = points-refine (entries (m .r2)) r }

@@ -24,7 +24,6 @@ use Rattle.bounds3.specs.Finite.{Bounds3f·isFinite}
 use Rattle.bounds3.specs.Inside.{Subset}
 use Rattle.bounds3.proofs.Finite.{low-finite, high-finite, box-finite}
 use Rattle.bounds3.proofs.Union.{subset-trans, union-least, union-subset-left, union-subset-right}
-use Rattle.matrix4x4.specs.declared.Matrix4x4.{Matrix4x4}
 use Rattle.transform.specs.declared.Transform.{Transform}
 use Rattle.transform.specs.declared.BoundsAnswer.{BoundsAnswer}
 use Rattle.transform.specs.declared.BoundsAnswer.the-variants.{Bounds, Refused}
@@ -37,12 +36,9 @@ use Rattle.pose_steps.specs.declared.PoseConstants.{PoseConstants}
 use Rattle.pose_steps.specs.declared.IntervalVector.{IntervalVector}
 use Rattle.pose_steps.specs.declared.IntervalMatrix.{IntervalMatrix}
 use Rattle.pose_steps.specs.declared.JudgedVector.{JudgedVector}
-use Rattle.pose_steps.specs.Pose.{entries, allFinite}
 use Rattle.pose_steps.specs.Enclose.{IntervalVector·list, IntervalMatrix·point, Pose·encloseTransformPoint}
 use Rattle.pose_steps.specs.Enclose.{Pose·encloseMatrix, Pose·enclosePoint, Bounds3f·intervals, IntervalVector·bounds}
-use Rattle.pose_steps.specs.Promise.{RefinesMatrix}
-use Rattle.pose_steps.proofs.Rows.{points-refine}
-use Rattle.pose_steps.proofs.Finite.{matrix-each}
+use Rattle.pose_steps.proofs.Finite.{stored-refines}
 use Rattle.pose_steps.proofs.Isotone.{transformPoint-isotone, point-isotone}
 use Rattle.animated_transform.specs.declared.AnimatedTransform.{AnimatedTransform}
 use Rattle.animated_transform.specs.Built.{StoredPose, Built}
@@ -172,11 +168,6 @@ union-same (Refused n) s (Bounds a') s' e f = absurd e
 union-same (Refused n) s (Refused k) s' e f = e
 
 -- ---- the cover
-stored-refines : (m : Matrix4x4) → T (allFinite m) → RefinesMatrix (IntervalMatrix·point m) (IntervalMatrix·point m)
-stored-refines m h =
-    let (p, q, r) = matrix-each m h in
-    record { r0 = points-refine (entries (m .r0)) p; r1 = points-refine (entries (m .r1)) q; r2 = points-refine (entries (m .r2)) r }
-
 stored-same : (t : Transform) → StoredPose t → (b : Bounds3f) → BoxRefines b
     → BoundsAnswer·Same (Transform·enclosePadded positiveZero t b) (Transform·encloseBounds t b)
 unfolding Transform·enclosePadded Transform·encloseBounds
