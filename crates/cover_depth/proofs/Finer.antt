@@ -5,13 +5,11 @@ use Prim.Native.Nat.{ℕ, zero, suc, _+_, _/_, _^_, _≤_, _<_}
 use mathlib.Core.Path.{_≡_, refl, sym, ap, subst}
 use mathlib.Core.Bool.{Bool, true, false}
 use native.Mathlib.Omega.{arith}
-use lib.Dec.{T, eqb}
+use lib.Dec.{eqb}
 use borrow.Author.Tests.{eqb-true, eqb-false, eq-eqb, le-ltb}
 use Rattle.bounds3.specs.declared.Bounds3f.{Bounds3f}
 use Rattle.bounds3.specs.Bounds3f.{Bounds3f·unionBounds}
-use Rattle.bounds3.specs.Finite.{Bounds3f·isFinite}
 use Rattle.bounds3.specs.Inside.{Subset}
-use Rattle.bounds3.proofs.Finite.{box-finite}
 use Rattle.bounds3.proofs.Union.{subset-trans, union-least, union-subset-left, union-subset-right}
 use Rattle.transform.specs.declared.BoundsAnswer.{BoundsAnswer}
 use Rattle.transform.specs.declared.BoundsAnswer.the-variants.{Bounds}
@@ -20,16 +18,12 @@ use Rattle.bounds_query.specs.Query.{Bounds3f·refusal, BoundsAnswer·unionBoun
 use Rattle.bounds_query.proofs.Union.{union-accepted}
 use Rattle.interval.specs.declared.Interval.{Interval}
 use Rattle.interval.specs.Contains as interval
-use Rattle.interval.specs.Contains.{Refines}
-use Rattle.interval.proofs.Contains.{subset-finite as interval-finite}
-use Rattle.formula.specs.Promise.{Pairwise}
 use Rattle.unit_interval.specs.Unit.{unitInterval, slice}
 use Rattle.unit_interval.proofs.Slices.{slice-unit, slice-finer, finer-lt}
-use Rattle.pose_steps.specs.declared.IntervalVector.{IntervalVector}
 use Rattle.pose_steps.specs.declared.JudgedVector.{JudgedVector}
-use Rattle.pose_steps.specs.Enclose.{IntervalVector·list, Pose·enclosePoint, Bounds3f·intervals, IntervalVector·bounds}
+use Rattle.pose_steps.specs.Enclose.{Pose·enclosePoint, Bounds3f·intervals, IntervalVector·bounds}
 use Rattle.pose_steps.proofs.Isotone.{point-isotone}
-use Rattle.pose_steps.proofs.Box.{refines-subset, refines-order, order-refl}
+use Rattle.pose_steps.proofs.Box.{refines-subset, refines-finite, wider-finite, refines-order, order-refl}
 use Rattle.animated_transform.specs.declared.AnimatedTransform.{AnimatedTransform}
 use Rattle.animated_transform.specs.Built.{Built}
 use Rattle.animated_transform.proofs.Built.{built-judged}
@@ -89,20 +83,6 @@ parts-within r s c p q e =
 from-enclosure-box : (j : JudgedVector) → j .refusal ≡ 0 → BoundsAnswer·fromEnclosure j ≡ Bounds (IntervalVector·bounds (j .vector))
 unfolding BoundsAnswer·fromEnclosure
 from-enclosure-box j e = rw (eq-eqb (j .refusal) 0 e)
-
--- ---- boxes of intervals that lie in others
-wider-finite : (W W' : IntervalVector) → Pairwise Refines (IntervalVector·list W) (IntervalVector·list W') → T (Bounds3f·isFinite (IntervalVector·bounds W'))
-wider-finite W W' (x, (y, (z, e))) =
-    box-finite (IntervalVector·bounds W')
-    (record { x = x .finite .low; y = y .finite .low; z = z .finite .low })
-    (record { x = x .finite .high; y = y .finite .high; z = z .finite .high })
-
-refines-finite : (W W' : IntervalVector) → Pairwise Refines (IntervalVector·list W) (IntervalVector·list W') → T (Bounds3f·isFinite (IntervalVector·bounds W))
-refines-finite W W' (x, (y, (z, e))) =
-    let fx = interval-finite (x .finite) (x .subset) in
-    let fy = interval-finite (y .finite) (y .subset) in
-    let fz = interval-finite (z .finite) (z .subset) in
-    box-finite (IntervalVector·bounds W) (record { x = fx .low; y = fy .low; z = fz .low }) (record { x = fx .high; y = fy .high; z = fz .high })
 
 module _ {m : AnimatedTransform} (built : Built m) (b : Bounds3f) (r : BoxRefines b) where
   -- ---- a part of an interval of dt

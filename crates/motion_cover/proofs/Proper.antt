@@ -17,7 +17,7 @@ use Rattle.bounds3.specs.declared.Bounds3f.{Bounds3f}
 use Rattle.bounds3.specs.Bounds3f.{Bounds3f·unionBounds}
 use Rattle.bounds3.specs.Finite.{Bounds3f·isFinite}
 use Rattle.bounds3.specs.Inside.{Inside}
-use Rattle.bounds3.proofs.Finite.{low-finite, box-finite, union-finite}
+use Rattle.bounds3.proofs.Finite.{low-finite, union-finite}
 use Rattle.bounds3.proofs.Union.{union-inside-left}
 use Rattle.transform.specs.declared.Transform.{Transform}
 use Rattle.transform.specs.declared.BoundsAnswer.{BoundsAnswer}
@@ -28,14 +28,13 @@ use Rattle.bounds_query.proofs.Accepted.{refusal-accepted}
 use Rattle.unit_interval.specs.Unit.{unitInterval, slice}
 use Rattle.unit_interval.proofs.Slices.{slice-unit}
 use Rattle.formula.specs.Promise.{Pairwise}
-use Rattle.pose_steps.specs.declared.IntervalVector.{IntervalVector}
 use Rattle.pose_steps.specs.declared.JudgedVector.{JudgedVector}
 use Rattle.pose_steps.specs.Enclose.{IntervalVector·list, IntervalMatrix·point, Pose·encloseTransformPoint}
 use Rattle.pose_steps.specs.Enclose.{Pose·enclosePoint, Bounds3f·intervals, IntervalVector·bounds}
 use Rattle.pose_steps.specs.Promise.{InOrder}
 use Rattle.pose_steps.proofs.Finite.{stored-refines}
 use Rattle.pose_steps.proofs.Isotone.{transformPoint-isotone, point-isotone}
-use Rattle.pose_steps.proofs.Box.{subset-refines, refines-order, order-refl}
+use Rattle.pose_steps.proofs.Box.{subset-refines, refines-finite, refines-order, order-refl}
 use Rattle.animated_transform.specs.declared.AnimatedTransform.{AnimatedTransform}
 use Rattle.animated_transform.specs.Built.{StoredPose, Pad·Judged, Built}
 use Rattle.animated_transform.proofs.Built.{built-judged}
@@ -66,18 +65,12 @@ pub box-order : {r : BoundsAnswer} {box : Bounds3f} → Proper r → r ≡ Bound
 box-order p e = subst InOrder (ap BoundsAnswer·bounds e) (p .order (ap BoundsAnswer·refusal e))
 
 -- ---- an enclosure
-refines-finite : (W : IntervalVector) → Pairwise Refines (IntervalVector·list W) (IntervalVector·list W) → T (Bounds3f·isFinite (IntervalVector·bounds W))
-refines-finite W (x, (y, (z, e))) =
-    box-finite (IntervalVector·bounds W)
-    (record { x = x .finite .low; y = y .finite .low; z = z .finite .low })
-    (record { x = x .finite .high; y = y .finite .high; z = z .finite .high })
-
 enclosure-proper : (j : JudgedVector) → (j .refusal ≡ 0 → Pairwise Refines (IntervalVector·list (j .vector)) (IntervalVector·list (j .vector)))
     → Proper (BoundsAnswer·fromEnclosure j)
 unfolding BoundsAnswer·fromEnclosure
 enclosure-proper j f =
     let box = IntervalVector·bounds (j .vector) in
-    tested (j .refusal) (Bounds box) (λ e. box-proper box (refines-finite (j .vector) (f e)) (refines-order (j .vector) (j .vector) (f e)))
+    tested (j .refusal) (Bounds box) (λ e. box-proper box (refines-finite (j .vector) (j .vector) (f e)) (refines-order (j .vector) (j .vector) (f e)))
 
 -- ---- a box that has grown
 refused-proper : (n : ℕ) → (n ≡ 0 → ⊥) → Proper (Refused n)

@@ -1,5 +1,6 @@
 -- Boxes as three intervals: a point inside a finite box is enclosed by it (`inside-encloses`), what encloses a point has it inside (`encloses-inside`),
--- and likewise for a box in a box (`subset-refines`, `refines-subset`). `order-refl`: a finite box in order lies in itself.
+-- and likewise for a box in a box (`subset-refines`, `refines-subset`); both are then finite (`refines-finite`, `wider-finite`). `order-refl`: a finite box in
+-- order lies in itself.
 use lib.Dec.{T}
 use lib.Ieee.{Float}
 use lib.Ieee.Scale.{finite}
@@ -10,9 +11,10 @@ use Rattle.bounds3.specs.declared.Bounds3f.{Bounds3f}
 use Rattle.bounds3.specs.Finite.{Bounds3f·isFinite}
 use Rattle.bounds3.specs.Inside.{Inside, Subset}
 use Rattle.bounds3.specs.List.{Point3f·list}
-use Rattle.bounds3.proofs.Finite.{low-finite, high-finite}
+use Rattle.bounds3.proofs.Finite.{low-finite, high-finite, box-finite}
 use Rattle.interval.specs.Contains as interval
 use Rattle.interval.specs.Contains.{Encloses, Refines}
+use Rattle.interval.proofs.Contains.{subset-finite}
 use Rattle.formula.specs.Promise.{Pairwise}
 use Rattle.pose_steps.specs.declared.IntervalVector.{IntervalVector}
 use Rattle.pose_steps.specs.Enclose.{IntervalVector·list, Bounds3f·intervals, IntervalVector·bounds}
@@ -57,6 +59,21 @@ refines-subset W W' (x, (y, (z, e))) =
       y = (y .subset .low, y .subset .high);
       z = (z .subset .low, z .subset .high);
     }
+
+pub refines-finite : (W W' : IntervalVector) → Pairwise Refines (IntervalVector·list W) (IntervalVector·list W')
+    → T (Bounds3f·isFinite (IntervalVector·bounds W))
+refines-finite W W' (x, (y, (z, e))) =
+    let fx = subset-finite (x .finite) (x .subset) in
+    let fy = subset-finite (y .finite) (y .subset) in
+    let fz = subset-finite (z .finite) (z .subset) in
+    box-finite (IntervalVector·bounds W) (record { x = fx .low; y = fy .low; z = fz .low }) (record { x = fx .high; y = fy .high; z = fz .high })
+
+pub wider-finite : (W W' : IntervalVector) → Pairwise Refines (IntervalVector·list W) (IntervalVector·list W')
+    → T (Bounds3f·isFinite (IntervalVector·bounds W'))
+wider-finite W W' (x, (y, (z, e))) =
+    box-finite (IntervalVector·bounds W')
+    (record { x = x .finite .low; y = y .finite .low; z = z .finite .low })
+    (record { x = x .finite .high; y = y .finite .high; z = z .finite .high })
 
 pub refines-order : (W W' : IntervalVector) → Pairwise Refines (IntervalVector·list W) (IntervalVector·list W') → InOrder (IntervalVector·bounds W)
 refines-order W W' (x, (y, (z, e))) = record { x = x .subset .proper; y = y .subset .proper; z = z .subset .proper }

@@ -40,6 +40,7 @@ use Rattle.pose_steps.specs.Enclose.{IntervalVector·list, IntervalMatrix·poin
 use Rattle.pose_steps.specs.Enclose.{Pose·encloseMatrix, Pose·enclosePoint, Bounds3f·intervals, IntervalVector·bounds}
 use Rattle.pose_steps.proofs.Finite.{stored-refines}
 use Rattle.pose_steps.proofs.Isotone.{transformPoint-isotone, point-isotone}
+use Rattle.pose_steps.proofs.Box.{refines-finite}
 use Rattle.animated_transform.specs.declared.AnimatedTransform.{AnimatedTransform}
 use Rattle.animated_transform.specs.Built.{StoredPose, Built}
 use Rattle.animated_transform.proofs.Built.{built-judged}
@@ -133,12 +134,6 @@ enclosed-values n M P = (
   record { x = add-fits binary32 _ _; y = add-fits binary32 _ _; z = add-fits binary32 _ _ },
 )
 
-refines-finite : (W : IntervalVector) → Pairwise Refines (IntervalVector·list W) (IntervalVector·list W) → T (Bounds3f·isFinite (IntervalVector·bounds W))
-refines-finite W (x, (y, (z, e))) =
-    box-finite (IntervalVector·bounds W)
-    (record { x = x .finite .low; y = y .finite .low; z = z .finite .low })
-    (record { x = x .finite .high; y = y .finite .high; z = z .finite .high })
-
 enclosure-plain : (n : ℕ) (M : IntervalMatrix) (P : IntervalVector)
     → (Pose·encloseTransformPoint n M P .refusal ≡ 0
     → Pairwise Refines (IntervalVector·list (Pose·encloseTransformPoint n M P .vector)) (IntervalVector·list (Pose·encloseTransformPoint n M P .vector)))
@@ -148,7 +143,7 @@ enclosure-plain n M P f =
     let (l, h) = enclosed-values n M P in
     record {
       finite = λ b e. let g = from-enclosure-accepted j b e in
-          subst (λ (x : Bounds3f). T (Bounds3f·isFinite x)) (g .bounds) (refines-finite (j .vector) (f (g .accepted)));
+          subst (λ (x : Bounds3f). T (Bounds3f·isFinite x)) (g .bounds) (refines-finite (j .vector) (j .vector) (f (g .accepted)));
       low = λ b e. subst (λ (x : Bounds3f). Binary32 (x .«p_min»)) (from-enclosure-accepted j b e .bounds) l;
       high = λ b e. subst (λ (x : Bounds3f). Binary32 (x .«p_max»)) (from-enclosure-accepted j b e .bounds) h;
     }
