@@ -5,17 +5,13 @@ use lib.Ieee.Scale.{finite}
 use Rattle.rounding.proofs.Order.{between-finite}
 use Rattle.rounding.proofs.Arithmetic.{add-mono}
 use Rattle.float32.specs.Operators.{_⊕_, positiveZero, one}
+use Rattle.float32.proofs.Constants.{zero-finite, one-finite}
 use Rattle.midpoint.proofs.Midpoint.{midpoint-between}
 use Rattle.interval.specs.declared.Interval.{Interval}
 use Rattle.interval.specs.Contains.{Contains, Subset}
 use Rattle.interval.proofs.Contains.{subset-low, subset-high}
 use Rattle.unit_interval.specs.Unit.{unitInterval}
-use Rattle.unit_interval.proofs.DtUnit.{zero-finite}
 use Rattle.dt_share.specs.Share.{midpoint}
-
-one-finite : T (finite one)
-unfolding ofBits
-one-finite = tt
 
 unit-finite : {x : Float} → Contains unitInterval x → T (finite x)
 unit-finite u = between-finite zero-finite one-finite (u .low) (u .high)

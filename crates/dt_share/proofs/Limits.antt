@@ -8,6 +8,7 @@ use Rattle.rounding.specs.Order.{_≼_, Number}
 use Rattle.rounding.proofs.Order.{≼-refl, ≼-trans, number-left, number-right, lt-≼, not-lt-≼}
 use Rattle.float32.specs.Operators.{positiveZero, one}
 use Rattle.float32.specs.Clamp.{clamp}
+use Rattle.float32.proofs.Constants.{zero-refl}
 use Rattle.interval.specs.Contains.{Contains}
 use Rattle.unit_interval.specs.Unit.{unitInterval}
 use Rattle.dt_share.specs.Share.{limited}
@@ -15,9 +16,6 @@ use Rattle.dt_share.specs.Share.{limited}
 zero-one : positiveZero ≼ one
 unfolding le ofBits
 zero-one = record { holds = tt }
-
-zero-refl : positiveZero ≼ positiveZero
-zero-refl = ≼-refl positiveZero (number-left zero-one)
 
 one-refl : one ≼ one
 one-refl = ≼-refl one (number-right zero-one)

@@ -20,6 +20,7 @@ use Rattle.rounding.proofs.Monotone.{Rounds, rounds-mono}
 use Rattle.rounding.proofs.Arithmetic.{add-rounds, mul-rounds}
 use Rattle.float32.specs.Operators.{_⊕_, _⊖_, _⊗_, one}
 use Rattle.float32.specs.Lerp.{lerp}
+use Rattle.float32.proofs.Constants.{one-finite}
 use Rattle.matrix4x4.specs.Rows.{positiveZero}
 use Rattle.matrix4x4.proofs.Zero.{Zero, signed, zero-zero, zero-mul}
 use Rattle.bounds3.specs.declared.Point3f.{Point3f}
@@ -68,10 +69,6 @@ module _ {z : Float} {p n d : ℕ} (r : Rounds binary32 z p n d) (D : 0 < d) whe
       ≼-trans (equal-value s m e _ (own-value s m e h) .1) (rounds-mono (record { sign = s; size = m * up e; is = refl; value = refl }) r (down-pos e) D l)
 
 -- ---- one times such a value, and that plus a zero
-one-finite : T (finite one)
-unfolding ofBits
-one-finite = tt
-
 module _ (x : Float) (f : T (finite x)) (h : T (fits binary32 x)) where
   one-rounds : Rounds binary32 (one ⊗ x) (1 * numPos x + 0 * numNeg x) (1 * numNeg x + 0 * numPos x) (1 * den x)
   unfolding ofBits

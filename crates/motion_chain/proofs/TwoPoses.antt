@@ -19,7 +19,8 @@ use Rattle.rounding.proofs.Order.{≼-refl, finite-number, between-finite}
 use Rattle.rounding.proofs.Monotone.{rounds-mono}
 use Rattle.rounding.proofs.Arithmetic.{sub-rounds}
 use Rattle.float32.specs.Operators.{_⊖_}
-use Rattle.unit_interval.proofs.DtUnit.{zero-finite, zero-rounds, sub-nonnegative}
+use Rattle.float32.proofs.Constants.{zero-finite, zero-rounds}
+use Rattle.unit_interval.proofs.DtUnit.{sub-nonnegative}
 use Rattle.matrix4x4.specs.Rows.{Matrix4x4·toRows}
 use Rattle.matrix4x4.specs.IsFinite.{Matrix4x4·isFinite}
 use Rattle.pose_pair.specs.declared.Pose.{Pose}

@@ -15,7 +15,8 @@ use Rattle.rounding.specs.Order.{_≼_}
 use Rattle.rounding.proofs.Order.{≼-refl, ≼-trans, finite-number, between-finite}
 use Rattle.rounding.proofs.Arithmetic.{add-mono, sub-mono}
 use Rattle.float32.specs.Operators.{_⊕_, _⊖_, positiveZero}
-use Rattle.own_rounding.proofs.OwnRounding.{zero-finite, sub-add, add-above, sub-below, add-zero, sub-zero}
+use Rattle.float32.proofs.Constants.{zero-finite}
+use Rattle.own_rounding.proofs.OwnRounding.{sub-add, add-above, sub-below, add-zero, sub-zero}
 use Rattle.interval.specs.declared.Judged.{Judged}
 use Rattle.bounds3.specs.declared.Point3f.{Point3f}
 use Rattle.bounds3.specs.declared.Bounds3f.{Bounds3f}

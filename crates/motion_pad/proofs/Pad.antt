@@ -20,25 +20,20 @@ use Rattle.rounding.proofs.Monotone.{Rounds, rounds-mono}
 use Rattle.rounding.proofs.Arithmetic.{add-rounds, mul-rounds, sub-mono}
 use Rattle.float32.specs.Operators.{_⊕_, _⊖_, _⊗_, one, positiveZero}
 use Rattle.float32.specs.Lerp.{lerp}
-use Rattle.own_rounding.proofs.OwnRounding.{zero-finite, no-negative}
+use Rattle.float32.proofs.Constants.{zero-finite, one-finite, zero-rounds}
+use Rattle.own_rounding.proofs.OwnRounding.{no-negative}
 use Rattle.interval.specs.declared.Interval.{Interval}
 use Rattle.interval.specs.Interval.{Interval·point}
-use Rattle.interval.specs.Contains.{Contains, Subset, Finite, Encloses, Refines}
+use Rattle.interval.specs.Contains.{Contains, Subset, Encloses, Refines}
 use Rattle.interval.specs.Enclosure.{notFinite, Judged·judge, Judged·addEnclosure, Judged·subEnclosure, Judged·mulEnclosure}
 use Rattle.interval.proofs.Contains.{point-encloses, point-refines, subset-finite, subset-trans, contains-subset, own-low}
 use Rattle.formula.specs.Enclose.{enclosure, Expr·enclose, Expr·encloseAll, Program·enclose}
 use Rattle.formula.proofs.Stage.{stage-extends, stage-isotone}
 use Rattle.unit_interval.specs.Unit.{unitInterval}
-use Rattle.unit_interval.proofs.DtUnit.{zero-rounds, sub-nonnegative}
+use Rattle.unit_interval.proofs.DtUnit.{sub-nonnegative}
+use Rattle.pose_steps.proofs.Angle.{unit-finite}
 use Rattle.motion_pad.proofs.Box.{PadWithin}
 use Rattle.motion_pad.specs.Pad.{padStage, Pad·at, Pad·inputs, Pad·enclose}
-
-one-finite : T (finite one)
-unfolding ofBits
-one-finite = tt
-
-unit-finite : Finite unitInterval
-unit-finite = record { low = zero-finite; high = one-finite }
 
 module _ (pad0 pad1 : Float) (f : T (finite pad0)) (g : T (finite pad1)) where
   pub pad-extends : {D : Interval} {t : Float} → Subset D unitInterval → Contains D t → Pad·enclose pad0 pad1 D .refusal ≡ 0

@@ -14,10 +14,11 @@ use lib.Ieee.Scale.{finite}
 use lib.Ieee.Positive.{den, den-pos}
 use Rattle.rounding.specs.Order.{_≼_}
 use Rattle.rounding.proofs.Rational.{numPos, numNeg, FractionLe}
-use Rattle.rounding.proofs.Order.{≼-refl, ≼-trans, finite-number, to-fraction, of-fraction}
+use Rattle.rounding.proofs.Order.{≼-trans, to-fraction, of-fraction}
 use Rattle.rounding.proofs.Monotone.{Rounds, rounds-mono}
 use Rattle.rounding.proofs.Arithmetic.{add-rounds, sub-rounds}
 use Rattle.float32.specs.Operators.{_⊕_, _⊖_, positiveZero}
+use Rattle.float32.proofs.Constants.{zero-refl}
 use Rattle.float_bits.specs.Decode.{integerDecode}
 use Rattle.float_bits.proofs.Decode.{magnitude-lt, decode-exact, decode-value, significand-lt}
 
@@ -70,13 +71,6 @@ pub own-rounding : {z : Float} (x : Float) → T (finite x) → T (fits binary32
 own-rounding x f h r = let o = own x f h in equal-trans (rounds-equal (den-pos x) r (o .rounds)) (o .equal)
 
 -- ---- numbers from zero on
-pub zero-finite : T (finite positiveZero)
-unfolding ofBits
-zero-finite = tt
-
-pub zero-refl : positiveZero ≼ positiveZero
-zero-refl = ≼-refl positiveZero (finite-number positiveZero zero-finite)
-
 pub no-negative : (x : Float) → T (finite x) → positiveZero ≼ x → numNeg x ≡ 0
 unfolding ofBits
 no-negative x f h = let l = to-fraction {x = fin false 0 (pos 0)} {y = x} tt f h in go x l

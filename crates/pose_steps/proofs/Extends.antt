@@ -10,6 +10,7 @@ use lib.Ieee.Fits.{and-i}
 use lib.Ieee.Bits.{is-true}
 use lib.Ieee.Scale.{finite}
 use Rattle.float32.specs.Operators.{one}
+use Rattle.float32.proofs.Constants.{zero-finite, one-finite}
 use Rattle.vector3.specs.declared.Vector3f.{Vector3f}
 use Rattle.quaternion.specs.declared.Quaternion.{Quaternion}
 use Rattle.quaternion.specs.IsFinite.{Quaternion·isFinite}
@@ -47,7 +48,7 @@ use Rattle.pose_steps.proofs.Angle.{unit-finite, theta-angles, theta-fi
 use Rattle.pose_steps.proofs.Valid.{translation-valid, near-valid, far-valid, scale-valid, rotation-valid, mul-valid, point-valid}
 use Rattle.pose_steps.proofs.Zero.{slerp-zero, scale-row-zero, scale-by-zero, rotation-zero, mul-row-zero, mul-zero, point-zero}
 use Rattle.pose_steps.proofs.Rows.{scale-by-bottom, identity-encloses, rotation-bottom, mul-bottom, points-enclose, scale-encloses}
-use Rattle.pose_steps.proofs.Rows.{rows-list, encloses-list, list-encloses, enclosed-finite, zero-finite, one-finite, matrix-finite}
+use Rattle.pose_steps.proofs.Rows.{rows-list, encloses-list, list-encloses, enclosed-finite, matrix-finite}
 
 -- ---- the stages that take dt
 module _ (m : ℕ) {D : Interval} {dt : Float} (d : Encloses D dt) where

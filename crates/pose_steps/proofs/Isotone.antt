@@ -6,6 +6,7 @@ use mathlib.Core.Bool.{Bool, true, false}
 use mathlib.Core.List.{[], _∷_, _++_}
 use lib.Ieee.Scale.{finite}
 use Rattle.float32.specs.Operators.{one}
+use Rattle.float32.proofs.Constants.{zero-finite, one-finite}
 use Rattle.matrix4x4.specs.declared.Matrix4x4.{Matrix4x4}
 use Rattle.matrix4x4.specs.Rows.{positiveZero}
 use Rattle.interval.specs.declared.Interval.{Interval}
@@ -33,7 +34,7 @@ use Rattle.pose_steps.specs.Promise.{NarrowerVector, NarrowerQuaternion,
 use Rattle.pose_steps.proofs.Angle.{unit-finite, theta-angles, theta-finite, theta-subset}
 use Rattle.pose_steps.proofs.Valid.{translation-valid, near-valid, far-valid, scale-valid, rotation-valid, mul-valid, point-valid}
 use Rattle.pose_steps.proofs.Zero.{slerp-zero, scale-row-zero, scale-by-zero, rotation-zero, mul-row-zero, mul-zero, point-zero}
-use Rattle.pose_steps.proofs.Rows.{points-refine, scale-refines, identity-refines, rows-list, refines-list, list-refines, zero-finite, one-finite}
+use Rattle.pose_steps.proofs.Rows.{points-refine, scale-refines, identity-refines, rows-list, refines-list, list-refines}
 
 -- ---- the stages that take dt; m was met with the narrower intervals, m' with the wider ones
 module _ (m' : ℕ) {m : ℕ} (k : m ≡ 0) {D D' : Interval} (d : Refines D D') where

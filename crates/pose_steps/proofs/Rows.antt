@@ -8,10 +8,11 @@ use mathlib.Core.Bool.{Bool, true, false, _&&_}
 use mathlib.Core.List.{List, [], _∷_, _++_, map}
 use lib.ListN.{length, length-append}
 use lib.Dec.{T}
-use lib.Ieee.{Float, ofBits}
+use lib.Ieee.{Float}
 use lib.Ieee.Fits.{and-i}
 use lib.Ieee.Scale.{finite}
 use Rattle.float32.specs.Operators.{one}
+use Rattle.float32.proofs.Constants.{zero-finite, one-finite}
 use Rattle.quaternion.specs.declared.Quaternion.{Quaternion}
 use Rattle.matrix4x4.specs.declared.Matrix4x4.{Matrix4x4}
 use Rattle.matrix4x4.specs.Rows.{Row, col, at, all, Matrix4x4·toRows, positiveZero}
@@ -101,14 +102,6 @@ all-of p a b c d = and-i (p 0 && p 1 && p 2) (p 3) (and-i (p 0 && p 1) (p 2) (an
 
 row-finite : (r : Row) → AllFinite (entries r) → T (all (λ j. finite (col r j)))
 row-finite r (a, (b, (c, (d, e)))) = all-of (λ j. finite (col r j)) a b c d
-
-pub zero-finite : T (finite positiveZero)
-unfolding ofBits
-zero-finite = tt
-
-pub one-finite : T (finite one)
-unfolding ofBits
-one-finite = tt
 
 pub matrix-finite : {M : IntervalMatrix} (m : Matrix4x4) → m .r3 ≡ bottomRow → EnclosesMatrix M m → T (allFinite m)
 unfolding Matrix4x4·isFinite

@@ -6,6 +6,7 @@ use lib.IntN.{pos}
 use lib.Ieee.{Float, nan, inf, fin, ofBits, neg, lt, add}
 use lib.Ieee.Scale.{finite}
 use Rattle.float32.specs.Operators.{_⊕_, _⊗_}
+use Rattle.float32.proofs.Constants.{zero-finite}
 use Rattle.rounding.specs.Order.{_≼_}
 use Rattle.rounding.proofs.Order.{≼-trans, lt-≼, not-lt-≼, neg-antitone, finite-number, zeros-equal}
 use Rattle.quaternion.specs.declared.Quaternion.{Quaternion}
@@ -57,10 +58,6 @@ dot-neg : (q r : Quaternion) → T (finite (Quaternion·dot q r)) → T (finite 
     → Opposite (Quaternion·dot q r) (Quaternion·dot q (Quaternion·neg r))
 unfolding Quaternion·dot Quaternion·neg
 dot-neg q r = products-neg (q .v .x) (q .v .y) (q .v .z) (q .w) (r .v .x) (r .v .y) (r .v .z) (r .w)
-
-zero-finite : T (finite positiveZero)
-unfolding ofBits
-zero-finite = tt
 
 zero-neg : positiveZero ≼ neg positiveZero
 unfolding ofBits neg

@@ -16,7 +16,8 @@ use Rattle.rounding.proofs.Rational.{numPos, numNeg, numPos-pos, FractionLe}
 use Rattle.rounding.proofs.Order.{≼-refl, ≼-trans, finite-number, to-fraction, between-finite, above-positive, lt-≼, not-lt-≼}
 use Rattle.rounding.proofs.Monotone.{Rounds, rounds-mono}
 use Rattle.rounding.proofs.Arithmetic.{sub-rounds, sub-mono, div-rounds, div-mono}
-use Rattle.float32.specs.Operators.{_⊖_, _⊘_, one}
+use Rattle.float32.specs.Operators.{_⊖_, _⊘_}
+use Rattle.float32.proofs.Constants.{zero-finite, zero-rounds, one-rounds}
 use Rattle.float_bits.specs.Decode.{integerDecode}
 use Rattle.float_bits.proofs.Decode.{decode-value}
 use Rattle.trig.proofs.Monotone.{numNeg-none}
@@ -25,18 +26,6 @@ use Rattle.unit_interval.specs.Unit.{unitInterval, dt}
 
 abbrev pub +0 : Float
 +0 = ofBits binary32 0
-
-pub zero-finite : T (finite +0)
-unfolding ofBits
-zero-finite = tt
-
-pub zero-rounds : Rounds binary32 +0 0 0 1
-unfolding ofBits round
-zero-rounds = record { sign = false; size = 0; is = refl; value = refl }
-
-one-rounds : Rounds binary32 one 1 0 1
-unfolding ofBits round
-one-rounds = record { sign = false; size = 1; is = refl; value = refl }
 
 -- ---- quotients from 0 to 1
 pub div-unit : {x y : Float} → T (finite x) → T (positive y) → +0 ≼ x → x ≼ y → Contains unitInterval (x ⊘ y)

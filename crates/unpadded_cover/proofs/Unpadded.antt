@@ -13,7 +13,7 @@ use Rattle.rounding.specs.Order.{_≼_}
 use Rattle.rounding.proofs.Order.{≼-refl, finite-number, between-finite}
 use Rattle.float32.specs.Operators.{positiveZero, one}
 use Rattle.float32.specs.MinMax.{maxNum}
-use Rattle.own_rounding.proofs.OwnRounding.{zero-finite, zero-refl}
+use Rattle.float32.proofs.Constants.{zero-finite, zero-refl}
 use Rattle.interval.specs.declared.Interval.{Interval}
 use Rattle.interval.specs.declared.Judged.{Judged}
 use Rattle.interval.specs.Contains as interval
