@@ -13,7 +13,7 @@ use borrow.Author.Tests.{eqb-true}
 use Rattle.refusal.proofs.First.{first-zero}
 use Rattle.refusal.specs.First.{firstRefusal}
 use Rattle.rounding.specs.Order.{_≼_, Number}
-use Rattle.rounding.proofs.Order.{≼-trans, number-left, number-right, finite-number, not-lt-≼}
+use Rattle.rounding.proofs.Order.{≼-trans, number-left, number-right, finite-number, not-lt-≼, or-left, or-right}
 use Rattle.bounds3.specs.declared.Point3f.{Point3f}
 use Rattle.bounds3.specs.declared.Bounds3f.{Bounds3f}
 use Rattle.bounds3.specs.Bounds3f.{Bounds3f·default}
@@ -57,7 +57,7 @@ use Rattle.window_times.specs.Window.{Window·refusal, Window·contains, Window
 use Rattle.chain_window.specs.Cover.{movesIn, staysIn, sliceBoxes, firstPoseBoxes, endPoseBoxes, equalPoseBoxes, startBox}
 use Rattle.chain_window.specs.Cover.{endBox, equalBox, boxesFrom, windowBoxes, Chain·encloseWindow, Chain·windowCover}
 use Rattle.chain_window.specs.Theorem.{InWindow, WindowContainsMotion}
-use Rattle.chain_window.proofs.Members.{or-left, or-right, member-if}
+use Rattle.chain_window.proofs.Members.{member-if}
 use Rattle.chain_window.proofs.Parts.{default-self, union-parts}
 use Rattle.chain_window.proofs.Boxes.{Rising, chain-rising, move-part, boxes-self}
 use Rattle.chain_window.proofs.Numbers.{window-numbered}

@@ -1,7 +1,7 @@
 -- What stands in the lists of boxes: what a test lets in (`member-if`, `member-only`), a property of each move's boxes as one of all of them (`boxes-each`),
 -- and along two ways of finding boxes (`boxes-along`).
 use mathlib.Core.Logic.{inl, inr}
-use mathlib.Core.Bool.{Bool, true, false, cond, _||_}
+use mathlib.Core.Bool.{Bool, true, false, cond}
 use mathlib.Core.List.{List, [], _∷_, List·Memᴰ, List·Memᴰ·head, List·Memᴰ·tail, List·Memᴰ·not-nil, List·Memᴰ·append-cases, Memᴰ·append-left, Memᴰ·append-right}
 use mathlib.Core.Path.{refl}
 use lib.Dec.{T}
@@ -9,14 +9,6 @@ use Rattle.transform.specs.declared.BoundsAnswer.{BoundsAnswer}
 use Rattle.bounds_answers.specs.UnionAll.{Each}
 use Rattle.animated_transform.specs.declared.AnimatedTransform.{AnimatedTransform}
 use Rattle.chain_window.specs.Cover.{isNil, boxesFrom}
-
-pub or-left : (a b : Bool) → T a → T (a || b)
-or-left true b h = tt
-or-left false b h = absurd h
-
-pub or-right : (a b : Bool) → T b → T (a || b)
-or-right true b h = tt
-or-right false b h = h
 
 -- ---- a list that stands where a test holds
 pub member-if : {A : Type 0} {r : A} {answers : List A} (test : Bool) → T test → List·Memᴰ r answers → List·Memᴰ r (cond test answers [])

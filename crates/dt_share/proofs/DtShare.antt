@@ -9,7 +9,7 @@ use lib.Ieee.Fits.{div-fits}
 use lib.Ieee.Scale.{finite}
 use lib.Ieee.Positive.{positive}
 use Rattle.rounding.specs.Order.{_≼_, Number}
-use Rattle.rounding.proofs.Order.{≼-refl, number-left, number-right, finite-number}
+use Rattle.rounding.proofs.Order.{≼-refl, number-left, number-right, finite-number, below-infinity}
 use Rattle.rounding.proofs.Arithmetic.{sub-mono, div-mono}
 use Rattle.float32.specs.Operators.{_⊖_, _⊘_}
 use Rattle.interval.specs.Contains.{Contains}
@@ -26,13 +26,6 @@ least-all nan n = absurd n
 least-all (inf true) n = record { holds = tt }
 least-all (inf false) n = record { holds = tt }
 least-all (fin s m e) n = record { holds = tt }
-
-greatest-all : (x : Float) → Number x → x ≼ inf false
-unfolding le lt eq isNan
-greatest-all nan n = absurd n
-greatest-all (inf true) n = record { holds = tt }
-greatest-all (inf false) n = record { holds = tt }
-greatest-all (fin s m e) n = record { holds = tt }
 
 inf-sub : (t : Bool) (z : Float) → T (finite z) → inf t ⊖ z ≡ inf t
 unfolding sub add neg
@@ -66,7 +59,7 @@ module _ (g : Float → Float) (infinite : (t : Bool) → g (inf t) ≡ inf t) (
   extended-mono (inf false) (fin t n d) h = absurd (h .holds)
   extended-mono (fin s m e) nan h = absurd (h .holds)
   extended-mono (fin s m e) (inf true) h = absurd (h .holds)
-  extended-mono (fin s m e) (inf false) h = rw (infinite false) (greatest-all (g (fin s m e)) (number-kept (fin s m e) (number-left h)))
+  extended-mono (fin s m e) (inf false) h = rw (infinite false) (below-infinity (g (fin s m e)) (number-kept (fin s m e) (number-left h)))
   extended-mono (fin s m e) (fin t n d) h = rises (fin s m e) (fin t n d) tt tt h
 
 -- ---- the window of a move whose times rise

@@ -17,7 +17,7 @@ use lib.Ieee.Scale.{finite}
 use lib.Ieee.Positive.{den, den-pos}
 use Rattle.rounding.specs.Order.{_≼_}
 use Rattle.rounding.proofs.Rational.{posPart, negPart, numPos, numNeg, FractionLe, fraction-trans}
-use Rattle.rounding.proofs.Order.{≼-trans, to-fraction, neg-finite}
+use Rattle.rounding.proofs.Order.{≼-trans, to-fraction, neg-finite, neg-neg}
 use Rattle.rounding.proofs.Monotone.{Rounds, rounds-mono, round-neg}
 use Rattle.rounding.proofs.Arithmetic.{add-rounds, mul-rounds}
 use Rattle.float32.specs.Operators.{_⊕_, _⊗_, half}
@@ -174,14 +174,6 @@ neg-parts nan f = absurd f
 neg-parts (inf s) f = absurd f
 neg-parts (fin true m e) f = (refl, (refl, refl))
 neg-parts (fin false m e) f = (refl, (refl, refl))
-
-neg-neg : (x : Float) → neg (neg x) ≡ x
-unfolding neg
-neg-neg nan = refl
-neg-neg (inf true) = refl
-neg-neg (inf false) = refl
-neg-neg (fin true m e) = refl
-neg-neg (fin false m e) = refl
 
 neg-rounds : {y : Float} {p n d : ℕ} → Rounds binary32 y p n d → Rounds binary32 (neg y) n p d
 neg-rounds {y} {p} {n} {d} r = go (r .sign) (r .is) (r .value)

@@ -12,7 +12,7 @@ use native.Mathlib.Nat.{mul-pos}
 use Rattle.float32.specs.Operators.{_⊕_, _⊗_}
 use Rattle.rounding.specs.Order.{_≼_}
 use Rattle.rounding.proofs.Rational.{posPart, negPart, numPos, numNeg}
-use Rattle.rounding.proofs.Order.{≼-refl, ≼-trans, neg-finite, finite-number}
+use Rattle.rounding.proofs.Order.{≼-refl, ≼-trans, neg-finite, finite-number, neg-neg}
 use Rattle.rounding.proofs.Monotone.{round-neg, Rounds, rounds-mono}
 use Rattle.rounding.proofs.Arithmetic.{add-rounds, add-mono}
 
@@ -20,14 +20,6 @@ use Rattle.rounding.proofs.Arithmetic.{add-rounds, add-mono}
 pub record Opposite (x y : Float) : Type 0 where
   pub above : neg x ≼ y
   pub below : y ≼ neg x
-
-neg-neg : (x : Float) → neg (neg x) ≡ x
-unfolding neg
-neg-neg nan = refl
-neg-neg (inf true) = refl
-neg-neg (inf false) = refl
-neg-neg (fin true m e) = refl
-neg-neg (fin false m e) = refl
 
 round-not : (f : Format) (s : Bool) (a c : ℕ) → round f (not s) a c ≡ neg (round f s a c)
 round-not f false a c = round-neg f a c

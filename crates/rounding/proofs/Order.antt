@@ -1,5 +1,6 @@
 -- `≼` is a total preorder of the floats that are no NaN, with equal zeros: `≼-refl`, `≼-trans`, `≼-total`, `zeros-equal`; what lies between finite
--- values is finite (`between-finite`), the negative turns the order round (`neg-antitone`), and the tests `lt` and `le` decide it (`lt-≼`, `not-lt-≼`).
+-- values is finite (`between-finite`), the negative turns the order round (`neg-antitone`), no number is above infinity (`below-infinity`), and the tests
+-- `lt` and `le` decide it (`lt-≼`, `not-lt-≼`).
 -- For finite values all rests on the order of fractions (Rational.antt): `to-fraction`, `of-fraction`.
 use mathlib.Core.Path.{_≡_, refl, sym, ap}
 use mathlib.Core.Logic.{_⊎_, inl, inr}
@@ -22,11 +23,11 @@ or-split : (a b : Bool) → T (a || b) → T a ⊎ T b
 or-split true b t = inl tt
 or-split false b t = inr t
 
-or-left : (a b : Bool) → T a → T (a || b)
+pub or-left : (a b : Bool) → T a → T (a || b)
 or-left true b t = tt
 or-left false b t = absurd t
 
-or-right : (a b : Bool) → T b → T (a || b)
+pub or-right : (a b : Bool) → T b → T (a || b)
 or-right true b t = tt
 or-right false b t = t
 
@@ -293,11 +294,27 @@ Le-neg (fin false m e) (fin false n d) h = omega arith
 pub neg-antitone : {x y : Float} → x ≼ y → neg y ≼ neg x
 neg-antitone {x} {y} h = of-Le (Le-neg x y (to-Le h))
 
+pub neg-neg : (x : Float) → neg (neg x) ≡ x
+unfolding neg
+neg-neg nan = refl
+neg-neg (inf true) = refl
+neg-neg (inf false) = refl
+neg-neg (fin true m e) = refl
+neg-neg (fin false m e) = refl
+
 pub neg-finite : (x : Float) → T (finite x) → T (finite (neg x))
 unfolding neg
 neg-finite nan f = f
 neg-finite (inf s) f = f
 neg-finite (fin s m e) f = f
+
+-- ---- the infinities
+pub below-infinity : (x : Float) → Number x → x ≼ inf false
+unfolding le isNan
+below-infinity nan n = absurd n
+below-infinity (inf true) n = record { holds = tt }
+below-infinity (inf false) n = record { holds = tt }
+below-infinity (fin s m e) n = record { holds = tt }
 
 -- ---- the tests that code makes
 pub lt-≼ : (x y : Float) → T (lt x y) → x ≼ y

@@ -13,7 +13,7 @@ use lib.Ieee.Fits.{up-pos, down-pos, and-l, and-r}
 use lib.Ieee.Scale.{finite}
 use lib.Ieee.Positive.{positive, positive-finite, num, den, den-pos, le→cross}
 use Rattle.rounding.specs.Order.{_≼_, Number}
-use Rattle.rounding.proofs.Order.{≼-trans, zeros-equal, number-left, number-right, between-finite, above-positive, to-fraction, of-fraction}
+use Rattle.rounding.proofs.Order.{≼-trans, zeros-equal, number-left, number-right, between-finite, above-positive, to-fraction, of-fraction, below-infinity}
 use Rattle.square_root.specs.SquareRoot.{isqrtBelow, isqrt, stickySqrt, roundSqrt, sqrt}
 use Rattle.square_root.specs.Nearest.{+0}
 use Rattle.square_root.proofs.RoundSqrt.{roundSqrt-mono}
@@ -30,12 +30,6 @@ sqrt-is f (fin false (suc m) e) p = refl
 positive-mono : (f : Format) {x y : Float} → T (positive x) → T (positive y) → x ≼ y → sqrt f x ≼ sqrt f y
 positive-mono f {x} {y} p q h =
     rw (sqrt-is f x p, sqrt-is f y q) (roundSqrt-mono f (num x) (den x) (num y) (den y) (den-pos x) (den-pos y) (le→cross x y p q (h .holds)))
-
-below-infinity : (x : Float) → Number x → x ≼ inf false
-below-infinity nan n = absurd (unfold isNan in n)
-below-infinity (inf true) n = record { holds = unfold le in tt }
-below-infinity (inf false) n = record { holds = unfold le in tt }
-below-infinity (fin s m e) n = record { holds = unfold le in tt }
 
 roundSqrt-number : (f : Format) (num den : ℕ) → 0 < den → Number (roundSqrt f num den)
 roundSqrt-number f num den D = number-left (roundSqrt-mono f num den num den D D (omega arith))
