@@ -1,6 +1,7 @@
 -- A union of boxes holds what either holds (`union-inside-left`, `union-inside-right`), lies in every box that both lie in (`union-least`), and
 -- grows with both (`union-isotone`). The union with a point is the union with that point's own box (`union-point-box`), and holds the point where
--- it is finite (`union-point-inside`). Rests on the order of `rounding` and on the laws of least and greatest in `float32`, one axis at a time.
+-- it is finite (`union-point-inside`). A finite box lies in itself (`finite-self`), and the box of a point in what holds the point (`inside-subset`). Rests on
+-- the order of `rounding` and on the laws of least and greatest in `float32`, one axis at a time.
 use mathlib.Core.Path.{_≡_, refl}
 use lib.Dec.{T}
 use lib.Ieee.{Float}
@@ -13,8 +14,9 @@ use Rattle.bounds3.specs.declared.Point3f.{Point3f}
 use Rattle.bounds3.specs.declared.Bounds3f.{Bounds3f}
 use Rattle.bounds3.specs.Point3f.{Point3f·min, Point3f·max}
 use Rattle.bounds3.specs.Bounds3f.{Bounds3f·fromPoint, Bounds3f·unionPoint, Bounds3f·unionBounds}
-use Rattle.bounds3.specs.Finite.{Finite}
+use Rattle.bounds3.specs.Finite.{Bounds3f·isFinite, Finite}
 use Rattle.bounds3.specs.Inside.{Inside, Subset}
+use Rattle.bounds3.proofs.Finite.{low-finite, high-finite}
 
 -- ---- one axis: the ends low and high, and values between them
 axis-trans : {low low' v v' high high' : Float} → (low' ≼ low) × (high ≼ high') → (low ≼ v) × (v' ≼ high) → (low' ≼ v) × (v' ≼ high')
@@ -41,6 +43,18 @@ subset-inside s i = record { x = axis-trans (s .x) (i .x); y = axis-trans (s .y)
 
 pub subset-trans : {a b c : Bounds3f} → Subset a b → Subset b c → Subset a c
 subset-trans s t = record { x = axis-trans (t .x) (s .x); y = axis-trans (t .y) (s .y); z = axis-trans (t .z) (s .z) }
+
+pub inside-subset : {b : Bounds3f} {p : Point3f} → Inside b p → Subset (Bounds3f·fromPoint p) b
+inside-subset i = record { x = i .x; y = i .y; z = i .z }
+
+pub finite-self : {b : Bounds3f} → T (Bounds3f·isFinite b) → Subset b b
+finite-self {b} f =
+    let l = low-finite b f in
+    let h = high-finite b f in
+    record { x = (own (l .x), own (h .x)); y = (own (l .y), own (h .y)); z = (own (l .z), own (h .z)) }
+  where
+    own : {v : Float} → T (finite v) → v ≼ v
+    own {v} g = ≼-refl v (finite-number v g)
 
 pub union-inside-left : {a : Bounds3f} {p : Point3f} (b : Bounds3f) → Inside a p → Inside (Bounds3f·unionBounds a b) p
 unfolding Bounds3f·unionBounds Point3f·min Point3f·max

@@ -11,12 +11,10 @@ use lib.Dec.{T, eqb}
 use lib.Ieee.{Float, lt}
 use lib.Ieee.Scale.{finite}
 use Rattle.rounding.specs.Order.{_≼_}
-use Rattle.rounding.proofs.Order.{≼-refl, finite-number}
 use Rattle.float32.specs.MinMax.{maxNum}
 use Rattle.bounds3.specs.declared.Bounds3f.{Bounds3f}
-use Rattle.bounds3.specs.Finite.{Bounds3f·isFinite}
 use Rattle.bounds3.specs.Inside.{Subset}
-use Rattle.bounds3.proofs.Finite.{low-finite, high-finite}
+use Rattle.bounds3.proofs.Union.{finite-self}
 use Rattle.transform.specs.declared.Transform.{Transform}
 use Rattle.transform.specs.declared.BoundsAnswer.{BoundsAnswer}
 use Rattle.transform.specs.declared.BoundsAnswer.the-variants.{Bounds, Refused}
@@ -130,15 +128,6 @@ module _ (Q : BoundsAnswer → Type 0)
       ]
 
 -- ---- no NaN corner
-finite-self : {box : Bounds3f} → T (Bounds3f·isFinite box) → Subset box box
-finite-self {box} f =
-    let l = low-finite box f in
-    let h = high-finite box f in
-    record { x = (own (l .x), own (h .x)); y = (own (l .y), own (h .y)); z = (own (l .z), own (h .z)) }
-  where
-    own : {v : Float} → T (finite v) → v ≼ v
-    own {v} f = ≼-refl v (finite-number v f)
-
 -- A face that isn't finite is refused.
 grown-self : (pad : Judged) (j : JudgedVector) → PadNumber (pad .refusal)
     → SliceNumber (j .refusal) → Self (BoundsAnswer·grow pad (BoundsAnswer·fromEnclosure j))

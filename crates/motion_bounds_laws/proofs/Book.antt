@@ -11,16 +11,13 @@ use native.Mathlib.Omega.{arith}
 use lib.Dec.{T, eqb}
 use lib.ListN.{getD}
 use lib.Ieee.{Float, nan}
-use lib.Ieee.Scale.{finite}
-use Rattle.rounding.specs.Order.{_≼_}
-use Rattle.rounding.proofs.Order.{≼-refl, finite-number}
 use Rattle.bounds3.specs.declared.Point3f.{Point3f}
 use Rattle.bounds3.specs.declared.Bounds3f.{Bounds3f}
 use Rattle.bounds3.specs.Bounds3f.{Bounds3f·default, Bounds3f·fromPoint, Bounds3f·unionPoint, Bounds3f·corner}
 use Rattle.bounds3.specs.Finite.{Finite, Point3f·isFinite, Bounds3f·isFinite}
 use Rattle.bounds3.specs.Inside.{Inside, Subset}
-use Rattle.bounds3.proofs.Finite.{test-finite, low-finite, high-finite}
-use Rattle.bounds3.proofs.Union.{subset-inside, union-inside-left, union-least, union-subset-left}
+use Rattle.bounds3.proofs.Finite.{test-finite}
+use Rattle.bounds3.proofs.Union.{subset-inside, union-inside-left, union-least, union-subset-left, finite-self, inside-subset}
 use Rattle.bounds3.proofs.Union.{union-isotone, from-point-inside, union-point-box, union-point-keeps}
 use Rattle.control_flow.specs.Loop.{loop}
 use Rattle.transform.specs.declared.PointAnswer.{PointAnswer}
@@ -52,18 +49,6 @@ use Rattle.motion_bounds_laws.proofs.Numbers.{default-finite}
 use Rattle.motion_bounds_laws.proofs.StartTime.{point-at-start}
 
 -- ---- boxes of points
-own-axis : (v : Float) → T (finite v) → v ≼ v
-own-axis v f = ≼-refl v (finite-number v f)
-
-subset-refl : (b : Bounds3f) → T (Bounds3f·isFinite b) → Subset b b
-subset-refl b f =
-    let l = low-finite b f in
-    let h = high-finite b f in
-    record { x = (own-axis _ (l .x), own-axis _ (h .x)); y = (own-axis _ (l .y), own-axis _ (h .y)); z = (own-axis _ (l .z), own-axis _ (h .z)) }
-
-inside-subset : {b : Bounds3f} {q : Point3f} → Inside b q → Subset (Bounds3f·fromPoint q) b
-inside-subset i = record { x = i .x; y = i .y; z = i .z }
-
 point-subset : {q : Point3f} → Finite q → Subset (Bounds3f·fromPoint q) (Bounds3f·fromPoint q)
 point-subset f = inside-subset (from-point-inside f)
 
@@ -170,7 +155,7 @@ module _ {m : AnimatedTransform} (built : Built m) (a : PoseConstants) (p : Poin
 
 -- ---- a box's motion
 same-refl : (r : BoundsAnswer) → T (Bounds3f·isFinite (BoundsAnswer·bounds r)) → BoundsAnswer·Same r r
-same-refl (Bounds b) f = same-box (subset-refl b f) (subset-refl b f)
+same-refl (Bounds b) f = same-box (finite-self f) (finite-self f)
 same-refl (Refused n) f = same-refusal n
 
 union-same : {r r' s s' : BoundsAnswer} → BoundsAnswer·Same r r' → BoundsAnswer·Same s s'

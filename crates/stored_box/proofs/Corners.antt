@@ -10,11 +10,11 @@ use Rattle.matrix4x4.specs.Rows.{Matrix4x4·toRows}
 use Rattle.matrix4x4.specs.IsAffine.{Matrix4x4·isAffine}
 use Rattle.bounds3.specs.declared.Point3f.{Point3f}
 use Rattle.bounds3.specs.declared.Bounds3f.{Bounds3f}
-use Rattle.bounds3.specs.Bounds3f.{Bounds3f·fromPoint, Bounds3f·unionPoint}
+use Rattle.bounds3.specs.Bounds3f.{Bounds3f·unionPoint}
 use Rattle.bounds3.specs.Finite.{Point3f·isFinite, Bounds3f·isFinite, Finite}
 use Rattle.bounds3.specs.Inside.{Inside, Subset}
 use Rattle.bounds3.proofs.Finite.{test-finite, finite-test, low-finite, high-finite}
-use Rattle.bounds3.proofs.Union.{from-point-inside, union-least, union-point-box, union-point-inside, union-point-keeps}
+use Rattle.bounds3.proofs.Union.{from-point-inside, union-least, union-point-box, union-point-inside, union-point-keeps, inside-subset}
 use Rattle.transform.specs.declared.Transform.{Transform}
 use Rattle.transform.specs.declared.PointAnswer.{PointAnswer}
 use Rattle.transform.specs.declared.PointAnswer.the-variants as point
@@ -46,14 +46,11 @@ Spans qs (bounds.Bounds c) = All Finite qs × Hull qs c
 Spans qs (bounds.Refused n) = (n ≡ 5) × (All Finite qs → ⊥)
 
 -- ---- one point more
-point-subset : {q : Point3f} {d : Bounds3f} → Inside d q → Subset (Bounds3f·fromPoint q) d
-point-subset i = record { x = i .x; y = i .y; z = i .z }
-
 union-hull : (c : Bounds3f) (qs : List Point3f) {q : Point3f} → Finite q → Hull qs c → Hull (q ∷ qs) (Bounds3f·unionPoint c q)
 union-hull c qs {q} f h =
     record {
       inside = (union-point-inside c f, all-map (λ p i. union-point-keeps q i) qs (h .inside));
-      least = λ d a. rw (union-point-box c q) (union-least (h .least d (a .1)) (point-subset (a .0)));
+      least = λ d a. rw (union-point-box c q) (union-least (h .least d (a .1)) (inside-subset (a .0)));
     }
 
 first-spans : (q : Point3f) {a : PointAnswer} → a ≡ PointAnswer·judged q → Spans (q ∷ []) (BoundsAnswer·fromMoved a)
@@ -61,7 +58,7 @@ unfolding PointAnswer·judged BoundsAnswer·fromMoved
 first-spans q e = rw e (go (Point3f·isFinite q) (test-finite q) finite-test)
   where
     go : (b : Bool) → (T b → Finite q) → (Finite q → T b) → Spans (q ∷ []) (BoundsAnswer·fromMoved (cond b (point.Moved q) (point.Refused 5)))
-    go true f g = ((f tt, tt), record { inside = (from-point-inside (f tt), tt); least = λ d a. point-subset (a .0) })
+    go true f g = ((f tt, tt), record { inside = (from-point-inside (f tt), tt); least = λ d a. inside-subset (a .0) })
     go false f g = (refl, λ a. g (a .0))
 
 union-spans : (q : Point3f) {a : PointAnswer} (qs : List Point3f) (r : BoundsAnswer)

@@ -13,6 +13,7 @@ use Rattle.bounds3.specs.declared.Point3f.{Point3f}
 use Rattle.bounds3.specs.declared.Bounds3f.{Bounds3f}
 use Rattle.bounds3.specs.Bounds3f.{Bounds3f·fromPoint}
 use Rattle.bounds3.specs.Inside.{Subset}
+use Rattle.bounds3.proofs.Union.{finite-self}
 use Rattle.transform.specs.declared.BoundsAnswer.{BoundsAnswer}
 use Rattle.transform.specs.declared.BoundsAnswer.the-variants.{Bounds, Refused}
 use Rattle.transform.specs.Answer.{origin, BoundsAnswer·bounds}
@@ -27,7 +28,7 @@ use Rattle.animated_transform.specs.Built.{Built}
 use Rattle.motion_point.specs.TransformPoint.{AnimatedTransform·movedPoint, AnimatedTransform·transformPoint}
 use Rattle.motion_cover.specs.Cover.{AnimatedTransform·cover}
 use Rattle.unpadded_cover.specs.Unpadded.{AnimatedTransform·coverUnpadded, BoundsAnswer·Same}
-use Rattle.unpadded_cover.proofs.Unpadded.{finite-self, union-same, cover-unpadded}
+use Rattle.unpadded_cover.proofs.Unpadded.{union-same, cover-unpadded}
 use Rattle.motion_pad.specs.means.Computing as pad
 use Rattle.motion_chain.specs.Chain.{neighbours, every, firstNumber, stage, Pose·number, Chain, Chain·moves, ChainAnswer, built, refused, Chain·new}
 use Rattle.motion_chain.specs.Chain.{moveFrom, Chain·moveAt, Chain·transformPoint, unionCovers, Chain·cover}

@@ -6,11 +6,10 @@ use mathlib.Core.Bool.{Bool, true, false, cond}
 use native.Mathlib.Omega.{arith}
 use lib.Dec.{T, eqb}
 use borrow.Author.Tests.{eqb-true}
-use lib.Ieee.{Float, binary32, ofBits}
+use lib.Ieee.{binary32, ofBits}
 use lib.Ieee.Fits.{add-fits}
 use lib.Ieee.Scale
-use Rattle.rounding.specs.Order.{_≼_}
-use Rattle.rounding.proofs.Order.{≼-refl, finite-number, between-finite}
+use Rattle.rounding.proofs.Order.{between-finite}
 use Rattle.float32.specs.Operators.{positiveZero, one}
 use Rattle.float32.specs.MinMax.{maxNum}
 use Rattle.float32.proofs.Constants.{zero-finite, zero-refl}
@@ -23,7 +22,7 @@ use Rattle.bounds3.specs.declared.Bounds3f.{Bounds3f}
 use Rattle.bounds3.specs.Finite.{Bounds3f·isFinite}
 use Rattle.bounds3.specs.Inside.{Subset}
 use Rattle.bounds3.proofs.Finite.{low-finite, high-finite, box-finite}
-use Rattle.bounds3.proofs.Union.{subset-trans, union-least, union-subset-left, union-subset-right}
+use Rattle.bounds3.proofs.Union.{subset-trans, finite-self, union-least, union-subset-left, union-subset-right}
 use Rattle.transform.specs.declared.Transform.{Transform}
 use Rattle.transform.specs.declared.BoundsAnswer.{BoundsAnswer}
 use Rattle.transform.specs.declared.BoundsAnswer.the-variants.{Bounds, Refused}
@@ -87,15 +86,6 @@ record Plain (r : BoundsAnswer) : Type 0 where
   finite : (b : Bounds3f) → r ≡ Bounds b → T (Bounds3f·isFinite b)
   low : (b : Bounds3f) → r ≡ Bounds b → Binary32 (b .«p_min»)
   high : (b : Bounds3f) → r ≡ Bounds b → Binary32 (b .«p_max»)
-
-pub finite-self : {b : Bounds3f} → T (Bounds3f·isFinite b) → Subset b b
-finite-self {b} f =
-    let l = low-finite b f in
-    let h = high-finite b f in
-    record { x = (same (l .x), same (h .x)); y = (same (l .y), same (h .y)); z = (same (l .z), same (h .z)) }
-  where
-    same : {x : Float} → T (lib.Ieee.Scale.finite x) → x ≼ x
-    same {x} g = ≼-refl x (finite-number x g)
 
 equal-finite : {b c : Bounds3f} → T (Bounds3f·isFinite b) → Subset c b → Subset b c → T (Bounds3f·isFinite c)
 equal-finite {b} {c} f s t =
