@@ -1,3 +1,4 @@
 -- Laws of queries about a box.
 pub mod Accepted
+pub mod Numbers
 pub mod Union

@@ -17,6 +17,7 @@ use Rattle.bounds3.specs.List.{Bounds3f·list, Bounds3f·ofList}
 use Rattle.transform.specs.declared.BoundsAnswer.{BoundsAnswer}
 use Rattle.transform.specs.declared.BoundsAnswer.the-variants.{Bounds, Refused}
 use Rattle.transform.specs.Answer.{BoundsAnswer·refusal, BoundsAnswer·bounds}
+use Rattle.transform.proofs.Answer.{refused-number}
 use Rattle.bounds_query.specs.Query.{BoundsAnswer·unionBounds}
 use Rattle.lent_arrays.specs.Arrays.{BoundsAnswer·left}
 use Rattle.motion_piece.specs.declared.PaddedPose.{PaddedPose}
@@ -33,10 +34,6 @@ unfolding PaddedPose·encloseBounds BoundsAnswer·fromEnclosure
 enclose-nonzero pose b =
     let j = Pose·encloseTransformPoint (pose .matrix .refusal) (pose .matrix .matrix) (Bounds3f·intervals b) in
     grow-nonzero (pose .pad) _ (tested-nonzero (j .refusal) (Bounds (IntervalVector·bounds (j .vector))) tt)
-
-pub refused-number : (a : BoundsAnswer) → (BoundsAnswer·refusal a ≡ 0 → ⊥) → a ≡ Refused (BoundsAnswer·refusal a)
-refused-number (Bounds b) h = absurd (h refl)
-refused-number (Refused n) h = refl
 
 -- What is put: nothing after a refusal, else the box.
 put-refused : (first : Bool) (n : ℕ) (old : List Float) → BoundsAnswer·put first (Refused n) old ≡ old

@@ -13,6 +13,7 @@ use Rattle.bounds3.specs.declared.Bounds3f.{Bounds3f}
 use Rattle.transform.specs.declared.BoundsAnswer.{BoundsAnswer}
 use Rattle.transform.specs.declared.BoundsAnswer.the-variants.{Bounds, Refused}
 use Rattle.transform.specs.Answer.{OneOf, BoundsAnswer·refusal, BoundsAnswer·bounds}
+use Rattle.transform.proofs.Answer.{one-of-more}
 use Rattle.bounds_query.specs.Query.{BoundsAnswer·unionBounds}
 use Rattle.bounds_query.proofs.Union.{refused-bounds}
 use Rattle.motion_cover.specs.Answer.{Proper, BoundsAnswer·Numbered}
@@ -98,10 +99,6 @@ module _ (cover : Bounds3f → BoundsAnswer) where
       boxes : (xs : List Bounds3f) → Each (λ y. BoundsAnswer·refusal (cover y) ≡ 0) xs → Each (λ y. cover y ≡ Bounds (coverBox y)) xs
       boxes [] k = tt
       boxes (y ∷ ys) (k, ks) = (nonzero-box (cover y) (nonzero y) k, boxes ys ks)
-
-  one-of-more : (n : ℕ) (ms ns : List ℕ) → OneOf n ms → OneOf n (ms ++ ns)
-  one-of-more n (m ∷ ms) ns (inl e) = inl e
-  one-of-more n (m ∷ ms) ns (inr k) = inr (one-of-more n ms ns k)
 
   one-of-last : (n : ℕ) (ms : List ℕ) → OneOf n (ms ++ n ∷ [])
   one-of-last n [] = inl refl

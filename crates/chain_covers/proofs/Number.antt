@@ -10,7 +10,7 @@ use lib.ListN.{length}
 use lib.Ieee.{Float}
 use Rattle.matrix4x4.specs.Rows.{Rows}
 use Rattle.bounds3.specs.List.{Bounds3f·ofList}
-use Rattle.transform.specs.Answer.{OneOf}
+use Rattle.transform.proofs.Answer.{one-of-wider}
 use Rattle.chain_rows.specs.Kept.{Moves·chain}
 use Rattle.box_set.specs.Set.{refused, Chain·covers}
 use Rattle.box_set.specs.Theorem.{SetAnswer·Numbered}
@@ -20,15 +20,6 @@ use Rattle.chain_covers.specs.Kept.{Moves·covers}
 abbrev numbers : List ℕ
 numbers = 0 ∷ 5 ∷ 6 ∷ 7 ∷ 8 ∷ 10 ∷ 12 ∷ 14 ∷ []
 
-with-twelve : (n : ℕ) → OneOf n (0 ∷ 5 ∷ 6 ∷ 7 ∷ 8 ∷ 10 ∷ 14 ∷ []) → OneOf n numbers
-with-twelve n (inl e) = inl e
-with-twelve n (inr (inl e)) = inr (inl e)
-with-twelve n (inr (inr (inl e))) = inr (inr (inl e))
-with-twelve n (inr (inr (inr (inl e)))) = inr (inr (inr (inl e)))
-with-twelve n (inr (inr (inr (inr (inl e))))) = inr (inr (inr (inr (inl e))))
-with-twelve n (inr (inr (inr (inr (inr (inl e)))))) = inr (inr (inr (inr (inr (inl e)))))
-with-twelve n (inr (inr (inr (inr (inr (inr k)))))) = inr (inr (inr (inr (inr (inr (inr k))))))
-
 pub kept-set-numbered : (rows : List Rows) (boxes : List (List Float)) (depth : ℕ)
     → SetAnswer·Numbered (0 ∷ 5 ∷ 6 ∷ 7 ∷ 8 ∷ 10 ∷ 12 ∷ 14 ∷ []) (Moves·covers rows boxes depth)
 unfolding Moves·covers
@@ -36,4 +27,6 @@ kept-set-numbered rows boxes depth = go (eqb (length rows) 0)
   where
     go : (t : Bool) → SetAnswer·Numbered numbers (cond t (refused 12) (Chain·covers (Moves·chain rows) (map Bounds3f·ofList boxes) depth))
     go true = record { number = inr (inr (inr (inr (inr (inr (inl refl)))))); none = λ e. absurd (omega (arith, e)) }
-    go false = let k = chain-set-numbered (Moves·chain rows) (map Bounds3f·ofList boxes) depth in record { number = with-twelve _ (k .number); none = k .none }
+    go false =
+        let k = chain-set-numbered (Moves·chain rows) (map Bounds3f·ofList boxes) depth in
+        record { number = one-of-wider _ (0 ∷ 5 ∷ 6 ∷ 7 ∷ 8 ∷ 10 ∷ 14 ∷ []) numbers tt (k .number); none = k .none }

@@ -2,18 +2,20 @@
 use Prim.Native.Nat.{ℕ}
 use mathlib.Core.Logic.{inl, inr}
 use mathlib.Core.Path.{_≡_, refl}
-use mathlib.Core.Bool.{Bool, true, false, not, cond}
+use mathlib.Core.Bool.{Bool, true, false, cond}
 use mathlib.Core.List.{List, [], _∷_}
 use borrow.Author.Tests.{eqb-false}
-use lib.Dec.{eqb, ltb}
+use lib.Dec.{eqb}
 use lib.Ieee.{lt}
 use Rattle.refusal.specs.First.{firstRefusal}
+use Rattle.refusal.proofs.First.{first-keeps}
 use Rattle.bounds3.specs.declared.Bounds3f.{Bounds3f}
 use Rattle.bounds3.specs.Bounds3f.{Bounds3f·default}
-use Rattle.bounds3.specs.Finite.{Bounds3f·isFinite}
 use Rattle.transform.specs.declared.BoundsAnswer.the-variants.{Bounds, Refused}
 use Rattle.transform.specs.Answer.{OneOf}
-use Rattle.bounds_query.specs.Query.{Bounds3f·isOrdered, Bounds3f·refusal, maxDepth, coverRefusal}
+use Rattle.transform.proofs.Answer.{one-of-wider}
+use Rattle.bounds_query.specs.Query.{coverRefusal}
+use Rattle.bounds_query.proofs.Numbers.{arguments-keeps}
 use Rattle.motion_cover.specs.Answer.{BoundsAnswer·Numbered}
 use Rattle.bounds_answers.proofs.UnionAll.{union-all-numbered}
 use Rattle.motion_chain.specs.Chain.{Chain}
@@ -27,15 +29,14 @@ abbrev numbers : List ℕ
 numbers = 0 ∷ 5 ∷ 6 ∷ 7 ∷ 8 ∷ 10 ∷ 21 ∷ []
 
 arguments-number : (b : Bounds3f) (d : ℕ) (w : Window) → OneOf (firstRefusal (Window·refusal w) (coverRefusal b d)) numbers
-unfolding coverRefusal Bounds3f·refusal
-arguments-number b d w = go (lt (w .earlier) (w .later)) (Bounds3f·isFinite b) (Bounds3f·isOrdered b) (ltb maxDepth d)
+arguments-number b d w =
+    let P : ℕ → Type 0 = λ n. OneOf n numbers in
+    first-keeps P (Window·refusal w) (coverRefusal b d) (go (lt (w .earlier) (w .later)))
+    (arguments-keeps P b d (inl refl) (inr (inr (inl refl))) (inr (inr (inr (inl refl)))) (inr (inr (inr (inr (inl refl))))))
   where
-    go : (s f o l : Bool) → OneOf (let n : ℕ = cond (not f) 6 (cond (not o) 7 0) in firstRefusal (cond s 0 21) (cond (eqb n 0) (cond l 8 0) n)) numbers
-    go true true true true = inr (inr (inr (inr (inl refl))))
-    go true true true false = inl refl
-    go true true false l = inr (inr (inr (inl refl)))
-    go true false o l = inr (inr (inl refl))
-    go false f o l = inr (inr (inr (inr (inr (inr (inl refl))))))
+    go : (s : Bool) → OneOf (cond s 0 21) numbers
+    go true = inl refl
+    go false = inr (inr (inr (inr (inr (inr (inl refl))))))
 
 pub window-numbered : (c : Chain) (b : Bounds3f) (d : ℕ) (w : Window) → BoundsAnswer·Numbered (0 ∷ 5 ∷ 6 ∷ 7 ∷ 8 ∷ 10 ∷ 21 ∷ []) (Chain·windowCover c b d w)
 unfolding Chain·windowCover
@@ -49,12 +50,6 @@ window-numbered c b d w = go (eqb n 0) (eqb-false n 0)
         unfold Chain·encloseWindow in union-all-numbered (Bounds Bounds3f·default) (windowBoxes c b d w) (record { number = inl refl; none = λ _. refl })
         (each-member (windowBoxes c b d w) (boxes-numbered c b d w))
 
-    wider : {k : ℕ} → OneOf k (0 ∷ 5 ∷ 10 ∷ []) → OneOf k numbers
-    wider (inl e) = inl e
-    wider (inr (inl e)) = inr (inl e)
-    wider (inr (inr (inl e))) = inr (inr (inr (inr (inr (inl e)))))
-    wider (inr (inr (inr h))) = absurd h
-
     go : (t : Bool) → (t ≡ false → n ≡ 0 → ⊥) → BoundsAnswer·Numbered numbers (cond t (Chain·encloseWindow c b d w) (Refused n))
-    go true f = record { number = wider (work .number); none = work .none }
+    go true f = record { number = one-of-wider _ (0 ∷ 5 ∷ 10 ∷ []) numbers tt (work .number); none = work .none }
     go false f = record { number = arguments-number b d w; none = λ e. absurd (f refl e) }

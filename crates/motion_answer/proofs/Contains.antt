@@ -14,6 +14,7 @@ use Rattle.bounds3.specs.declared.Bounds3f.{Bounds3f}
 use Rattle.transform.specs.declared.BoundsAnswer.{BoundsAnswer}
 use Rattle.transform.specs.declared.BoundsAnswer.the-variants.{Bounds, Refused}
 use Rattle.transform.specs.Answer.{BoundsAnswer·refusal, BoundsAnswer·bounds}
+use Rattle.transform.proofs.Answer.{refused-number}
 use Rattle.motion_cover.specs.Theorem.{MovedInside}
 use Rattle.motion_chain.specs.Chain.{Chain, ChainAnswer, built, refused, ChainAnswer·refusal, Chain·transformPoint, Chain·padAt, Chain·cover}
 use Rattle.motion_chain.specs.Built.{BuiltChain}
@@ -88,10 +89,6 @@ file-contains bytes e =
     }
 
 -- ---- the text
-number-refused : (r : BoundsAnswer) → (BoundsAnswer·refusal r ≡ 0 → ⊥) → r ≡ Refused (BoundsAnswer·refusal r)
-number-refused (Bounds b) h = absurd (h refl)
-number-refused (Refused n) h = refl
-
 text-contains : (bytes : List ℕ) → AnswerContainsMotion bytes (answerText bytes)
 unfolding answerText BoundsAnswer·text
 text-contains bytes = go (eqb (BoundsAnswer·refusal r) 0) (eqb-true (BoundsAnswer·refusal r) 0) (eqb-false (BoundsAnswer·refusal r) 0)
@@ -103,7 +100,7 @@ text-contains bytes = go (eqb (BoundsAnswer·refusal r) 0) (eqb-true (BoundsAnsw
     go true f g =
         let e = f refl in
         inr (record { accepted = e; printed = ap BoundsAnswer·text (file-answered bytes e); contains = file-contains bytes e })
-    go false f g = inl (record { refused = g refl; printed = ap BoundsAnswer·text (number-refused r (g refl)) })
+    go false f g = inl (record { refused = g refl; printed = ap BoundsAnswer·text (refused-number r (g refl)) })
 
 -- A text that fits stands whole in the front of the buffer.
 front-text : (text buffer after : List ℕ) (r : ℕ) → length text ≤ length buffer → r ≡ lengthIn text buffer → after ≡ textLeft text buffer → take r after ≡ text

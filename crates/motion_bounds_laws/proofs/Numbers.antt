@@ -23,7 +23,9 @@ use Rattle.transform.specs.declared.BoundsAnswer.the-variants.{Bounds, Refused}
 use Rattle.transform.specs.Answer.{OneOf, origin, PointAnswer·Judged, BoundsAnswer·Judged}
 use Rattle.transform.specs.TransformBounds.{BoundsAnswer·fromMoved, BoundsAnswer·unionMoved}
 use Rattle.transform.proofs.Judged.{transform-point-judged, transform-bounds-judged}
-use Rattle.bounds_query.specs.Query.{Bounds3f·isOrdered, Bounds3f·refusal, BoundsAnswer·unionBounds}
+use Rattle.transform.proofs.Answer.{one-of-wider}
+use Rattle.bounds_query.specs.Query.{Bounds3f·refusal, BoundsAnswer·unionBounds}
+use Rattle.bounds_query.proofs.Numbers.{box-keeps}
 use Rattle.axis_derivative.specs.declared.Derivative.{Derivative}
 use Rattle.pose_steps.specs.declared.PoseConstants.{PoseConstants}
 use Rattle.animated_transform.specs.declared.AnimatedTransform.{AnimatedTransform}
@@ -130,28 +132,16 @@ unfolding boundPointMotion
 point-motion-answered m p =
     let w = point-worked m (AnimatedTransform·constants m) p in
     cond-keeps (BoundsAnswer·Answered (0 ∷ 5 ∷ 6 ∷ 9 ∷ [])) (not (Point3f·isFinite p)) _ _
-    (refused-answered 6 (inr (inr (inl refl)))) (record { number = widen (w .number); values = w .values })
-  where
-    widen : {n : ℕ} → OneOf n (0 ∷ 5 ∷ 9 ∷ []) → OneOf n (0 ∷ 5 ∷ 6 ∷ 9 ∷ [])
-    widen (inl e) = inl e
-    widen (inr (inl e)) = inr (inl e)
-    widen (inr (inr i)) = inr (inr (inr i))
+    (refused-answered 6 (inr (inr (inl refl)))) (record { number = one-of-wider _ (0 ∷ 5 ∷ 9 ∷ []) (0 ∷ 5 ∷ 6 ∷ 9 ∷ []) tt (w .number); values = w .values })
 
 motion-answered : (m : AnimatedTransform) (b : Bounds3f) → BoundsAnswer·Answered (0 ∷ 5 ∷ 6 ∷ 7 ∷ 9 ∷ []) (motionBounds allPlaces m b)
 unfolding motionBounds
 motion-answered m b =
     let w = box-worked m b in
-    cond-keeps (BoundsAnswer·Answered (0 ∷ 5 ∷ 6 ∷ 7 ∷ 9 ∷ [])) (eqb (Bounds3f·refusal b) 0) _ _ (record { number = widen (w .number); values = w .values })
-    (refused-answered (Bounds3f·refusal b) asked)
-  where
-    widen : {n : ℕ} → OneOf n (0 ∷ 5 ∷ 9 ∷ []) → OneOf n (0 ∷ 5 ∷ 6 ∷ 7 ∷ 9 ∷ [])
-    widen (inl e) = inl e
-    widen (inr (inl e)) = inr (inl e)
-    widen (inr (inr i)) = inr (inr (inr (inr i)))
-
-    asked : OneOf (Bounds3f·refusal b) (0 ∷ 5 ∷ 6 ∷ 7 ∷ 9 ∷ [])
-    asked = unfold Bounds3f·refusal in cond-keeps (λ (n : ℕ). OneOf n (0 ∷ 5 ∷ 6 ∷ 7 ∷ 9 ∷ [])) (not (Bounds3f·isFinite b)) _ _ (inr (inr (inl refl)))
-        (cond-keeps (λ (n : ℕ). OneOf n (0 ∷ 5 ∷ 6 ∷ 7 ∷ 9 ∷ [])) (not (Bounds3f·isOrdered b)) _ _ (inr (inr (inr (inl refl)))) (inl refl))
+    let numbers : List ℕ = 0 ∷ 5 ∷ 6 ∷ 7 ∷ 9 ∷ [] in
+    cond-keeps (BoundsAnswer·Answered numbers) (eqb (Bounds3f·refusal b) 0) _ _
+    (record { number = one-of-wider _ (0 ∷ 5 ∷ 9 ∷ []) numbers tt (w .number); values = w .values })
+    (refused-answered (Bounds3f·refusal b) (box-keeps (λ (n : ℕ). OneOf n numbers) b (inl refl) (inr (inr (inl refl))) (inr (inr (inr (inl refl))))))
 
 -- ---- with their counts
 counted-answered : {numbers : List ℕ} {most : ℕ} (r : BoundsAnswer) (e : Examined) → BoundsAnswer·Answered numbers r → Examined·AtMost most e

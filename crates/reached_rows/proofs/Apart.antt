@@ -1,9 +1,9 @@
 -- A row that is not named holds no padded point: `rows-apart`, of any cover, since the cover holds every such point and does not meet the row;
 -- `kept-rows-apart`, of the cover of a built chain, by that cover's guarantee. The clauses of the query, from what was named: `rows-refused`, `rows-named`.
 use Prim.Native.Nat.{ℕ, zero, suc, _+_, _-_, _<_}
-use mathlib.Core.Logic.{inl, inr}
+use mathlib.Core.Logic.{inl}
 use mathlib.Core.Path.{_≡_, refl, sym, subst}
-use mathlib.Core.Bool.{Bool, true, false, cond}
+use mathlib.Core.Bool.{Bool, true, false}
 use mathlib.Core.List.{List, [], _∷_}
 use native.Mathlib.Omega.{arith}
 use borrow.Author.Tests.{ne-eqb}
@@ -16,6 +16,7 @@ use Rattle.bounds3.specs.Inside.{Subset}
 use Rattle.bounds3.proofs.Union.{subset-inside}
 use Rattle.transform.specs.declared.PointAnswer.the-variants.{Moved}
 use Rattle.transform.specs.Answer.{OneOf, PointAnswer·point}
+use Rattle.transform.proofs.Answer.{one-of-cond}
 use Rattle.bounds_overlap.specs.Meets.{Bounds3f·meets}
 use Rattle.bounds_overlap.proofs.Overlap.{apart-inside}
 use Rattle.motion_pad.specs.Grow.{PaddedInside}
@@ -28,10 +29,6 @@ use Rattle.reached_rows.specs.means.Named.{Named·Holds}
 use Rattle.reached_rows.specs.Theorem.{rowAt, RowsApart, KeptRowsApart}
 
 -- ---- a row that is not named is not met
-one-of-cond : (b : Bool) (n k : ℕ) (ks : List ℕ) → OneOf n ks → OneOf n (cond b (k ∷ ks) ks)
-one-of-cond true n k ks h = inr h
-one-of-cond false n k ks h = h
-
 met-named : (cover : Bounds3f) (first k : ℕ) (rows : List Bounds3f) → k < length rows → Bounds3f·meets cover (rowAt rows k) ≡ true
     → OneOf (first + k) (metFrom cover first rows)
 unfolding metFrom

@@ -3,7 +3,7 @@
 use Prim.Native.Nat.{ℕ, suc, _+_, _≤_, _<_}
 use mathlib.Core.Logic.{inl, inr}
 use mathlib.Core.Path.{_≡_, refl, sym, ap, _∙_}
-use mathlib.Core.Bool.{Bool, true, false, not, _||_, cond}
+use mathlib.Core.Bool.{Bool, true, false, _||_, cond}
 use mathlib.Core.List.{List, [], _∷_, map}
 use native.Mathlib.Omega.{arith}
 use borrow.Author.Tests.{eqb-false, ltb-false, ne-eqb}
@@ -12,11 +12,11 @@ use lib.ListN.{length, getD, drop, drop-of-length-le}
 use lib.Seq.{drop-cons}
 use lib.Ieee.{Float}
 use Rattle.bounds3.specs.declared.Bounds3f.{Bounds3f}
-use Rattle.bounds3.specs.Finite.{Bounds3f·isFinite}
 use Rattle.bounds3.specs.List.{Bounds3f·ofList}
 use Rattle.transform.specs.Answer.{OneOf}
 use Rattle.refusal.specs.First.{firstRefusal}
-use Rattle.bounds_query.specs.Query.{Bounds3f·isOrdered, Bounds3f·refusal}
+use Rattle.bounds_query.specs.Query.{Bounds3f·refusal}
+use Rattle.bounds_query.proofs.Numbers.{box-keeps}
 use Rattle.motion_chain.specs.Chain.{firstNumber, stage}
 use Rattle.motion_chain.proofs.Built.{first-none, first-only}
 use Rattle.reached_rows.specs.Rows.{maxRows, rowsRefusal}
@@ -65,13 +65,7 @@ count-number true = inr (inr (inr (inl refl)))
 count-number false = inl refl
 
 box-number : (b : Bounds3f) → Number (Bounds3f·refusal b)
-unfolding Bounds3f·refusal
-box-number b = go (Bounds3f·isFinite b) (Bounds3f·isOrdered b)
-  where
-    go : (f o : Bool) → Number (cond (not f) 6 (cond (not o) 7 0))
-    go true true = inl refl
-    go true false = inr (inr (inl refl))
-    go false o = inr (inl refl)
+box-number b = box-keeps Number b (inl refl) (inr (inl refl)) (inr (inr (inl refl)))
 
 stage-number : (rows : List Bounds3f) → Number (stage Bounds3f·refusal rows)
 unfolding firstNumber

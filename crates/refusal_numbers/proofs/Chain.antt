@@ -94,11 +94,6 @@ checks-number rigid poses =
     first-number rigid (chainStages rigid poses)
     (pose-stage 1 refl, (pose-stage 2 refl, (pose-stage 16 refl, (count, (pair-stage 12, (pair-stage 3, (kind-number rigid poses, tt)))))))
 
-pub more : (n : ℕ) (ns ks : List ℕ) → OneOf n ns → OneOf n (ns ++ ks)
-more n [] ks h = absurd h
-more n (k ∷ ns) ks (inl e) = inl e
-more n (k ∷ ns) ks (inr h) = inr (more n ns ks h)
-
 inserted : (n : ℕ) (ns : List ℕ) (k : ℕ) (ks : List ℕ) → OneOf n (ns ++ ks) → OneOf n (ns ++ (k ∷ ks))
 inserted n [] k ks h = inr h
 inserted n (m ∷ ns) k ks (inl e) = inl e

@@ -15,11 +15,11 @@ use lib.ListN.{length}
 use Rattle.control_flow.proofs.Choice.{cond-keeps}
 use Rattle.float32.specs.Operators.{_⊖_}
 use Rattle.bounds3.specs.declared.Bounds3f.{Bounds3f}
-use Rattle.bounds3.specs.Finite.{Bounds3f·isFinite}
 use Rattle.transform.specs.declared.BoundsAnswer.{BoundsAnswer}
 use Rattle.transform.specs.declared.BoundsAnswer.the-variants as bounds
 use Rattle.transform.specs.Answer.{OneOf, BoundsAnswer·refusal}
-use Rattle.bounds_query.specs.Query.{Bounds3f·isOrdered, Bounds3f·refusal, BoundsAnswer·unionBounds, maxDepth, coverRefusal}
+use Rattle.bounds_query.specs.Query.{BoundsAnswer·unionBounds, maxDepth, coverRefusal}
+use Rattle.bounds_query.proofs.Numbers.{box-keeps}
 use Rattle.pose_steps.specs.Promise.{SliceNumber}
 use Rattle.pose_pair.specs.declared.Pose.{Pose}
 use Rattle.pose_pair.specs.Pose.{Pose·isFinite, Pose·isAffine, Pose·isPadded, timesRefusal}
@@ -164,13 +164,10 @@ abbrev CoverNumber : BoundsAnswer → Type 0
 CoverNumber r = Number (BoundsAnswer·refusal r)
 
 asked-number : (b : Bounds3f) → Number (coverRefusal b coverDepth)
-unfolding coverRefusal Bounds3f·refusal
-asked-number b = go (Bounds3f·isFinite b) (Bounds3f·isOrdered b)
-  where
-    go : (f o : Bool) → Number (let n : ℕ = cond (not f) 6 (cond (not o) 7 0) in cond (eqb n 0) (cond (ltb maxDepth coverDepth) 8 0) n)
-    go true true = inl refl
-    go true false = inr (inr (inr (inr (inr (inr (inl refl))))))
-    go false o = inr (inr (inr (inr (inr (inl refl)))))
+unfolding coverRefusal
+asked-number b =
+    box-keeps (λ (n : ℕ). Number (cond (eqb n 0) (cond (ltb maxDepth coverDepth) 8 0) n)) b
+    (inl refl) (inr (inr (inr (inr (inr (inl refl)))))) (inr (inr (inr (inr (inr (inr (inl refl)))))))
 
 slice-number : {n : ℕ} → SliceNumber n → Number n
 slice-number (inl e) = inl e

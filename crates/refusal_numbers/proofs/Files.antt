@@ -1,7 +1,7 @@
 -- The writer gives 6, 7, 12 and 15 alone, and the program `rewrite` document 01's and 02's numbers of a file: `every-file-answer`.
 use Prim.Native.Nat.{ℕ}
 use mathlib.Core.Path.{_≡_, refl, sym, ap, subst, _∙_}
-use mathlib.Core.Bool.{Bool, true, false, not, cond}
+use mathlib.Core.Bool.{Bool, true, false, cond}
 use mathlib.Core.Logic.{_⊎_, inl, inr}
 use mathlib.Core.List.{List, [], _∷_}
 use native.Mathlib.Omega.{arith}
@@ -10,9 +10,10 @@ use lib.Dec.{T, eqb, leb}
 use lib.ListN.{length}
 use Rattle.matrix4x4.specs.Rows.{Rows}
 use Rattle.bounds3.specs.declared.Bounds3f.{Bounds3f}
-use Rattle.bounds3.specs.Finite.{Bounds3f·isFinite}
 use Rattle.transform.specs.Answer.{OneOf}
-use Rattle.bounds_query.specs.Query.{Bounds3f·isOrdered, Bounds3f·refusal}
+use Rattle.transform.proofs.Answer.{one-of-more}
+use Rattle.bounds_query.specs.Query.{Bounds3f·refusal}
+use Rattle.bounds_query.proofs.Numbers.{box-keeps}
 use Rattle.motion_chain.specs.Chain.{Chain, ChainAnswer, built, refused, ChainAnswer·refusal, Chain·new}
 use Rattle.chain_poses.specs.Poses.{Poses·ofLists}
 use Rattle.motion_file.specs.declared.MoveFile.{MoveFile}
@@ -32,13 +33,7 @@ use Rattle.refusal_numbers.proofs.File.{Not2, chain-affine}
 
 -- ---- the box
 box-number : (b : Bounds3f) → OneOf (Bounds3f·refusal b) (0 ∷ 6 ∷ 7 ∷ [])
-unfolding Bounds3f·refusal
-box-number b = go (Bounds3f·isFinite b) (Bounds3f·isOrdered b)
-  where
-    go : (f o : Bool) → OneOf (cond (not f) 6 (cond (not o) 7 0)) (0 ∷ 6 ∷ 7 ∷ [])
-    go true true = inl refl
-    go true false = inr (inr (inl refl))
-    go false o = inr (inl refl)
+box-number b = box-keeps (λ (n : ℕ). OneOf n (0 ∷ 6 ∷ 7 ∷ [])) b (inl refl) (inr (inl refl)) (inr (inr (inl refl)))
 
 -- ---- the writer
 abbrev Number : ℕ → Type 0
@@ -48,16 +43,11 @@ chosen : (p : Bool) (m n : ℕ) → Number m → Number n → Number (cond p m n
 chosen true m n h k = h
 chosen false m n h k = k
 
-asked : {n : ℕ} → OneOf n (0 ∷ 6 ∷ 7 ∷ []) → Number n
-asked (inl e) = inl e
-asked (inr (inl e)) = inr (inl e)
-asked (inr (inr (inl e))) = inr (inr (inl e))
-
 refusal-number : (rows : List Rows) (b : Bounds3f) (room : ℕ) → Number (Moves·writeRefusal rows b room)
 unfolding Moves·writeRefusal
 refusal-number rows b room =
     let short = chosen (leb (length (Moves·text rows b)) room) 0 15 (inl refl) (inr (inr (inr (inr (inl refl))))) in
-    let judged = chosen (eqb (Bounds3f·refusal b) 0) _ (Bounds3f·refusal b) short (asked (box-number b)) in
+    let judged = chosen (eqb (Bounds3f·refusal b) 0) _ (Bounds3f·refusal b) short (one-of-more _ (0 ∷ 6 ∷ 7 ∷ []) (12 ∷ 15 ∷ []) (box-number b)) in
     chosen (eqb (length rows) 0) 12 _ (inr (inr (inr (inl refl)))) judged
 
 write-number : (rows : List Rows) (b : Bounds3f) (room : ℕ) → Number (TextAnswer·refusal (Moves·write rows b room))

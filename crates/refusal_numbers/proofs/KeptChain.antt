@@ -18,6 +18,7 @@ use Rattle.transform.specs.declared.PointAnswer.{PointAnswer}
 use Rattle.transform.specs.declared.PointAnswer.the-variants as point
 use Rattle.transform.specs.declared.BoundsAnswer.the-variants as bounds
 use Rattle.transform.specs.Answer.{OneOf, PointAnswer·refusal, BoundsAnswer·refusal}
+use Rattle.transform.proofs.Answer.{one-of-more, one-of-wider}
 use Rattle.motion_point.specs.Answer.{PointAnswer·Numbered}
 use Rattle.motion_cover.specs.Answer.{BoundsAnswer·Numbered}
 use Rattle.motion_rows.specs.TransformPoint.{Rows·transformPoint}
@@ -29,7 +30,6 @@ use Rattle.motion_chain.proofs.Numbers.{chain-cover-numbered}
 use Rattle.motion_chain.proofs.Times.{cons-numbered, times-numbers}
 use Rattle.chain_rows.specs.Kept.{Moves·chain, Moves·transformPoint, Moves·transformPoints, Moves·cover}
 use Rattle.refusal_numbers.proofs.Numbers.{every-answer}
-use Rattle.refusal_numbers.proofs.Chain.{more}
 
 -- ---- at a time
 pub rows-point-numbered : (rows : List Rows) (time : Float) (p : Point3f) → PointAnswer·Numbered (0 ∷ 5 ∷ 6 ∷ 12 ∷ []) (Moves·transformPoint rows time p)
@@ -39,7 +39,7 @@ rows-point-numbered rows time p =
     let h = every-answer .rows-point (getD rows (Chain·indexAt (Moves·chain rows) time) []) time p in
     cond-keeps (PointAnswer·Numbered (0 ∷ 5 ∷ 6 ∷ 12 ∷ [])) (eqb (length rows) 0) (point.Refused 12) a
     (record { number = inr (inr (inr (inl refl))); none = λ e. absurd (omega (arith, e)) })
-    (record { number = more (PointAnswer·refusal a) (0 ∷ 5 ∷ 6 ∷ []) (12 ∷ []) (h .number); none = h .none })
+    (record { number = one-of-more (PointAnswer·refusal a) (0 ∷ 5 ∷ 6 ∷ []) (12 ∷ []) (h .number); none = h .none })
 
 -- ---- at a list of times
 points-numbered : (numbers : List ℕ) (query : Float → PointAnswer) → OneOf 0 numbers → ((t : Float) → PointAnswer·Numbered numbers (query t))
@@ -66,21 +66,15 @@ rows-points-numbered rows times p places =
     worked =
         points-numbered numbers query (inl refl)
         (λ t. let h = rows-point-numbered rows t p in
-        record { number = more (PointAnswer·refusal (query t)) (0 ∷ 5 ∷ 6 ∷ 12 ∷ []) (13 ∷ []) (h .number); none = h .none })
+        record { number = one-of-more (PointAnswer·refusal (query t)) (0 ∷ 5 ∷ 6 ∷ 12 ∷ []) (13 ∷ []) (h .number); none = h .none })
         times
-
-    wider : {n : ℕ} → OneOf n (0 ∷ 6 ∷ 13 ∷ []) → OneOf n numbers
-    wider (inl e) = inl e
-    wider (inr (inl e)) = inr (inr (inl e))
-    wider (inr (inr (inl e))) = inr (inr (inr (inr (inl e))))
-    wider (inr (inr (inr h))) = absurd h
 
     judged : (n : ℕ) → OneOf n (0 ∷ 6 ∷ 13 ∷ []) → PointsAnswer·Numbered numbers (cond (eqb n 0) (pointsAt query times) (refused n))
     judged n o = go (eqb n 0) (eqb-false n 0)
       where
         go : (b : Bool) → (b ≡ false → n ≡ 0 → ⊥) → PointsAnswer·Numbered numbers (cond b (pointsAt query times) (refused n))
         go true f = worked
-        go false f = record { number = wider o; none = λ e. absurd (f refl e) }
+        go false f = record { number = one-of-wider n (0 ∷ 6 ∷ 13 ∷ []) numbers tt o; none = λ e. absurd (f refl e) }
 
 -- ---- a cover
 pub rows-cover-numbered : (rows : List Rows) (b : Bounds3f) (depth : ℕ) → BoundsAnswer·Numbered (0 ∷ 5 ∷ 6 ∷ 7 ∷ 8 ∷ 10 ∷ 12 ∷ []) (Moves·cover rows b depth)
@@ -90,4 +84,4 @@ rows-cover-numbered rows b depth =
     let h = chain-cover-numbered (Moves·chain rows) b depth in
     cond-keeps (BoundsAnswer·Numbered (0 ∷ 5 ∷ 6 ∷ 7 ∷ 8 ∷ 10 ∷ 12 ∷ [])) (eqb (length rows) 0) (bounds.Refused 12) a
     (record { number = inr (inr (inr (inr (inr (inr (inl refl)))))); none = λ e. absurd (omega (arith, e)) })
-    (record { number = more (BoundsAnswer·refusal a) (0 ∷ 5 ∷ 6 ∷ 7 ∷ 8 ∷ 10 ∷ []) (12 ∷ []) (h .number); none = h .none })
+    (record { number = one-of-more (BoundsAnswer·refusal a) (0 ∷ 5 ∷ 6 ∷ 7 ∷ 8 ∷ 10 ∷ []) (12 ∷ []) (h .number); none = h .none })

@@ -10,6 +10,7 @@ use lib.Ieee.{Float, isNan}
 use lib.Ieee.Scale.{finite}
 use Rattle.control_flow.proofs.Choice.{cond-keeps}
 use Rattle.matrix4x4.specs.Rows.{Rows}
+use Rattle.transform.proofs.Answer.{one-of-more}
 use Rattle.animated_transform.specs.declared.AnimatedTransform.{AnimatedTransform}
 use Rattle.motion_point.specs.PadAt.{AnimatedTransform·padAt}
 use Rattle.motion_rows.specs.Rows.{AnimatedTransform·fromRows}
@@ -19,7 +20,6 @@ use Rattle.motion_chain.specs.Chain.{Chain, Chain·moveAt}
 use Rattle.motion_chain.specs.MoveAt.{Chain·indexAt}
 use Rattle.chain_rows.specs.Kept.{Moves·chain, Chain·pad, Moves·pad}
 use Rattle.refusal_numbers.specs.Numbers.{PadAnswer·Numbered}
-use Rattle.refusal_numbers.proofs.Chain.{more}
 
 judged-numbered : (pad : Float) → PadAnswer·Numbered (0 ∷ 5 ∷ 6 ∷ []) (PadAnswer·judged pad)
 unfolding PadAnswer·judged
@@ -50,4 +50,4 @@ kept-pad-numbered rows time =
     let h = rows-pad-numbered (getD rows (Chain·indexAt (Moves·chain rows) time) []) time in
     cond-keeps (PadAnswer·Numbered (0 ∷ 5 ∷ 6 ∷ 12 ∷ [])) (eqb (length rows) 0) (Refused 12) a
     (record { number = inr (inr (inr (inl refl))); none = λ e. absurd (omega (arith, e)) })
-    (record { number = more (PadAnswer·refusal a) (0 ∷ 5 ∷ 6 ∷ []) (12 ∷ []) (h .number); none = h .none })
+    (record { number = one-of-more (PadAnswer·refusal a) (0 ∷ 5 ∷ 6 ∷ []) (12 ∷ []) (h .number); none = h .none })

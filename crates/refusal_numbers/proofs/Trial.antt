@@ -2,21 +2,20 @@
 -- `rows-trial-numbered`.
 use Prim.Native.Nat.{ℕ, _-_}
 use mathlib.Core.Path.{_≡_, refl, sym, ap}
-use mathlib.Core.Bool.{Bool, true, false, _&&_, _||_, cond, false≢true}
-use mathlib.Core.Logic.{inl, inr}
+use mathlib.Core.Bool.{Bool, true, false, cond, false≢true}
+use mathlib.Core.Logic.{inl}
 use mathlib.Core.List.{List, [], _∷_}
 use native.Mathlib.Omega.{arith}
-use borrow.Author.Tests.{eqb-true}
 use lib.Dec.{T, eqb, ltb, leb}
 use lib.ListN.{length}
 use lib.Seq.{sets}
-use lib.Ieee.Fits.{and-l, and-r}
 use Rattle.control_flow.proofs.Choice.{cond-keeps}
 use Rattle.matrix4x4.specs.Rows.{Rows}
 use Rattle.bounds3.specs.declared.Bounds3f.{Bounds3f}
 use Rattle.transform.specs.declared.BoundsAnswer.{BoundsAnswer}
 use Rattle.transform.specs.declared.BoundsAnswer.the-variants.{Refused}
-use Rattle.transform.specs.Answer.{OneOf, BoundsAnswer·refusal}
+use Rattle.transform.specs.Answer.{BoundsAnswer·refusal}
+use Rattle.transform.proofs.Answer.{allListed, one-of-wider}
 use Rattle.pose_pair.specs.declared.Pose.{Pose}
 use Rattle.motion_cover.specs.Answer.{BoundsAnswer·Numbered}
 use Rattle.motion_chain.specs.Chain.{maxPoses, Chain, ChainAnswer, built, refused, Chain·cover}
@@ -29,28 +28,6 @@ use Rattle.chain_trial.specs.Try.{posesIn, Moves·coverBeside, Moves·try}
 use Rattle.refusal_numbers.specs.Chain.{buildingNumbers, trialNumbers, ChainAnswer·Numbered}
 use Rattle.refusal_numbers.proofs.Chain.{building-numbered}
 use Rattle.refusal_numbers.proofs.KeptChain.{rows-cover-numbered}
-
--- ---- lists of numbers, compared by computing
-abbrev listed : ℕ → List ℕ → Bool
-listed k [] = false
-listed k (n ∷ ns) = eqb k n || listed k ns
-
-abbrev allListed : List ℕ → List ℕ → Bool
-allListed [] ks = true
-allListed (n ∷ ns) ks = listed n ks && allListed ns ks
-
-listed-one : (k : ℕ) (ns : List ℕ) → T (listed k ns) → OneOf k ns
-listed-one k [] h = absurd h
-listed-one k (n ∷ ns) h = go (eqb k n) (eqb-true k n) (listed-one k ns) h
-  where
-    go : (b : Bool) → (b ≡ true → k ≡ n) → (T (listed k ns) → OneOf k ns) → T (b || listed k ns) → OneOf k (n ∷ ns)
-    go true f g t = inl (f refl)
-    go false f g t = inr (g t)
-
-wider : (n : ℕ) (ns ks : List ℕ) → T (allListed ns ks) → OneOf n ns → OneOf n ks
-wider n [] ks h o = absurd o
-wider n (k ∷ ns) ks h (inl e) = rw e (listed-one k ks (and-l (listed k ks) (allListed ns ks) h))
-wider n (k ∷ ns) ks h (inr o) = wider n ns ks (and-r (listed k ks) (allListed ns ks) h) o
 
 -- ---- a trial
 abbrev Numbered : Bool → BoundsAnswer → Type 0
@@ -72,7 +49,7 @@ building-among false = tt
 refused-numbered : (rigid : Bool) (n : ℕ) → ChainAnswer·Numbered (buildingNumbers rigid) (refused n) → Numbered rigid (Refused n)
 refused-numbered rigid n h =
     record {
-      number = wider n (buildingNumbers rigid) (trialNumbers rigid) (building-among rigid) (h .number);
+      number = one-of-wider n (buildingNumbers rigid) (trialNumbers rigid) (building-among rigid) (h .number);
       none = λ e. let (c, s) = h .none e in absurd (false≢true (ap isBuilt s));
     }
 
@@ -81,11 +58,11 @@ changed-numbered : (rigid : Bool) (a : ChainAnswer) (b : Bounds3f) (depth : ℕ)
 changed-numbered rigid (built c) b depth h =
     let k = chain-cover-numbered c b depth in
     let asked : List ℕ = 0 ∷ 5 ∷ 6 ∷ 7 ∷ 8 ∷ 10 ∷ [] in
-    record { number = wider (BoundsAnswer·refusal (Chain·cover c b depth)) asked (trialNumbers rigid) (among rigid asked tt tt) (k .number); none = k .none }
+    record { number = one-of-wider (BoundsAnswer·refusal (Chain·cover c b depth)) asked (trialNumbers rigid) (among rigid asked tt tt) (k .number); none = k .none }
 changed-numbered rigid (refused n) b depth h = refused-numbered rigid n h
 
 place-numbered : (rigid : Bool) (n : ℕ) → T (allListed (n ∷ []) (trialNumbers rigid)) → (n ≡ 0 → ⊥) → Numbered rigid (Refused n)
-place-numbered rigid n h f = record { number = wider n (n ∷ []) (trialNumbers rigid) h (inl refl); none = λ e. absurd (f e) }
+place-numbered rigid n h f = record { number = one-of-wider n (n ∷ []) (trialNumbers rigid) h (inl refl); none = λ e. absurd (f e) }
 
 beyond : (rigid : Bool) → Numbered rigid (Refused 19)
 beyond rigid = place-numbered rigid 19 (among rigid (19 ∷ []) tt tt) (λ e. absurd (omega (arith, e)))
@@ -105,7 +82,7 @@ beside-numbered rigid rows place b depth (built d) h =
     let k = rows-cover-numbered after b depth in
     let asked : List ℕ = 0 ∷ 5 ∷ 6 ∷ 7 ∷ 8 ∷ 10 ∷ 12 ∷ [] in
     record {
-      number = wider (BoundsAnswer·refusal (Moves·cover after b depth)) asked (trialNumbers rigid) (among rigid asked tt tt) (k .number);
+      number = one-of-wider (BoundsAnswer·refusal (Moves·cover after b depth)) asked (trialNumbers rigid) (among rigid asked tt tt) (k .number);
       none = k .none;
     }
 beside-numbered rigid rows place b depth (refused n) h = refused-numbered rigid n h

@@ -1,7 +1,7 @@
 -- What it says of a list of booms that it is not refused, `day-accepted`, and which numbers it can give, `day-number`.
 use Prim.Native.Nat.{ℕ, _≤_, _<_}
 use mathlib.Core.Path.{_≡_, refl, subst}
-use mathlib.Core.Bool.{Bool, true, false, not, _||_, cond}
+use mathlib.Core.Bool.{Bool, true, false, _||_, cond}
 use mathlib.Core.Logic.{inl, inr}
 use mathlib.Core.List.{List, [], _∷_}
 use native.Mathlib.Omega.{arith}
@@ -10,8 +10,8 @@ use lib.Dec.{eqb, ltb}
 use lib.ListN.{length}
 use Rattle.control_flow.proofs.Choice.{cond-keeps}
 use Rattle.bounds3.specs.declared.Bounds3f.{Bounds3f}
-use Rattle.bounds_query.specs.Query.{Bounds3f·isOrdered, Bounds3f·refusal}
-use Rattle.bounds3.specs.Finite.{Bounds3f·isFinite}
+use Rattle.bounds_query.specs.Query.{Bounds3f·refusal}
+use Rattle.bounds_query.proofs.Numbers.{box-keeps}
 use Rattle.transform.specs.Answer.{OneOf}
 use Rattle.run_schedule.specs.Day.{Boom, boomAt, Boom·badLength, someBadLength, maxBooms, maxTicks, firstBoxRefusal, dayRefusal}
 use Rattle.run_schedule.proofs.Places.{both-false, some-false}
@@ -43,10 +43,7 @@ day-accepted booms e =
     }
 
 box-number : (b : Bounds3f) → OneOf (Bounds3f·refusal b) (0 ∷ 6 ∷ 7 ∷ 22 ∷ [])
-unfolding Bounds3f·refusal
-box-number b =
-    cond-keeps (λ (n : ℕ). OneOf n (0 ∷ 6 ∷ 7 ∷ 22 ∷ [])) (not (Bounds3f·isFinite b)) _ _ (inr (inl refl))
-    (cond-keeps (λ (n : ℕ). OneOf n (0 ∷ 6 ∷ 7 ∷ 22 ∷ [])) (not (Bounds3f·isOrdered b)) _ _ (inr (inr (inl refl))) (inl refl))
+box-number b = box-keeps (λ (n : ℕ). OneOf n (0 ∷ 6 ∷ 7 ∷ 22 ∷ [])) b (inl refl) (inr (inl refl)) (inr (inr (inl refl)))
 
 boxes-number : (booms : List Boom) → OneOf (firstBoxRefusal booms) (0 ∷ 6 ∷ 7 ∷ 22 ∷ [])
 unfolding firstBoxRefusal

@@ -15,7 +15,8 @@ use Rattle.matrix4x4.specs.Rows.{Rows}
 use Rattle.bounds3.specs.declared.Bounds3f.{Bounds3f}
 use Rattle.transform.specs.declared.BoundsAnswer.{BoundsAnswer}
 use Rattle.transform.specs.declared.BoundsAnswer.the-variants.{Refused}
-use Rattle.transform.specs.Answer.{OneOf, BoundsAnswer·refusal, BoundsAnswer·bounds}
+use Rattle.transform.specs.Answer.{BoundsAnswer·refusal, BoundsAnswer·bounds}
+use Rattle.transform.proofs.Answer.{one-of-wider}
 use Rattle.bounds_query.specs.Query.{coverRefusal}
 use Rattle.motion_cover.specs.Answer.{BoundsAnswer·Numbered}
 use Rattle.cover_depth.specs.Finer.{Within}
@@ -65,16 +66,7 @@ kept-window-numbered rows b depth w =
     cond-keeps (BoundsAnswer·Numbered (0 ∷ 5 ∷ 6 ∷ 7 ∷ 8 ∷ 10 ∷ 12 ∷ 21 ∷ []))
     (eqb (length rows) 0) (Refused 12) (Chain·windowCover (Moves·chain rows) b depth w)
     (record { number = inr (inr (inr (inr (inr (inr (inl refl)))))); none = λ e. absurd (omega (arith, e)) })
-    (record { number = wider (own .number); none = own .none })
-  where
-    wider : {n : ℕ} → OneOf n (0 ∷ 5 ∷ 6 ∷ 7 ∷ 8 ∷ 10 ∷ 21 ∷ []) → OneOf n (0 ∷ 5 ∷ 6 ∷ 7 ∷ 8 ∷ 10 ∷ 12 ∷ 21 ∷ [])
-    wider (inl e) = inl e
-    wider (inr (inl e)) = inr (inl e)
-    wider (inr (inr (inl e))) = inr (inr (inl e))
-    wider (inr (inr (inr (inl e)))) = inr (inr (inr (inl e)))
-    wider (inr (inr (inr (inr (inl e))))) = inr (inr (inr (inr (inl e))))
-    wider (inr (inr (inr (inr (inr (inl e)))))) = inr (inr (inr (inr (inr (inl e)))))
-    wider (inr (inr (inr (inr (inr (inr h)))))) = inr (inr (inr (inr (inr (inr (inr h))))))
+    (record { number = one-of-wider _ (0 ∷ 5 ∷ 6 ∷ 7 ∷ 8 ∷ 10 ∷ 21 ∷ []) (0 ∷ 5 ∷ 6 ∷ 7 ∷ 8 ∷ 10 ∷ 12 ∷ 21 ∷ []) tt (own .number); none = own .none })
 
 pub window-clauses : (rows : List Rows) (b : Bounds3f) (depth : ℕ) (w : Window) {r : BoundsAnswer} → r ≡ Moves·windowCover rows b depth w
     → (r ≡ Moves·windowCover rows b depth w) × (((c : Chain) → rows ≡ Chain·toRows c → r ≡ Chain·windowCover c b depth w)

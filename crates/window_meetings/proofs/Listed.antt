@@ -1,6 +1,6 @@
 -- What an accepted list of windows says: each window's covers are accepted, and where they meet its place is listed (`window-listed`).
 use Prim.Native.Nat.{ℕ, zero, suc, _+_, _<_}
-use mathlib.Core.Logic.{inl, inr}
+use mathlib.Core.Logic.{inl}
 use mathlib.Core.Path.{_≡_, refl, sym, subst, ap, _∙_}
 use mathlib.Core.Bool.{Bool, true, false, cond}
 use mathlib.Core.List.{List, [], _∷_}
@@ -13,6 +13,7 @@ use Rattle.refusal.proofs.First.{first-zero}
 use Rattle.refusal.specs.First.{firstRefusal}
 use Rattle.transform.specs.declared.BoundsAnswer.{BoundsAnswer}
 use Rattle.transform.specs.Answer.{OneOf, BoundsAnswer·refusal, BoundsAnswer·bounds}
+use Rattle.transform.proofs.Answer.{one-of-cond}
 use Rattle.bounds_overlap.specs.Meets.{Bounds3f·meets}
 use Rattle.bounds_meeting.specs.Meeting.{Meeting·of}
 use Rattle.window_times.specs.declared.Window.{Window}
@@ -88,11 +89,8 @@ module _ (cover cover' : Window → BoundsAnswer) where
       record {
         accepted = b .accepted;
         accepted' = b .accepted';
-        meeting = λ m. subst (OneOf (j + suc i)) (sym (a .whole)) (later (j + suc i) j (a .rest)
+        meeting = λ m. subst (OneOf (j + suc i)) (sym (a .whole)) (one-of-cond
             (Bounds3f·meets (BoundsAnswer·bounds (cover (record { earlier = t; later = u })))
-            (BoundsAnswer·bounds (cover' (record { earlier = t; later = u })))) (subst (λ (k : ℕ). OneOf k (a .rest)) same (b .meeting m)));
+            (BoundsAnswer·bounds (cover' (record { earlier = t; later = u })))) (j + suc i) j (a .rest)
+            (subst (λ (k : ℕ). OneOf k (a .rest)) same (b .meeting m)));
       }
-    where
-      later : (x k : ℕ) (rest : List ℕ) (m : Bool) → OneOf x rest → OneOf x (cond m (k ∷ rest) rest)
-      later x k rest true o = inr o
-      later x k rest false o = o

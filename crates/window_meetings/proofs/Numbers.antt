@@ -2,7 +2,7 @@
 use Prim.Native.Nat.{ℕ, suc}
 use mathlib.Core.Logic.{inl, inr}
 use mathlib.Core.Path.{_≡_, refl}
-use mathlib.Core.Bool.{Bool, true, false, not, _||_, cond}
+use mathlib.Core.Bool.{Bool, true, false, _||_, cond}
 use mathlib.Core.List.{List, [], _∷_}
 use borrow.Author.Tests.{eqb-false}
 use lib.Dec.{eqb, ltb}
@@ -11,10 +11,10 @@ use lib.Ieee.{Float}
 use Rattle.refusal.proofs.First.{first-keeps}
 use Rattle.refusal.specs.First.{firstRefusal}
 use Rattle.bounds3.specs.declared.Bounds3f.{Bounds3f}
-use Rattle.bounds3.specs.Finite.{Bounds3f·isFinite}
 use Rattle.transform.specs.declared.BoundsAnswer.{BoundsAnswer}
 use Rattle.transform.specs.Answer.{OneOf, BoundsAnswer·refusal, BoundsAnswer·bounds}
-use Rattle.bounds_query.specs.Query.{Bounds3f·isOrdered, Bounds3f·refusal, maxDepth}
+use Rattle.bounds_query.specs.Query.{Bounds3f·refusal, maxDepth}
+use Rattle.bounds_query.proofs.Numbers.{box-keeps}
 use Rattle.bounds_overlap.specs.Meets.{Bounds3f·meets}
 use Rattle.bounds_meeting.specs.Meeting.{Meeting·of}
 use Rattle.motion_chain.specs.Chain.{firstNumber, Chain}
@@ -45,13 +45,7 @@ ticks-number ticks = go (ltb (length ticks) minTicks || ltb maxTicks (length tic
     go false false = inr (inr (inr (inr (inr (inr (inl refl))))))
 
 box-number : (b : Bounds3f) → Number (Bounds3f·refusal b)
-unfolding Bounds3f·refusal
-box-number b = go (Bounds3f·isFinite b) (Bounds3f·isOrdered b)
-  where
-    go : (f o : Bool) → Number (cond (not f) 6 (cond (not o) 7 0))
-    go true true = inl refl
-    go true false = inr (inr (inr (inl refl)))
-    go false o = inr (inr (inl refl))
+box-number b = box-keeps Number b (inl refl) (inr (inr (inl refl))) (inr (inr (inr (inl refl))))
 
 depth-number : (d : ℕ) → Number (cond (ltb maxDepth d) 8 0)
 depth-number d = go (ltb maxDepth d)

@@ -17,6 +17,7 @@ use Rattle.bounds3.specs.declared.Bounds3f.{Bounds3f}
 use Rattle.bounds3.specs.Inside.{Inside}
 use Rattle.transform.specs.declared.BoundsAnswer.{BoundsAnswer}
 use Rattle.transform.specs.Answer.{OneOf, PointAnswer·refusal}
+use Rattle.transform.proofs.Answer.{one-of-wider}
 use Rattle.bounds_query.specs.Query.{Bounds3f·refusal, maxDepth, coverRefusal}
 use Rattle.tick_list.specs.Ticks.{minTicks, maxTicks, Ticks·rise, Ticks·refusal}
 use Rattle.motion_chain.specs.Chain.{Chain, firstNumber}
@@ -155,18 +156,11 @@ kept-windows-numbered rows rows' b b' d ticks = go (eqb (length rows) 0 || eqb (
     own : WindowsAnswer
     own = Chain·windows (Moves·chain rows) (Moves·chain rows') b b' d ticks
 
-    wider : {n : ℕ} → OneOf n (0 ∷ 5 ∷ 6 ∷ 7 ∷ 8 ∷ 10 ∷ 21 ∷ []) → OneOf n (0 ∷ 5 ∷ 6 ∷ 7 ∷ 8 ∷ 10 ∷ 12 ∷ 21 ∷ [])
-    wider (inl e) = inl e
-    wider (inr (inl e)) = inr (inl e)
-    wider (inr (inr (inl e))) = inr (inr (inl e))
-    wider (inr (inr (inr (inl e)))) = inr (inr (inr (inl e)))
-    wider (inr (inr (inr (inr (inl e))))) = inr (inr (inr (inr (inl e))))
-    wider (inr (inr (inr (inr (inr (inl e)))))) = inr (inr (inr (inr (inr (inl e)))))
-    wider (inr (inr (inr (inr (inr (inr h)))))) = inr (inr (inr (inr (inr (inr (inr h))))))
-
     go : (t : Bool) → WindowsAnswer·Numbered (0 ∷ 5 ∷ 6 ∷ 7 ∷ 8 ∷ 10 ∷ 12 ∷ 21 ∷ []) (cond t (refused 12) own)
     go true = record { number = inr (inr (inr (inr (inr (inr (inl refl)))))); none = λ e. absurd (omega (arith, e)) }
-    go false = let h = windows-numbered (Moves·chain rows) (Moves·chain rows') b b' d ticks in record { number = wider (h .number); none = h .none }
+    go false =
+        let h = windows-numbered (Moves·chain rows) (Moves·chain rows') b b' d ticks in
+        record { number = one-of-wider _ (0 ∷ 5 ∷ 6 ∷ 7 ∷ 8 ∷ 10 ∷ 21 ∷ []) (0 ∷ 5 ∷ 6 ∷ 7 ∷ 8 ∷ 10 ∷ 12 ∷ 21 ∷ []) tt (h .number); none = h .none }
 
 -- ---- the clauses, from the answer
 -- The windows are the first of the places.
