@@ -24,6 +24,10 @@ pub each-unmap : {A B : Type 0} (Q : B → Type 0) (f : A → B) (xs : List A) �
 each-unmap Q f [] h = tt
 each-unmap Q f (x ∷ xs) (h, hs) = (h, each-unmap Q f xs hs)
 
+pub each-implies : {A : Type 0} {P Q : A → Type 0} → ((x : A) → P x → Q x) → (xs : List A) → Each P xs → Each Q xs
+each-implies g [] h = tt
+each-implies g (x ∷ xs) (h, hs) = (g x h, each-implies g xs hs)
+
 pub each-of : {A : Type 0} {P : A → Type 0} → ((x : A) → P x) → (xs : List A) → Each P xs
 each-of g [] = tt
 each-of g (x ∷ xs) = (g x, each-of g xs)

@@ -2,34 +2,33 @@
 -- theirs: `join-answers`. Above the shared time is above the end time of every move of the first, since these rise (`ends-later`);
 -- the union of the moves' covers may be taken in two parts (`union-all-append`).
 use Prim.Native.Nat.{ℕ}
-use mathlib.Core.Path.{_≡_, refl, sym, ap, subst, _∙_}
-use mathlib.Core.Bool.{Bool, true, false, not, cond}
-use mathlib.Core.List.{List, [], _∷_, _++_, map}
+use mathlib.Core.Path.{_≡_, sym, ap, subst, _∙_}
+use mathlib.Core.Bool.{not, cond}
+use mathlib.Core.List.{List, [], _∷_, _++_, map, map-append}
 use lib.Dec.{T}
 use lib.Ieee.{Float, le}
-use lib.Ieee.Bits.{is-true, is-false}
+use lib.Ieee.Bits.{is-false}
 use Rattle.rounding.specs.Order.{_≼_}
 use Rattle.rounding.proofs.Order.{≼-refl, ≼-trans, number-right, lt-≼}
 use Rattle.bounds3.specs.declared.Point3f.{Point3f}
 use Rattle.bounds3.specs.declared.Bounds3f.{Bounds3f}
-use Rattle.transform.specs.declared.PointAnswer.{PointAnswer}
 use Rattle.transform.specs.declared.BoundsAnswer.{BoundsAnswer}
 use Rattle.bounds_query.specs.Query.{BoundsAnswer·unionBounds}
 use Rattle.bounds_answers.specs.UnionAll.{BoundsAnswer·unionAll}
+use Rattle.bounds_answers.proofs.UnionAll.{each-implies}
 use Rattle.animated_transform.specs.declared.AnimatedTransform.{AnimatedTransform}
 use Rattle.motion_point.specs.TransformPoint.{AnimatedTransform·transformPoint}
 use Rattle.motion_point.specs.PadAt.{AnimatedTransform·padAt}
 use Rattle.motion_cover.specs.Cover.{AnimatedTransform·cover}
 use Rattle.motion_chain.specs.Chain.{Chain, Chain·moves, moveFrom, Chain·moveAt, Chain·transformPoint, Chain·padAt, unionCovers, Chain·cover}
-use Rattle.motion_chain.specs.Built.{BuiltChain, Each, Contiguous}
+use Rattle.motion_chain.specs.Built.{BuiltChain, Contiguous}
 use Rattle.motion_chain.specs.MoveAt.{lastFrom}
 use Rattle.motion_chain.specs.Times.{PointsAnswer, PointsAnswer·cons, PointsAnswer·append, pointsAt}
 use Rattle.motion_chain.proofs.Built.{built-moves}
-use Rattle.motion_chain.proofs.MoveAt.{first-move, later-move}
-use Rattle.motion_chain.proofs.Stretches.{points-append}
+use Rattle.motion_chain.proofs.MoveAt.{above-earlier, first-move, later-move}
+use Rattle.motion_chain.proofs.Stretches.{points-append, points-same}
 use Rattle.joined_chains.specs.Theorem.{Chain·append, AnswersAs, sharedTime, JoinAnswers}
 use Rattle.joined_chains.proofs.Union.{union-all-append}
-use Rattle.joined_chains.proofs.Built.{map-append}
 
 -- ---- the move of a time
 ends-later : (s : Float) (m : AnimatedTransform) (moves : List AnimatedTransform) → Contiguous s (m ∷ moves) → m .«end_time» ≼ lastFrom m moves .«end_time»
@@ -38,13 +37,6 @@ ends-later s m [] (e, r, _) = ≼-refl (m .«end_time») (number-right (lt-≼ (
 ends-later s m (next ∷ moves) (e, r, (e', r', c)) =
     ≼-trans (subst (λ (t : Float). t ≼ next .«end_time») e' (lt-≼ (next .«start_time») (next .«end_time») r'))
     (ends-later (m .«end_time») next moves (e', r', c))
-
-above-earlier : {t s : Float} (time : Float) → T (not (le time s)) → t ≼ s → le time t ≡ false
-above-earlier {t} {s} time h k = go (le time t) (λ e. ≼-trans {x = time} (record { holds = e }) k .holds)
-  where
-    go : (b : Bool) → (T b → T (le time s)) → b ≡ false
-    go false f = refl
-    go true f = absurd (subst (λ (x : Bool). T (not x)) (is-true (le time s) (f tt)) h)
 
 module _ (time : Float) where
   move-up-to : (m : AnimatedTransform) (moves others : List AnimatedTransform) → T (le time (lastFrom m moves .«end_time»))
@@ -70,16 +62,6 @@ same-move time k = record {
   pad = ap (λ (m : AnimatedTransform). AnimatedTransform·padAt m time) k;
 }
 
--- ---- a list of times
-same-points : (f g : Float → PointAnswer) (times : List Float) → Each (λ t. f t ≡ g t) times → pointsAt f times ≡ pointsAt g times
-unfolding pointsAt
-same-points f g [] h = refl
-same-points f g (t ∷ times) (h, hs) = rw (h, same-points f g times hs)
-
-each-of : {P Q : Float → Type 0} → ((t : Float) → P t → Q t) → (times : List Float) → Each P times → Each Q times
-each-of f [] h = tt
-each-of f (t ∷ times) (h, hs) = (f t h, each-of f times hs)
-
 -- ---- the cover, of any two chains
 pub append-cover : (c d : Chain) (b : Bounds3f) (depth : ℕ)
     → Chain·cover (Chain·append c d) b depth ≡ BoundsAnswer·unionBounds (Chain·cover c b depth) (Chain·cover d b depth)
@@ -97,8 +79,8 @@ join-answers c d built = record {
   times = λ early late p h k.
       points-append (λ t. Chain·transformPoint (Chain·append c d) t p) early late
       ∙ ap (λ (a : PointsAnswer). PointsAnswer·append a (pointsAt (λ t. Chain·transformPoint (Chain·append c d) t p) late))
-      (same-points _ _ early (each-of (λ t l. up-to t l .point p) early h))
-      ∙ ap (PointsAnswer·append (pointsAt (λ t. Chain·transformPoint c t p) early)) (same-points _ _ late (each-of (λ t l. above t l .point p) late k));
+      (points-same _ _ early (each-implies (λ t l. up-to t l .point p) early h))
+      ∙ ap (PointsAnswer·append (pointsAt (λ t. Chain·transformPoint c t p) early)) (points-same _ _ late (each-implies (λ t l. above t l .point p) late k));
   cover = append-cover c d;
 }
   where

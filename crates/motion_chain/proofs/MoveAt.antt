@@ -30,7 +30,7 @@ starts-later time (m ∷ moves) n (s, r, c) =
     later (x ∷ ms) up (h, hs) = (≼-trans up h, later ms up hs)
 
 -- Above a start time is above every time up to it.
-above-earlier : {t s : Float} (time : Float) → T (not (le time s)) → t ≼ s → le time t ≡ false
+pub above-earlier : {t s : Float} (time : Float) → T (not (le time s)) → t ≼ s → le time t ≡ false
 above-earlier {t} {s} time h k = go (le time t) (λ e. ≼-trans {x = time} (record { holds = e }) k .holds)
   where
     go : (b : Bool) → (T b → T (le time s)) → b ≡ false

@@ -1,5 +1,5 @@
 -- A chain of two poses is document 01's move, but for times that don't rise strictly:
--- `two-poses`, `single-move`. The checks of the chain are those of the pair (`checks-same`).
+-- `two-poses`, `single-move`. The checks of the chain are those of the pair (`checks-same`). A time is never refused beside itself: `same-time`.
 use Prim.Native.Nat.{ℕ, _+_, _*_}
 use mathlib.Core.Path.{_≡_, refl, sym, _∙_}
 use mathlib.Core.Bool.{Bool, true, false, not, _&&_, cond}
@@ -139,9 +139,10 @@ sub-same-finite x f =
     level : (p n d : ℕ) → FractionLe (p * d + n * d) (n * d + p * d) (d * d) 0 0 1
     level p n d = omega arith
 
-times-passed : (x : Float) → T (finite x) → timesRefusal x x ≡ 0
+-- A move from a pose to itself, at its time, is not refused for its times.
+pub same-time : (x : Float) → T (finite x) → timesRefusal x x ≡ 0
 unfolding timesRefusal
-times-passed x f = rw (lt-irrefl x, is-true (finite (x ⊖ x)) (sub-same-finite x f))
+same-time x f = rw (lt-irrefl x, is-true (finite (x ⊖ x)) (sub-same-finite x f))
 
 time-finite : (p : Pose) → T (Pose·isFinite p) → T (finite (p .time))
 unfolding Pose·isFinite
@@ -153,7 +154,7 @@ equal-times-worked : (rigid : Bool) (p q : Pose) → Checked p q → Pose·kindN
     → AnimatedTransform·new rigid p q ≡ AnimatedTransform·fromPoses rigid p q
 equal-times-worked rigid p q checked i j e =
     let (h, k) = passed rigid p q checked i j in
-    pair-worked rigid p q h k (rw (← e) (times-passed (p .time) (time-finite p (h .finite))))
+    pair-worked rigid p q h k (rw (← e) (same-time (p .time) (time-finite p (h .finite))))
 
 pub two-poses : (rigid : Bool) (p q : Pose) → TwoPoses rigid p q
 two-poses rigid p q = record {

@@ -20,14 +20,14 @@ use Rattle.pose_pair.specs.declared.Pose.{Pose}
 use Rattle.pose_pair.specs.Pose.{Pose·isFinite, Pose·isAffine, Pose·isPadded, timesRefusal, posesRefusal, Pose·kindNumber}
 use Rattle.animated_transform.specs.declared.AnimatedTransformAnswer.{AnimatedTransformAnswer}
 use Rattle.animated_transform.specs.New.{AnimatedTransformAnswer·refused, AnimatedTransform·fromPoses, AnimatedTransform·new}
-use Rattle.bounds_answers.proofs.UnionAll.{each-of}
+use Rattle.bounds_answers.proofs.UnionAll.{each-of, each-implies}
 use Rattle.motion_chain.specs.Chain.{minPoses, maxPoses, neighbours, firstNumber, stage, Pose·number, Pair·number, kindStage, chainStages, chainRefusal}
 use Rattle.motion_chain.specs.Built.{Each}
 use Rattle.motion_chain.proofs.Built.{first-none, first-only, stage-each, checks-passed}
+use Rattle.motion_chain.proofs.TwoPoses.{same-time}
 use Rattle.chain_number.specs.Number.{Move·number, Chain·number}
 use Rattle.chain_number.proofs.ChainNumber.{chain-number}
 use Rattle.refused_run.specs.Run.{runAt, runNumber}
-use Rattle.refused_run.proofs.SameTime.{same-time}
 
 pub record ShortRun (rigid : Bool) (poses : List Pose) (number : ℕ) : Type 0 where
   pub place : ℕ
@@ -48,10 +48,6 @@ met {A} a b n e = go (eqb a 0) (eqb-true a 0) e
 met-first : {A : Type 0} (a : ℕ) (ns : List ℕ) (n : ℕ) → firstNumber (a ∷ ns) ≡ n → (a ≡ n → A) → (a ≡ 0 → firstNumber ns ≡ n → A) → A
 unfolding firstNumber
 met-first a ns n e = met a (firstNumber ns) n e
-
-each : {A : Type 0} {P Q : A → Type 0} → ((x : A) → P x → Q x) → (xs : List A) → Each P xs → Each Q xs
-each f [] hs = tt
-each f (x ∷ xs) (h, hs) = (f x h, each f xs hs)
 
 -- ---- what is asked of a pose by itself, before anything is asked of two
 record Cleared (p : Pose) : Type 0 where
@@ -188,7 +184,7 @@ unfolding kindStage Pose·number
 kind-run false n refused poses cs e = absurd (refused (sym e))
 kind-run true n refused poses cs e =
     pose-run true (Pose·kindNumber true) n refused poses
-    (each (λ p c e. self-number true p ∙ rw (c .finite, c .affine, c .padded, own-times p c, e, ne-eqb n 0 refused)) poses cs) e
+    (each-implies (λ p c e. self-number true p ∙ rw (c .finite, c .affine, c .padded, own-times p c, e, ne-eqb n 0 refused)) poses cs) e
 
 pair-kind : (rigid : Bool) (p q : Pose) → Pose·kindNumber rigid p ≡ 0 → Pose·kindNumber rigid q ≡ 0 → kindStage rigid (p ∷ q ∷ []) ≡ 0
 unfolding kindStage Pose·number firstNumber
@@ -216,7 +212,7 @@ module _ (rigid : Bool) (poses : List Pose) (n : ℕ) (refused : n ≡ 0 → ⊥
   not-affine : Clear 1 → stage (Pose·number 2) poses ≡ n → ShortRun rigid poses n
   not-affine finite =
       pose-run rigid (Pose·number 2) n refused poses
-      (each (λ p z e. self-number rigid p ∙ rw (z, e, ne-eqb n 0 refused)) poses (stage-each (Pose·number 1) poses finite))
+      (each-implies (λ p z e. self-number rigid p ∙ rw (z, e, ne-eqb n 0 refused)) poses (stage-each (Pose·number 1) poses finite))
 
   not-padded : Clear 1 → Clear 2 → stage (Pose·number 16) poses ≡ n → ShortRun rigid poses n
   not-padded finite affine =
