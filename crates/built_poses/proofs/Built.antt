@@ -2,7 +2,7 @@
 -- Every move stores the times, the matrices and the pads of its two poses: `new-poses`.
 use Prim.Native.Nat.{ℕ}
 use mathlib.Core.Path.{_≡_, refl, sym, ap, _∙_}
-use mathlib.Core.Bool.{Bool, true, false, cond, false≢true}
+use mathlib.Core.Bool.{Bool, true, false, cond}
 use mathlib.Core.List.{List, [], _∷_, map}
 use borrow.Author.Tests.{eqb-true, eqb-false}
 use lib.Dec.{eqb}
@@ -27,8 +27,8 @@ use Rattle.animated_transform.specs.declared.AnimatedTransformAnswer.{AnimatedT
 use Rattle.animated_transform.specs.New.{AnimatedTransformAnswer·refused, AnimatedTransform·ofFields, AnimatedTransform·fromParts}
 use Rattle.animated_transform.specs.New.{AnimatedTransform·fromPoses, buildRefusal, AnimatedTransform·new}
 use Rattle.animated_transform.proofs.Kept.{new-kept}
-use Rattle.motion_chain.specs.Chain.{neighbours, firstNumber, Chain, Chain·moves, ChainAnswer, built, refused, ChainAnswer·fromMoves, Chain·new}
-use Rattle.motion_chain.proofs.Built.{first-none, new-built}
+use Rattle.motion_chain.specs.Chain.{neighbours, firstNumber, Chain, Chain·moves, built, ChainAnswer·fromMoves, Chain·new}
+use Rattle.motion_chain.proofs.Built.{first-none, refused-built, answers, values, new-built, from-moves-built}
 use Rattle.built_poses.specs.Poses.{AnimatedTransform·startPose, AnimatedTransform·endPose, Chain·poses, Chain·isRigid, BuiltPoses, BuiltPairs, BuiltKind}
 
 -- ---- one pair
@@ -82,14 +82,8 @@ unfolding AnimatedTransform·new
 new-poses rigid p q = tested-poses (buildRefusal rigid p q) (AnimatedTransform·fromPoses rigid p q) (λ _. from-poses-poses rigid p q)
 
 -- ---- the pairs, from a pose on
-abbrev answers : Bool → List Pose → List AnimatedTransformAnswer
-answers rigid poses = map (λ (p, q). AnimatedTransform·new rigid p q) (neighbours poses)
-
 abbrev number : List AnimatedTransformAnswer → ℕ
 number xs = firstNumber (map (λ a. a .refusal) xs)
-
-abbrev values : List AnimatedTransformAnswer → List AnimatedTransform
-values = map (λ a. a .value)
 
 ends : (rigid : Bool) (p : Pose) (poses : List Pose) → number (answers rigid (p ∷ poses)) ≡ 0
     → map AnimatedTransform·endPose (values (answers rigid (p ∷ poses))) ≡ poses
@@ -113,24 +107,6 @@ pairs rigid p (q ∷ poses) n =
     rw (new-poses rigid p q .start-pose z, new-poses rigid p q .end-pose z, pairs rigid q poses rest)
 
 -- ---- the chain
-abbrev isBuilt : ChainAnswer → Bool
-isBuilt (built c) = true
-isBuilt (refused n) = false
-
-refused-built : (n : ℕ) (c : Chain) → refused n ≡ built c → ⊥
-refused-built n c e = false≢true (ap isBuilt e)
-
-abbrev chainOf : Chain → ChainAnswer → Chain
-chainOf d (built c) = c
-chainOf d (refused n) = d
-
-tested-built : (n : ℕ) (c d : Chain) → cond (eqb n 0) (built d) (refused n) ≡ built c → (n ≡ 0) × (c ≡ d)
-tested-built n c d = go (eqb n 0) (eqb-true n 0)
-  where
-    go : (b : Bool) → (b ≡ true → n ≡ 0) → cond b (built d) (refused n) ≡ built c → (n ≡ 0) × (c ≡ d)
-    go true f e = (f refl, ap (chainOf d) (sym e))
-    go false f e = absurd (refused-built n c e)
-
 record FromPoses (rigid : Bool) (poses : List Pose) (c : Chain) : Type 0 where
   poses-kept : Chain·poses c ≡ poses
   pairs-kept : map posesOf (Chain·moves c) ≡ neighbours poses
@@ -138,12 +114,12 @@ record FromPoses (rigid : Bool) (poses : List Pose) (c : Chain) : Type 0 where
 
 from-poses : (rigid : Bool) (poses : List Pose) (c : Chain) → Chain·new rigid poses ≡ built c → FromPoses rigid poses c
 unfolding ChainAnswer·fromMoves neighbours Chain·poses
-from-poses rigid [] c e = absurd (refused-built 12 c (new-built rigid [] c e .1))
-from-poses rigid (p ∷ []) c e = absurd (refused-built 12 c (new-built rigid (p ∷ []) c e .1))
+from-poses rigid [] c e = absurd (refused-built (new-built rigid [] c e .1))
+from-poses rigid (p ∷ []) c e = absurd (refused-built (new-built rigid (p ∷ []) c e .1))
 from-poses rigid (p ∷ q ∷ poses) c e =
     let a = AnimatedTransform·new rigid p q in
     let rest = answers rigid (q ∷ poses) in
-    let (n, same) = tested-built (number (a ∷ rest)) c (record { first = a .value; rest = values rest }) (new-built rigid (p ∷ q ∷ poses) c e .1) in
+    let (n, same) = from-moves-built a rest c (new-built rigid (p ∷ q ∷ poses) c e .1) in
     let (z, _) = first-none (a .refusal) (map (λ x. x .refusal) rest) n in
     record {
       poses-kept =

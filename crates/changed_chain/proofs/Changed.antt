@@ -3,8 +3,8 @@
 -- the changed chain is built, its poses are binary32 where the new one is: `changed-built`. A chain whose number is 0 is built: `new-none`.
 use Prim.Native.Nat.{ℕ, zero, suc, _-_, _≤_, _<_}
 use mathlib.Core.Path.{_≡_, refl, sym, ap, _∙_}
-use mathlib.Core.Bool.{Bool, true, false, _||_, cond, false≢true}
-use mathlib.Core.List.{List, [], _∷_, _++_, map}
+use mathlib.Core.Bool.{Bool, true, false, _||_, cond}
+use mathlib.Core.List.{List, [], _∷_, _++_, map, map-map}
 use native.Mathlib.Omega.{arith}
 use borrow.Author.Tests.{eq-eqb, ne-eqb, eqb-true, eqb-false, le-ltb}
 use lib.Dec.{T, eqb, ltb}
@@ -18,7 +18,8 @@ use Rattle.animated_transform.specs.New.{AnimatedTransform·new}
 use Rattle.motion_chain.specs.Chain.{minPoses, maxPoses, neighbours, every, firstNumber, stage, Pose·number, Pair·number, kindStage, chainStages, chainRefusal}
 use Rattle.motion_chain.specs.Chain.{Chain, Chain·moves, ChainAnswer, built, refused, ChainAnswer·refusal, ChainAnswer·fromMoves, Chain·new}
 use Rattle.motion_chain.specs.Built.{BuiltChain}
-use Rattle.motion_chain.proofs.Built.{first-none, first-each, checks-passed, new-built}
+use Rattle.motion_chain.proofs.Built as chain
+use Rattle.motion_chain.proofs.Built.{first-none, first-each, refused-built, checks-passed, values, BuiltFrom, built-from, none-built}
 use Rattle.built_poses.specs.Poses.{AnimatedTransform·startPose, AnimatedTransform·endPose, Chain·poses, Chain·isRigid}
 use Rattle.built_poses.proofs.Built.{new-poses, built-poses, built-kind}
 use Rattle.changed_chain.specs.Trial.{Chain·changed}
@@ -29,23 +30,16 @@ use Rattle.changed_chain.proofs.Window.{window, window-least, window-gr
 module _ (rigid : Bool) where
   -- ---- what came of each pair
   abbrev answers : List Pose → List AnimatedTransformAnswer
-  answers poses = map (λ (p, q). AnimatedTransform·new rigid p q) (neighbours poses)
+  answers = chain.answers rigid
 
   abbrev number : List AnimatedTransformAnswer → ℕ
   number = stage (λ a. a .refusal)
 
-  abbrev values : List AnimatedTransformAnswer → List AnimatedTransform
-  values = map (λ a. a .value)
-
   abbrev pairNumber : Pose × Pose → ℕ
   pairNumber (p, q) = AnimatedTransform·new rigid p q .refusal
 
-  numbers-same : (pairs : List (Pose × Pose)) → map (λ a. a .refusal) (map (λ (p, q). AnimatedTransform·new rigid p q) pairs) ≡ map pairNumber pairs
-  numbers-same [] = refl
-  numbers-same (pair ∷ pairs) = ap (λ (l : List ℕ). pairNumber pair ∷ l) (numbers-same pairs)
-
   number-same : (poses : List Pose) → number (answers poses) ≡ stage pairNumber (neighbours poses)
-  number-same poses = ap firstNumber (numbers-same (neighbours poses))
+  number-same poses = ap firstNumber (map-map (λ a. a .refusal) (λ (p, q). AnimatedTransform·new rigid p q) (neighbours poses))
 
   answers-some : (poses : List Pose) → 2 ≤ length poses → 1 ≤ length (answers poses)
   unfolding neighbours
@@ -69,35 +63,9 @@ module _ (rigid : Bool) where
         same-moves = refl;
       }
 
-  abbrev isBuilt : ChainAnswer → Bool
-  isBuilt (built c) = true
-  isBuilt (refused n) = false
-
-  refused-built : {n : ℕ} {c : Chain} → refused n ≡ built c → ⊥
-  refused-built e = false≢true (ap isBuilt e)
-
   abbrev movesOf : ChainAnswer → List AnimatedTransform
   movesOf (built c) = Chain·moves c
   movesOf (refused n) = []
-
-  -- of one list of poses, once building is known
-  record Kept (poses : List Pose) (c : Chain) : Type 0 where
-    checks : chainRefusal rigid poses ≡ 0
-    none : number (answers poses) ≡ 0
-    moves : Chain·moves c ≡ values (answers poses)
-
-  kept : (poses : List Pose) (c : Chain) → Chain·new rigid poses ≡ built c → Kept poses c
-  kept poses c e =
-      let (z, f) = new-built rigid poses c e in
-      go (eqb (number (answers poses)) 0) refl z f (answers-some poses (checks-passed rigid poses z .least))
-    where
-      go : (b : Bool) → eqb (number (answers poses)) 0 ≡ b → chainRefusal rigid poses ≡ 0 → ChainAnswer·fromMoves (answers poses) ≡ built c
-          → 1 ≤ length (answers poses) → Kept poses c
-      go true t z f l =
-          let n = eqb-true (number (answers poses)) 0 t in
-          let own = from-built (answers poses) l n in
-          record { checks = z; none = n; moves = ap movesOf (sym f ∙ own .is-built) ∙ own .same-moves }
-      go false t z f l = absurd (refused-built (sym (from-refused (answers poses) l (eqb-false (number (answers poses)) 0 t)) ∙ f))
 
   -- ---- building, by its two numbers
   checked : (list : List Pose) → chainRefusal rigid list ≡ 0 → Chain·new rigid list ≡ ChainAnswer·fromMoves (answers list)
@@ -114,20 +82,7 @@ module _ (rigid : Bool) where
 
   -- a chain whose number is 0 is built
   pub new-none : (poses : List Pose) → ChainAnswer·refusal (Chain·new rigid poses) ≡ 0 → BuiltOf (Chain·new rigid poses) (values (answers poses))
-  new-none poses e = go (eqb (chainRefusal rigid poses) 0) refl (eqb (number (answers poses)) 0) refl
-    where
-      go : (s : Bool) → eqb (chainRefusal rigid poses) 0 ≡ s → (t : Bool)
-          → eqb (number (answers poses)) 0 ≡ t → BuiltOf (Chain·new rigid poses) (values (answers poses))
-      go false s t u = let f = eqb-false (chainRefusal rigid poses) 0 s in absurd (f (sym (ap ChainAnswer·refusal (unchecked poses f)) ∙ e))
-      go true s false u =
-          let z = eqb-true (chainRefusal rigid poses) 0 s in
-          let f = eqb-false (number (answers poses)) 0 u in
-          let l = answers-some poses (checks-passed rigid poses z .least) in
-          absurd (f (sym (ap ChainAnswer·refusal (checked poses z ∙ from-refused (answers poses) l f)) ∙ e))
-      go true s true u =
-          let z = eqb-true (chainRefusal rigid poses) 0 s in
-          let n = eqb-true (number (answers poses)) 0 u in
-          of-moves (answers poses) (checked poses z) (from-built (answers poses) (answers-some poses (checks-passed rigid poses z .least)) n)
+  new-none poses e = let (c, s) = none-built rigid poses e in record { chain = c; is-built = s; same-moves = built-from rigid poses c s .moves }
 
   -- ---- two lists of poses with the same numbers
   data Both (a b : ChainAnswer) (moves others : List AnimatedTransform) : Type 0 where
@@ -232,8 +187,8 @@ module _ (rigid : Bool) where
     own : Chain·poses c ≡ poses
     own = built-poses rigid poses c accepted
 
-    was : Kept poses c
-    was = kept poses c accepted
+    was : BuiltFrom rigid poses c
+    was = built-from rigid poses c accepted
 
     abbrev changed : List Pose
     changed = set poses place p
@@ -258,9 +213,9 @@ module _ (rigid : Bool) where
     both : Both (Chain·new rigid changed) (Chain·new rigid (window changed place)) (values (answers changed)) (values (answers (window changed place)))
     both =
         let n = length-set poses place p in
-        let least = checks-passed rigid poses (was .checks) .least in
+        let least = checks-passed rigid poses (was .passed) .least in
         let k : 2 ≤ length changed = omega (arith, n, least) in
-        alike-new changed (window changed place) (checks-window p poses place (was .checks) inside) numbers k
+        alike-new changed (window changed place) (checks-window p poses place (was .passed) inside) numbers k
         (window-least changed place k (omega (arith, n, inside)))
 
     changed-new : Chain·changed c place p ≡ Chain·new rigid changed

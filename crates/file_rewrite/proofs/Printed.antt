@@ -15,6 +15,7 @@ use Rattle.bounds3.specs.declared.Bounds3f.{Bounds3f}
 use Rattle.bounds3.specs.List.{Bounds3f·ofList}
 use Rattle.bounds_query.specs.Query.{Bounds3f·refusal}
 use Rattle.motion_chain.specs.Chain.{Chain, ChainAnswer, built, refused, ChainAnswer·refusal, Chain·new}
+use Rattle.motion_chain.proofs.Built.{none-built}
 use Rattle.chain_poses.specs.Poses.{Poses·ofLists}
 use Rattle.chain_rows.specs.Kept.{Chain·toRows}
 use Rattle.motion_file.specs.declared.MoveFile.{MoveFile}
@@ -26,7 +27,6 @@ use Rattle.motion_text.proofs.Pastes.{Wrote, wrote-none, lengthIn-fits, front-c
 use Rattle.chain_text.specs.Write.{written, refused as refusedBy, Moves·text, Moves·writeRefusal, Moves·write, TextAnswer·length, TextAnswer·left}
 use Rattle.chain_text.proofs.Kept.{kept-text}
 use Rattle.motion_answer.specs.Answer.{MoveFile·chain}
-use Rattle.motion_answer.proofs.Built.{new-none}
 use Rattle.file_rewrite.specs.Rewrite.{boxedText, ChainAnswer·text, rewrittenText}
 
 -- ---- a kept chain
@@ -81,7 +81,7 @@ pub built-printed : (lists : List (List Float)) (b : Bounds3f) (rows : List Rows
     → ChainAnswer·text (Chain·new false (Poses·ofLists lists)) b ≡ boxedText b (Moves·text rows b)
 unfolding ChainAnswer·text
 built-printed lists b rows e h kept =
-    let (c, s) = new-none false (Poses·ofLists lists) (sym e ∙ h) in
+    let (c, s) = none-built false (Poses·ofLists lists) (sym e ∙ h) in
     rw s (ap (boxedText b) (sym (kept-text false rows b lists c s (kept c s))))
 
 -- ---- a file

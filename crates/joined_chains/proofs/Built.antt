@@ -5,9 +5,10 @@ use Prim.Native.Nat.{ℕ, suc, _+_, _≤_}
 use mathlib.Core.Path.{_≡_, refl, sym, ap, subst, _∙_}
 use mathlib.Core.Bool.{Bool, true, false, Bool·beq, _&&_, _||_, cond}
 use mathlib.Core.List.{List, [], _∷_, _++_, map}
+pub use mathlib.Core.List.{map-append}
 use native.Mathlib.Omega.{arith}
-use borrow.Author.Tests.{eqb-true, eq-eqb, le-ltb, ltb-false}
-use lib.Dec.{T, eqb, ltb}
+use borrow.Author.Tests.{eq-eqb, le-ltb, ltb-false}
+use lib.Dec.{T, ltb}
 use lib.ListN.{length, drop}
 use lib.Ieee.Fits.{and-l, and-r, and-i}
 use Rattle.refusal.proofs.First.{first-zero}
@@ -18,10 +19,10 @@ use Rattle.animated_transform.specs.declared.AnimatedTransform.{AnimatedTransfo
 use Rattle.animated_transform.specs.declared.AnimatedTransformAnswer.{AnimatedTransformAnswer}
 use Rattle.animated_transform.specs.New.{AnimatedTransform·new}
 use Rattle.motion_chain.specs.Chain.{minPoses, maxPoses, neighbours, every, firstNumber, stage, Pose·number, Pair·number, kindStage, chainStages, chainRefusal}
-use Rattle.motion_chain.specs.Chain.{Chain, Chain·moves, ChainAnswer, built, refused, ChainAnswer·fromMoves, Chain·new}
+use Rattle.motion_chain.specs.Chain.{Chain, Chain·moves, built, ChainAnswer·fromMoves, Chain·new}
 use Rattle.motion_chain.specs.Built.{BuiltChain, Each}
 use Rattle.motion_chain.specs.MoveAt.{lastFrom}
-use Rattle.motion_chain.proofs.Built.{first-none, first-each, checks-passed, new-built}
+use Rattle.motion_chain.proofs.Built.{first-none, first-each, checks-passed, answers, values, BuiltFrom, built-from}
 use Rattle.built_poses.specs.Poses.{AnimatedTransform·startPose, AnimatedTransform·endPose, Chain·poses, Chain·isRigid}
 use Rattle.built_poses.proofs.Built.{built-poses, built-kind}
 use Rattle.joined_chains.specs.Join.{Chain·lastPose, Chain·firstPose, Chain·joinedPoses}
@@ -29,10 +30,6 @@ use Rattle.joined_chains.specs.Join.{mismatchRefusal, countRefusal, Chai
 use Rattle.joined_chains.specs.Theorem.{Chain·append, Joins}
 
 -- ---- lists
-pub map-append : {A B : Type 0} (f : A → B) (xs ys : List A) → map f (xs ++ ys) ≡ map f xs ++ map f ys
-map-append f [] ys = refl
-map-append {A} {B} f (x ∷ xs) ys = ap (λ (l : List B). f x ∷ l) (map-append f xs ys)
-
 every-append : {A : Type 0} (test : A → Bool) (xs ys : List A) → T (every test xs) → T (every test ys) → T (every test (xs ++ ys))
 unfolding every
 every-append test [] ys h k = k
@@ -112,38 +109,8 @@ module _ (rigid : Bool) (p q : Pose) (ps qs : List Pose) (same : lastOf p ps ≡
           rw (le-ltb n minPoses (omega (arith, h, k)), le-ltb maxPoses n most)
 
 -- ---- what came of the pairs
-abbrev answers : Bool → List Pose → List AnimatedTransformAnswer
-answers rigid poses = map (λ (p, q). AnimatedTransform·new rigid p q) (neighbours poses)
-
-abbrev values : List AnimatedTransformAnswer → List AnimatedTransform
-values = map (λ a. a .value)
-
 abbrev number : AnimatedTransformAnswer → ℕ
 number a = a .refusal
-
-abbrev isBuilt : ChainAnswer → Bool
-isBuilt (built c) = true
-isBuilt (refused n) = false
-
-refused-built : (n : ℕ) (c : Chain) → refused n ≡ built c → ⊥
-refused-built n c e = subst T (sym (ap isBuilt e)) tt
-
-abbrev movesOf : ChainAnswer → List AnimatedTransform
-movesOf (built c) = Chain·moves c
-movesOf (refused n) = []
-
-from-moves-built : (rs : List AnimatedTransformAnswer) (c : Chain) → ChainAnswer·fromMoves rs ≡ built c → (stage number rs ≡ 0) × (values rs ≡ Chain·moves c)
-unfolding ChainAnswer·fromMoves
-from-moves-built [] c e = absurd (refused-built 12 c e)
-from-moves-built (a ∷ rs) c e = go (eqb n 0) (eqb-true n 0) e
-  where
-    n : ℕ
-    n = stage number (a ∷ rs)
-
-    go : (b : Bool) → (b ≡ true → n ≡ 0) → cond b (built (record { first = a .value; rest = values rs })) (refused n) ≡ built c
-        → (n ≡ 0) × (values (a ∷ rs) ≡ Chain·moves c)
-    go true f e = (f refl, ap movesOf e)
-    go false f e = absurd (refused-built n c e)
 
 -- The chain of moves of which there is a first.
 abbrev chainOf : Chain → List AnimatedTransform → Chain
@@ -159,32 +126,20 @@ unfolding ChainAnswer·fromMoves
 built-from-moves [] c z e = absurd (subst T (sym (ap isSome e)) tt)
 built-from-moves (a ∷ rs) c z e = rw (eq-eqb (stage number (a ∷ rs)) 0 z) (ap (λ (l : List AnimatedTransform). built (chainOf c l)) e)
 
-record Worked (rigid : Bool) (poses : List Pose) (c : Chain) : Type 0 where
-  passed : chainRefusal rigid poses ≡ 0
-  none : stage number (answers rigid poses) ≡ 0
-  moves : values (answers rigid poses) ≡ Chain·moves c
-
-new-worked : (rigid : Bool) (poses : List Pose) (c : Chain) → Chain·new rigid poses ≡ built c → Worked rigid poses c
-new-worked rigid poses c e =
-    let (z, g) = new-built rigid poses c e in
-    let (n, s) = from-moves-built (answers rigid poses) c g in
-    record { passed = z; none = n; moves = s }
-
-worked-new : (rigid : Bool) (poses : List Pose) (c : Chain) → Worked rigid poses c → Chain·new rigid poses ≡ built c
+worked-new : (rigid : Bool) (poses : List Pose) (c : Chain) → BuiltFrom rigid poses c → Chain·new rigid poses ≡ built c
 unfolding Chain·new
-worked-new rigid poses c w = rw (eq-eqb (chainRefusal rigid poses) 0 (w .passed)) (built-from-moves (answers rigid poses) c (w .none) (w .moves))
+worked-new rigid poses c w = rw (eq-eqb (chainRefusal rigid poses) 0 (w .passed)) (built-from-moves (answers rigid poses) c (w .none) (sym (w .moves)))
 
 module _ (rigid : Bool) (p q : Pose) (ps qs : List Pose) (same : lastOf p ps ≡ q) (c d : Chain) where
-  join-worked : length ((p ∷ ps) ++ qs) ≤ maxPoses → Worked rigid (p ∷ ps) c → Worked rigid (q ∷ qs) d → Worked rigid ((p ∷ ps) ++ qs) (Chain·append c d)
+  join-worked : length ((p ∷ ps) ++ qs) ≤ maxPoses → BuiltFrom rigid (p ∷ ps) c → BuiltFrom rigid (q ∷ qs) d
+      → BuiltFrom rigid ((p ∷ ps) ++ qs) (Chain·append c d)
   join-worked most v w = record {
     passed = join-passed rigid p q ps qs same most (v .passed) (w .passed);
     none =
         ap (λ (l : List AnimatedTransformAnswer). stage number l) pairs
         ∙ stage-append number (answers rigid (p ∷ ps)) (answers rigid (q ∷ qs)) (v .none) (w .none);
     moves =
-        ap values pairs ∙ map-append (λ a. a .value) (answers rigid (p ∷ ps)) (answers rigid (q ∷ qs))
-        ∙ ap (λ (l : List AnimatedTransform). l ++ values (answers rigid (q ∷ qs))) (v .moves)
-        ∙ ap (λ (l : List AnimatedTransform). Chain·moves c ++ l) (w .moves);
+        (λ i. v .moves i ++ w .moves i) ∙ sym (ap values pairs ∙ map-append (λ a. a .value) (answers rigid (p ∷ ps)) (answers rigid (q ∷ qs)));
   }
     where
       pairs : answers rigid ((p ∷ ps) ++ qs) ≡ answers rigid (p ∷ ps) ++ answers rigid (q ∷ qs)
@@ -237,7 +192,7 @@ joins c d bc bd same none =
     let shared : lastOf p ps ≡ q = last-pose p (c .first) (c .rest) ∙ same in
     let most = count-passed (length ((p ∷ ps) ++ qs)) (met .1) in
     let new = worked-new rigid ((p ∷ ps) ++ qs) (Chain·append c d)
-    (join-worked rigid p q ps qs shared c d most (new-worked rigid (p ∷ ps) c (own .accepted)) (new-worked rigid (q ∷ qs) d (other .accepted))) in (
+    (join-worked rigid p q ps qs shared c d most (built-from rigid (p ∷ ps) c (own .accepted)) (built-from rigid (q ∷ qs) d (other .accepted))) in (
       rw none new,
       record {
         rigid = rigid;

@@ -1,23 +1,18 @@
--- A file's poses, as far as building goes: their times and pads are binary32 (`poses-binary32`), their bottom rows are right (`poses-affine`),
--- and where building's number is 0, a chain is built (`new-none`).
+-- A file's poses, as far as building goes: their times and pads are binary32 (`poses-binary32`), and their bottom rows are right (`poses-affine`).
 use Prim.Native.Nat.{ℕ, _+_}
-use mathlib.Core.Path.{_≡_, refl}
-use mathlib.Core.Bool.{Bool, true, false, cond}
-use mathlib.Core.List.{List, [], _∷_, _++_, map}
+use mathlib.Core.Path.{_≡_}
+use mathlib.Core.Bool.{Bool}
+use mathlib.Core.List.{List, [], _∷_, _++_}
 use native.Mathlib.Omega.{arith}
-use borrow.Author.Tests.{eqb-false}
-use lib.Dec.{T, eqb}
+use lib.Dec.{T}
 use lib.Ieee.{Float, binary32, fits, nan, eq, ofBits}
 use lib.Ieee.Bits.{is-true}
 use lib.Ieee.Fits.{and-i}
 use lib.ListN.{length, getD, List·getD-append}
 use lib.Seq.{getD-append-add}
-use Rattle.animated_transform.specs.declared.AnimatedTransformAnswer.{AnimatedTransformAnswer}
 use Rattle.matrix4x4.specs.IsAffine.{bottomRow, Matrix4x4·isAffine}
-use Rattle.pose_pair.specs.declared.Pose.{Pose}
 use Rattle.pose_pair.specs.Pose.{Pose·isBinary32, Pose·isAffine}
-use Rattle.motion_chain.specs.Chain.{neighbours, every, stage, chainRefusal, Chain, ChainAnswer, built, refused, ChainAnswer·refusal}
-use Rattle.motion_chain.specs.Chain.{ChainAnswer·fromMoves, Chain·new}
+use Rattle.motion_chain.specs.Chain.{neighbours, every}
 use Rattle.lent_arrays.specs.Arrays.{Pose·ofList}
 use Rattle.chain_poses.specs.Poses.{Poses·ofLists}
 use Rattle.motion_file.specs.Layout.{hasPads, MoveFile·poses}
@@ -39,29 +34,6 @@ lists-binary32 padded (pose ∷ lists) (s, h) = rw (is-true (Pose·isBinary32 (P
 
 pub poses-binary32 : (bytes : List ℕ) → T (every Pose·isBinary32 (Poses·ofLists (MoveFile·poses bytes)))
 poses-binary32 bytes = lists-binary32 (hasPads bytes) (MoveFile·poses bytes) (poses-shaped bytes)
-
--- ---- a number that was tested
-abbrev IsBuilt : ChainAnswer → Type 0
-IsBuilt a = (c : Chain) × (a ≡ built c)
-
-tested-none : (n : ℕ) (a : ChainAnswer) → (ChainAnswer·refusal a ≡ 0 → IsBuilt a)
-    → ChainAnswer·refusal (cond (eqb n 0) a (refused n)) ≡ 0 → IsBuilt (cond (eqb n 0) a (refused n))
-tested-none n a h = go (eqb n 0) (eqb-false n 0)
-  where
-    go : (b : Bool) → (b ≡ false → n ≡ 0 → ⊥) → ChainAnswer·refusal (cond b a (refused n)) ≡ 0 → IsBuilt (cond b a (refused n))
-    go true f e = h e
-    go false f e = absurd (f refl e)
-
-moves-none : (answers : List AnimatedTransformAnswer) → ChainAnswer·refusal (ChainAnswer·fromMoves answers) ≡ 0 → IsBuilt (ChainAnswer·fromMoves answers)
-unfolding ChainAnswer·fromMoves
-moves-none [] e = absurd (omega (arith, e))
-moves-none (a ∷ answers) e =
-    tested-none (stage (λ x. x .refusal) (a ∷ answers)) (built (record { first = a .value; rest = map (λ x. x .value) answers }))
-    (λ _. (record { first = a .value; rest = map (λ x. x .value) answers }, refl)) e
-
-pub new-none : (rigid : Bool) (poses : List Pose) → ChainAnswer·refusal (Chain·new rigid poses) ≡ 0 → IsBuilt (Chain·new rigid poses)
-unfolding Chain·new
-new-none rigid poses e = tested-none (chainRefusal rigid poses) _ (moves-none _) e
 
 -- ---- the bottom rows
 

@@ -19,13 +19,14 @@ use Rattle.motion_cover.specs.Theorem.{MovedInside}
 use Rattle.motion_chain.specs.Chain.{Chain, ChainAnswer, built, refused, ChainAnswer·refusal, Chain·transformPoint, Chain·padAt, Chain·cover}
 use Rattle.motion_chain.specs.Built.{BuiltChain}
 use Rattle.motion_chain.proofs.Cover.{chain-cover-answered, chain-contains}
+use Rattle.motion_chain.proofs.Built.{none-built}
 use Rattle.chain_poses.specs.Poses.{Poses·ofLists}
 use Rattle.motion_file.specs.Layout.{MoveFile·read, MoveFile·box, MoveFile·poses}
 use Rattle.motion_text.specs.Answer.{textLeft, lengthIn}
 use Rattle.motion_text.proofs.Pastes.{Wrote}
 use Rattle.motion_answer.specs.Answer.{coverDepth, ChainAnswer·cover, MoveFile·chain, MoveFile·cover, BoundsAnswer·text, answerText}
 use Rattle.motion_answer.specs.Theorem.{FileContainsMotion, AnswerContainsMotion, longestText}
-use Rattle.motion_answer.proofs.Built.{poses-binary32, new-none}
+use Rattle.motion_answer.proofs.Built.{poses-binary32}
 use Rattle.motion_answer.proofs.Length.{answer-length}
 
 -- ---- where the number is 0
@@ -61,7 +62,7 @@ file-accepted bytes = go (eqb n 0) refl (eqb-false n 0)
 
     go : (t : Bool) → eqb n 0 ≡ t → (t ≡ false → n ≡ 0 → ⊥) → BoundsAnswer·refusal (cond t (ChainAnswer·cover a b) (Refused n)) ≡ 0 → Accepted bytes
     go true t f e =
-        let (c, s) = chain-none a b (new-none false (Poses·ofLists (MoveFile·poses bytes))) e in
+        let (c, s) = chain-none a b (none-built false (Poses·ofLists (MoveFile·poses bytes))) e in
         record { chain = c; from-file = s; same = rw t (ap (λ (x : ChainAnswer). ChainAnswer·cover x b) s ∙ built-cover c b) }
     go false t f e = absurd (f refl e)
 

@@ -15,7 +15,7 @@ use Rattle.bounds3.specs.List.{Bounds3f·ofList}
 use Rattle.transform.specs.declared.BoundsAnswer.{BoundsAnswer}
 use Rattle.transform.specs.declared.BoundsAnswer.the-variants.{Refused}
 use Rattle.motion_chain.specs.Chain.{Chain, ChainAnswer, built, refused, ChainAnswer·refusal, Chain·new, Chain·cover}
-use Rattle.motion_chain.proofs.Built.{new-built, checks-passed}
+use Rattle.motion_chain.proofs.Built.{new-built, checks-passed, none-built}
 use Rattle.chain_poses.specs.Poses.{Poses·ofLists}
 use Rattle.chain_poses.proofs.Loops as loops
 use Rattle.chain_rows.specs.Kept.{Chain·toRows}
@@ -25,7 +25,6 @@ use Rattle.motion_file.specs.Layout.{MoveFile·read, MoveFile·poses}
 use Rattle.motion_file.specs.Front.{front}
 use Rattle.motion_file.proofs.Files.{poses-length}
 use Rattle.motion_answer.specs.Answer.{coverDepth, ChainAnswer·cover, MoveFile·chain, MoveFile·cover}
-use Rattle.motion_answer.proofs.Built.{new-none}
 
 pub refused-cover : (a : ChainAnswer) (b : Bounds3f) {r : ℕ} → r ≡ ChainAnswer·refusal a → (r ≡ 0 → ⊥) → Refused r ≡ ChainAnswer·cover a b
 unfolding ChainAnswer·cover
@@ -34,7 +33,7 @@ refused-cover (refused n) b e h = ap Refused e
 
 module _ (lists : List (List Float)) {r : ℕ} (e : r ≡ ChainAnswer·refusal (Chain·new false (Poses·ofLists lists))) (h : r ≡ 0) where
   chain-built : (c : Chain) × (Chain·new false (Poses·ofLists lists) ≡ built c)
-  chain-built = new-none false (Poses·ofLists lists) (sym e ∙ h)
+  chain-built = none-built false (Poses·ofLists lists) (sym e ∙ h)
 
   pub built-count : (2 ≤ length lists) × (length lists ≤ 32)
   built-count =

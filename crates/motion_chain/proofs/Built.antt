@@ -1,17 +1,19 @@
 -- Every move of a built chain is built by itself, its times rise, and it starts where the one before it ended: `built-moves`. The poses have passed
--- the whole chain's checks (`checks-passed`), after which each pair is worked (`pairs-worked`), and no pair's number was met (`from-moves-built`).
+-- the whole chain's checks (`checks-passed`), after which each pair is worked (`pairs-worked`), and no pair's number was met (`from-moves-built`): so of every
+-- chain that was built (`built-from`), and one is where building's number is 0 (`none-built`). What holds of 0 and of every number holds of the first one met
+-- (`number-keeps`, `stage-keeps`).
 use Prim.Native.Nat.{ℕ, suc, _≤_}
 use mathlib.Core.Path.{_≡_, refl, sym, ap, subst}
-use mathlib.Core.Bool.{Bool, true, false, not, _||_, cond}
+use mathlib.Core.Bool.{Bool, true, false, not, _||_, cond, false≢true}
 use mathlib.Core.List.{List, [], _∷_, map}
 use native.Mathlib.Omega.{arith}
-use borrow.Author.Tests.{eqb-true}
+use borrow.Author.Tests.{eqb-true, eqb-false}
 use lib.Dec.{T, eqb, ltb, nltb→le}
 use lib.ListN.{length}
 use lib.Ieee.{Float, lt}
 use lib.Ieee.Bits.{is-true}
 use lib.Ieee.Fits.{and-l, and-r}
-use Rattle.refusal.proofs.First.{first-zero, first-right}
+use Rattle.refusal.proofs.First.{first-zero, first-right, first-keeps}
 use Rattle.refusal.specs.First.{firstRefusal}
 use Rattle.pose_pair.specs.declared.Pose.{Pose}
 use Rattle.pose_pair.specs.Pose.{Pose·isFinite, Pose·isBinary32, Pose·isAffine, Pose·isPadded, timesRefusal, posesRefusal, Pose·kindNumber}
@@ -23,7 +25,7 @@ use Rattle.animated_transform.proofs.Kept.{new-kept}
 use Rattle.bounds_answers.proofs.UnionAll.{each-of}
 use Rattle.motion_chain.specs.Chain.{minPoses, maxPoses, neighbours, every, firstNumber, stage}
 use Rattle.motion_chain.specs.Chain.{Pose·number, Pair·number, kindStage, chainStages, chainRefusal}
-use Rattle.motion_chain.specs.Chain.{Chain, ChainAnswer, built, refused, ChainAnswer·fromMoves, Chain·new}
+use Rattle.motion_chain.specs.Chain.{Chain, Chain·moves, ChainAnswer, built, refused, ChainAnswer·refusal, ChainAnswer·fromMoves, Chain·new}
 use Rattle.motion_chain.specs.Built.{BuiltChain, Each, Contiguous, BuiltMoves, PairsWorked}
 
 -- ---- numbers that were not met
@@ -42,6 +44,16 @@ pub stage-each : {A : Type 0} (number : A → ℕ) (xs : List A) → stage numbe
 stage-each number [] e = tt
 stage-each number (x ∷ xs) e = let (z, h) = first-none (number x) (map number xs) e in (z, stage-each number xs h)
 
+pub number-keeps : (P : ℕ → Type 0) → P 0 → (ns : List ℕ) → Each P ns → P (firstNumber ns)
+unfolding firstNumber
+number-keeps P z [] h = z
+number-keeps P z (n ∷ ns) (h, hs) = first-keeps P n (firstNumber ns) h (number-keeps P z ns hs)
+
+pub stage-keeps : {A : Type 0} (P : ℕ → Type 0) → P 0 → (number : A → ℕ) (xs : List A) → Each (λ x. P (number x)) xs → P (stage number xs)
+unfolding firstNumber
+stage-keeps P z number [] h = z
+stage-keeps P z number (x ∷ xs) (h, hs) = first-keeps P (number x) (stage number xs) h (stage-keeps P z number xs hs)
+
 -- A stage that asks one test of each.
 tested-each : {A : Type 0} (test : A → Bool) (n : ℕ) (xs : List A) → stage (λ x. cond (test x) 0 (suc n)) xs ≡ 0 → Each (λ x. T (test x)) xs
 tested-each test n [] e = tt
@@ -53,12 +65,20 @@ tested-each test n (x ∷ xs) e =
     passed true e = tt
     passed false e = absurd (omega (arith, e))
 
+-- ---- a chain, or a refusal
 abbrev isBuilt : ChainAnswer → Bool
 isBuilt (built c) = true
 isBuilt (refused n) = false
 
-refused-built : (n : ℕ) (c : Chain) → refused n ≡ built c → ⊥
-refused-built n c e = subst T (sym (ap isBuilt e)) tt
+pub refused-built : {n : ℕ} {c : Chain} → refused n ≡ built c → ⊥
+refused-built e = false≢true (ap isBuilt e)
+
+pub built-same : {c d : Chain} → built c ≡ built d → c ≡ d
+built-same {c} e = ap chainOf e
+  where
+    chainOf : ChainAnswer → Chain
+    chainOf (built d) = d
+    chainOf (refused n) = c
 
 -- A tested number, then a chain: the number was 0.
 tested-built : (n : ℕ) (a : ChainAnswer) (c : Chain) → cond (eqb n 0) a (refused n) ≡ built c → (n ≡ 0) × (a ≡ built c)
@@ -66,7 +86,18 @@ tested-built n a c = go (eqb n 0) (eqb-true n 0)
   where
     go : (b : Bool) → (b ≡ true → n ≡ 0) → cond b a (refused n) ≡ built c → (n ≡ 0) × (a ≡ built c)
     go true f e = (f refl, e)
-    go false f e = absurd (refused-built n c e)
+    go false f e = absurd (refused-built e)
+
+abbrev IsBuilt : ChainAnswer → Type 0
+IsBuilt a = (c : Chain) × (a ≡ built c)
+
+tested-none : (n : ℕ) (a : ChainAnswer) → (ChainAnswer·refusal a ≡ 0 → IsBuilt a)
+    → ChainAnswer·refusal (cond (eqb n 0) a (refused n)) ≡ 0 → IsBuilt (cond (eqb n 0) a (refused n))
+tested-none n a h = go (eqb n 0) (eqb-false n 0)
+  where
+    go : (b : Bool) → (b ≡ false → n ≡ 0 → ⊥) → ChainAnswer·refusal (cond b a (refused n)) ≡ 0 → IsBuilt (cond b a (refused n))
+    go true f e = h e
+    go false f e = absurd (f refl e)
 
 -- ---- the checks
 pub record Passed (rigid : Bool) (poses : List Pose) : Type 0 where
@@ -149,13 +180,13 @@ pairs-worked rigid poses e =
     go (p ∷ q ∷ xs) (h, (k, hs)) (t, ts) = (pair-worked rigid p q h k t, go (q ∷ xs) (k, hs) ts)
 
 -- ---- the pairs, from a pose on
-abbrev answers : Bool → List Pose → List AnimatedTransformAnswer
+abbrev pub answers : Bool → List Pose → List AnimatedTransformAnswer
 answers rigid poses = map (λ (p, q). AnimatedTransform·new rigid p q) (neighbours poses)
 
 abbrev numbers : List AnimatedTransformAnswer → List ℕ
 numbers = map (λ a. a .refusal)
 
-abbrev values : List AnimatedTransformAnswer → List AnimatedTransform
+abbrev pub values : List AnimatedTransformAnswer → List AnimatedTransform
 values = map (λ a. a .value)
 
 record Worked (time : Float) (moves : List AnimatedTransform) : Type 0 where
@@ -202,32 +233,54 @@ pub new-built : (rigid : Bool) (poses : List Pose) (c : Chain) → Chain·new ri
 unfolding Chain·new
 new-built rigid poses c e = tested-built (chainRefusal rigid poses) (ChainAnswer·fromMoves (answers rigid poses)) c e
 
-chain-of : Chain → ChainAnswer → Chain
-chain-of c (built d) = d
-chain-of c (refused n) = c
+pub from-moves-built : (a : AnimatedTransformAnswer) (rest : List AnimatedTransformAnswer) (c : Chain) → ChainAnswer·fromMoves (a ∷ rest) ≡ built c
+    → (stage (λ x. x .refusal) (a ∷ rest) ≡ 0) × (c ≡ record { first = a .value; rest = values rest })
+unfolding ChainAnswer·fromMoves
+from-moves-built a rest c e =
+    let (z, s) = tested-built (stage (λ x. x .refusal) (a ∷ rest)) (built (record { first = a .value; rest = values rest })) c e in
+    (z, built-same (sym s))
 
-abbrev assembledChain : Bool → Pose → Pose → List Pose → Chain
-assembledChain rigid p q poses = record { first = AnimatedTransform·new rigid p q .value; rest = values (answers rigid (q ∷ poses)) }
+-- What was built of poses: they have passed the checks, no pair's number was met, and its moves are those of the pairs.
+pub record BuiltFrom (rigid : Bool) (poses : List Pose) (c : Chain) : Type 0 where
+  pub passed : chainRefusal rigid poses ≡ 0
+  pub none : stage (λ x. x .refusal) (answers rigid poses) ≡ 0
+  pub moves : Chain·moves c ≡ values (answers rigid poses)
 
-from-moves-built : (rigid : Bool) (p q : Pose) (poses : List Pose) (c : Chain) → ChainAnswer·fromMoves (answers rigid (p ∷ q ∷ poses)) ≡ built c
-    → (firstNumber (numbers (answers rigid (p ∷ q ∷ poses))) ≡ 0) × (assembledChain rigid p q poses ≡ c)
-unfolding ChainAnswer·fromMoves neighbours chain-of
-from-moves-built rigid p q poses c e =
-    let (z, s) = tested-built (firstNumber (numbers (answers rigid (p ∷ q ∷ poses)))) (built (assembledChain rigid p q poses)) c e in
-    (z, ap (chain-of c) s)
+list-built : (list : List AnimatedTransformAnswer) (c : Chain) → ChainAnswer·fromMoves list ≡ built c
+    → (stage (λ x. x .refusal) list ≡ 0) × (Chain·moves c ≡ values list)
+unfolding ChainAnswer·fromMoves
+list-built [] c e = absurd (refused-built e)
+list-built (a ∷ rest) c e = let (n, s) = from-moves-built a rest c e in (n, ap Chain·moves s)
+
+pub built-from : (rigid : Bool) (poses : List Pose) (c : Chain) → Chain·new rigid poses ≡ built c → BuiltFrom rigid poses c
+built-from rigid poses c e =
+    let (z, f) = new-built rigid poses c e in
+    let (n, m) = list-built (answers rigid poses) c f in
+    record { passed = z; none = n; moves = m }
+
+moves-none : (list : List AnimatedTransformAnswer) → ChainAnswer·refusal (ChainAnswer·fromMoves list) ≡ 0 → IsBuilt (ChainAnswer·fromMoves list)
+unfolding ChainAnswer·fromMoves
+moves-none [] e = absurd (omega (arith, e))
+moves-none (a ∷ rest) e =
+    tested-none (stage (λ x. x .refusal) (a ∷ rest)) (built (record { first = a .value; rest = values rest }))
+    (λ _. (record { first = a .value; rest = values rest }, refl)) e
+
+pub none-built : (rigid : Bool) (poses : List Pose) → ChainAnswer·refusal (Chain·new rigid poses) ≡ 0 → (c : Chain) × (Chain·new rigid poses ≡ built c)
+unfolding Chain·new
+none-built rigid poses e = tested-none (chainRefusal rigid poses) _ (moves-none _) e
 
 pub built-moves : {c : Chain} → BuiltChain c → BuiltMoves c
 unfolding ChainAnswer·fromMoves neighbours
 built-moves {c} b = go (b .rigid) (b .poses) (b .poses-binary32) (b .accepted)
   where
     go : (rigid : Bool) (poses : List Pose) → T (every Pose·isBinary32 poses) → Chain·new rigid poses ≡ built c → BuiltMoves c
-    go rigid [] f e = absurd (refused-built 12 c (new-built rigid [] c e .1))
-    go rigid (p ∷ []) f e = absurd (refused-built 12 c (new-built rigid (p ∷ []) c e .1))
+    go rigid [] f e = absurd (refused-built (new-built rigid [] c e .1))
+    go rigid (p ∷ []) f e = absurd (refused-built (new-built rigid (p ∷ []) c e .1))
     go rigid (p ∷ q ∷ poses) f e =
         let (z, g) = new-built rigid (p ∷ q ∷ poses) c e in
         let passed = checks-passed rigid (p ∷ q ∷ poses) z in
-        let (n, s) = from-moves-built rigid p q poses c g in
+        let (n, s) = from-moves-built (AnimatedTransform·new rigid p q) (answers rigid (q ∷ poses)) c g in
         let w = moves-worked rigid p (q ∷ poses) f (passed .rise) n in
         let l = answers-count rigid p (q ∷ poses) in
         let h = passed .greatest in
-        subst BuiltMoves s (record { each = w .each; contiguous = (refl, w .contiguous .1, w .contiguous .2); count = omega (arith, l, h) })
+        subst BuiltMoves (sym s) (record { each = w .each; contiguous = (refl, w .contiguous .1, w .contiguous .2); count = omega (arith, l, h) })

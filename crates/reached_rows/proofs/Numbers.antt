@@ -17,8 +17,9 @@ use Rattle.transform.specs.Answer.{OneOf}
 use Rattle.refusal.specs.First.{firstRefusal}
 use Rattle.bounds_query.specs.Query.{Bounds3f·refusal}
 use Rattle.bounds_query.proofs.Numbers.{box-keeps}
+use Rattle.bounds_answers.proofs.UnionAll.{each-of}
 use Rattle.motion_chain.specs.Chain.{firstNumber, stage}
-use Rattle.motion_chain.proofs.Built.{first-none, first-only}
+use Rattle.motion_chain.proofs.Built.{first-none, first-only, number-keeps, stage-keeps}
 use Rattle.reached_rows.specs.Rows.{maxRows, rowsRefusal}
 
 -- ---- the tests in order
@@ -53,13 +54,6 @@ module _ (cover : Bounds3f) (rows : List Bounds3f) where
 abbrev Number : ℕ → Type 0
 Number n = OneOf n (0 ∷ 6 ∷ 7 ∷ 14 ∷ [])
 
-first-number : (n k : ℕ) → Number n → Number k → Number (firstRefusal n k)
-first-number n k i j = go (eqb n 0)
-  where
-    go : (t : Bool) → Number (cond t k n)
-    go true = j
-    go false = i
-
 count-number : (t : Bool) → Number (cond t 14 0)
 count-number true = inr (inr (inr (inl refl)))
 count-number false = inl refl
@@ -68,15 +62,11 @@ box-number : (b : Bounds3f) → Number (Bounds3f·refusal b)
 box-number b = box-keeps Number b (inl refl) (inr (inl refl)) (inr (inr (inl refl)))
 
 stage-number : (rows : List Bounds3f) → Number (stage Bounds3f·refusal rows)
-unfolding firstNumber
-stage-number [] = inl refl
-stage-number (row ∷ rows) = first-number (Bounds3f·refusal row) (stage Bounds3f·refusal rows) (box-number row) (stage-number rows)
+stage-number rows = stage-keeps Number (inl refl) Bounds3f·refusal rows (each-of box-number rows)
 
 pub rows-number : (cover : Bounds3f) (rows : List Bounds3f) → OneOf (rowsRefusal cover rows) (0 ∷ 6 ∷ 7 ∷ 14 ∷ [])
-unfolding rowsRefusal firstNumber
-rows-number cover rows =
-    first-number (cond (isBadCount (length rows)) 14 0) _ (count-number (isBadCount (length rows)))
-    (first-number (Bounds3f·refusal cover) _ (box-number cover) (first-number (stage Bounds3f·refusal rows) 0 (stage-number rows) (inl refl)))
+unfolding rowsRefusal
+rows-number cover rows = number-keeps Number (inl refl) _ (count-number (isBadCount (length rows)), (box-number cover, (stage-number rows, tt)))
 
 -- ---- the loop over the rows
 module _ (rows : List (List Float)) where

@@ -10,6 +10,7 @@ use lib.Dec.{eqb, ltb}
 use lib.ListN.{length}
 use lib.Ieee.{lt}
 use lib.Ieee.Scale.{finite}
+use Rattle.control_flow.proofs.Choice.{cond-keeps}
 use Rattle.float32.specs.Operators.{_⊖_}
 use Rattle.pose_pair.specs.declared.Pose.{Pose}
 use Rattle.pose_pair.specs.Pose.{Pose·isFinite, Pose·isAffine, Pose·isPadded, timesRefusal, Pose·kindNumber}
@@ -18,9 +19,11 @@ use Rattle.animated_transform.specs.declared.AnimatedTransformAnswer.{AnimatedT
 use Rattle.animated_transform.specs.New.{AnimatedTransform·new}
 use Rattle.animated_transform.specs.Numbers.{kindNumbers}
 use Rattle.transform.specs.Answer.{OneOf}
-use Rattle.motion_chain.specs.Chain.{minPoses, maxPoses, neighbours, firstNumber, stage, Pose·number, Pair·number, kindStage, chainStages, chainRefusal}
+use Rattle.bounds_answers.proofs.UnionAll.{each-of}
+use Rattle.motion_chain.specs.Chain.{minPoses, maxPoses, neighbours, stage, Pose·number, Pair·number, kindStage, chainStages, chainRefusal}
 use Rattle.motion_chain.specs.Chain.{ChainAnswer, built, refused, ChainAnswer·fromMoves, Chain·new}
 use Rattle.motion_chain.specs.Built.{Each}
+use Rattle.motion_chain.proofs.Built.{number-keeps, stage-keeps}
 use Rattle.refusal_numbers.specs.Chain.{buildingNumbers, ChainAnswer·Numbered}
 use Rattle.refusal_numbers.proofs.Building.{building-number}
 
@@ -31,20 +34,7 @@ numbers = buildingNumbers
 abbrev Number : Bool → ℕ → Type 0
 Number rigid n = OneOf n (numbers rigid)
 
-chosen : (P : ℕ → Type 0) (b : Bool) (m n : ℕ) → P m → P n → P (cond b m n)
-chosen P true m n h k = h
-chosen P false m n h k = k
-
 module _ (rigid : Bool) where
-  first-number : (ns : List ℕ) → Each (Number rigid) ns → Number rigid (firstNumber ns)
-  unfolding firstNumber
-  first-number [] h = inl refl
-  first-number (n ∷ ns) (h, hs) = chosen (Number rigid) (eqb n 0) (firstNumber ns) n (first-number ns hs) h
-
-  map-each : {A : Type 0} (f : A → ℕ) (xs : List A) → ((x : A) → Number rigid (f x)) → Each (Number rigid) (map f xs)
-  map-each f [] h = tt
-  map-each f (x ∷ xs) h = (h x, map-each f xs h)
-
   twelve : Number rigid 12
   twelve = inr (inr (inr (inr (inr (inr (inl refl))))))
 
@@ -56,23 +46,23 @@ module _ (rigid : Bool) where
   unfolding Pose·number
   pose-number k e p =
       let P = Number rigid in
-      let finite = chosen P (Pose·isFinite p) 0 1 (inl refl) (inr (inl refl)) in
-      let affine = chosen P (Pose·isAffine p) 0 2 (inl refl) (inr (inr (inl refl))) in
-      let padded = chosen P (Pose·isPadded p) 0 16 (inl refl) sixteen in
-      chosen P (eqb k 1) (cond (Pose·isFinite p) 0 1) _ finite
-      (chosen P (eqb k 2) (cond (Pose·isAffine p) 0 2) _ affine
-      (chosen P (eqb k 16) (cond (Pose·isPadded p) 0 16) _ padded (rw e (inl refl))))
+      let finite = cond-keeps P (Pose·isFinite p) 0 1 (inl refl) (inr (inl refl)) in
+      let affine = cond-keeps P (Pose·isAffine p) 0 2 (inl refl) (inr (inr (inl refl))) in
+      let padded = cond-keeps P (Pose·isPadded p) 0 16 (inl refl) sixteen in
+      cond-keeps P (eqb k 1) (cond (Pose·isFinite p) 0 1) _ finite
+      (cond-keeps P (eqb k 2) (cond (Pose·isAffine p) 0 2) _ affine
+      (cond-keeps P (eqb k 16) (cond (Pose·isPadded p) 0 16) _ padded (rw e (inl refl))))
 
   pair-number : (k : ℕ) (pair : Pose × Pose) → Number rigid (Pair·number k pair)
   unfolding Pair·number timesRefusal
   pair-number k (p, q) =
       let P = Number rigid in
-      let rise = chosen P (lt (p .time) (q .time)) 0 12 (inl refl) twelve in
-      let times = chosen P (lt (q .time) (p .time) || not (finite (q .time ⊖ p .time))) 3 0 (inr (inr (inr (inl refl)))) (inl refl) in
-      chosen P (eqb k 12) (cond (lt (p .time) (q .time)) 0 12) _ rise (chosen P (eqb k 3) (timesRefusal (p .time) (q .time)) 0 times (inl refl))
+      let rise = cond-keeps P (lt (p .time) (q .time)) 0 12 (inl refl) twelve in
+      let times = cond-keeps P (lt (q .time) (p .time) || not (finite (q .time ⊖ p .time))) 3 0 (inr (inr (inr (inl refl)))) (inl refl) in
+      cond-keeps P (eqb k 12) (cond (lt (p .time) (q .time)) 0 12) _ rise (cond-keeps P (eqb k 3) (timesRefusal (p .time) (q .time)) 0 times (inl refl))
 
   stage-number : {A : Type 0} (f : A → ℕ) (xs : List A) → ((x : A) → Number rigid (f x)) → Number rigid (stage f xs)
-  stage-number f xs h = first-number (map f xs) (map-each f xs h)
+  stage-number f xs h = stage-keeps (Number rigid) (inl refl) f xs (each-of h xs)
 
 kind-number : (rigid : Bool) (poses : List Pose) → Number rigid (kindStage rigid poses)
 unfolding kindStage Pose·number
@@ -90,8 +80,8 @@ checks-number rigid poses =
     λ k e. stage-number rigid (Pose·number k) poses (pose-number rigid k e) in
     let pair-stage : (k : ℕ) → Number rigid (stage (Pair·number k) (neighbours poses)) =
     λ k. stage-number rigid (Pair·number k) (neighbours poses) (pair-number rigid k) in
-    let count = chosen (Number rigid) (ltb (length poses) minPoses || ltb maxPoses (length poses)) 12 0 (twelve rigid) (inl refl) in
-    first-number rigid (chainStages rigid poses)
+    let count = cond-keeps (Number rigid) (ltb (length poses) minPoses || ltb maxPoses (length poses)) 12 0 (twelve rigid) (inl refl) in
+    number-keeps (Number rigid) (inl refl) (chainStages rigid poses)
     (pose-stage 1 refl, (pose-stage 2 refl, (pose-stage 16 refl, (count, (pair-stage 12, (pair-stage 3, (kind-number rigid poses, tt)))))))
 
 inserted : (n : ℕ) (ns : List ℕ) (k : ℕ) (ks : List ℕ) → OneOf n (ns ++ ks) → OneOf n (ns ++ (k ∷ ks))
@@ -117,12 +107,8 @@ from-moves-numbered : (rigid : Bool) (answers : List AnimatedTransformAnswer) �
 unfolding ChainAnswer·fromMoves
 from-moves-numbered rigid [] h = record { number = inr (inr (inr (inr (inr (inr (inl refl)))))); none = λ e. absurd (omega (arith, e)) }
 from-moves-numbered rigid (a ∷ answers) h =
-    tested rigid (stage (λ x. x .refusal) (a ∷ answers)) _ (first-number rigid (map (λ x. x .refusal) (a ∷ answers)) (each (a ∷ answers) h))
+    tested rigid (stage (λ x. x .refusal) (a ∷ answers)) _ (stage-keeps (Number rigid) (inl refl) (λ x. x .refusal) (a ∷ answers) h)
     (record { number = inl refl; none = λ _. (record { first = a .value; rest = map (λ x. x .value) answers }, refl) })
-  where
-    each : (xs : List AnimatedTransformAnswer) → Each (λ x. Number rigid (x .refusal)) xs → Each (Number rigid) (map (λ x. x .refusal) xs)
-    each [] h = tt
-    each (x ∷ xs) (h, hs) = (h, each xs hs)
 
 pub building-numbered : (rigid : Bool) (poses : List Pose) → ChainAnswer·Numbered (numbers rigid) (Chain·new rigid poses)
 unfolding Chain·new

@@ -30,9 +30,10 @@ use Rattle.animated_transform.proofs.Numbers.{new-affine}
 use Rattle.motion_cover.specs.Cover.{AnimatedTransform·encloseMotion, AnimatedTransform·cover}
 use Rattle.motion_cover.specs.Answer.{BoundsAnswer·Numbered}
 use Rattle.motion_cover.proofs.Number.{motion-number}
-use Rattle.motion_chain.specs.Chain.{minPoses, maxPoses, neighbours, every, firstNumber, stage, Pose·number, Pair·number, kindStage, chainStages, chainRefusal}
+use Rattle.motion_chain.specs.Chain.{minPoses, maxPoses, neighbours, every, stage, Pose·number, Pair·number, kindStage, chainStages, chainRefusal}
 use Rattle.motion_chain.specs.Chain.{Chain, ChainAnswer, built, refused, ChainAnswer·refusal, ChainAnswer·fromMoves, Chain·new, unionCovers, Chain·cover}
 use Rattle.motion_chain.specs.Built.{Each}
+use Rattle.motion_chain.proofs.Built.{number-keeps, stage-keeps}
 use Rattle.chain_poses.specs.Poses.{Poses·ofLists}
 use Rattle.motion_file.specs.declared.MoveFile.{MoveFile}
 use Rattle.motion_file.specs.Layout.{MoveFile·departs, MoveFile·read, MoveFile·box, MoveFile·poses}
@@ -40,6 +41,7 @@ use Rattle.motion_file.proofs.Files.{read-refusals}
 use Rattle.motion_answer.specs.Answer.{coverDepth, ChainAnswer·cover, MoveFile·chain, MoveFile·cover}
 use Rattle.motion_answer.proofs.Built.{poses-affine}
 use Rattle.motion_answer.proofs.Contains.{file-answered}
+use Rattle.bounds_answers.proofs.UnionAll.{each-of}
 use Rattle.refusal_numbers.proofs.Chain.{building-numbered}
 
 abbrev numbers : List ℕ
@@ -59,28 +61,11 @@ read-number bytes = go (read-refusals bytes)
 abbrev pub Not2 : ℕ → Type 0
 Not2 n = n ≡ 2 → ⊥
 
-chosen : (b : Bool) (m n : ℕ) → Not2 m → Not2 n → Not2 (cond b m n)
-chosen true m n h k = h
-chosen false m n h k = k
-
 zero-not : Not2 0
 zero-not e = absurd (omega (arith, e))
 
-first-not : (ns : List ℕ) → Each Not2 ns → Not2 (firstNumber ns)
-unfolding firstNumber
-first-not [] h = zero-not
-first-not (n ∷ ns) (h, hs) = chosen (eqb n 0) (firstNumber ns) n (first-not ns hs) h
-
 stage-not : {A : Type 0} (f : A → ℕ) (xs : List A) → Each (λ x. Not2 (f x)) xs → Not2 (stage f xs)
-stage-not {A} f xs h = first-not (map f xs) (each xs h)
-  where
-    each : (ys : List A) → Each (λ x. Not2 (f x)) ys → Each Not2 (map f ys)
-    each [] h = tt
-    each (y ∷ ys) (h, hs) = (h, each ys hs)
-
-all : {A : Type 0} {P : A → Type 0} (xs : List A) → ((x : A) → P x) → Each P xs
-all [] h = tt
-all (x ∷ xs) h = (h x, all xs h)
+stage-not = stage-keeps Not2 zero-not
 
 affine-each : (poses : List Pose) → T (every Pose·isAffine poses) → Each (λ p. Pose·isAffine p ≡ true) poses
 unfolding every
@@ -96,34 +81,34 @@ affine-not (p ∷ poses) (h, hs) = (rw h zero-not, affine-not poses hs)
 
 finite-not : (p : Pose) → Not2 (Pose·number 1 p)
 unfolding Pose·number
-finite-not p = chosen (Pose·isFinite p) 0 1 zero-not (λ e. absurd (omega (arith, e)))
+finite-not p = cond-keeps Not2 (Pose·isFinite p) 0 1 zero-not (λ e. absurd (omega (arith, e)))
 
 padded-not : (p : Pose) → Not2 (Pose·number 16 p)
 unfolding Pose·number
-padded-not p = chosen (Pose·isPadded p) 0 16 zero-not (λ e. absurd (omega (arith, e)))
+padded-not p = cond-keeps Not2 (Pose·isPadded p) 0 16 zero-not (λ e. absurd (omega (arith, e)))
 
 twelve-not : Not2 12
 twelve-not e = absurd (omega (arith, e))
 
 rise-not : (pair : Pose × Pose) → Not2 (Pair·number 12 pair)
 unfolding Pair·number
-rise-not (p, q) = chosen (lt (p .time) (q .time)) 0 12 zero-not twelve-not
+rise-not (p, q) = cond-keeps Not2 (lt (p .time) (q .time)) 0 12 zero-not twelve-not
 
 times-not : (pair : Pose × Pose) → Not2 (Pair·number 3 pair)
 unfolding Pair·number timesRefusal
-times-not (p, q) = chosen (lt (q .time) (p .time) || not (finite (q .time ⊖ p .time))) 3 0 (λ e. absurd (omega (arith, e))) zero-not
+times-not (p, q) = cond-keeps Not2 (lt (q .time) (p .time) || not (finite (q .time ⊖ p .time))) 3 0 (λ e. absurd (omega (arith, e))) zero-not
 
 checks-not : (poses : List Pose) → Each (λ p. Pose·isAffine p ≡ true) poses → Not2 (chainRefusal false poses)
 unfolding chainRefusal kindStage
 checks-not poses h =
     let pairs = neighbours poses in
-    let count = chosen (ltb (length poses) minPoses || ltb maxPoses (length poses)) 12 0 twelve-not zero-not in
-    let rise = stage-not (Pair·number 12) pairs (all pairs rise-not) in
-    let times = stage-not (Pair·number 3) pairs (all pairs times-not) in
-    let finite = stage-not (Pose·number 1) poses (all poses finite-not) in
+    let count = cond-keeps Not2 (ltb (length poses) minPoses || ltb maxPoses (length poses)) 12 0 twelve-not zero-not in
+    let rise = stage-not (Pair·number 12) pairs (each-of rise-not pairs) in
+    let times = stage-not (Pair·number 3) pairs (each-of times-not pairs) in
+    let finite = stage-not (Pose·number 1) poses (each-of finite-not poses) in
     let affine = stage-not (Pose·number 2) poses (affine-not poses h) in
-    let padded = stage-not (Pose·number 16) poses (all poses padded-not) in
-    first-not (chainStages false poses) (finite, (affine, (padded, (count, (rise, (times, (zero-not, tt)))))))
+    let padded = stage-not (Pose·number 16) poses (each-of padded-not poses) in
+    number-keeps Not2 zero-not (chainStages false poses) (finite, (affine, (padded, (count, (rise, (times, (zero-not, tt)))))))
 
 moves-not : (poses : List Pose) → Each (λ p. Pose·isAffine p ≡ true) poses
     → Each (λ a. Not2 (a .refusal)) (map (λ (p, q). AnimatedTransform·new false p q) (neighbours poses))

@@ -1,13 +1,14 @@
 -- The writer gives 6, 7, 12 and 15 alone, and the program `rewrite` document 01's and 02's numbers of a file: `every-file-answer`.
 use Prim.Native.Nat.{ℕ}
-use mathlib.Core.Path.{_≡_, refl, sym, ap, subst, _∙_}
+use mathlib.Core.Path.{_≡_, refl, sym, ap, _∙_}
 use mathlib.Core.Bool.{Bool, true, false, cond}
 use mathlib.Core.Logic.{_⊎_, inl, inr}
 use mathlib.Core.List.{List, [], _∷_}
 use native.Mathlib.Omega.{arith}
 use borrow.Author.Tests.{eqb-true, eqb-false, eq-eqb, ne-eqb}
-use lib.Dec.{T, eqb, leb}
+use lib.Dec.{eqb, leb}
 use lib.ListN.{length}
+use Rattle.control_flow.proofs.Choice.{cond-keeps}
 use Rattle.matrix4x4.specs.Rows.{Rows}
 use Rattle.bounds3.specs.declared.Bounds3f.{Bounds3f}
 use Rattle.transform.specs.Answer.{OneOf}
@@ -15,6 +16,7 @@ use Rattle.transform.proofs.Answer.{one-of-more}
 use Rattle.bounds_query.specs.Query.{Bounds3f·refusal}
 use Rattle.bounds_query.proofs.Numbers.{box-keeps}
 use Rattle.motion_chain.specs.Chain.{Chain, ChainAnswer, built, refused, ChainAnswer·refusal, Chain·new}
+use Rattle.motion_chain.proofs.Built.{refused-built}
 use Rattle.chain_poses.specs.Poses.{Poses·ofLists}
 use Rattle.motion_file.specs.declared.MoveFile.{MoveFile}
 use Rattle.motion_file.specs.Layout.{MoveFile·departs, MoveFile·read, MoveFile·box, MoveFile·poses}
@@ -39,16 +41,12 @@ box-number b = box-keeps (λ (n : ℕ). OneOf n (0 ∷ 6 ∷ 7 ∷ [])) b (inl r
 abbrev Number : ℕ → Type 0
 Number n = OneOf n (0 ∷ 6 ∷ 7 ∷ 12 ∷ 15 ∷ [])
 
-chosen : (p : Bool) (m n : ℕ) → Number m → Number n → Number (cond p m n)
-chosen true m n h k = h
-chosen false m n h k = k
-
 refusal-number : (rows : List Rows) (b : Bounds3f) (room : ℕ) → Number (Moves·writeRefusal rows b room)
 unfolding Moves·writeRefusal
 refusal-number rows b room =
-    let short = chosen (leb (length (Moves·text rows b)) room) 0 15 (inl refl) (inr (inr (inr (inr (inl refl))))) in
-    let judged = chosen (eqb (Bounds3f·refusal b) 0) _ (Bounds3f·refusal b) short (one-of-more _ (0 ∷ 6 ∷ 7 ∷ []) (12 ∷ 15 ∷ []) (box-number b)) in
-    chosen (eqb (length rows) 0) 12 _ (inr (inr (inr (inl refl)))) judged
+    let short = cond-keeps Number (leb (length (Moves·text rows b)) room) 0 15 (inl refl) (inr (inr (inr (inr (inl refl))))) in
+    let judged = cond-keeps Number (eqb (Bounds3f·refusal b) 0) _ (Bounds3f·refusal b) short (one-of-more _ (0 ∷ 6 ∷ 7 ∷ []) (12 ∷ 15 ∷ []) (box-number b)) in
+    cond-keeps Number (eqb (length rows) 0) 12 _ (inr (inr (inr (inl refl)))) judged
 
 write-number : (rows : List Rows) (b : Bounds3f) (room : ℕ) → Number (TextAnswer·refusal (Moves·write rows b room))
 unfolding Moves·write
@@ -109,16 +107,9 @@ module _ (bytes : List ℕ) where
   refused-numbered : MoveFile·read bytes .refusal ≡ 0 → (n : ℕ) → answer ≡ refused n → Printed bytes
   refused-numbered z n e =
       let h = building-numbered false (Poses·ofLists (MoveFile·poses bytes)) in
-      let not-none : n ≡ 0 → ⊥ = λ k. let (c, s) = h .none (ap ChainAnswer·refusal e ∙ k) in absurd (unlike n c (sym e ∙ s)) in
+      let not-none : n ≡ 0 → ⊥ = λ k. let (c, s) = h .none (ap ChainAnswer·refusal e ∙ k) in absurd (refused-built (sym e ∙ s)) in
       let not-two = rw e at (chain-affine (Poses·ofLists (MoveFile·poses bytes)) (poses-affine bytes)) in
       number n (of-building (rw e at (h .number)) not-none not-two) (kept z ∙ refused-text n e)
-    where
-      isBuilt : ChainAnswer → Bool
-      isBuilt (built c) = true
-      isBuilt (refused n) = false
-
-      unlike : (n : ℕ) (c : Chain) → refused n ≡ built c → ⊥
-      unlike n c e = subst T (sym (ap isBuilt e)) tt
 
   built-numbered : MoveFile·read bytes .refusal ≡ 0 → (c : Chain) → answer ≡ built c → Printed bytes
   built-numbered z c e = go (eqb (Bounds3f·refusal (MoveFile·box bytes)) 0) refl

@@ -1,8 +1,8 @@
 -- A pose that is tried gives building's numbers, a cover's and 19 alone, of a chain, `trial-numbered`, and of a kept chain, whatever its rows:
 -- `rows-trial-numbered`.
 use Prim.Native.Nat.{ℕ, _-_}
-use mathlib.Core.Path.{_≡_, refl, sym, ap}
-use mathlib.Core.Bool.{Bool, true, false, cond, false≢true}
+use mathlib.Core.Path.{_≡_, refl, sym}
+use mathlib.Core.Bool.{Bool, true, false, cond}
 use mathlib.Core.Logic.{inl}
 use mathlib.Core.List.{List, [], _∷_}
 use native.Mathlib.Omega.{arith}
@@ -20,6 +20,7 @@ use Rattle.pose_pair.specs.declared.Pose.{Pose}
 use Rattle.motion_cover.specs.Answer.{BoundsAnswer·Numbered}
 use Rattle.motion_chain.specs.Chain.{maxPoses, Chain, ChainAnswer, built, refused, Chain·cover}
 use Rattle.motion_chain.proofs.Numbers.{chain-cover-numbered}
+use Rattle.motion_chain.proofs.Built.{refused-built}
 use Rattle.built_poses.specs.Poses.{Chain·poses, Chain·isRigid}
 use Rattle.chain_rows.specs.Kept.{Chain·toRows, Moves·chain, Moves·cover}
 use Rattle.changed_chain.specs.Trial.{Chain·changed, ChainAnswer·coverAt, Chain·try}
@@ -32,10 +33,6 @@ use Rattle.refusal_numbers.proofs.KeptChain.{rows-cover-numbered}
 -- ---- a trial
 abbrev Numbered : Bool → BoundsAnswer → Type 0
 Numbered rigid = BoundsAnswer·Numbered (trialNumbers rigid)
-
-abbrev isBuilt : ChainAnswer → Bool
-isBuilt (built c) = true
-isBuilt (refused n) = false
 
 -- whatever the kind, by computing in each
 among : (rigid : Bool) (ns : List ℕ) → T (allListed ns (trialNumbers false)) → T (allListed ns (trialNumbers true)) → T (allListed ns (trialNumbers rigid))
@@ -50,7 +47,7 @@ refused-numbered : (rigid : Bool) (n : ℕ) → ChainAnswer·Numbered (buildingN
 refused-numbered rigid n h =
     record {
       number = one-of-wider n (buildingNumbers rigid) (trialNumbers rigid) (building-among rigid) (h .number);
-      none = λ e. let (c, s) = h .none e in absurd (false≢true (ap isBuilt s));
+      none = λ e. let (c, s) = h .none e in absurd (refused-built s);
     }
 
 changed-numbered : (rigid : Bool) (a : ChainAnswer) (b : Bounds3f) (depth : ℕ) → ChainAnswer·Numbered (buildingNumbers rigid) a
@@ -58,7 +55,10 @@ changed-numbered : (rigid : Bool) (a : ChainAnswer) (b : Bounds3f) (depth : ℕ)
 changed-numbered rigid (built c) b depth h =
     let k = chain-cover-numbered c b depth in
     let asked : List ℕ = 0 ∷ 5 ∷ 6 ∷ 7 ∷ 8 ∷ 10 ∷ [] in
-    record { number = one-of-wider (BoundsAnswer·refusal (Chain·cover c b depth)) asked (trialNumbers rigid) (among rigid asked tt tt) (k .number); none = k .none }
+    record {
+      number = one-of-wider (BoundsAnswer·refusal (Chain·cover c b depth)) asked (trialNumbers rigid) (among rigid asked tt tt) (k .number);
+      none = k .none;
+    }
 changed-numbered rigid (refused n) b depth h = refused-numbered rigid n h
 
 place-numbered : (rigid : Bool) (n : ℕ) → T (allListed (n ∷ []) (trialNumbers rigid)) → (n ≡ 0 → ⊥) → Numbered rigid (Refused n)

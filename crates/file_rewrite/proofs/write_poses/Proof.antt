@@ -5,8 +5,8 @@ use mathlib.Core.Path.{sym, _∙_}
 use lib.Seq.{length-take-le}
 use borrow.Author.Needs.{needs}
 use Rattle.motion_chain.specs.Chain.{Chain·new}
+use Rattle.motion_chain.proofs.Built.{none-built}
 use Rattle.chain_poses.specs.Poses.{Poses·ofLists}
-use Rattle.motion_answer.proofs.Built.{new-none}
 use Rattle.motion_answer.proofs.Posed.{built-count, moves-room}
 use Rattle.file_rewrite.proofs.Printed.{refused-printed, built-printed}
 use Rattle.file_rewrite.proofs.write_poses.Statement.{statement}
@@ -57,7 +57,7 @@ write-moves-requires c κs =
     let c1 = c .before in let c2 = c1 .before in let c3 = c2 .before in let c4 = c3 .before in let c5 = c4 .before in let c6 = c5 .before in
     let build = c3 .build in
     let lists = c6 .args .poses .now in
-    let (chain, s) = new-none false (Poses·ofLists lists) (sym (build .ensures .0) ∙ c2 .if1 .left) in
+    let (chain, s) = none-built false (Poses·ofLists lists) (sym (build .ensures .0) ∙ c2 .if1 .left) in
     rw (build .ensures .1 .1 chain s .same) (omega arith)
 
 same-length-2 : tie.Need-same-length-2
