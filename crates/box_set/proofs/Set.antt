@@ -1,10 +1,10 @@
 -- What an accepted set says of its boxes, `set-accepted`: each box's answer is a box, and lies in the union. And back, `set-of-accepted`.
 -- The first refused box gives the number, `first-refused`, and the numbers of a set are those of its boxes and 14, `set-numbered`.
 use Prim.Native.Nat.{ℕ, _≤_}
-use mathlib.Core.Path.{_≡_, refl, sym, ap, subst, _∙_}
+use mathlib.Core.Path.{_≡_, refl, sym, subst, _∙_}
 use mathlib.Core.Bool.{Bool, true, false, cond}
 use mathlib.Core.Logic.{_⊎_, inl, inr, ⊎-elim}
-use mathlib.Core.List.{List, [], _∷_, _++_, map}
+use mathlib.Core.List.{List, [], _∷_, _++_, map, map-map}
 use native.Mathlib.Omega.{arith}
 use borrow.Author.Tests.{le-ltb, ltb-false}
 use lib.Dec.{ltb}
@@ -39,13 +39,9 @@ module _ (cover : Bounds3f → BoundsAnswer) where
     pub union : Bounds3f
     pub joined : BoundsAnswer·unionAll (cover first) (map cover rest) ≡ Bounds union
 
-  bounds-map : (boxes : List Bounds3f) → map BoundsAnswer·bounds (map cover boxes) ≡ map coverBox boxes
-  bounds-map [] = refl
-  bounds-map (b ∷ boxes) = ap (λ (bs : List Bounds3f). coverBox b ∷ bs) (bounds-map boxes)
-
   pub set-of-accepted : {boxes : List Bounds3f} (a : AcceptedSet boxes) → Boxes·covers cover boxes ≡ covered (map coverBox boxes) (a .union)
   unfolding Boxes·covers SetAnswer·of
-  set-of-accepted {boxes} a = rw (le-ltb maxBoxes (length boxes) (a .count), a .nonempty, a .joined, bounds-map (a .rest))
+  set-of-accepted {boxes} a = rw (le-ltb maxBoxes (length boxes) (a .count), a .nonempty, a .joined, map-map BoundsAnswer·bounds cover (a .rest))
 
   joined-accepted : (answers : List BoundsAnswer) (u : BoundsAnswer) → BoundsAnswer·NonZero u → SetAnswer·refusal (SetAnswer·joined answers u) ≡ 0
       → u ≡ Bounds (BoundsAnswer·bounds u)

@@ -1,8 +1,8 @@
 -- What building gives to its caller, in the three ways that it ends: `checks-refused`, `pair-refused`, `all-built`.
 use Prim.Native.Nat.{ℕ, _-_}
-use mathlib.Core.Path.{_≡_, refl, sym, ap, _∙_}
+use mathlib.Core.Path.{_≡_, sym, ap, _∙_}
 use mathlib.Core.Bool.{Bool, true}
-use mathlib.Core.List.{List, [], _∷_, map}
+use mathlib.Core.List.{List, [], _∷_, map, map-map}
 use native.Mathlib.Omega.{arith}
 use borrow.Author.Tests.{eq-eqb, ne-eqb}
 use lib.Dec.{T}
@@ -10,6 +10,7 @@ use lib.ListN.{length, take, drop, length-map}
 use lib.Seq.{take-append-seam}
 use lib.Ieee.Fits.{and-i}
 use Rattle.chain_number.specs.Number.{Move·number}
+use Rattle.chain_number.proofs.ChainNumber.{numbers-same}
 use Rattle.matrix4x4.specs.Rows.{Rows}
 use Rattle.pose_pair.specs.declared.Pose.{Pose}
 use Rattle.pose_pair.specs.Pose.{Pose·isBinary32}
@@ -43,13 +44,10 @@ pair-clauses rigid p q a old same move number left = (
 abbrev answers : Bool → List (Pose × Pose) → List AnimatedTransformAnswer
 answers rigid = map (λ (p, q). AnimatedTransform·new rigid p q)
 
-numbers-same : (rigid : Bool) (pairs : List (Pose × Pose)) → map (λ x. x .refusal) (answers rigid pairs) ≡ map (Move·number rigid) pairs
-numbers-same rigid [] = refl
-numbers-same rigid (pair ∷ pairs) = ap (λ (l : List ℕ). Move·number rigid pair ∷ l) (numbers-same rigid pairs)
-
 rows-same : (rigid : Bool) (pairs : List (Pose × Pose)) → map AnimatedTransform·toRows (map (λ x. x .value) (answers rigid pairs)) ≡ map (Pair·rows rigid) pairs
-rows-same rigid [] = refl
-rows-same rigid (pair ∷ pairs) = ap (λ (l : List Rows). Pair·rows rigid pair ∷ l) (rows-same rigid pairs)
+rows-same rigid pairs =
+    map-map AnimatedTransform·toRows (λ x. x .value) (answers rigid pairs)
+    ∙ map-map (λ x. AnimatedTransform·toRows (x .value)) (λ (p, q). AnimatedTransform·new rigid p q) pairs
 
 abbrev chainOf : Bool → Pose × Pose → List (Pose × Pose) → Chain
 chainOf rigid (p, q) pairs = record { first = AnimatedTransform·new rigid p q .value; rest = map (λ x. x .value) (answers rigid pairs) }

@@ -5,6 +5,7 @@ use mathlib.Core.Bool.{Bool}
 use mathlib.Core.List.{List, [], _∷_, _++_, map, append-assoc}
 use native.Mathlib.Omega.{arith}
 use lib.ListN.{length, set, drop, length-map}
+use lib.Seq.{set-append-seam, append-snoc}
 use Rattle.matrix4x4.specs.Rows.{Rows}
 use Rattle.pose_pair.specs.declared.Pose.{Pose}
 use Rattle.chain_build.specs.Build.{blocksLeft}
@@ -14,10 +15,6 @@ use Rattle.chain_build.specs.means.Pairs.{Pair·rows}
 unfoldable pub put : Bool → List Rows → ℕ → List (Pose × Pose) → List Rows
 put rigid blocks i [] = blocks
 put rigid blocks i (pair ∷ pairs) = put rigid (set blocks i (Pair·rows rigid pair)) (suc i) pairs
-
-set-behind : (done : List Rows) (y x : Rows) (rest : List Rows) → set (done ++ y ∷ rest) (length done) x ≡ (done ++ x ∷ []) ++ rest
-set-behind [] y x rest = refl
-set-behind (d ∷ done) y x rest = ap (λ (l : List Rows). d ∷ l) (set-behind done y x rest)
 
 length-behind : (done : List Rows) (x : Rows) → length (done ++ x ∷ []) ≡ suc (length done)
 length-behind [] x = refl
@@ -31,7 +28,8 @@ put-behind rigid (pair ∷ pairs) done [] h = absurd (omega (arith, h))
 put-behind rigid (pair ∷ pairs) done (y ∷ rest) h =
     let x = Pair·rows rigid pair in
     let all = map (Pair·rows rigid) pairs ++ drop (length pairs) rest in
-    rw (set-behind done y x rest, ← length-behind done x) (put-behind rigid pairs (done ++ x ∷ []) rest (omega (arith, h)) ∙ append-assoc done (x ∷ []) all)
+    rw (set-append-seam done y rest x, ← append-snoc done x rest, ← length-behind done x)
+    (put-behind rigid pairs (done ++ x ∷ []) rest (omega (arith, h)) ∙ append-assoc done (x ∷ []) all)
 
 pub put-front : (rigid : Bool) (pairs : List (Pose × Pose)) (old : List Rows)
     → length pairs ≤ length old → put rigid old 0 pairs ≡ blocksLeft (map (Pair·rows rigid) pairs) old

@@ -1,8 +1,8 @@
 -- A chain's number is that of its checks, or else the first of its moves': `chain-number`. Moves as a loop goes over them: `moves-next`.
 use Prim.Native.Nat.{ℕ, _+_, _-_, _≤_, _<_}
-use mathlib.Core.Path.{_≡_, refl, sym, ap, _∙_}
+use mathlib.Core.Path.{_≡_, refl, sym, _∙_}
 use mathlib.Core.Bool.{Bool, true, false, cond}
-use mathlib.Core.List.{List, [], _∷_, map}
+use mathlib.Core.List.{List, [], _∷_, map, map-map}
 use native.Mathlib.Omega.{arith}
 use borrow.Author.Tests.{eqb-true}
 use lib.Dec.{eqb}
@@ -22,9 +22,8 @@ module _ (rigid : Bool) where
   abbrev answers : List (Pose × Pose) → List AnimatedTransformAnswer
   answers = map (λ (p, q). AnimatedTransform·new rigid p q)
 
-  numbers-same : (pairs : List (Pose × Pose)) → map (λ x. x .refusal) (answers pairs) ≡ map (Move·number rigid) pairs
-  numbers-same [] = refl
-  numbers-same (pair ∷ pairs) = ap (λ (l : List ℕ). Move·number rigid pair ∷ l) (numbers-same pairs)
+  pub numbers-same : (pairs : List (Pose × Pose)) → map (λ x. x .refusal) (answers pairs) ≡ map (Move·number rigid) pairs
+  numbers-same = map-map (λ x. x .refusal) (λ (p, q). AnimatedTransform·new rigid p q)
 
   moves-number : (pair : Pose × Pose) (pairs : List (Pose × Pose))
       → ChainAnswer·refusal (ChainAnswer·fromMoves (answers (pair ∷ pairs))) ≡ stage (Move·number rigid) (pair ∷ pairs)

@@ -41,7 +41,7 @@ chain-inverse c = rw (from-rows-inverse (c .first), map-inverse (c .rest))
 pub kept-chain : (rows : List Rows) (c : Chain) → rows ≡ Chain·toRows c → Moves·chain rows ≡ c
 kept-chain rows c e = ap Moves·chain e ∙ chain-inverse c
 
-not-empty : (c : Chain) → eqb (length (Chain·toRows c)) 0 ≡ false
+pub not-empty : (c : Chain) → eqb (length (Chain·toRows c)) 0 ≡ false
 not-empty c = ne-eqb (length (Chain·toRows c)) 0 (λ e. absurd (omega (arith, e)))
 
 rows-at : (moves : List AnimatedTransform) (i : ℕ) (d : AnimatedTransform) → i < length moves

@@ -2,7 +2,7 @@
 -- the pieces of the lower half and then those of the upper. Rests on `union-append`.
 use Prim.Native.Nat.{ℕ, zero, suc, _-_}
 use mathlib.Core.Path.{_≡_, refl}
-use mathlib.Core.List.{List, [], _∷_, _++_, map}
+use mathlib.Core.List.{[], _∷_, map, map-append}
 use native.Mathlib.Omega.{arith}
 use Rattle.bounds_answers.proofs.UnionAll.{union-append}
 use Rattle.transform.specs.declared.BoundsAnswer.{BoundsAnswer}
@@ -10,10 +10,6 @@ use Rattle.bounds_query.specs.Query.{BoundsAnswer·unionBounds}
 use Rattle.interval.specs.declared.Interval.{Interval}
 use Rattle.dt_share.specs.Share.{lowerHalf, upperHalf, pieces}
 use Rattle.dt_pieces.specs.means.Pieces.{unionPieces}
-
-map-append : {A B : Type 0} (f : A → B) (xs ys : List A) → map f (xs ++ ys) ≡ map f xs ++ map f ys
-map-append f [] ys = refl
-map-append f (x ∷ xs) ys = rw (map-append f xs ys)
 
 module _ (box : Interval → BoundsAnswer) (r : BoundsAnswer) where
   pub pieces-whole : (d : ℕ) (i : Interval) → d ≡ 0 → unionPieces box r d i ≡ BoundsAnswer·unionBounds r (box i)

@@ -9,6 +9,7 @@ use mathlib.Core.Logic.{⊎-elim}
 use native.Mathlib.Omega.{arith}
 use lib.Dec.{T, eqb, leb, ltb, eqb→eq}
 use lib.ListN.{length, getD}
+use lib.Ieee.Fits.{and-l, and-r}
 use Rattle.hexadecimal.specs.Digit.{lowerDigits, upperDigits, position, digitValue}
 
 -- a test that every number below n passes
@@ -16,20 +17,12 @@ abbrev allBelow : (ℕ → Bool) → ℕ → Bool
 allBelow f zero = true
 allBelow f (suc n) = f n && allBelow f n
 
-left : (a b : Bool) → T (a && b) → T a
-left true b t = tt
-left false b t = t
-
-right : (a b : Bool) → T (a && b) → T b
-right true b t = t
-right false b t = absurd t
-
 below : (f : ℕ → Bool) (n : ℕ) → T (allBelow f n) → (k : ℕ) → k < n → T (f k)
 below f zero t k h = absurd (not-suc-le-zero h)
 below f (suc n) t k h =
     ⊎-elim
-    (λ e. rw e (left (f n) (allBelow f n) t))
-    (λ l. below f n (right (f n) (allBelow f n) t) k l)
+    (λ e. rw e (and-l (f n) (allBelow f n) t))
+    (λ l. below f n (and-r (f n) (allBelow f n) t) k l)
     (eq-or-lt-of-le (le-of-suc-le-suc h))
 
 abbrev pub inRange : ℕ → ℕ → ℕ → Bool

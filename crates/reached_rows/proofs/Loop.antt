@@ -3,29 +3,16 @@
 use Prim.Native.Nat.{ℕ, suc, _+_, _-_, _≤_, _<_}
 use mathlib.Core.Path.{_≡_, refl, sym, ap, subst, _∙_}
 use mathlib.Core.Bool.{true, false}
-use mathlib.Core.List.{List, [], _∷_, _++_, map}
+use mathlib.Core.List.{List, [], _∷_, _++_, map, append-nil, append-assoc}
 use native.Mathlib.Omega.{arith}
 use lib.ListN.{length, getD, drop, set, replicate, length-append, drop-of-length-le}
-use lib.Seq.{drop-cons}
+use lib.Seq.{drop-cons, set-append-seam, append-snoc}
 use lib.Ieee.{Float}
 use Rattle.bounds3.specs.declared.Bounds3f.{Bounds3f}
 use Rattle.bounds3.specs.List.{Bounds3f·ofList}
 use Rattle.bounds_overlap.specs.Meets.{Bounds3f·meets}
 use Rattle.reached_rows.specs.Rows.{maxRows, metFrom}
 use Rattle.reached_rows.specs.means.Named.{Named·Holds}
-
--- ---- lists
-append-nil : (xs : List ℕ) → xs ++ [] ≡ xs
-append-nil [] = refl
-append-nil (x ∷ xs) = rw (append-nil xs)
-
-append-assoc : (xs ys zs : List ℕ) → xs ++ (ys ++ zs) ≡ xs ++ ys ++ zs
-append-assoc [] ys zs = refl
-append-assoc (x ∷ xs) ys zs = rw (append-assoc xs ys zs)
-
-set-at : (ks : List ℕ) (z k : ℕ) (zs : List ℕ) → set (ks ++ (z ∷ zs)) (length ks) k ≡ ks ++ (k ∷ []) ++ zs
-set-at [] z k zs = refl
-set-at (x ∷ ks) z k zs = rw (set-at ks z k zs)
 
 -- ---- one more place
 holds-add : {ks places : List ℕ} {count : ℕ} (k : ℕ) → Named·Holds ks places count → length ks < maxRows
@@ -36,7 +23,7 @@ holds-add {ks} {places} {count} k h l =
     let n = length-append ks (k ∷ []) in
     let f : maxRows - length (ks ++ (k ∷ [])) ≡ m = omega (arith, n) in
     record {
-      front = rw (h .front, h .counted, e, f) (set-at ks 0 k (replicate m 0));
+      front = rw (h .front, h .counted, e, f) (set-append-seam ks 0 (replicate m 0) k ∙ sym (append-snoc ks k (replicate m 0)));
       counted = rw (h .counted) (sym n);
     }
 
@@ -82,7 +69,7 @@ module _ (cover : Bounds3f) (rows : List (List Float)) where
           holds = rw (e, f) (holds-add place (l .holds) (omega (arith, n, h, t)));
           few = omega (arith, n, more);
           same-place = omega (arith, p);
-          whole = rw (s, p) (sym (append-assoc (l .named) (i ∷ []) (leftFrom (suc i))) ∙ ap (λ (r : List ℕ). l .named ++ r) (sym (met-step i h m)) ∙ l .whole);
+          whole = rw (s, p) (append-assoc (l .named) (i ∷ []) (leftFrom (suc i)) ∙ ap (λ (r : List ℕ). l .named ++ r) (sym (met-step i h m)) ∙ l .whole);
         }
 
     pub loop-missed : {places' : List ℕ} {count' : ℕ} → i < length rows → Bounds3f·meets cover (Bounds3f·ofList (getD rows i [])) ≡ false

@@ -22,7 +22,7 @@ use Rattle.motion_cover.specs.Answer.{BoundsAnswer·Numbered}
 use Rattle.cover_depth.specs.Finer.{Within}
 use Rattle.motion_chain.specs.Chain.{Chain}
 use Rattle.chain_rows.specs.Kept.{Chain·toRows, Moves·chain}
-use Rattle.chain_rows.proofs.Kept.{chain-inverse, kept-chain, kept-point}
+use Rattle.chain_rows.proofs.Kept.{chain-inverse, kept-chain, not-empty, kept-point}
 use Rattle.window_times.specs.declared.Window.{Window}
 use Rattle.window_times.specs.Window.{Window·refusal}
 use Rattle.chain_window.specs.Cover.{Chain·encloseWindow, Chain·windowCover}
@@ -30,9 +30,6 @@ use Rattle.chain_window.proofs.Contains.{window-contains}
 use Rattle.chain_window.proofs.Numbers.{window-numbered}
 use Rattle.chain_window.proofs.Finer.{window-finer}
 use Rattle.window_cover.specs.Kept.{Moves·windowCover, KeptWindowContainsMotion, KeptWindowFiner}
-
-not-empty : (c : Chain) → eqb (length (Chain·toRows c)) 0 ≡ false
-not-empty c = ne-eqb (length (Chain·toRows c)) 0 (λ e. absurd (omega (arith, e)))
 
 pub kept-window : (rows : List Rows) (c : Chain) (b : Bounds3f) (depth : ℕ) (w : Window)
     → rows ≡ Chain·toRows c → Moves·windowCover rows b depth w ≡ Chain·windowCover c b depth w

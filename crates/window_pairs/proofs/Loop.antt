@@ -3,11 +3,12 @@
 use Prim.Native.Nat.{ℕ, zero, suc, _+_, _-_, _≤_, _<_}
 use mathlib.Core.Path.{_≡_, refl, sym, ap, subst, _∙_}
 use mathlib.Core.Bool.{Bool, true, false, cond}
-use mathlib.Core.List.{List, [], _∷_, _++_}
+use mathlib.Core.List.{List, [], _∷_, _++_, append-nil, append-assoc}
 use native.Mathlib.Omega.{arith}
 use borrow.Author.Tests.{eq-eqb, ne-eqb}
 use lib.ListN.{length, getD, drop, set, replicate, length-append}
 use lib.Ieee.{Float, nan}
+use lib.Seq.{set-append-seam, append-snoc}
 use Rattle.transform.specs.declared.BoundsAnswer.{BoundsAnswer}
 use Rattle.bounds_meeting.specs.declared.Meeting.{Meeting}
 use Rattle.bounds_meeting.specs.Meeting.{Meeting·of}
@@ -16,19 +17,6 @@ use Rattle.window_times.specs.declared.Window.{Window}
 use Rattle.window_meetings.specs.Windows.{windowsOf, WindowsAnswer, listed, refused, WindowsAnswer·cons, windowsFrom, placeCount}
 use Rattle.window_pairs.specs.declared.Found.{Found}
 use Rattle.window_pairs.specs.means.Found.{windowAt, Found·none, Found·add, Found·Holds, Found·Is}
-
--- ---- lists
-append-nil : (xs : List ℕ) → xs ++ [] ≡ xs
-append-nil [] = refl
-append-nil (x ∷ xs) = rw (append-nil xs)
-
-append-assoc : (xs ys zs : List ℕ) → xs ++ (ys ++ zs) ≡ xs ++ ys ++ zs
-append-assoc [] ys zs = refl
-append-assoc (x ∷ xs) ys zs = rw (append-assoc xs ys zs)
-
-set-at : (ks : List ℕ) (z k : ℕ) (zs : List ℕ) → set (ks ++ (z ∷ zs)) (length ks) k ≡ ks ++ (k ∷ []) ++ zs
-set-at [] z k zs = refl
-set-at (x ∷ ks) z k zs = rw (set-at ks z k zs)
 
 -- ---- the places
 pub holds-none : Found·Holds [] (Found·none 0)
@@ -41,7 +29,7 @@ add-places ks k h =
     let e : placeCount - length ks ≡ suc m = omega (arith, h) in
     let n = length-append ks (k ∷ []) in
     let f : placeCount - length (ks ++ (k ∷ [])) ≡ m = omega (arith, n) in
-    rw (e, f) (set-at ks 0 k (replicate m 0))
+    rw (e, f) (set-append-seam ks 0 (replicate m 0) k ∙ sym (append-snoc ks k (replicate m 0)))
 
 pub holds-add : {ks : List ℕ} {f : Found} (meets : Bool) (k : ℕ) → Found·Holds ks f
     → length ks < placeCount → Found·Holds (cond meets (ks ++ (k ∷ [])) ks) (Found·add f meets k)
@@ -67,7 +55,7 @@ after-nil (refused n) = refl
 
 after-cons : (ks : List ℕ) (meets : Bool) (k : ℕ) (a : WindowsAnswer) → after ks (WindowsAnswer·cons meets k a) ≡ after (cond meets (ks ++ (k ∷ [])) ks) a
 unfolding WindowsAnswer·cons
-after-cons ks true k (listed xs) = ap listed (append-assoc ks (k ∷ []) xs)
+after-cons ks true k (listed xs) = ap listed (sym (append-assoc ks (k ∷ []) xs))
 after-cons ks false k (listed xs) = refl
 after-cons ks true k (refused n) = refl
 after-cons ks false k (refused n) = refl
