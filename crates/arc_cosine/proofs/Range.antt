@@ -22,7 +22,7 @@ use Rattle.trig.specs.means.Computing.{computing}
 use Rattle.arc_cosine.proofs.Floor.{unit-finite}
 use Rattle.arc_cosine.proofs.Least.{leastAngle-unique, leastAngle-le, leastAngle-below}
 use Rattle.trig.specs.Range.{quarterTurnFloat, halfTurnFloat}
-use Rattle.trig.proofs.Monotone.{numNeg-none}
+use Rattle.rounding.proofs.Order.{numNeg-none}
 
 acos-in : (c : Float) → inDomain c ≡ true → acos c ≡ round binary32 false (leastAngle (floorUnits c)) (2 ^ 28)
 unfolding acos

@@ -8,9 +8,9 @@ use Prim.Native.Nat.{ℕ, _+_, _-_, _*_, _≤_}
 use native.Mathlib.Nat.{eq-or-lt-of-le, eq-zero-or-pos}
 use native.Mathlib.Omega.{arith}
 use mathlib.Core.Bool.{Bool, true, false, not, _&&_, _||_}
-use lib.IntN.{ℤ}
+use lib.IntN.{ℤ, pos}
 use lib.Dec.{T, ltb, eqb, eqb→eq, ltb→lt, nltb→le, lt→ltb, eqb-refl}
-use lib.Ieee.{Float, nan, inf, fin, up, down, below, level, lt, eq, le, ne, neg, isNan}
+use lib.Ieee.{Float, nan, inf, fin, binary32, up, down, below, level, lt, eq, le, ne, neg, isNan, ofBits}
 use lib.Ieee.Fits.{down-pos, eq→eqb, and-i, and-l, and-r}
 use lib.Ieee.Bits.{is-true}
 use lib.Ieee.Scale.{finite}
@@ -266,6 +266,16 @@ of-fraction {x} {y} f g h = of-Le (go x y f g h)
     go (fin s m e) nan f g h = absurd g
     go (fin s m e) (inf t) f g h = absurd g
     go (fin s m e) (fin t n d) f g h = h
+
+pub numNeg-none : (x : Float) → T (finite x) → ofBits binary32 0 ≼ x → numNeg x ≡ 0
+unfolding ofBits
+numNeg-none x f h = let l = to-fraction {x = fin false 0 (pos 0)} {y = x} tt f h in go x l
+  where
+    go : (x : Float) → FractionLe 0 0 1 (numPos x) (numNeg x) (den x) → numNeg x ≡ 0
+    go nan l = refl
+    go (inf s) l = refl
+    go (fin true m e) l = omega arith
+    go (fin false m e) l = refl
 
 pub to-fraction-positive : {x y : Float} → T (positive x) → T (positive y) → x ≼ y → numPos x * den y ≤ numPos y * den x
 to-fraction-positive {x} {y} p q h =

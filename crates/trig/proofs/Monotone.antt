@@ -20,7 +20,7 @@ use lib.Ieee.Positive.{den, den-pos}
 use lib.Ieee.Scale.{finite}
 use Rattle.rounding.specs.Order.{_≼_}
 use Rattle.rounding.proofs.Rational.{numPos, numNeg, FractionLe}
-use Rattle.rounding.proofs.Order.{≼-trans, between-finite, to-fraction}
+use Rattle.rounding.proofs.Order.{≼-trans, between-finite, to-fraction, numNeg-none}
 use Rattle.rounding.proofs.Monotone.{round-mono}
 use Rattle.rounding.proofs.Corners.{Bounds}
 use Rattle.float32.specs.Abs.{abs}
@@ -70,16 +70,6 @@ biased-unit n h =
     }
 
 -- ---- u of a float from zero on
-
-pub numNeg-none : (x : Float) → T (finite x) → ofBits binary32 0 ≼ x → numNeg x ≡ 0
-unfolding ofBits
-numNeg-none x f h = let l = to-fraction {x = fin false 0 (pos 0)} {y = x} tt f h in go x l
-  where
-    go : (x : Float) → FractionLe 0 0 1 (numPos x) (numNeg x) (den x) → numNeg x ≡ 0
-    go nan l = refl
-    go (inf s) l = refl
-    go (fin true m e) l = omega arith
-    go (fin false m e) l = refl
 
 angleUnits-is : (x : Float) → numNeg x ≡ 0 → angleUnits x ≡ numPos x * 2 ^ 28 / den x
 unfolding fixed

@@ -13,14 +13,13 @@ use lib.Ieee.Scale.{finite}
 use lib.Ieee.Positive.{positive, positive-finite, den, den-pos}
 use Rattle.rounding.specs.Order.{_≼_}
 use Rattle.rounding.proofs.Rational.{numPos, numNeg, numPos-pos, FractionLe}
-use Rattle.rounding.proofs.Order.{≼-refl, ≼-trans, finite-number, to-fraction, between-finite, above-positive, lt-≼, not-lt-≼}
+use Rattle.rounding.proofs.Order.{≼-refl, ≼-trans, finite-number, to-fraction, numNeg-none, between-finite, above-positive, lt-≼, not-lt-≼}
 use Rattle.rounding.proofs.Monotone.{Rounds, rounds-mono}
 use Rattle.rounding.proofs.Arithmetic.{sub-rounds, sub-mono, div-rounds, div-mono}
 use Rattle.float32.specs.Operators.{_⊖_, _⊘_}
 use Rattle.float32.proofs.Constants.{zero-finite, zero-rounds, one-rounds}
 use Rattle.float_bits.specs.Decode.{integerDecode}
 use Rattle.float_bits.proofs.Decode.{decode-value}
-use Rattle.trig.proofs.Monotone.{numNeg-none}
 use Rattle.interval.specs.Contains.{Contains}
 use Rattle.unit_interval.specs.Unit.{unitInterval, dt}
 
