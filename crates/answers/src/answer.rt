@@ -3,9 +3,9 @@
 use crate::matrices;
 use crate::moves;
 use crate::question::Question;
+use answer_lines::put_decimal;
+use answer_lines::put_text;
 use hexadecimal::bits_of_float;
-use question_lines::put_decimal;
-use question_lines::put_text;
 ghost use Prim.Native.Nat.{_≤_};
 
 // How many floats answer each question, in the order of the names.
@@ -104,7 +104,7 @@ fn put_line(
     if refusal == 255 {
         return put_text(b"error\n", out, at);
     }
-    question_lines::put_refused(refusal, out, at)
+    answer_lines::put_refused(refusal, out, at)
 }
 
 fn put_values(kind: usize, rows: &[[f32; 4]; 9], out: &mut [u8; 16384], at: usize) -> usize {
@@ -165,5 +165,5 @@ fn row_size(kind: usize, i: usize, left: usize) -> usize
 }
 
 fn put_row(row: [f32; 4], size: usize, out: &mut [u8; 16384], at: usize) -> usize {
-    question_lines::put_floats(&row, size, out, at)
+    answer_lines::put_floats(&row, size, out, at)
 }

@@ -7,8 +7,8 @@ use crate::matrices::bounds_at;
 use crate::matrices::point_at;
 use crate::matrices::put_bounds;
 use crate::matrices::row_at;
+use answer_lines::put_text;
 use hexadecimal::float_of_bits;
-use question_lines::put_text;
 
 // What stands first in the row of constants where no move is kept: a kept move has 0 or 1 there.
 pub const NONE: f32 = 2.0;

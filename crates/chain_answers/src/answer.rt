@@ -4,7 +4,7 @@ use crate::chains;
 use crate::files;
 use crate::question::Question;
 use crate::rows;
-use question_lines::put_text;
+use answer_lines::put_text;
 
 // Answers a question.
 pub fn put_answer(
@@ -52,8 +52,8 @@ pub fn put_answer(
 fn put_arc_cosine(c: f32, out: &mut [u8; 32768], at: usize) -> usize {
     let arc = arc_cosine::acos_counted(c);
     let ok = put_text(b"ok", out, at);
-    let angle = question_lines::put_floats(&[arc.angle], 1, out, ok);
-    let end = question_lines::put_decimal(arc.cosines as u64, out, angle);
+    let angle = answer_lines::put_floats(&[arc.angle], 1, out, ok);
+    let end = answer_lines::put_decimal(arc.cosines as u64, out, angle);
     put_text(b"\n", out, end)
 }
 
@@ -120,19 +120,19 @@ pub fn put_values(
     at: usize,
 ) -> usize {
     if refusal != 0 {
-        return question_lines::put_refused(refusal, out, at);
+        return answer_lines::put_refused(refusal, out, at);
     }
     let ok = put_text(b"ok", out, at);
-    let end = question_lines::put_floats(values, count, out, ok);
+    let end = answer_lines::put_floats(values, count, out, ok);
     put_text(b"\n", out, end)
 }
 
 // How many poses were built and kept, or the number of a refusal.
 pub fn put_count(refusal: u8, count: usize, out: &mut [u8; 32768], at: usize) -> usize {
     if refusal != 0 {
-        return question_lines::put_refused(refusal, out, at);
+        return answer_lines::put_refused(refusal, out, at);
     }
     let ok = put_text(b"ok", out, at);
-    let end = question_lines::put_decimal(count as u64, out, ok);
+    let end = answer_lines::put_decimal(count as u64, out, ok);
     put_text(b"\n", out, end)
 }

@@ -3,7 +3,7 @@
 use crate::answer::put_count;
 use crate::answer::put_error;
 use crate::answer::put_values;
-use question_lines::put_text;
+use answer_lines::put_text;
 ghost use Prim.Native.Nat.{_≤_, _<_};
 
 // Builds a chain and keeps it, or none where it is refused.
@@ -99,11 +99,11 @@ pub fn stretch(
     put_poses(x, &mut given);
     let run = api::jellyplain_refused_run(rigid, &given[0..count]);
     if run.refusal != 0 {
-        return question_lines::put_refused(run.refusal, out, at);
+        return answer_lines::put_refused(run.refusal, out, at);
     }
     let ok = put_text(b"ok", out, at);
-    let place = question_lines::put_decimal(run.place as u64, out, ok);
-    let end = question_lines::put_decimal(run.length as u64, out, place);
+    let place = answer_lines::put_decimal(run.place as u64, out, ok);
+    let end = answer_lines::put_decimal(run.length as u64, out, place);
     put_text(b"\n", out, end)
 }
 
@@ -424,15 +424,15 @@ fn put_windows(
     at: usize,
 ) -> usize {
     if refusal != 0 {
-        return question_lines::put_refused(refusal, out, at);
+        return answer_lines::put_refused(refusal, out, at);
     }
     let ok = put_text(b"ok", out, at);
-    let mut end = question_lines::put_decimal(count as u64, out, ok);
+    let mut end = answer_lines::put_decimal(count as u64, out, ok);
     for i in 0..63 {
         if count <= i {
             break;
         }
-        end = question_lines::put_decimal(places[i] as u64, out, end);
+        end = answer_lines::put_decimal(places[i] as u64, out, end);
     }
     put_text(b"\n", out, end)
 }
@@ -450,10 +450,10 @@ fn put_counted(
     at: usize,
 ) -> usize {
     if refusal != 0 {
-        return question_lines::put_refused(refusal, out, at);
+        return answer_lines::put_refused(refusal, out, at);
     }
     let ok = put_text(b"ok", out, at);
-    let values = question_lines::put_floats(b, 6, out, ok);
+    let values = answer_lines::put_floats(b, 6, out, ok);
     let end = put_examined(examined, out, values);
     put_text(b"\n", out, end)
 }
@@ -462,9 +462,9 @@ fn put_examined(n: [u32; 3], out: &mut [u8; 32768], at: usize) -> usize {
     let x = n[0] as u64;
     let y = n[1] as u64;
     let z = n[2] as u64;
-    let after_x = question_lines::put_decimal(x, out, at);
-    let after_y = question_lines::put_decimal(y, out, after_x);
-    question_lines::put_decimal(z, out, after_y)
+    let after_x = answer_lines::put_decimal(x, out, at);
+    let after_y = answer_lines::put_decimal(y, out, after_x);
+    answer_lines::put_decimal(z, out, after_y)
 }
 
 fn put_bounds(refusal: u8, b: &[f32; 6], out: &mut [u8; 32768], at: usize) -> usize {
@@ -481,15 +481,15 @@ fn put_set(
     at: usize,
 ) -> usize {
     if refusal != 0 {
-        return question_lines::put_refused(refusal, out, at);
+        return answer_lines::put_refused(refusal, out, at);
     }
     let ok = put_text(b"ok", out, at);
-    let mut end = question_lines::put_floats(union, 6, out, ok);
+    let mut end = answer_lines::put_floats(union, 6, out, ok);
     for i in 0..16 {
         if count <= i {
             break;
         }
-        end = question_lines::put_floats(&covers[i], 6, out, end);
+        end = answer_lines::put_floats(&covers[i], 6, out, end);
     }
     put_text(b"\n", out, end)
 }

@@ -1,9 +1,9 @@
 // A day of booms, `day [BOX LENGTH]*`: a question about no slot, whose words are six floats and a whole number for each boom, with one space before each.
 use crate::answer::put_error;
+use answer_lines::put_text;
 use question_lines::Decimal;
 use question_lines::part;
 use question_lines::position;
-use question_lines::put_text;
 ghost use Prim.Native.Nat.{_<_};
 ghost use lib.ListN.{length};
 
@@ -120,7 +120,7 @@ fn put_starts(
     at: usize,
 ) -> usize {
     if refusal != 0 {
-        return question_lines::put_refused(refusal, out, at);
+        return answer_lines::put_refused(refusal, out, at);
     }
     let ok = put_text(b"ok", out, at);
     let a = put_start(starts[0], 0 < count, out, ok);
@@ -137,7 +137,7 @@ fn put_starts(
 // A starting tick, where there is a boom.
 fn put_start(start: u32, is_boom: bool, out: &mut [u8; 32768], at: usize) -> usize {
     if is_boom {
-        return question_lines::put_decimal(start as u64, out, at);
+        return answer_lines::put_decimal(start as u64, out, at);
     }
     at
 }

@@ -1,8 +1,8 @@
 // Move files in questions and answers, two hexadecimal digits a byte.
 use crate::answer::put_error;
+use answer_lines::put_text;
 use hexadecimal::Word;
 use question_lines::part;
-use question_lines::put_text;
 ghost use Prim.Native.Nat.{_≤_};
 
 const DIGITS: [u8; 16] = [
@@ -46,10 +46,10 @@ fn put_written(
     at: usize,
 ) -> usize {
     if refusal != 0 {
-        return question_lines::put_refused(refusal, out, at);
+        return answer_lines::put_refused(refusal, out, at);
     }
     let ok = put_text(b"ok", out, at);
-    let space = question_lines::put_decimal(length as u64, out, ok);
+    let space = answer_lines::put_decimal(length as u64, out, ok);
     put_line_of(part(text, 0, length), out, space)
 }
 
@@ -126,7 +126,7 @@ fn read_file(bytes: &[u8; 4000], size: usize, out: &mut [u8; 32768], at: usize) 
     let mut b = [0.0f32; 6];
     let file = api::jellyplain_read_file(text, &mut poses, &mut b);
     if file.refusal != 0 {
-        return question_lines::put_refused(file.refusal, out, at);
+        return answer_lines::put_refused(file.refusal, out, at);
     }
     let count = file.count;
     // No file holds so many.
@@ -134,7 +134,7 @@ fn read_file(bytes: &[u8; 4000], size: usize, out: &mut [u8; 32768], at: usize) 
         return put_error(out, at);
     }
     let ok = put_text(b"ok", out, at);
-    let behind = question_lines::put_decimal(count as u64, out, ok);
+    let behind = answer_lines::put_decimal(count as u64, out, ok);
     let padded = has_pads(text);
     // In front of the box stand two lines of names and the poses.
     let end = put_box(text, words_before(padded, count) + 6, &b, out, behind);
@@ -197,7 +197,7 @@ fn put_pose(
 ) -> usize {
     let upper = put_values(text, first, pose, 13, out, at);
     let bottom = [pose[13], pose[14], pose[15], pose[16]];
-    let end = question_lines::put_floats(&bottom, 4, out, upper);
+    let end = answer_lines::put_floats(&bottom, 4, out, upper);
     put_value(pose[17], text, first, 13, out, end)
 }
 
@@ -233,7 +233,7 @@ fn put_value(
     at: usize,
 ) -> usize {
     if x == x {
-        return question_lines::put_floats(&[x], 1, out, at);
+        return answer_lines::put_floats(&[x], 1, out, at);
     }
     match hexadecimal::read_word(text, word_start(text, first, i)) {
         Word::Bits(bits) => put_bits(bits, out, at),

@@ -1,7 +1,7 @@
 // The rows that a boom reaches, `rows BOX BOX*`: a question about no slot, whose first box is the cover and whose others are the rows.
 use crate::answer::put_error;
 use crate::chains;
-use question_lines::put_text;
+use answer_lines::put_text;
 
 // Answers how many of the rows, all but the first of so many boxes, the cover meets, and their places.
 pub fn reached(boxes: usize, x: &[f32; 900], out: &mut [u8; 32768], at: usize) -> usize {
@@ -29,15 +29,15 @@ fn put_named(
     at: usize,
 ) -> usize {
     if refusal != 0 {
-        return question_lines::put_refused(refusal, out, at);
+        return answer_lines::put_refused(refusal, out, at);
     }
     let ok = put_text(b"ok", out, at);
-    let mut end = question_lines::put_decimal(count as u64, out, ok);
+    let mut end = answer_lines::put_decimal(count as u64, out, ok);
     for i in 0..256 {
         if count <= i {
             break;
         }
-        end = question_lines::put_decimal(places[i] as u64, out, end);
+        end = answer_lines::put_decimal(places[i] as u64, out, end);
     }
     put_text(b"\n", out, end)
 }

@@ -2,10 +2,10 @@
 // A day file is a line of names, then a line for each boom: its cover, least corner and greatest corner as six words of eight hexadecimal digits, a float's
 // bits, and its run length in ticks, a decimal number. One space stands between words, none before the first or after the last; every line ends in a line feed;
 // a file has at most 65,536 bytes. Whatever departs from that is refused with 11.
+use answer_lines::put_text;
 use hexadecimal::Word;
 use question_lines::Decimal;
 use question_lines::part;
-use question_lines::put_text;
 ghost use Prim.Native.Nat.{_≤_, _<_};
 ghost use lib.ListN.{length};
 

@@ -7,10 +7,10 @@ use mathlib.Core.List.{List, [], _∷_}
 use lib.Ieee.{Float}
 use lib.ListN.{getD}
 use lib.Seq.{drop-cons}
-use Rattle.question_lines.specs.Pieces.{putAll, behindAll, floatsText}
+use Rattle.answer_lines.specs.Pieces.{putAll, behindAll, floatsText}
 use Rattle.motion_parts.specs.Parts.{partRows, partSize, rowPieces}
-use Rattle.question_lines.proofs.Put.{Puts}
-use Rattle.question_lines.proofs.Pieces.{all-cons}
+use Rattle.answer_lines.proofs.Put.{Puts}
+use Rattle.answer_lines.proofs.Pieces.{all-cons}
 
 greatest : List ℕ → ℕ
 greatest [] = 0

@@ -1,11 +1,11 @@
--- The parts of a move that is kept as 45 rows: `partsPieces`, their pieces of text. Rests on the pieces of `question_lines`.
+-- The parts of a move that is kept as 45 rows: `partsPieces`, their pieces of text. Rests on the pieces of `answer_lines`.
 use Prim.Native.Nat.{ℕ}
 use mathlib.Core.Bool.{cond, _||_}
 use mathlib.Core.List.{List, [], _∷_, _++_, map}
 use lib.Dec.{eqb}
 use lib.Ieee.{Float, nan, binary32, ofBits, eq}
 use lib.ListN.{drop, getD}
-use Rattle.question_lines.specs.Pieces.{wholePieces, floatsText}
+use Rattle.answer_lines.specs.Pieces.{wholePieces, floatsText}
 
 -- the rows in order: for start and end t, r, S and the inverse, then c1 to c5, each on the axes x y z
 abbrev pub partRows : List ℕ

@@ -1,7 +1,7 @@
 // The parts of a move that is kept as 45 rows, as test programs print them in an answer line: whether it is animated and whether it rotates,
 // for start and end t, r, S and the inverse, then c1 to c5, each on the axes x y z, each kc kx ky kz.
 ghost use mathlib.Core.Path.{_≡_};
-ghost use Rattle.question_lines.specs.Pieces.{putAll, behindAll};
+ghost use Rattle.answer_lines.specs.Pieces.{putAll, behindAll};
 ghost use Rattle.motion_parts.specs.Parts.{partSize, rowPieces, flagPieces, partsPieces};
 
 // The rows of the parts in order.
@@ -60,9 +60,9 @@ fn put_flag(x: f32, out: &mut [u8], at: usize) -> usize
     ensures left { λ _. ⌜ now (out .exit) ≡ putAll (flagPieces x) (now (out .entry)) at ⌝ }
 {
     if x == 1.0 {
-        return question_lines::put_decimal(1, out, at);
+        return answer_lines::put_decimal(1, out, at);
     }
-    question_lines::put_decimal(0, out, at)
+    answer_lines::put_decimal(0, out, at)
 }
 
 fn put_part_rows(motion: &[[f32; 4]; 45], out: &mut [u8], at: usize) -> usize
@@ -72,7 +72,7 @@ fn put_part_rows(motion: &[[f32; 4]; 45], out: &mut [u8], at: usize) -> usize
     let mut end = at;
     for k in 0..35 {
         let i = PARTS[k];
-        end = question_lines::put_floats(&motion[i], part_size(i), out, end);
+        end = answer_lines::put_floats(&motion[i], part_size(i), out, end);
     }
     end
 }

@@ -1,5 +1,3 @@
-pub mod Put
-pub mod Pieces
 pub mod Kept
 pub mod Decimals
 pub mod Floats

@@ -1,15 +1,11 @@
-// Lines of questions and of answers: words with one space between them. A float is the eight hexadecimal digits of its bits, a whole number is decimal.
-// An answer is put piece by piece into a buffer: each piece from a place on, and the place behind it is given. A piece that has no room is left out.
+// Lines of questions: words with one space between them. A float is the eight hexadecimal digits of its bits, a whole number is decimal.
 use hexadecimal::Word;
 ghost use mathlib.Core.Path.{_≡_};
 ghost use mathlib.Core.Bool.{cond};
-ghost use Prim.Native.Nat.{_+_, _-_, _^_, _≤_, _<_, max};
+ghost use Prim.Native.Nat.{_-_, _^_, _≤_, _<_, max};
 ghost use lib.Dec.{ltb};
 ghost use lib.ListN.{length, take};
-ghost use lib.Seq.{paste};
-ghost use mathlib.Core.List.{[], _∷_};
 ghost use Rattle.motion_text.specs.Answer.{textLeft};
-ghost use Rattle.question_lines.specs.Pieces.{put, behind, putAll, behindAll, wholePieces, refusedPieces, spacedFloats, floatsText};
 ghost use Rattle.question_lines.specs.Words.{part as Words·part, Words·position, Decimal·append, Decimal·read, Float·read, Floats·read, Floats·stored};
 
 // What a word says.
@@ -105,77 +101,6 @@ fn read_float(text: &[u8], at: usize) -> Word
         return Word::Malformed;
     }
     hexadecimal::read_word(text, at + 1)
-}
-
-// Puts a text into `out` from `at` on and gives the place behind it; where it has no room, `out` stays and the place is `at`. Accuracy: exact.
-pub fn put_text(text: &[u8], out: &mut [u8], at: usize) -> usize
-    ensures value { λ r. ⌜ r ≡ behind (now (text .entry)) (now (out .entry)) at ⌝ }
-    ensures left { λ _. ⌜ now (out .exit) ≡ put (now (text .entry)) (now (out .entry)) at ⌝ }
-{
-    if out.len() < at {
-        return at;
-    }
-    if out.len() - at < text.len() {
-        return at;
-    }
-    let mut i = 0;
-    while i < text.len() {
-        out[at + i] = text[i];
-        i += 1;
-    }
-    at + text.len()
-}
-
-// Puts the first `count` floats, a space before each, where there are so many. Accuracy: exact.
-pub fn put_floats(values: &[f32], count: usize, out: &mut [u8], at: usize) -> usize
-    ensures value { λ r. ⌜ r ≡ behind (floatsText (now (values .entry)) count) (now (out .entry)) at ⌝ }
-    ensures left { λ _. ⌜ now (out .exit) ≡ put (floatsText (now (values .entry)) count) (now (out .entry)) at ⌝ }
-{
-    if values.len() < count {
-        return at;
-    }
-    if out.len() < at {
-        return at;
-    }
-    if (out.len() - at) / 9 < count {
-        return at;
-    }
-    let mut k = 0;
-    while k < count {
-        put_float(values[k], out, at + 9 * k);
-        k += 1;
-    }
-    at + 9 * count
-}
-
-// A space and a float.
-fn put_float(x: f32, out: &mut [u8], at: usize)
-    requires { ⌜ at + 9 ≤ length (now out) ⌝ }
-    ensures { λ _. ⌜ now (out .exit) ≡ paste (now (out .entry)) at (spacedFloats (x ∷ [])) 9 ⌝ }
-{
-    out[at] = b' ';
-    hexadecimal::write_word(hexadecimal::bits_of_float(x), out, at + 1);
-}
-
-// Puts a space and a whole number in decimal. Accuracy: exact.
-pub fn put_decimal(n: u64, out: &mut [u8], at: usize) -> usize
-    ensures value { λ r. ⌜ r ≡ behindAll (wholePieces n) (now (out .entry)) at ⌝ }
-    ensures left { λ _. ⌜ now (out .exit) ≡ putAll (wholePieces n) (now (out .entry)) at ⌝ }
-{
-    let mut digits = [0u8; 20];
-    let size = io::decimal(n, &mut digits);
-    let start = put_text(b" ", out, at);
-    put_text(&digits[..size], out, start)
-}
-
-// Puts the line that answers a refused question. Accuracy: exact.
-pub fn put_refused(refusal: u8, out: &mut [u8], at: usize) -> usize
-    ensures value { λ r. ⌜ r ≡ behindAll (refusedPieces refusal) (now (out .entry)) at ⌝ }
-    ensures left { λ _. ⌜ now (out .exit) ≡ putAll (refusedPieces refusal) (now (out .entry)) at ⌝ }
-{
-    let word = put_text(b"refused", out, at);
-    let end = put_decimal(refusal as u64, out, word);
-    put_text(b"\n", out, end)
 }
 
 // A number as 32 bits hold it: itself, or the greatest that they hold. Accuracy: exact.

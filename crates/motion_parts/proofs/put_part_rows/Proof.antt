@@ -3,7 +3,7 @@ use Prim.Native.Nat.{_-_, _≤_}
 use native.Mathlib.Omega.{arith}
 use mathlib.Core.Path.{_≡_, refl, sym, _∙_, ap}
 use lib.ListN.{length}
-use Rattle.question_lines.specs.Pieces.{putAll, behindAll}
+use Rattle.answer_lines.specs.Pieces.{putAll, behindAll}
 use Rattle.motion_parts.specs.Parts.{rowPieces}
 use Rattle.motion_parts.proofs.Rows.{rows-below, rows-turn, rows-end}
 use borrow.Author.Needs.{needs}

@@ -3,7 +3,7 @@ use mathlib.Core.List.{[], _++_}
 use lib.Ieee.{nan}
 use lib.ListN.{getD}
 use Rattle.motion_parts.specs.Parts.{flagPieces, rowPieces, partsPieces}
-use Rattle.question_lines.proofs.Pieces.{all-append}
+use Rattle.answer_lines.proofs.Pieces.{all-append}
 use borrow.Author.Needs.{needs}
 use Rattle.motion_parts.proofs.put_parts.Statement.{statement}
 use Rattle.motion_parts.proofs.put_parts.Tie as tie

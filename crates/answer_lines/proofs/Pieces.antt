@@ -8,8 +8,8 @@ use mathlib.Core.List.{List, [], _∷_, _++_}
 use lib.Dec.{ltb}
 use borrow.Author.Tests.{lt-ltb, ltb-true, ltb-false}
 use Rattle.io.specs.Digits.{digits, glyph, Fewest}
-use Rattle.question_lines.specs.Pieces.{putAll, behindAll, decimalUpTo}
-use Rattle.question_lines.proofs.Put.{Puts}
+use Rattle.answer_lines.specs.Pieces.{putAll, behindAll, decimalUpTo}
+use Rattle.answer_lines.proofs.Put.{Puts}
 
 -- what a function that puts several pieces gives
 abbrev pub PutsAll : List (List ℕ) → List ℕ → ℕ → List ℕ → ℕ → Type 0

@@ -5,10 +5,10 @@ use native.Mathlib.Omega.{arith}
 use mathlib.Core.Path.{_≡_, refl, _∙_}
 use lib.ListN.{length, length-set}
 use lib.Seq.{paste, paste-zero, paste-suc}
-use Rattle.question_lines.proofs.Put.{put-fits, put-short}
+use Rattle.answer_lines.proofs.Put.{put-fits, put-short}
 use borrow.Author.Needs.{needs}
-use Rattle.question_lines.proofs.put_text.Statement.{statement}
-use Rattle.question_lines.proofs.put_text.Tie as tie
+use Rattle.answer_lines.proofs.put_text.Statement.{statement}
+use Rattle.answer_lines.proofs.put_text.Tie as tie
 
 abbrev Inv-loop : tie.InvT-loop
 Inv-loop text out₀ at i₀ out i = (i ≤ length text) × (length out ≡ length out₀) × (out ≡ paste out₀ at text i)

@@ -17,7 +17,7 @@ use Rattle.hexadecimal.proofs.Words.{length-digits, write-fits}
 use Rattle.motion_file.specs.Text.{space}
 use Rattle.motion_text.specs.Answer.{wordOf}
 use Rattle.motion_text.proofs.Pastes.{paste-paste}
-use Rattle.question_lines.specs.Pieces.{put, behind, spacedFloats, floatsText}
+use Rattle.answer_lines.specs.Pieces.{put, behind, spacedFloats, floatsText}
 
 -- what a function that puts a text gives: the place behind it, and the buffer afterwards
 abbrev pub Puts : List ℕ → List ℕ → ℕ → List ℕ → ℕ → Type 0

@@ -5,11 +5,11 @@ use mathlib.Core.Path.{_≡_, refl, _∙_, ap}
 use lib.Ieee.{nan}
 use lib.ListN.{length, take}
 use lib.Seq.{paste, paste-zero, length-paste, length-take-le, getD-take}
-use Rattle.question_lines.proofs.Put.{put-fits, put-short, put-empty, floats-enough, floats-few, length-floats, floats-turn}
-use Rattle.question_lines.specs.Pieces.{spacedFloats}
+use Rattle.answer_lines.proofs.Put.{put-fits, put-short, put-empty, floats-enough, floats-few, length-floats, floats-turn}
+use Rattle.answer_lines.specs.Pieces.{spacedFloats}
 use borrow.Author.Needs.{needs}
-use Rattle.question_lines.proofs.put_floats.Statement.{statement}
-use Rattle.question_lines.proofs.put_floats.Tie as tie
+use Rattle.answer_lines.proofs.put_floats.Statement.{statement}
+use Rattle.answer_lines.proofs.put_floats.Tie as tie
 
 abbrev Inv-loop : tie.InvT-loop
 Inv-loop values count out₀ at k₀ out k = (k ≤ count) × (length out ≡ length out₀) × (out ≡ paste out₀ at (spacedFloats (take count values)) (9 * k))

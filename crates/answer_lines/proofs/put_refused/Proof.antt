@@ -1,11 +1,11 @@
 -- `put_refused` puts the word, the number and a line feed.
 use mathlib.Core.List.{[], _∷_}
-use Rattle.question_lines.proofs.Pieces.{all-none, all-cons, all-append}
+use Rattle.answer_lines.proofs.Pieces.{all-none, all-cons, all-append}
 use Rattle.motion_file.specs.Text.{ascii, lineFeed}
-use Rattle.question_lines.specs.Pieces.{wholePieces}
+use Rattle.answer_lines.specs.Pieces.{wholePieces}
 use borrow.Author.Needs.{needs}
-use Rattle.question_lines.proofs.put_refused.Statement.{statement}
-use Rattle.question_lines.proofs.put_refused.Tie as tie
+use Rattle.answer_lines.proofs.put_refused.Statement.{statement}
+use Rattle.answer_lines.proofs.put_refused.Tie as tie
 
 slice-aggregate-put-text : tie.Need-slice-aggregate-put-text
 slice-aggregate-put-text c = search needs

@@ -2,12 +2,12 @@
 use native.Mathlib.Omega.{arith}
 use mathlib.Core.Path.{_∙_}
 use mathlib.Core.List.{[], _∷_}
-use Rattle.question_lines.proofs.Pieces.{all-none, all-cons, decimal-fewest}
+use Rattle.answer_lines.proofs.Pieces.{all-none, all-cons, decimal-fewest}
 use Rattle.motion_file.specs.Text.{space}
-use Rattle.question_lines.specs.Pieces.{decimal}
+use Rattle.answer_lines.specs.Pieces.{decimal}
 use borrow.Author.Needs.{needs}
-use Rattle.question_lines.proofs.put_decimal.Statement.{statement}
-use Rattle.question_lines.proofs.put_decimal.Tie as tie
+use Rattle.answer_lines.proofs.put_decimal.Statement.{statement}
+use Rattle.answer_lines.proofs.put_decimal.Tie as tie
 
 decimal-requires : tie.Need-decimal-requires
 decimal-requires c κs = search needs

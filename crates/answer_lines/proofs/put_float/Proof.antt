@@ -2,10 +2,10 @@
 use native.Mathlib.Omega.{arith}
 use mathlib.Core.Path.{_∙_}
 use lib.ListN.{length-set}
-use Rattle.question_lines.proofs.Put.{put-float}
+use Rattle.answer_lines.proofs.Put.{put-float}
 use borrow.Author.Needs.{needs}
-use Rattle.question_lines.proofs.put_float.Statement.{statement}
-use Rattle.question_lines.proofs.put_float.Tie as tie
+use Rattle.answer_lines.proofs.put_float.Statement.{statement}
+use Rattle.answer_lines.proofs.put_float.Tie as tie
 
 slice-write-out : tie.Need-slice-write-out
 slice-write-out c = search needs
