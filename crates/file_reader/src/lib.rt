@@ -1,14 +1,12 @@
 // Move files read: from a file's bytes to its poses and its box.
 ghost use mathlib.Core.Path.{_≡_};
-ghost use mathlib.Core.Bool.{true};
 ghost use mathlib.Core.List.{map};
-ghost use Prim.Native.Nat.{_≤_, _<_};
+ghost use Prim.Native.Nat.{_≤_};
 ghost use lib.ListN.{length, replicate};
-ghost use Rattle.motion_file.specs.Layout.{names, values, fits, valuesOf, maxBytes, maxPoseLines, hasPads, poseOf, MoveFile·poses, MoveFile·read};
+ghost use Rattle.motion_file.specs.Layout.{names, values, valuesOf, maxBytes, maxPoseLines, hasPads, poseOf, MoveFile·poses, MoveFile·read};
 ghost use Rattle.motion_file.specs.means.Columns.{MoveFile·readAs, MoveFile·posesAs};
 ghost use Rattle.motion_file.specs.Front.{front};
-ghost use Rattle.motion_file.specs.means.Place.{lineAt, afterLine, through, linesThrough, NextByte};
-use hexadecimal::Word;
+ghost use Rattle.motion_file.specs.means.Place.{lineAt, afterLine, through, linesThrough};
 use motion_file::MoveFile;
 
 // Puts the poses that a file's bytes hold into the front of `poses`, each its time, its matrix row by row and its pad, and gives their number and the box;
@@ -40,7 +38,7 @@ fn has_pads(s: &[u8]) -> bool
 {
     let end = motion_file::line_end(s, 0);
     if end <= s.len() {
-        return is_names(
+        return file_lines::is_names(
             &s[0..end],
             b"time m00 m01 m02 m03 m10 m11 m12 m13 m20 m21 m22 m23 pad",
         );
@@ -82,7 +80,6 @@ fn read_columns(bytes: &[u8], text: &[u8], columns: usize, poses: &mut [[f32; 18
 // Where the line behind `count` lines of as many values as `scratch` has places begins, past the end where one of them is none.
 fn after_values(s: &[u8], at: usize, count: usize, scratch: &mut [f32]) -> usize
     requires { ⌜ length (now s) ≤ maxBytes ⌝ }
-    requires { ⌜ 0 < length (now scratch) ⌝ }
     ensures { λ r. ⌜ r ≡ through (replicate count (values (length (now (scratch .entry))))) (now (s .entry)) at ⌝ }
 {
     let mut place = at;
@@ -129,7 +126,7 @@ fn names_line(s: &[u8], at: usize, text: &[u8]) -> usize
 {
     let end = motion_file::line_end(s, at);
     if end <= s.len() {
-        if is_names(&s[at..end], text) {
+        if file_lines::is_names(&s[at..end], text) {
             return motion_file::after_line_feed(end, s.len());
         }
     }
@@ -139,85 +136,14 @@ fn names_line(s: &[u8], at: usize, text: &[u8]) -> usize
 // Where the next line begins if as many values as `out` has places stand at `at`, which `out` then holds, and past the end otherwise.
 fn values_line(s: &[u8], at: usize, out: &mut [f32]) -> usize
     requires { ⌜ length (now s) ≤ maxBytes ⌝ }
-    requires { ⌜ 0 < length (now out) ⌝ }
     ensures { λ r. ⌜ r ≡ afterLine (values (length (now (out .entry)))) (now (s .entry)) at ⌝ }
     ensures { λ r. ⌜ (r ≤ length (now (s .entry)) → now (out .exit) ≡ valuesOf (lineAt (now (s .entry)) at)) ⌝ }
 {
     let end = motion_file::line_end(s, at);
     if end <= s.len() {
-        if read_values(&s[at..end], out) {
+        if file_lines::read_values(&s[at..end], out) {
             return motion_file::after_line_feed(end, s.len());
         }
     }
     motion_file::PAST_END
-}
-
-// Whether a line, every run of spaces read as one space, is the names `text`.
-fn is_names(line: &[u8], text: &[u8]) -> bool
-    ensures { λ r. ⌜ r ≡ fits (names (now (text .entry))) (now (line .entry)) ⌝ }
-{
-    let mut at = 0;
-    let mut i = 0;
-    while i < text.len() {
-        if line.len() <= at {
-            return false;
-        }
-        if line[at] != text[i] {
-            return false;
-        }
-        at = next_byte(line, at);
-        i += 1;
-    }
-    at == line.len()
-}
-
-// Whether a line is as many values as `out` has places, which `out` then holds.
-fn read_values(line: &[u8], out: &mut [f32]) -> bool
-    requires { ⌜ 0 < length (now out) ⌝ }
-    ensures { λ r. ⌜ r ≡ fits (values (length (now (out .entry)))) (now (line .entry)) ⌝ }
-    ensures { λ r. ⌜ (r ≡ true → now (out .exit) ≡ valuesOf (now (line .entry))) ⌝ }
-{
-    let mut at = 0;
-    let mut k = 0;
-    loop {
-        match hexadecimal::read_word(line, at) {
-            Word::Bits(bits) => {
-                out[k] = hexadecimal::float_of_bits(bits);
-            }
-            Word::Malformed => {
-                return false;
-            }
-        }
-        at += 8;
-        k += 1;
-        if k == out.len() {
-            return at == line.len();
-        }
-        if line.len() <= at {
-            return false;
-        }
-        // Between two values stands a run of spaces.
-        if line[at] != b' ' {
-            return false;
-        }
-        at = next_byte(line, at);
-    }
-}
-
-// The place behind the byte at `at`, or behind the run of spaces that begins there.
-fn next_byte(line: &[u8], at: usize) -> usize
-    requires { ⌜ at < length (now line) ⌝ }
-    ensures { λ r. ⌜ NextByte (now (line .entry)) at r ⌝ }
-{
-    let mut i = at + 1;
-    if line[at] != b' ' {
-        return i;
-    }
-    while i < line.len() {
-        if line[i] != b' ' {
-            return i;
-        }
-        i += 1;
-    }
-    i
 }

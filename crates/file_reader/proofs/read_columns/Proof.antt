@@ -38,11 +38,7 @@ slice-aggregate-after-values c =
     sym (length-take-le (start .args .columns) _ (start .pre .1))
 
 after-values-requires : tie.Need-after-values-requires
-after-values-requires c κs =
-    let c1 = c .before in let c2 = c1 .before in let c3 = c2 .before in let c4 = c3 .before in let c5 = c4 .before in let c6 = c5 .before in
-    let start = c6 in
-    let n = length-take-le (start .args .columns) (replicate 14 (ofBits binary32 0)) (start .pre .1) in
-    (omega arith, omega (arith, n, start .pre .0))
+after-values-requires c κs = search needs
 
 slice-aggregate-names-line : tie.Need-slice-aggregate-names-line
 slice-aggregate-names-line c = search needs

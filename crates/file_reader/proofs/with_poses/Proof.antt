@@ -41,11 +41,7 @@ slice-aggregate-values-line c =
     sym (length-take-le (start .args .columns) _ (start .pre .1 .1 .1 .0))
 
 values-line-requires : tie.Need-values-line-requires Inv-loop μ-loop
-values-line-requires c κs =
-    let c1 = c .before in let c2 = c1 .before in let c3 = c2 .before in let c4 = c3 .before in
-    let start = c4 in
-    let n = length-take-le (start .args .columns) (replicate 14 (ofBits binary32 0)) (start .pre .1 .1 .1 .0) in
-    (omega arith, omega (arith, n, start .pre .1 .1 .0))
+values-line-requires c κs = search needs
 
 pose-of-requires : tie.Need-pose-of-requires Inv-loop μ-loop
 pose-of-requires c κs = search needs

@@ -17,7 +17,7 @@ use Rattle.hexadecimal.specs.declared.Word.the-variants.{Bits, Malformed}
 use Rattle.motion_file.specs.Text.{space}
 use Rattle.motion_file.specs.Layout.{words, valueOf, areValues}
 use Rattle.motion_file.specs.means.Place.{NextByte}
-use Rattle.file_reader.proofs.Values.{values-malformed, values-more, values-next, values-last, values-short, values-unspaced, values-final}
+use Rattle.file_lines.proofs.Values.{values-malformed, values-more, values-next, values-last, values-short, values-unspaced, values-final}
 
 -- k values of the line stand in `out`, and what is left of it begins at a place
 pub record ReadUpTo (line : List ℕ) (out : List Float) (at k : ℕ) : Type 0 where

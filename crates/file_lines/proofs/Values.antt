@@ -20,8 +20,8 @@ use Rattle.motion_file.specs.Text.{space, singleSpaced}
 use Rattle.motion_file.specs.Layout.{words, isValue, valueOf, allValues, areValues}
 use Rattle.motion_file.specs.means.Place.{NextByte}
 use Rattle.motion_file.proofs.Pieces.{position-here, position-next, split-first}
-use Rattle.file_reader.proofs.Spaces.{singleSpaced-first}
-use Rattle.file_reader.proofs.Words.{words-cut, words-whole, words-first, digits-position}
+use Rattle.file_lines.proofs.Spaces.{singleSpaced-first}
+use Rattle.file_lines.proofs.Words.{words-cut, words-whole, words-first, digits-position}
 
 -- eight digits stand at a place and write a number
 record Reads (line : List ℕ) (at n : ℕ) : Type 0 where
@@ -59,6 +59,10 @@ first-length t = length-take-le (position space t) t (position-bound space t)
 values-refused : (t : List ℕ) (m : ℕ) → isValue (take (position space t) t) ≡ false → areValues m (words t) ≡ false
 unfolding allValues
 values-refused t m e = rw (words-first t .1, e, and-false)
+
+-- a line has at least one word
+pub values-none : (line : List ℕ) → areValues 0 (words line) ≡ false
+values-none line = rw (words-first line .1, eqb·suc-zero)
 
 values-long : (t : List ℕ) (m : ℕ) → (position space t ≡ 8 → ⊥) → areValues m (words t) ≡ false
 values-long t m n = values-refused t m (rw (first-length t, ne-eqb (position space t) 8 n))

@@ -5,9 +5,9 @@ use mathlib.Core.Path.{_≡_, refl, sym, _∙_}
 use lib.ListN.{length}
 use borrow.Author.Needs.{needs}
 use Rattle.motion_file.specs.Layout.{fits}
-use Rattle.file_reader.proofs.Names.{sameFrom, names-same, names-differ, names-short, names-end}
-use Rattle.file_reader.proofs.is_names.Statement.{statement}
-use Rattle.file_reader.proofs.is_names.Tie as tie
+use Rattle.file_lines.proofs.Names.{sameFrom, names-same, names-differ, names-short, names-end}
+use Rattle.file_lines.proofs.is_names.Statement.{statement}
+use Rattle.file_lines.proofs.is_names.Tie as tie
 
 abbrev Inv-loop : tie.InvT-loop
 Inv-loop line text at₀ i₀ at i = (at ≤ length line) × (i ≤ length text) × (sameFrom line text 0 0 ≡ sameFrom line text at i)

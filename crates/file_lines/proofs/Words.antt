@@ -17,7 +17,7 @@ use Rattle.hexadecimal.proofs.Digits.{position-bound}
 use Rattle.motion_file.specs.Text.{space, split, singleSpaced}
 use Rattle.motion_file.specs.Layout.{words}
 use Rattle.motion_file.proofs.Pieces.{position-drop, split-whole}
-use Rattle.file_reader.proofs.Spaces.{singleSpaced-first, singleSpaced-other}
+use Rattle.file_lines.proofs.Spaces.{singleSpaced-first, singleSpaced-other}
 
 singleSpaced-nil : singleSpaced [] ≡ []
 unfolding singleSpaced

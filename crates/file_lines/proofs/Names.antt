@@ -14,7 +14,7 @@ use lib.Seq.{drop-cons}
 use borrow.Author.Tests.{eq-eqb, ne-eqb}
 use Rattle.motion_file.specs.Text.{singleSpaced, equal}
 use Rattle.motion_file.specs.means.Place.{NextByte}
-use Rattle.file_reader.proofs.Spaces.{singleSpaced-first}
+use Rattle.file_lines.proofs.Spaces.{singleSpaced-first}
 
 module _ (line names : List ℕ) where
   -- whether the line from a place on is the names from a place on
