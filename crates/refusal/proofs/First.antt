@@ -1,10 +1,10 @@
 -- Laws of the first of two refusals: it is 0 where both are, and only there (`zero-first`, `first-zero`); a number that was met stands
--- (`first-stands`), and 0 adds none (`first-right`); of three it is the same whichever two are asked first (`first-assoc`).
+-- (`first-stands`), and 0 adds none (`first-left`, `first-right`); of three it is the same whichever two are asked first (`first-assoc`).
 -- What holds of both holds of it (`first-keeps`).
 use mathlib.Core.Path.{_≡_, refl}
 use mathlib.Core.Bool.{Bool, true, false, cond}
 use Prim.Native.Nat.{ℕ}
-use borrow.Author.Tests.{eqb-true, eqb-false, ne-eqb}
+use borrow.Author.Tests.{eqb-true, eqb-false, eq-eqb, ne-eqb}
 use lib.Dec.{eqb}
 use Rattle.refusal.specs.First.{firstRefusal}
 
@@ -20,6 +20,9 @@ zero-first m n z k = rw (z, k)
 
 pub first-stands : (m n : ℕ) → (m ≡ 0 → ⊥) → m ≡ firstRefusal m n
 first-stands m n h = rw (ne-eqb m 0 h)
+
+pub first-left : (m n : ℕ) → m ≡ 0 → n ≡ firstRefusal m n
+first-left m n z = rw (eq-eqb m 0 z)
 
 pub first-right : (m : ℕ) → m ≡ firstRefusal m 0
 first-right m = go (eqb m 0) (eqb-true m 0)
