@@ -8,7 +8,8 @@ cd "$(dirname "$0")/.." || exit 2
 command -v rt >/dev/null || { echo "rt, the Rattle toolchain's command, is not on the PATH"; echo "0 passed, 1 failed"; exit 2; }
 log=$(mktemp)
 trap 'rm -f "$log"' EXIT
-RT_JOBS=${RT_JOBS:-4} rt ci >"$log" 2>&1
+# rt waits for all of a batch of checks before it starts the next: more of them than there are cores leave fewer cores idle at its end.
+RT_JOBS=${RT_JOBS:-8} rt ci >"$log" 2>&1
 status=$?
 proved=$status
 verdict=$(tail -n 1 "$log")
