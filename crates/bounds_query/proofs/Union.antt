@@ -1,14 +1,17 @@
 -- A union is accepted only where both answers are, and its box is then the union of theirs: `union-accepted`. A refusal is no box: `refused-bounds`.
+-- Unions of the same answers are the same: `union-same`.
 use Prim.Native.Nat.{ℕ}
 use mathlib.Core.Path.{_≡_, refl, sym, ap, subst}
 use mathlib.Core.Bool.{Bool, true, false}
 use lib.Dec.{T}
 use Rattle.bounds3.specs.declared.Bounds3f.{Bounds3f}
 use Rattle.bounds3.specs.Bounds3f.{Bounds3f·unionBounds}
+use Rattle.bounds3.proofs.Union.{union-isotone}
 use Rattle.transform.specs.declared.BoundsAnswer.{BoundsAnswer}
 use Rattle.transform.specs.declared.BoundsAnswer.the-variants.{Bounds, Refused}
 use Rattle.transform.specs.Answer.{BoundsAnswer·bounds}
 use Rattle.bounds_query.specs.Query.{BoundsAnswer·unionBounds}
+use Rattle.bounds_query.specs.Same.{BoundsAnswer·Same, same-box, same-refusal}
 
 abbrev isBounds : BoundsAnswer → Bool
 isBounds (Bounds b) = true
@@ -33,3 +36,10 @@ union-accepted (Bounds a) (Bounds b) box e =
     record { left = a; right = b; left-accepted = refl; right-accepted = refl; union = bounds-same (Bounds3f·unionBounds a b) box e }
 union-accepted (Bounds a) (Refused n) box e = absurd (refused-bounds n box e)
 union-accepted (Refused n) s box e = absurd (refused-bounds n box e)
+
+pub union-same : {r r' s s' : BoundsAnswer} → BoundsAnswer·Same r r' → BoundsAnswer·Same s s'
+    → BoundsAnswer·Same (BoundsAnswer·unionBounds r s) (BoundsAnswer·unionBounds r' s')
+unfolding BoundsAnswer·unionBounds
+union-same (same-box a b) (same-box c d) = same-box (union-isotone a c) (union-isotone b d)
+union-same (same-box a b) (same-refusal n) = same-refusal n
+union-same (same-refusal n) h = same-refusal n

@@ -28,7 +28,9 @@ use Rattle.transform.specs.Answer.{PointAnswer·Judged, BoundsAnswer·bounds}
 use Rattle.transform.specs.TransformPoint.{Transform·transformPoint}
 use Rattle.transform.specs.TransformBounds.{BoundsAnswer·fromMoved, BoundsAnswer·unionMoved}
 use Rattle.transform.proofs.Judged.{transform-point-judged, transform-bounds-judged}
-use Rattle.bounds_query.specs.Query.{Bounds3f·refusal, BoundsAnswer·unionBounds}
+use Rattle.bounds_query.specs.Query.{Bounds3f·refusal}
+use Rattle.bounds_query.specs.Same.{BoundsAnswer·Same, same-box, same-refusal}
+use Rattle.bounds_query.proofs.Union.{union-same}
 use Rattle.axis_derivative.specs.declared.Derivative.{Derivative}
 use Rattle.zero_list.specs.declared.Zeros.{Zeros}
 use Rattle.zero_search.specs.Stored.{Stored}
@@ -43,7 +45,7 @@ use Rattle.motion_bounds.specs.declared.Examined.{Examined}
 use Rattle.motion_bounds.specs.Examined.{pointExamined, boxExamined}
 use Rattle.motion_bounds.specs.Answer.{BoundsAnswer·counted, MotionBoundsAnswer·uncounted, AnimatedTransform·boundPointMotion, AnimatedTransform·motionBounds}
 use Rattle.motion_bounds.proofs.Searched.{axis-zeros-stored}
-use Rattle.motion_bounds_laws.specs.Book.{BoundsAnswer·Same, same-box, same-refusal, Book·boundPointMotion, Book·motionBounds}
+use Rattle.motion_bounds_laws.specs.Book.{Book·boundPointMotion, Book·motionBounds}
 use Rattle.motion_bounds_laws.proofs.Ends.{from-ends-union}
 use Rattle.motion_bounds_laws.proofs.Numbers.{default-finite}
 use Rattle.motion_bounds_laws.proofs.StartTime.{point-at-start}
@@ -157,13 +159,6 @@ module _ {m : AnimatedTransform} (built : Built m) (a : PoseConstants) (p : Poin
 same-refl : (r : BoundsAnswer) → T (Bounds3f·isFinite (BoundsAnswer·bounds r)) → BoundsAnswer·Same r r
 same-refl (Bounds b) f = same-box (finite-self f) (finite-self f)
 same-refl (Refused n) f = same-refusal n
-
-union-same : {r r' s s' : BoundsAnswer} → BoundsAnswer·Same r r' → BoundsAnswer·Same s s'
-    → BoundsAnswer·Same (BoundsAnswer·unionBounds r s) (BoundsAnswer·unionBounds r' s')
-unfolding BoundsAnswer·unionBounds
-union-same (same-box a b) (same-box c d) = same-box (union-isotone a c) (union-isotone b d)
-union-same (same-box a b) (same-refusal n) = same-refusal n
-union-same (same-refusal n) h = same-refusal n
 
 module _ {m : AnimatedTransform} (built : Built m) (b : Bounds3f) where
   corners-same : (a : PoseConstants) (n : ℕ) → BoundsAnswer·Same (unionCorners allPlaces m a b n) (unionCorners storedPlaces m a b n)

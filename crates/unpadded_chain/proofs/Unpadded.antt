@@ -19,6 +19,8 @@ use Rattle.transform.specs.declared.BoundsAnswer.the-variants.{Bounds, Refused}
 use Rattle.transform.specs.Answer.{origin, BoundsAnswer·bounds}
 use Rattle.formula.specs.Promise.{Pairwise}
 use Rattle.bounds_query.specs.Query.{BoundsAnswer·unionBounds}
+use Rattle.bounds_query.specs.Same.{BoundsAnswer·Same, same-box, same-refusal}
+use Rattle.bounds_query.proofs.Union.{union-same}
 use Rattle.bounds_answers.specs.UnionAll.{BoundsAnswer·unionAll, Each}
 use Rattle.bounds_answers.proofs.UnionAll.{each-unmap}
 use Rattle.pose_pair.specs.declared.Pose.{Pose}
@@ -27,8 +29,8 @@ use Rattle.animated_transform.specs.declared.AnimatedTransform.{AnimatedTransfo
 use Rattle.animated_transform.specs.Built.{Built}
 use Rattle.motion_point.specs.TransformPoint.{AnimatedTransform·movedPoint, AnimatedTransform·transformPoint}
 use Rattle.motion_cover.specs.Cover.{AnimatedTransform·cover}
-use Rattle.unpadded_cover.specs.Unpadded.{AnimatedTransform·coverUnpadded, BoundsAnswer·Same}
-use Rattle.unpadded_cover.proofs.Unpadded.{union-same, cover-unpadded}
+use Rattle.unpadded_cover.specs.Unpadded.{AnimatedTransform·coverUnpadded}
+use Rattle.unpadded_cover.proofs.Unpadded.{cover-unpadded}
 use Rattle.motion_pad.specs.means.Computing as pad
 use Rattle.motion_chain.specs.Chain.{neighbours, every, firstNumber, stage, Pose·number, Chain, Chain·moves, ChainAnswer, built, refused, Chain·new}
 use Rattle.motion_chain.specs.Chain.{moveFrom, Chain·moveAt, Chain·transformPoint, unionCovers, Chain·cover}
@@ -54,7 +56,7 @@ union-all-same r r' [] [] e es = e
 union-all-same r r' [] (s' ∷ answers') e es = absurd es
 union-all-same r r' (s ∷ answers) [] e es = absurd es
 union-all-same r r' (s ∷ answers) (s' ∷ answers') e (f, fs) =
-    union-all-same (BoundsAnswer·unionBounds r s) (BoundsAnswer·unionBounds r' s') answers answers' (union-same r s r' s' e f) fs
+    union-all-same (BoundsAnswer·unionBounds r s) (BoundsAnswer·unionBounds r' s') answers answers' (union-same e f) fs
 
 -- ---- a chain
 -- the pads of a move are those of two poses of the chain
@@ -106,25 +108,21 @@ zero-accepted (p ∷ poses) (e, h) = rw (zero-padded p e, zero-accepted poses h)
 origin-self : Subset (Bounds3f·fromPoint origin) (Bounds3f·fromPoint origin)
 origin-self = finite-self (unfold pad.computing in tt)
 
-bounds-same : (r r' : BoundsAnswer) → BoundsAnswer·Same r r' → BoundsAnswer·Same (Bounds (BoundsAnswer·bounds r)) (Bounds (BoundsAnswer·bounds r'))
-bounds-same (Bounds a) (Bounds b) e = e
-bounds-same (Bounds a) (Refused n) e = absurd e
-bounds-same (Refused n) (Bounds b) e = absurd e
-bounds-same (Refused n) (Refused k) e = (origin-self, origin-self)
+bounds-same : {r r' : BoundsAnswer} → BoundsAnswer·Same r r' → BoundsAnswer·Same (Bounds (BoundsAnswer·bounds r)) (Bounds (BoundsAnswer·bounds r'))
+bounds-same (same-box i o) = same-box i o
+bounds-same (same-refusal n) = same-box origin-self origin-self
 
 all-same : (answers answers' : List BoundsAnswer) → Pairwise BoundsAnswer·Same answers answers'
     → Pairwise (λ b b'. BoundsAnswer·Same (Bounds b) (Bounds b')) (map BoundsAnswer·bounds answers) (map BoundsAnswer·bounds answers')
 all-same [] [] es = tt
 all-same [] (s' ∷ answers') es = absurd es
 all-same (s ∷ answers) [] es = absurd es
-all-same (s ∷ answers) (s' ∷ answers') (e, es) = (bounds-same s s' e, all-same answers answers' es)
+all-same (s ∷ answers) (s' ∷ answers') (e, es) = (bounds-same e, all-same answers answers' es)
 
-joined-same : (answers answers' : List BoundsAnswer) (u u' : BoundsAnswer) → Pairwise BoundsAnswer·Same answers answers' → BoundsAnswer·Same u u'
+joined-same : (answers answers' : List BoundsAnswer) {u u' : BoundsAnswer} → Pairwise BoundsAnswer·Same answers answers' → BoundsAnswer·Same u u'
     → SetAnswer·Same (SetAnswer·joined answers u) (SetAnswer·joined answers' u')
-joined-same answers answers' (Bounds a) (Bounds b) es e = (all-same answers answers' es, e)
-joined-same answers answers' (Bounds a) (Refused n) es e = absurd e
-joined-same answers answers' (Refused n) (Bounds b) es e = absurd e
-joined-same answers answers' (Refused n) (Refused k) es e = e
+joined-same answers answers' es (same-box i o) = (all-same answers answers' es, same-box i o)
+joined-same answers answers' es (same-refusal n) = refl
 
 boxes-same : (cover unpadded : Bounds3f → BoundsAnswer) → ((b : Bounds3f) → BoundsAnswer·Same (cover b) (unpadded b)) → (boxes : List Bounds3f)
     → Pairwise BoundsAnswer·Same (map cover boxes) (map unpadded boxes)
@@ -148,8 +146,7 @@ set-same cover unpadded (b ∷ boxes) same = go (ltb maxBoxes (length (b ∷ box
     go true = refl
     go false =
         let es = boxes-same cover unpadded same boxes in
-        joined-same (cover b ∷ answers) (unpadded b ∷ answers') (BoundsAnswer·unionAll (cover b) answers) (BoundsAnswer·unionAll (unpadded b) answers')
-        (same b, es) (union-all-same (cover b) (unpadded b) answers answers' (same b) es)
+        joined-same (cover b ∷ answers) (unpadded b ∷ answers') (same b, es) (union-all-same (cover b) (unpadded b) answers answers' (same b) es)
 
 -- ---- files
 answer-same : (a : ChainAnswer) (b : Bounds3f)
@@ -157,7 +154,7 @@ answer-same : (a : ChainAnswer) (b : Bounds3f)
     → BoundsAnswer·Same (ChainAnswer·cover a b) (ChainAnswer·coverUnpadded a b)
 unfolding ChainAnswer·cover
 answer-same (built c) b h = h c refl
-answer-same (refused n) b h = refl
+answer-same (refused n) b h = same-refusal n
 
 pub file-unpadded : (bytes : List ℕ) → FileUnpadded bytes
 unfolding MoveFile·cover MoveFile·chain
@@ -171,7 +168,7 @@ file-unpadded bytes h = go (eqb (MoveFile·read bytes .refusal) 0)
         (cond read (ChainAnswer·coverUnpadded (MoveFile·chain bytes) (MoveFile·box bytes)) (Refused (MoveFile·read bytes .refusal)))
     go true =
         answer-same (MoveFile·chain bytes) (MoveFile·box bytes) (λ c e. chain-unpadded false poses c (MoveFile·box bytes) coverDepth (poses-binary32 bytes) h e)
-    go false = refl
+    go false = same-refusal (MoveFile·read bytes .refusal)
 
 -- ---- points
 move-unpadded : (m : AnimatedTransform) (moves : List AnimatedTransform) (time : Float)

@@ -18,7 +18,8 @@ use Rattle.bounds_answers.specs.UnionAll.{BoundsAnswer·unionAll, Each}
 use Rattle.pose_pair.specs.declared.Pose.{Pose}
 use Rattle.pose_pair.specs.Pose.{Pose·isBinary32}
 use Rattle.animated_transform.specs.declared.AnimatedTransform.{AnimatedTransform}
-use Rattle.unpadded_cover.specs.Unpadded.{AnimatedTransform·coverUnpadded, BoundsAnswer·Same}
+use Rattle.bounds_query.specs.Same.{BoundsAnswer·Same}
+use Rattle.unpadded_cover.specs.Unpadded.{AnimatedTransform·coverUnpadded}
 use Rattle.motion_chain.specs.Chain.{every, stage, Pose·number, Chain, ChainAnswer, built, refused, Chain·new, Chain·transformPoint, Chain·cover}
 use Rattle.box_set.specs.Set.{SetAnswer, Boxes·covers}
 use Rattle.box_set.specs.Set as set

@@ -1,5 +1,5 @@
 -- A cover with pads of +0 is document 01's, a zero's sign aside: `cover-unpadded`. The pad interval of every slice is then zero (`pad-zero`),
--- a box whose corners are values of binary32 grows by zero to itself (`grow-same`), and a union of the same boxes is the same (`union-same`).
+-- and a box whose corners are values of binary32 grows by zero to itself (`grow-same`).
 use Prim.Native.Nat.{ℕ, zero, suc, _≤_, _^_}
 use mathlib.Core.Path.{_≡_, refl, sym, ap, subst}
 use mathlib.Core.Bool.{Bool, true, false, cond}
@@ -22,11 +22,13 @@ use Rattle.bounds3.specs.declared.Bounds3f.{Bounds3f}
 use Rattle.bounds3.specs.Finite.{Bounds3f·isFinite}
 use Rattle.bounds3.specs.Inside.{Subset}
 use Rattle.bounds3.proofs.Finite.{low-finite, high-finite, box-finite}
-use Rattle.bounds3.proofs.Union.{subset-trans, finite-self, union-least, union-subset-left, union-subset-right}
+use Rattle.bounds3.proofs.Union.{subset-trans, finite-self}
 use Rattle.transform.specs.declared.Transform.{Transform}
 use Rattle.transform.specs.declared.BoundsAnswer.{BoundsAnswer}
 use Rattle.transform.specs.declared.BoundsAnswer.the-variants.{Bounds, Refused}
 use Rattle.bounds_query.specs.Query.{BoundsAnswer·unionBounds, coverRefusal}
+use Rattle.bounds_query.specs.Same.{BoundsAnswer·Same, same-box, same-refusal}
+use Rattle.bounds_query.proofs.Union.{union-same}
 use Rattle.unit_interval.specs.Unit.{unitInterval, slice}
 use Rattle.unit_interval.proofs.Slices.{slice-unit}
 use Rattle.formula.specs.Enclose.{Expr·enclose, Expr·encloseAll, Program·enclose}
@@ -54,7 +56,7 @@ use Rattle.motion_cover.specs.Cover.{BoundsAnswer·fromEnclosure, Transform·en
 use Rattle.motion_cover.specs.Cover.{AnimatedTransform·encloseEnds, unionSlices, AnimatedTransform·encloseMotion, AnimatedTransform·cover}
 use Rattle.motion_cover.proofs.Contains.{from-enclosure-accepted, motion-stored, motion-slices, cover-box}
 use Rattle.motion_cover.proofs.Proper.{subset-self, BoxRefines, box-refines}
-use Rattle.unpadded_cover.specs.Unpadded.{unionUnpadded, AnimatedTransform·coverUnpadded, BoundsAnswer·Same, CoverUnpadded}
+use Rattle.unpadded_cover.specs.Unpadded.{unionUnpadded, AnimatedTransform·coverUnpadded, CoverUnpadded}
 
 -- ---- pads of +0
 unit-self : interval.Subset unitInterval unitInterval
@@ -105,14 +107,14 @@ equal-finite {b} {c} f s t =
 
 grow-same : (pad : Judged) (r : BoundsAnswer) → pad .refusal ≡ 0
     → PadWithin (pad .interval .high) positiveZero → Plain r → BoundsAnswer·Same (BoundsAnswer·grow pad r) r
-grow-same pad (Refused n) e w p = rw (grow-refused pad n) refl
+grow-same pad (Refused n) e w p = rw (grow-refused pad n) (same-refusal n)
 grow-same pad (Bounds b) e w p =
     let f = p .finite b refl in
     let F = pad-within-finite w in
     let (i, o) = grow-zero f (p .low b refl) (p .high b refl) in
     let inner : Subset (Bounds3f·grow (pad .interval .high) b) b = subset-trans (grow-subset F zero-finite (w .most) f f (finite-self f)) i in
     let outer : Subset b (Bounds3f·grow (pad .interval .high) b) = subset-trans o (grow-subset zero-finite F (w .from-zero) f f (finite-self f)) in
-    rw (grow-box pad b e (equal-finite f inner outer)) (inner, outer)
+    rw (grow-box pad b e (equal-finite f inner outer)) (same-box inner outer)
 
 -- ---- boxes of intervals
 enclosed-values : (n : ℕ) (M : IntervalMatrix) (P : IntervalVector)
@@ -137,20 +139,6 @@ enclosure-plain n M P f =
       low = λ b e. subst (λ (x : Bounds3f). Binary32 (x .«p_min»)) (from-enclosure-accepted j b e .bounds) l;
       high = λ b e. subst (λ (x : Bounds3f). Binary32 (x .«p_max»)) (from-enclosure-accepted j b e .bounds) h;
     }
-
--- ---- unions
-pub union-same : (r s r' s' : BoundsAnswer) → BoundsAnswer·Same r r' → BoundsAnswer·Same s s'
-    → BoundsAnswer·Same (BoundsAnswer·unionBounds r s) (BoundsAnswer·unionBounds r' s')
-unfolding BoundsAnswer·unionBounds
-union-same (Bounds a) (Bounds b) (Bounds a') (Bounds b') (i, o) (i', o') =
-    (union-least (union-subset-left b' i) (union-subset-right a' i'), union-least (union-subset-left b o) (union-subset-right a o'))
-union-same (Bounds a) (Bounds b) (Bounds a') (Refused k) e f = f
-union-same (Bounds a) (Bounds b) (Refused n) s' e f = absurd e
-union-same (Bounds a) (Refused n) (Bounds a') (Bounds b') e f = f
-union-same (Bounds a) (Refused n) (Bounds a') (Refused k) e f = f
-union-same (Bounds a) (Refused n) (Refused k) s' e f = absurd e
-union-same (Refused n) s (Bounds a') s' e f = absurd e
-union-same (Refused n) s (Refused k) s' e f = e
 
 -- ---- the cover
 stored-same : (t : Transform) → StoredPose t → (b : Bounds3f) → BoxRefines b
@@ -185,20 +173,16 @@ module _ {m : AnimatedTransform} (built : Built m) (e0 : m .pad0 ≡ positiveZer
       (BoundsAnswer·unionBounds (Transform·encloseBounds (m .«start_transform») b) (Transform·encloseBounds (m .«end_transform») b))
   unfolding AnimatedTransform·encloseEnds
   ends-same =
-      union-same (Transform·enclosePadded (m .pad0) (m .«start_transform») b) (Transform·enclosePadded (m .pad1) (m .«end_transform») b)
-      (Transform·encloseBounds (m .«start_transform») b) (Transform·encloseBounds (m .«end_transform») b)
-      start-same (rw e1 (stored-same (m .«end_transform») (built-judged built .end) b r))
+      let end : BoundsAnswer·Same (Transform·enclosePadded (m .pad1) (m .«end_transform») b) (Transform·encloseBounds (m .«end_transform») b) =
+      rw e1 (stored-same (m .«end_transform») (built-judged built .end) b r) in
+      union-same start-same end
 
   slices-same : (d k : ℕ) → k ≤ 2 ^ d
       → BoundsAnswer·Same (unionSlices m a b d (AnimatedTransform·encloseEnds m b) k)
       (unionUnpadded m a b d (BoundsAnswer·unionBounds (Transform·encloseBounds (m .«start_transform») b) (Transform·encloseBounds (m .«end_transform») b)) k)
   unfolding unionSlices unionUnpadded
   slices-same d zero l = ends-same
-  slices-same d (suc k) l =
-      union-same (unionSlices m a b d (AnimatedTransform·encloseEnds m b) k) (AnimatedTransform·encloseBounds m a (slice d k) b)
-      (unionUnpadded m a b d (BoundsAnswer·unionBounds (Transform·encloseBounds (m .«start_transform») b) (Transform·encloseBounds (m .«end_transform») b)) k)
-      (BoundsAnswer·fromEnclosure (Pose·enclosePoint a (m .s0) (m .s1) (slice d k) (Bounds3f·intervals b)))
-      (slices-same d k (omega (arith, l))) (piece-same (slice d k) (slice-unit d k (omega (arith, l))))
+  slices-same d (suc k) l = union-same (slices-same d k (omega (arith, l))) (piece-same (slice d k) (slice-unit d k (omega (arith, l))))
 
 pub cover-unpadded : (m : AnimatedTransform) (b : Bounds3f) (d : ℕ) → CoverUnpadded m b d
 unfolding AnimatedTransform·cover AnimatedTransform·coverUnpadded
@@ -218,4 +202,4 @@ cover-unpadded m b d built e0 e1 = go (eqb (coverRefusal b d) 0) (m .«actually_
         (cond s (cond t slices start) (Refused (coverRefusal b d)))
     go true true f g = rw (motion-slices m b d g) (slices-same built e0 e1 b (box-refines b (cover-box b d (f refl))) d (2 ^ d) (omega arith))
     go true false f g = rw (motion-stored m b d g, larger) (start-same built e0 e1 b (box-refines b (cover-box b d (f refl))))
-    go false t f g = refl
+    go false t f g = same-refusal (coverRefusal b d)

@@ -6,10 +6,10 @@ use mathlib.Core.Bool.{cond}
 use lib.Dec.{eqb}
 use Rattle.float32.specs.Operators.{positiveZero}
 use Rattle.bounds3.specs.declared.Bounds3f.{Bounds3f}
-use Rattle.bounds3.specs.Inside.{Subset}
 use Rattle.transform.specs.declared.BoundsAnswer.{BoundsAnswer}
-use Rattle.transform.specs.declared.BoundsAnswer.the-variants.{Bounds, Refused}
+use Rattle.transform.specs.declared.BoundsAnswer.the-variants.{Refused}
 use Rattle.bounds_query.specs.Query.{BoundsAnswer·unionBounds, coverRefusal}
+use Rattle.bounds_query.specs.Same.{BoundsAnswer·Same}
 use Rattle.unit_interval.specs.Unit.{slice}
 use Rattle.pose_steps.specs.declared.PoseConstants.{PoseConstants}
 use Rattle.pose_steps.specs.Enclose.{Pose·enclosePoint, Bounds3f·intervals}
@@ -32,13 +32,6 @@ AnimatedTransform·coverUnpadded m b d =
     cond (eqb n 0)
     (cond (m .«actually_animated») (unionUnpadded m (AnimatedTransform·constants m) b d (BoundsAnswer·unionBounds start end) (2 ^ d)) start)
     (Refused n)
-
--- The same number, or boxes that are equal as numbers, either zero being zero.
-abbrev pub BoundsAnswer·Same : BoundsAnswer → BoundsAnswer → Type 0
-BoundsAnswer·Same (Bounds a) (Bounds b) = Subset a b × Subset b a
-BoundsAnswer·Same (Bounds a) (Refused n) = ⊥
-BoundsAnswer·Same (Refused n) (Bounds b) = ⊥
-BoundsAnswer·Same (Refused n) (Refused k) = n ≡ k
 
 abbrev pub CoverUnpadded : AnimatedTransform → Bounds3f → ℕ → Type 0
 CoverUnpadded m b d = Built m → m .pad0 ≡ positiveZero → m .pad1 ≡ positiveZero
