@@ -1,11 +1,12 @@
--- The tests of a list of times, as loops make them: `number-fails`, `number-next`, `number-end`; `falls-here`, `falls-next`, `falls-end`.
-use Prim.Native.Nat.{ℕ, zero, suc, _+_, _-_, _≤_, _<_}
+-- The tests of a list of times, as loops make them: `number-fails`, `number-next`, `number-end`; a test of neighbours: `never-falls`.
+use Prim.Native.Nat.{ℕ, zero, suc, _+_, _≤_, _<_}
 use mathlib.Core.Path.{_≡_, refl}
 use mathlib.Core.Bool.{true, false, not, _&&_}
 use mathlib.Core.List.{List, [], _∷_}
 use native.Mathlib.Omega.{arith}
 use lib.ListN.{length, getD, drop, drop-of-length-le}
 use lib.Ieee.{Float, nan, isNan, le}
+use Rattle.control_flow.proofs.Neighbours.{EachNext}
 use Rattle.motion_chain.specs.Chain.{every}
 use Rattle.motion_chain.specs.Times.{timesAreNumbers, neverFalls}
 
@@ -28,35 +29,7 @@ pub number-end : (times : List Float) (i : ℕ) → length times ≤ i → times
 unfolding timesAreNumbers every
 number-end times i h = rw (drop-of-length-le times {i = i} h)
 
--- ---- no fall: i is the place of the later time
-falls-at : (times : List Float) (i : ℕ) → suc i < length times
-    → neverFalls (drop i times) ≡ (le (getD times i nan) (getD times (suc i) nan) && neverFalls (drop (suc i) times))
+-- ---- no fall
+pub never-falls : EachNext le neverFalls
 unfolding neverFalls
-falls-at [] i h = absurd (omega (arith, h))
-falls-at (t ∷ []) i h = absurd (omega (arith, h))
-falls-at (t ∷ u ∷ times) zero h = refl
-falls-at (t ∷ u ∷ times) (suc i) h = falls-at (u ∷ times) i (omega (arith, h))
-
-few-times : (times : List Float) (i : ℕ) → length times ≤ suc i → neverFalls (drop i times) ≡ true
-unfolding neverFalls
-few-times [] zero h = refl
-few-times [] (suc i) h = refl
-few-times (t ∷ []) zero h = refl
-few-times (t ∷ []) (suc zero) h = refl
-few-times (t ∷ []) (suc (suc i)) h = refl
-few-times (t ∷ u ∷ times) zero h = absurd (omega (arith, h))
-few-times (t ∷ u ∷ times) (suc i) h = few-times (u ∷ times) i (omega (arith, h))
-
-module _ (times : List Float) (i : ℕ) (l : 1 ≤ i) where
-  pub falls-here : i < length times → le (getD times (i - 1) nan) (getD times i nan) ≡ false → neverFalls (drop (i - 1) times) ≡ false
-  falls-here h e = let f : suc (i - 1) ≡ i = omega (arith, l) in rw (falls-at times (i - 1) (omega (arith, l, h)), f, e)
-
-  pub falls-next : i < length times → le (getD times (i - 1) nan) (getD times i nan) ≡ true
-      → neverFalls (drop (i + 1 - 1) times) ≡ neverFalls (drop (i - 1) times)
-  falls-next h e =
-      let f : suc (i - 1) ≡ i = omega (arith, l) in
-      let g : i + 1 - 1 ≡ i = omega arith in
-      rw (falls-at times (i - 1) (omega (arith, l, h)), f, e, g)
-
-  pub falls-end : length times ≤ i → neverFalls (drop (i - 1) times) ≡ true
-  falls-end h = few-times times (i - 1) (omega (arith, l, h))
+never-falls = record { none = refl; single = λ t. refl; more = λ t u times. refl }

@@ -5,8 +5,10 @@ use native.Mathlib.Omega.{arith}
 use borrow.Author.Needs.{needs}
 use borrow.Author.Tests.{not-true, not-false}
 use lib.ListN.{length, drop}
+use lib.Ieee.{nan}
+use Rattle.control_flow.proofs.Neighbours.{fails-here, holds-next, holds-end}
 use Rattle.tick_list.specs.Ticks.{Ticks·rise}
-use Rattle.tick_list.proofs.Loops.{falls-here, rises-next, rises-end}
+use Rattle.tick_list.proofs.Loops.{rises}
 use Rattle.tick_list.proofs.rise.Statement.{statement}
 use Rattle.tick_list.proofs.rise.Tie as tie
 
@@ -40,7 +42,7 @@ returns c =
     let l = c4 .loop in
     let a = c5 .args in
     let h = c3 .loop-test .taken in
-    sym (falls-here (a .ticks .now) (l .i) (l .inv .1 .0) h (not-true _ (c .if1 .taken))) ∙ l .inv .1 .1
+    sym (fails-here rises nan (a .ticks .now) (l .i) (l .inv .1 .0) h (not-true _ (c .if1 .taken))) ∙ l .inv .1 .1
 
 add-i : tie.Need-add-i Inv-loop μ-loop
 add-i c = search needs
@@ -54,13 +56,13 @@ loop-again c =
     let l = c4 .loop in
     let a = c5 .args in
     let h = c3 .loop-test .taken in
-    (refl, (omega arith, rises-next (a .ticks .now) (l .i) (l .inv .1 .0) h (not-false _ (c .if1 .left)) ∙ l .inv .1 .1))
+    (refl, (omega arith, holds-next rises nan (a .ticks .now) (l .i) (l .inv .1 .0) h (not-false _ (c .if1 .left)) ∙ l .inv .1 .1))
 
 returns-2 : tie.Need-returns-2 Inv-loop μ-loop
 returns-2 c =
     let l = c .before .loop in
     let a = c .before .before .args in
-    sym (rises-end (a .ticks .now) (l .i) (l .inv .1 .0) (c .loop-test .left)) ∙ l .inv .1 .1
+    sym (holds-end rises nan (a .ticks .now) (l .i) (l .inv .1 .0) (c .loop-test .left)) ∙ l .inv .1 .1
 
 pub rise-spec : {M : Type 1} → statement M
 rise-spec =

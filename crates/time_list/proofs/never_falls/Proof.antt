@@ -5,8 +5,10 @@ use native.Mathlib.Omega.{arith}
 use borrow.Author.Needs.{needs}
 use borrow.Author.Tests.{not-true, not-false}
 use lib.ListN.{length, drop}
+use lib.Ieee.{nan}
+use Rattle.control_flow.proofs.Neighbours.{fails-here, holds-next, holds-end}
 use Rattle.motion_chain.specs.Times.{neverFalls}
-use Rattle.time_list.proofs.Loops.{falls-here, falls-next, falls-end}
+use Rattle.time_list.proofs.Loops.{never-falls}
 use Rattle.time_list.proofs.never_falls.Statement.{statement}
 use Rattle.time_list.proofs.never_falls.Tie as tie
 
@@ -40,7 +42,7 @@ returns c =
     let l = c4 .loop in
     let a = c5 .args in
     let h = c3 .loop-test .taken in
-    sym (falls-here (a .times .now) (l .i) (l .inv .1 .0) h (not-true _ (c .if1 .taken))) ∙ l .inv .1 .1
+    sym (fails-here never-falls nan (a .times .now) (l .i) (l .inv .1 .0) h (not-true _ (c .if1 .taken))) ∙ l .inv .1 .1
 
 add-i : tie.Need-add-i Inv-loop μ-loop
 add-i c = search needs
@@ -54,13 +56,13 @@ loop-again c =
     let l = c4 .loop in
     let a = c5 .args in
     let h = c3 .loop-test .taken in
-    (refl, (omega arith, falls-next (a .times .now) (l .i) (l .inv .1 .0) h (not-false _ (c .if1 .left)) ∙ l .inv .1 .1))
+    (refl, (omega arith, holds-next never-falls nan (a .times .now) (l .i) (l .inv .1 .0) h (not-false _ (c .if1 .left)) ∙ l .inv .1 .1))
 
 returns-2 : tie.Need-returns-2 Inv-loop μ-loop
 returns-2 c =
     let l = c .before .loop in
     let a = c .before .before .args in
-    sym (falls-end (a .times .now) (l .i) (l .inv .1 .0) (c .loop-test .left)) ∙ l .inv .1 .1
+    sym (holds-end never-falls nan (a .times .now) (l .i) (l .inv .1 .0) (c .loop-test .left)) ∙ l .inv .1 .1
 
 pub never-falls-spec : {M : Type 1} → statement M
 never-falls-spec =
