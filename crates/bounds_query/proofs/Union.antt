@@ -1,5 +1,5 @@
 -- A union is accepted only where both answers are, and its box is then the union of theirs: `union-accepted`. A refusal is no box: `refused-bounds`.
--- Unions of the same answers are the same: `union-same`.
+-- Unions of the same answers are the same: `union-same`. What holds of 0 and of the numbers of two answers holds of their union's: `union-keeps`.
 use Prim.Native.Nat.{ℕ}
 use mathlib.Core.Path.{_≡_, refl, sym, ap, subst}
 use mathlib.Core.Bool.{Bool, true, false}
@@ -9,7 +9,7 @@ use Rattle.bounds3.specs.Bounds3f.{Bounds3f·unionBounds}
 use Rattle.bounds3.proofs.Union.{union-isotone}
 use Rattle.transform.specs.declared.BoundsAnswer.{BoundsAnswer}
 use Rattle.transform.specs.declared.BoundsAnswer.the-variants.{Bounds, Refused}
-use Rattle.transform.specs.Answer.{BoundsAnswer·bounds}
+use Rattle.transform.specs.Answer.{BoundsAnswer·bounds, BoundsAnswer·refusal}
 use Rattle.bounds_query.specs.Query.{BoundsAnswer·unionBounds}
 use Rattle.bounds_query.specs.Same.{BoundsAnswer·Same, same-box, same-refusal}
 
@@ -43,3 +43,10 @@ unfolding BoundsAnswer·unionBounds
 union-same (same-box a b) (same-box c d) = same-box (union-isotone a c) (union-isotone b d)
 union-same (same-box a b) (same-refusal n) = same-refusal n
 union-same (same-refusal n) h = same-refusal n
+
+pub union-keeps : (P : ℕ → Type 0) → P 0 → (r s : BoundsAnswer) → P (BoundsAnswer·refusal r) → P (BoundsAnswer·refusal s)
+    → P (BoundsAnswer·refusal (BoundsAnswer·unionBounds r s))
+unfolding BoundsAnswer·unionBounds
+union-keeps P none (Bounds a) (Bounds b) h k = none
+union-keeps P none (Bounds a) (Refused n) h k = k
+union-keeps P none (Refused n) s h k = h

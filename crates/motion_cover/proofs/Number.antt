@@ -2,21 +2,22 @@
 -- `motion-number`. A union's is one of its parts'.
 use Prim.Native.Nat.{ℕ, zero, suc, _^_}
 use mathlib.Core.Path.{refl}
-use mathlib.Core.Bool.{Bool, true, false, not, cond}
+use mathlib.Core.Bool.{Bool, true, false, cond}
 use mathlib.Core.Logic.{inl, inr}
 use mathlib.Core.List.{[], _∷_}
-use lib.Dec.{eqb, ltb}
+use lib.Dec.{eqb}
 use lib.Ieee.{Float}
 use Rattle.float32.specs.MinMax.{maxNum}
 use Rattle.bounds3.specs.declared.Bounds3f.{Bounds3f}
-use Rattle.bounds3.specs.Finite.{Bounds3f·isFinite}
 use Rattle.interval.specs.declared.Interval.{Interval}
 use Rattle.interval.specs.declared.Judged.{Judged}
 use Rattle.transform.specs.declared.Transform.{Transform}
 use Rattle.transform.specs.declared.BoundsAnswer.{BoundsAnswer}
 use Rattle.transform.specs.declared.BoundsAnswer.the-variants.{Bounds, Refused}
 use Rattle.transform.specs.Answer.{OneOf, BoundsAnswer·refusal}
-use Rattle.bounds_query.specs.Query.{Bounds3f·isOrdered, Bounds3f·refusal, BoundsAnswer·unionBounds, maxDepth, coverRefusal}
+use Rattle.bounds_query.specs.Query.{coverRefusal}
+use Rattle.bounds_query.proofs.Numbers.{arguments-keeps}
+use Rattle.bounds_query.proofs.Union.{union-keeps}
 use Rattle.unit_interval.specs.Unit.{slice}
 use Rattle.pose_steps.specs.declared.PoseConstants.{PoseConstants}
 use Rattle.pose_steps.specs.declared.JudgedVector.{JudgedVector}
@@ -64,19 +65,13 @@ piece-number m a D b =
     grow-number (Pad·enclose (m .pad0) (m .pad1) D) _ (pad-number (m .pad0) (m .pad1) D)
     (enclosure-number (Pose·enclosePoint a (m .s0) (m .s1) D (Bounds3f·intervals b)) (point-number a (m .s0) (m .s1) D (Bounds3f·intervals b)))
 
-union-number : (r s : BoundsAnswer) → SliceNumber (BoundsAnswer·refusal r)
-    → SliceNumber (BoundsAnswer·refusal s) → SliceNumber (BoundsAnswer·refusal (BoundsAnswer·unionBounds r s))
-unfolding BoundsAnswer·unionBounds
-union-number (Bounds a) (Bounds b) n k = inl refl
-union-number (Bounds a) (Refused s) n k = k
-union-number (Refused r) s n k = n
-
 slices-number : (m : AnimatedTransform) (a : PoseConstants) (b : Bounds3f) (d : ℕ) (r : BoundsAnswer) → SliceNumber (BoundsAnswer·refusal r)
     → (k : ℕ) → SliceNumber (BoundsAnswer·refusal (unionSlices m a b d r k))
 unfolding unionSlices
 slices-number m a b d r n zero = n
 slices-number m a b d r n (suc k) =
-    union-number (unionSlices m a b d r k) (AnimatedTransform·encloseBounds m a (slice d k) b) (slices-number m a b d r n k) (piece-number m a (slice d k) b)
+    union-keeps SliceNumber (inl refl) (unionSlices m a b d r k) (AnimatedTransform·encloseBounds m a (slice d k) b)
+    (slices-number m a b d r n k) (piece-number m a (slice d k) b)
 
 pub motion-number : (m : AnimatedTransform) (b : Bounds3f) (d : ℕ) → SliceNumber (BoundsAnswer·refusal (AnimatedTransform·encloseMotion m b d))
 unfolding AnimatedTransform·encloseMotion AnimatedTransform·encloseEnds
@@ -86,20 +81,11 @@ motion-number m b d = go (m .«actually_animated»)
         (Transform·enclosePadded (maxNum (m .pad0) (m .pad1)) (m .«start_transform») b)))
     go true =
         slices-number m (AnimatedTransform·constants m) b d (AnimatedTransform·encloseEnds m b)
-        (union-number (Transform·enclosePadded (m .pad0) (m .«start_transform») b) (Transform·enclosePadded (m .pad1) (m .«end_transform») b)
+        (union-keeps SliceNumber (inl refl)
+        (Transform·enclosePadded (m .pad0) (m .«start_transform») b) (Transform·enclosePadded (m .pad1) (m .«end_transform») b)
         (stored-number (m .pad0) (m .«start_transform») b) (stored-number (m .pad1) (m .«end_transform») b))
         (2 ^ d)
     go false = stored-number (maxNum (m .pad0) (m .pad1)) (m .«start_transform») b
-
-arguments-number : (b : Bounds3f) (d : ℕ) → CoverNumber (coverRefusal b d)
-unfolding coverRefusal Bounds3f·refusal
-arguments-number b d = go (Bounds3f·isFinite b) (Bounds3f·isOrdered b) (ltb maxDepth d)
-  where
-    go : (f o l : Bool) → CoverNumber (let n : ℕ = cond (not f) 6 (cond (not o) 7 0) in cond (eqb n 0) (cond l 8 0) n)
-    go true true true = inr (inr (inl refl))
-    go true true false = inr (inr (inr (inl refl)))
-    go true false l = inr (inl refl)
-    go false o l = inl refl
 
 pub cover-number : (m : AnimatedTransform) (b : Bounds3f) (d : ℕ) → CoverNumber (BoundsAnswer·refusal (AnimatedTransform·cover m b d))
 unfolding AnimatedTransform·cover
@@ -107,7 +93,7 @@ cover-number m b d = go (eqb (coverRefusal b d) 0)
   where
     go : (c : Bool) → CoverNumber (BoundsAnswer·refusal (cond c (AnimatedTransform·encloseMotion m b d) (Refused (coverRefusal b d))))
     go true = inr (inr (inr (motion-number m b d)))
-    go false = arguments-number b d
+    go false = arguments-keeps CoverNumber b d (inr (inr (inr (inl refl)))) (inl refl) (inr (inl refl)) (inr (inr (inl refl)))
 
 pub cover-numbered : (m : AnimatedTransform) (b : Bounds3f) (d : ℕ) → BoundsAnswer·Numbered (0 ∷ 5 ∷ 6 ∷ 7 ∷ 8 ∷ 10 ∷ []) (AnimatedTransform·cover m b d)
 cover-numbered m b d = bounds-numbered (AnimatedTransform·cover m b d) (cover-nonzero m b d) (go (cover-number m b d))

@@ -20,6 +20,7 @@ use Rattle.transform.specs.declared.BoundsAnswer.the-variants as bounds
 use Rattle.transform.specs.Answer.{OneOf, BoundsAnswer·refusal}
 use Rattle.bounds_query.specs.Query.{BoundsAnswer·unionBounds, maxDepth, coverRefusal}
 use Rattle.bounds_query.proofs.Numbers.{box-keeps}
+use Rattle.bounds_query.proofs.Union.{union-keeps}
 use Rattle.pose_steps.specs.Promise.{SliceNumber}
 use Rattle.pose_pair.specs.declared.Pose.{Pose}
 use Rattle.pose_pair.specs.Pose.{Pose·isFinite, Pose·isAffine, Pose·isPadded, timesRefusal}
@@ -165,18 +166,12 @@ move-number m b =
     cond-keeps CoverNumber (eqb (coverRefusal b coverDepth) 0) (AnimatedTransform·encloseMotion m b coverDepth) _
     (slice-number (motion-number m b coverDepth)) (asked-number b)
 
-union-number : (r s : BoundsAnswer) → CoverNumber r → CoverNumber s → CoverNumber (BoundsAnswer·unionBounds r s)
-unfolding BoundsAnswer·unionBounds
-union-number (bounds.Bounds a) (bounds.Bounds b) h k = inl refl
-union-number (bounds.Bounds a) (bounds.Refused n) h k = k
-union-number (bounds.Refused n) s h k = h
-
 covers-number : (b : Bounds3f) (r : BoundsAnswer) (moves : List AnimatedTransform) → CoverNumber r → CoverNumber (unionCovers b coverDepth r moves)
 unfolding unionCovers
 covers-number b r [] h = h
 covers-number b r (m ∷ moves) h =
     let s = AnimatedTransform·cover m b coverDepth in
-    covers-number b (BoundsAnswer·unionBounds r s) moves (union-number r s h (move-number m b))
+    covers-number b (BoundsAnswer·unionBounds r s) moves (union-keeps Number (inl refl) r s h (move-number m b))
 
 chain-number : (a : ChainAnswer) (b : Bounds3f) → Number (ChainAnswer·refusal a) → CoverNumber (ChainAnswer·cover a b)
 unfolding ChainAnswer·cover Chain·cover
