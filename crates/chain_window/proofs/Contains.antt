@@ -17,8 +17,7 @@ use Rattle.rounding.proofs.Order.{≼-trans, number-left, number-right, finite-
 use Rattle.bounds3.specs.declared.Point3f.{Point3f}
 use Rattle.bounds3.specs.declared.Bounds3f.{Bounds3f}
 use Rattle.bounds3.specs.Bounds3f.{Bounds3f·default}
-use Rattle.bounds3.specs.List.{Point3f·list}
-use Rattle.bounds3.specs.Finite.{Finite, Point3f·isFinite, Bounds3f·isFinite}
+use Rattle.bounds3.specs.Finite.{Point3f·isFinite, Bounds3f·isFinite}
 use Rattle.bounds3.specs.Inside.{Inside}
 use Rattle.bounds3.proofs.Finite.{finite-test}
 use Rattle.transform.specs.declared.PointAnswer.{PointAnswer}
@@ -31,10 +30,8 @@ use Rattle.bounds_query.proofs.Union.{refused-bounds}
 use Rattle.interval.specs.declared.Interval.{Interval}
 use Rattle.unit_interval.specs.Unit.{dt}
 use Rattle.pose_steps.specs.Pose.{Pose·movedPoint}
-use Rattle.pose_steps.specs.Promise.{AllFinite}
-use Rattle.pose_steps.specs.Enclose.{IntervalVector·list, Bounds3f·intervals}
-use Rattle.pose_steps.proofs.Rows.{enclosed-finite}
-use Rattle.pose_steps.proofs.Box.{inside-encloses}
+use Rattle.pose_steps.specs.Enclose.{Bounds3f·intervals}
+use Rattle.pose_steps.proofs.Box.{inside-encloses, point-finite}
 use Rattle.animated_transform.specs.declared.AnimatedTransform.{AnimatedTransform}
 use Rattle.animated_transform.specs.Built.{AnimatedTransform·Judged}
 use Rattle.animated_transform.proofs.Built.{built-judged}
@@ -327,9 +324,6 @@ window-accepted c b d w box = go (eqb n 0) (eqb-true n 0)
     go true f e = let (k, a) = first-zero (Window·refusal w) (coverRefusal b d) (f refl) in record { window = k; arguments = a; work = e }
     go false f e = absurd (refused-bounds n box e)
 
-point-finite : (q : Point3f) → AllFinite (Point3f·list q) → Finite q
-point-finite q (x, (y, (z, e))) = record { x = x; y = y; z = z }
-
 pub window-contains : (c : Chain) (b : Bounds3f) (d : ℕ) (w : Window) → WindowContainsMotion c b w (Chain·windowCover c b d w)
 unfolding Chain·transformPoint Chain·padAt Chain·moveAt Chain·encloseWindow
 window-contains c b d w time p built e t i =
@@ -342,6 +336,6 @@ window-contains c b d w time p built e t i =
     let parts = union-parts (Bounds Bounds3f·default) (windowBoxes c b d w) box default-self (boxes-self c b d w) (a .work) in
     let v = parts .1 (s .answer) (s .member) in
     let q = s .holds .holds (v .box) (v .accepted) in
-    let finite = finite-test (point-finite p (enclosed-finite (IntervalVector·list (Bounds3f·intervals b)) (Point3f·list p) (inside-encloses b f i))) in
+    let finite = finite-test (point-finite (Bounds3f·intervals b) p (inside-encloses b f i)) in
     let same = transform-point-accepted m time p (is-false (isNan time) (number-right (t .from))) (is-true (Point3f·isFinite p) finite) in
     rw same (moved-wider (v .subset) q)

@@ -19,7 +19,7 @@ use Rattle.interval.specs.declared.Judged.{Judged}
 use Rattle.interval.specs.Contains.{Contains, Subset, Encloses}
 use Rattle.bounds3.specs.declared.Point3f.{Point3f}
 use Rattle.bounds3.specs.declared.Bounds3f.{Bounds3f}
-use Rattle.bounds3.specs.Finite.{Finite, Point3f·isFinite, Bounds3f·isFinite}
+use Rattle.bounds3.specs.Finite.{Point3f·isFinite, Bounds3f·isFinite}
 use Rattle.bounds3.proofs.Finite.{finite-test, box-finite}
 use Rattle.bounds3.specs.Inside.{Inside, Subset as Subset3}
 use Rattle.bounds3.specs.List.{Point3f·list}
@@ -44,12 +44,11 @@ use Rattle.pose_steps.specs.declared.IntervalVector.{IntervalVector}
 use Rattle.pose_steps.specs.declared.JudgedVector.{JudgedVector}
 use Rattle.pose_steps.specs.Pose.{Pose·transformPoint, Pose·movedPoint}
 use Rattle.pose_steps.specs.Enclose.{IntervalVector·list, Pose·enclosePoint, Bounds3f·intervals, IntervalVector·bounds}
-use Rattle.pose_steps.specs.Promise.{AllFinite, PoseConstants·Valid, FiniteScale, EnclosesAnswer}
-use Rattle.pose_steps.proofs.Rows.{enclosed-finite}
+use Rattle.pose_steps.specs.Promise.{PoseConstants·Valid, FiniteScale, EnclosesAnswer}
 use Rattle.pose_steps.proofs.Finite.{stored-encloses}
 use Rattle.pose_steps.proofs.Extends.{transformPoint-extends, movedPoint-extends}
 use Rattle.pose_steps.proofs.Composition.{point-affine}
-use Rattle.pose_steps.proofs.Box.{inside-encloses, encloses-inside}
+use Rattle.pose_steps.proofs.Box.{inside-encloses, encloses-inside, point-finite}
 use Rattle.stored_box.specs.EnclosePoints.{Transform·enclosePoints}
 use Rattle.animated_transform.specs.declared.AnimatedTransform.{AnimatedTransform}
 use Rattle.animated_transform.specs.Built.{StoredPose, Pad·Judged, Built}
@@ -182,9 +181,6 @@ module _ (m : AnimatedTransform) (a : PoseConstants) (v : PoseConstants·Valid a
       (enclosure-moves j (movedPoint-extends v f g u c (inside-encloses b fb i)) (pose-values a (m .s0) (m .s1) t p))
 
 -- ---- a stored transform
-point-finite : (q : Point3f) → AllFinite (Point3f·list q) → Finite q
-point-finite q (x, (y, (z, e))) = record { x = x; y = y; z = z }
-
 pub pad-itself : {pad : Float} → Pad·Judged pad → PadWithin pad pad
 pad-itself {pad} h = record { high-finite = h .finite; from-zero = h .at-least-zero; most = ≼-refl pad (finite-number pad (h .finite)) }
 
@@ -202,8 +198,8 @@ module _ {pad : Float} (w : Pad·Judged pad) (t : Transform) (s : StoredPose t)
       let w = transformPoint-extends 0 (stored-encloses (t .m) (s .matrix)) e z in
       record {
         point = q;
-        moved = point-affine t p (s .affine) (point-finite p (enclosed-finite (IntervalVector·list B) (Point3f·list p) e))
-            ∙ judged-moved q (finite-test (point-finite q (enclosed-finite (IntervalVector·list (j .vector)) (Point3f·list q) w)));
+        moved = point-affine t p (s .affine) (point-finite B p e)
+            ∙ judged-moved q (finite-test (point-finite (j .vector) q w));
         encloses = w;
       } in
       grow-holds (Pad·stored pad) (BoundsAnswer·fromEnclosure j) (λ _. pad-itself w) (enclosure-moves j h (stored-values t p))
@@ -344,7 +340,7 @@ pub query-accepted : (m : AnimatedTransform) (b : Bounds3f) (d : ℕ) (box : Bou
     → AnimatedTransform·transformPoint m time p ≡ AnimatedTransform·movedPoint m (AnimatedTransform·constants m) time p
 query-accepted m b d box time p e n i =
     let f = refusal-accepted b (cover-box b d (cover-accepted m b d box e .arguments)) .0 in
-    let q = finite-test (point-finite p (enclosed-finite (IntervalVector·list (Bounds3f·intervals b)) (Point3f·list p) (inside-encloses b f i))) in
+    let q = finite-test (point-finite (Bounds3f·intervals b) p (inside-encloses b f i)) in
     transform-point-accepted m time p (is-false (isNan time) n) (is-true (Point3f·isFinite p) q)
 
 pub cover-contains : (m : AnimatedTransform) (b : Bounds3f) (d : ℕ) → CoverContainsMotion m b (AnimatedTransform·cover m b d)

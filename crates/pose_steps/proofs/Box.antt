@@ -1,4 +1,5 @@
--- Boxes as three intervals: a point inside a finite box is enclosed by it (`inside-encloses`), what encloses a point has it inside (`encloses-inside`),
+-- Boxes as three intervals: a point inside a finite box is enclosed by it (`inside-encloses`), what encloses a point has it inside (`encloses-inside`), so that
+-- the point is finite (`point-finite`),
 -- and likewise for a box in a box (`subset-refines`, `refines-subset`); both are then finite (`refines-finite`, `wider-finite`). `order-refl`: a finite box in
 -- order lies in itself.
 use lib.Dec.{T}
@@ -8,13 +9,13 @@ use Rattle.rounding.specs.Order.{_≼_}
 use Rattle.rounding.proofs.Order.{≼-refl, number-left, number-right}
 use Rattle.bounds3.specs.declared.Point3f.{Point3f}
 use Rattle.bounds3.specs.declared.Bounds3f.{Bounds3f}
-use Rattle.bounds3.specs.Finite.{Bounds3f·isFinite}
+use Rattle.bounds3.specs.Finite.{Finite, Bounds3f·isFinite}
 use Rattle.bounds3.specs.Inside.{Inside, Subset}
 use Rattle.bounds3.specs.List.{Point3f·list}
 use Rattle.bounds3.proofs.Finite.{low-finite, high-finite, box-finite}
 use Rattle.interval.specs.Contains as interval
 use Rattle.interval.specs.Contains.{Encloses, Refines}
-use Rattle.interval.proofs.Contains.{subset-finite}
+use Rattle.interval.proofs.Contains.{contains-finite, subset-finite}
 use Rattle.formula.specs.Promise.{Pairwise}
 use Rattle.pose_steps.specs.declared.IntervalVector.{IntervalVector}
 use Rattle.pose_steps.specs.Enclose.{IntervalVector·list, Bounds3f·intervals, IntervalVector·bounds}
@@ -42,6 +43,14 @@ encloses-inside W p (x, (y, (z, e))) =
       x = (x .contains .low, x .contains .high);
       y = (y .contains .low, y .contains .high);
       z = (z .contains .low, z .contains .high);
+    }
+
+pub point-finite : (W : IntervalVector) (p : Point3f) → Pairwise Encloses (IntervalVector·list W) (Point3f·list p) → Finite p
+point-finite W p (x, (y, (z, e))) =
+    record {
+      x = contains-finite (x .finite) (x .contains);
+      y = contains-finite (y .finite) (y .contains);
+      z = contains-finite (z .finite) (z .contains);
     }
 
 pub subset-refines : (b : Bounds3f) {b' : Bounds3f} → InOrder b → T (Bounds3f·isFinite b') → Subset b b'

@@ -30,10 +30,9 @@ use Rattle.interval.specs.declared.Interval.{Interval}
 use Rattle.interval.specs.Contains.{Encloses}
 use Rattle.formula.specs.Promise.{Pairwise}
 use Rattle.pose_steps.specs.Enclose.{IntervalVector·list, IntervalVector·bounds, Bounds3f·intervals}
-use Rattle.pose_steps.proofs.Rows.{enclosed-finite}
 use Rattle.pose_steps.proofs.Finite.{stored-encloses}
 use Rattle.pose_steps.proofs.Extends.{transformPoint-extends}
-use Rattle.pose_steps.proofs.Box.{inside-encloses, encloses-inside}
+use Rattle.pose_steps.proofs.Box.{inside-encloses, encloses-inside, point-finite}
 use Rattle.stored_box.specs.EnclosePoints.{Transform·enclosePoints, StoredNumber}
 use Rattle.stored_box.proofs.Row.{end, end-picks, corner, rows-subset, rows-accepted, rows-number}
 use Rattle.stored_box.proofs.Corners.{All, Hull, Spans, movedCorner, movedCorners, corners-all, corners-each, corners-span}
@@ -78,9 +77,7 @@ module _ (t : Transform) (b : Bounds3f) (affine : T (Matrix4x4·isAffine (Matrix
 
   corner-finite : Transform·enclosePoints t b .refusal ≡ 0 → (i j k : Bool) → Finite (movedCorner t b i j k)
   corner-finite z i j k =
-      let W = IntervalVector·list (Transform·enclosePoints t b .vector) in
-      let (x, (y, (w, e))) = enclosed-finite W (Point3f·list (movedCorner t b i j k)) (corner-enclosed z i j k) in
-      record { x = x; y = y; z = w }
+      point-finite (Transform·enclosePoints t b .vector) (movedCorner t b i j k) (corner-enclosed z i j k)
 
   spans : Spans (movedCorners t b) (Transform·transformBounds t b)
   spans = corners-span t b affine (refusal-accepted b accepted .0)
