@@ -20,6 +20,7 @@ use Rattle.rounding.specs.Order.{_≼_}
 use Rattle.rounding.proofs.Encoding.{pow-lt-cancel}
 use Rattle.rounding.proofs.Order.{to-fraction, between-finite}
 use Rattle.float32.specs.Operators.{one}
+use Rattle.float32.proofs.Constants.{one-finite}
 use Rattle.float_bits.specs.declared.Decoded.{Decoded}
 use Rattle.float_bits.specs.Decode.{integerDecode}
 use Rattle.float_bits.proofs.Decode.{decode-value, significand-lt, significand-normal}
@@ -64,10 +65,6 @@ below-same x d n E F X D EP FP h =
     shorter q l = mul-lt-mul-of-pos-right (let z : n - 1 < n = omega arith in z) EP
 
 -- ---- c in -1 to 1
-
-one-finite : T (finite one)
-unfolding ofBits
-one-finite = tt
 
 minus-one-finite : T (finite (neg one))
 unfolding neg ofBits

@@ -22,6 +22,7 @@ use Rattle.pad_query.specs.PadQuery.{AnimatedTransform·pad}
 use Rattle.motion_chain.specs.Chain.{maxPoses, Chain, Chain·moves, ChainAnswer, built, refused, ChainAnswer·refusal, Chain·transformPoint}
 use Rattle.motion_chain.specs.Built.{Each}
 use Rattle.motion_chain.specs.Times.{listRefusal, PointsAnswer, PointsAnswer·append, pointsAt}
+use Rattle.motion_chain.proofs.Built.{refused-built, built-same}
 use Rattle.motion_chain.proofs.Times.{query-accepted}
 use Rattle.built_poses.specs.Poses.{AnimatedTransform·endPose, Chain·poses}
 use Rattle.chain_rows.specs.Kept.{Chain·toRows, Moves·chain, Moves·transformPoint, Moves·transformPoints, Chain·pad}
@@ -128,20 +129,6 @@ Clauses first second old new r =
     × ((new ≡ Moves·joinLeft first second old)
     × ((c d : Chain) → Moves·Holds first c → Moves·Holds second d → Joined first second old new r c d))
 
-abbrev isBuilt : ChainAnswer → Bool
-isBuilt (built c) = true
-isBuilt (refused n) = false
-
-refused-built : (n : ℕ) (c : Chain) → refused n ≡ built c → ⊥
-refused-built n c e = false≢true (ap isBuilt e)
-
-abbrev chainOf : Chain → ChainAnswer → Chain
-chainOf d (built c) = c
-chainOf d (refused n) = d
-
-built-same : {c d : Chain} → built c ≡ built d → c ≡ d
-built-same {c} {d} e = ap (chainOf c) e
-
 refused-clauses : (first second old : List Rows) {r : ℕ} → r ≡ Moves·joinRefusal first second → (r ≡ 0 → ⊥) → Clauses first second old old r
 unfolding Moves·joinLeft Chain·join
 refused-clauses first second old {r} e f = (
@@ -154,7 +141,7 @@ refused-clauses first second old {r} e f = (
         record {
           refusal = sym (ap ChainAnswer·refusal same);
           left = sym (ap (λ (a : ChainAnswer). ChainAnswer·left a old) same);
-          holds = λ x b. absurd (refused-built r x (sym same ∙ b));
+          holds = λ x b. absurd (refused-built (sym same ∙ b));
           answers = λ z. absurd (f z);
         },
   ),

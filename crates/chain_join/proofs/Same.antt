@@ -2,7 +2,7 @@
 -- so that what is told of two blocks, of their poses and their kinds, is told of two chains: `poses-agree`, `poses-differ`.
 use Prim.Native.Nat.{ℕ, zero, suc}
 use mathlib.Core.Path.{_≡_, refl, sym, ap, _∙_}
-use mathlib.Core.Bool.{Bool, true, false, Bool·beq, _&&_, cond, false≢true}
+use mathlib.Core.Bool.{Bool, true, false, Bool·beq, _&&_, cond, and-eq-true-iff}
 use mathlib.Core.List.{List, [], _∷_}
 use native.Mathlib.Omega.{arith}
 use lib.ListN.{length, getD}
@@ -38,10 +38,6 @@ abbrev Agree : List Rows → List Rows → ℕ → Type 0
 Agree first second n =
     (n ≡ mismatchRefusal (Moves·chain first) (Moves·chain second)) × (n ≡ 0 → Chain·lastPose (Moves·chain first) ≡ Chain·firstPose (Moves·chain second))
 
-and-left : (p q : Bool) → (p && q) ≡ true → p ≡ true
-and-left true q e = refl
-and-left false q e = absurd (false≢true e)
-
 module _ (first second : List Rows) (i : ℕ) {p q : Pose} {r k : Bool} (h : suc i ≡ length first)
     (blocks : Blocks first second i p q r) (f : Kinds first second k) where
   numbered : mismatchRefusal (Moves·chain first) (Moves·chain second) ≡ cond (r && k) 0 20
@@ -51,7 +47,7 @@ module _ (first second : List Rows) (i : ℕ) {p q : Pose} {r k : Bool} (h : suc
   pub poses-agree : (r && k) ≡ true → Agree first second 0
   unfolding Moves·chain
   poses-agree t =
-      (sym (numbered ∙ rw t), λ _. ap AnimatedTransform·endPose (last-block first i h) ∙ sym (blocks .0) ∙ blocks .3 (and-left r k t) ∙ blocks .1)
+      (sym (numbered ∙ rw t), λ _. ap AnimatedTransform·endPose (last-block first i h) ∙ sym (blocks .0) ∙ blocks .3 (and-eq-true-iff r k .0 t .0) ∙ blocks .1)
 
   pub poses-differ : (r && k) ≡ false → Agree first second 20
   poses-differ t = (sym (numbered ∙ rw t), λ z. absurd (omega (arith, z)))

@@ -25,6 +25,7 @@ use Rattle.rounding.proofs.Monotone.{round-mono}
 use Rattle.rounding.proofs.Corners.{Bounds}
 use Rattle.float32.specs.Abs.{abs}
 use Rattle.float32.specs.Operators.{one}
+use Rattle.float32.proofs.Constants.{zero-finite}
 use Rattle.float_bits.specs.Decode.{negative}
 use Rattle.sine_table.specs.Table.{quarterTurn}
 use Rattle.sine_table.specs.QuarterSine.{quarterSine}
@@ -87,9 +88,6 @@ angleUnits-mono {x} {y} f z h =
     (div-mono (numPos x * 2 ^ 28) (den x) (numPos y * 2 ^ 28) (den y) (den-pos x) (den-pos y)
     (clear (numPos x) (numNeg x) (den x) (numPos y) (numNeg y) (den y) a b (to-fraction g f h)))
   where
-    zero-finite : T (finite (ofBits binary32 0))
-    zero-finite = unfold ofBits in tt
-
     clear : (p n d q m e : ℕ) → n ≡ 0 → m ≡ 0 → FractionLe p n d q m e → p * 2 ^ 28 * e ≤ q * 2 ^ 28 * d
     clear p n d q m e h k l = let l' = rw (h, k) at l in omega (arith, l')
 

@@ -3,7 +3,7 @@
 -- one law, over a rule in biased units with a test for either end, `Rule`: between two angles that pass no test the rule is not beyond both.
 use mathlib.Core.Path.{_≡_, refl, sym, _∙_}
 use mathlib.Core.Logic.{_⊎_, inl, inr}
-use mathlib.Core.Bool.{Bool, true, false, _&&_, _||_, true≢false}
+use mathlib.Core.Bool.{Bool, true, false, _&&_, _||_, and-eq-true-iff, true≢false}
 use Prim.Native.Nat.{ℕ, _*_, _≤_, _<_, min, max}
 use native.Mathlib.Nat.{le-trans}
 use native.Mathlib.Decide.{decLe}
@@ -27,26 +27,14 @@ use Rattle.trig.proofs.Monotone.{angle-units-le, angle-near, sin-at, co
 
 -- ---- w lies from u to v
 
-both : (s t : Bool) → s ≡ true → t ≡ true → (s && t) ≡ true
-both true t p q = q
-both false t p q = p
-
-both-left : (s t : Bool) → (s && t) ≡ true → s ≡ true
-both-left true t e = refl
-both-left false t e = e
-
-both-right : (s t : Bool) → (s && t) ≡ true → t ≡ true
-both-right true t e = e
-both-right false t e = absurd (true≢false (sym e))
-
 lies-yes : (w u v : ℕ) → u ≤ w → w ≤ v → lies w u v ≡ true
-lies-yes w u v h k = both (leb (min u v) w) (leb w (max u v)) (le-leb (min u v) w (omega arith)) (le-leb w (max u v) (omega arith))
+lies-yes w u v h k = and-eq-true-iff (leb (min u v) w) (leb w (max u v)) .1 (le-leb (min u v) w (omega arith), le-leb w (max u v) (omega arith))
 
 lies-from : (w u v : ℕ) → u ≤ v → lies w u v ≡ true → u ≤ w
-lies-from w u v h e = let l = leb-true (min u v) w (both-left (leb (min u v) w) (leb w (max u v)) e) in omega (arith, l)
+lies-from w u v h e = let l = leb-true (min u v) w (and-eq-true-iff (leb (min u v) w) (leb w (max u v)) .0 e .0) in omega (arith, l)
 
 lies-to : (w u v : ℕ) → u ≤ v → lies w u v ≡ true → w ≤ v
-lies-to w u v h e = let l = leb-true w (max u v) (both-right (leb (min u v) w) (leb w (max u v)) e) in omega (arith, l)
+lies-to w u v h e = let l = leb-true w (max u v) (and-eq-true-iff (leb (min u v) w) (leb w (max u v)) .0 e .1) in omega (arith, l)
 
 lies-no : (w u v : ℕ) → lies w u v ≡ false → (v < w) ⊎ (w < u)
 lies-no w u v e = go (decLe w v) (decLe u w)
