@@ -44,7 +44,7 @@ pub fn union_pieces(
     if depth == 0 {
         return union_piece(r, a, s0, s1, pad0, pad1, dt, b);
     }
-    let mid = dt_share::midpoint(dt);
+    let mid = dt.midpoint();
     let lower = Interval {
         low: dt.low,
         high: mid,

@@ -8,10 +8,10 @@ use Rattle.float32.specs.Operators.{_⊕_, positiveZero, one}
 use Rattle.float32.proofs.Constants.{zero-finite, one-finite}
 use Rattle.midpoint.proofs.Midpoint.{midpoint-between}
 use Rattle.interval.specs.declared.Interval.{Interval}
+use Rattle.interval.specs.Interval.{Interval·midpoint}
 use Rattle.interval.specs.Contains.{Contains, Subset}
 use Rattle.interval.proofs.Contains.{subset-low, subset-high}
 use Rattle.unit_interval.specs.Unit.{unitInterval}
-use Rattle.dt_share.specs.Share.{midpoint}
 
 unit-finite : {x : Float} → Contains unitInterval x → T (finite x)
 unit-finite u = between-finite zero-finite one-finite (u .low) (u .high)
@@ -24,7 +24,7 @@ ones-finite : T (finite (one ⊕ one))
 unfolding add round ofBits
 ones-finite = tt
 
-pub midpoint-contained : {i : Interval} → T (fits binary32 (i .low)) → T (fits binary32 (i .high)) → Subset i unitInterval → Contains i (midpoint i)
+pub midpoint-contained : {i : Interval} → T (fits binary32 (i .low)) → T (fits binary32 (i .high)) → Subset i unitInterval → Contains i (Interval·midpoint i)
 midpoint-contained {i} l h u =
     let a = subset-low u in
     let b = subset-high u in

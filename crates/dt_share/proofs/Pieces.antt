@@ -11,10 +11,11 @@ use lib.Ieee.Fits.{mul-fits}
 use Rattle.rounding.proofs.Order.{≼-refl, ≼-total, number-left, number-right}
 use Rattle.float32.specs.Operators.{_⊕_, half}
 use Rattle.interval.specs.declared.Interval.{Interval}
+use Rattle.interval.specs.Interval.{Interval·midpoint}
 use Rattle.interval.specs.Contains.{Contains, Subset}
 use Rattle.interval.proofs.Contains.{subset-trans}
 use Rattle.unit_interval.specs.Unit.{unitInterval}
-use Rattle.dt_share.specs.Share.{midpoint, lowerHalf, upperHalf, pieces}
+use Rattle.dt_share.specs.Share.{lowerHalf, upperHalf, pieces}
 use Rattle.dt_share.proofs.Between.{midpoint-contained}
 
 -- A part of the unit interval with binary32 ends.
@@ -24,7 +25,7 @@ pub record UnitPart (i : Interval) : Type 0 where
   pub high-fits : T (fits binary32 (i .high))
 
 -- ---- halves
-part-midpoint : {i : Interval} → UnitPart i → Contains i (midpoint i)
+part-midpoint : {i : Interval} → UnitPart i → Contains i (Interval·midpoint i)
 part-midpoint u = midpoint-contained (u .low-fits) (u .high-fits) (u .subset)
 
 pub lower-subset : {i : Interval} → UnitPart i → Subset (lowerHalf i) i
@@ -69,7 +70,7 @@ unfolding pieces
 pieces-cover zero {i} u c = record { piece = i; member = List·Memᴰ·head refl; contains = c }
 pieces-cover (suc d) {i} {x} u c =
     let m = part-midpoint u in
-    elim (≼-total x (midpoint i) (number-right (c .low)) (number-right (m .low))) [
+    elim (≼-total x (Interval·midpoint i) (number-right (c .low)) (number-right (m .low))) [
       | inl h ↦
           let p = pieces-cover d (lower-part u) (record { low = c .low; high = h }) in
           record { piece = p .piece; member = Memᴰ·append-left (pieces d (upperHalf i)) (p .member); contains = p .contains }

@@ -3,9 +3,10 @@
 use Prim.Native.Nat.{ℕ, zero, suc}
 use mathlib.Core.List.{List, [], _∷_, _++_}
 use lib.Ieee.{Float}
-use Rattle.float32.specs.Operators.{_⊕_, _⊗_, positiveZero, one, half}
+use Rattle.float32.specs.Operators.{positiveZero, one}
 use Rattle.float32.specs.Clamp.{clamp}
 use Rattle.interval.specs.declared.Interval.{Interval}
+use Rattle.interval.specs.Interval.{Interval·midpoint}
 use Rattle.unit_interval.specs.Unit.{dt}
 
 -- "limited to 0 and 1"
@@ -16,15 +17,11 @@ limited x = clamp x positiveZero one
 unfoldable pub share : Float → Float → Float → Float → Interval
 share start end earlier later = record { low = limited (dt start end earlier); high = limited (dt start end later) }
 
--- (low + high) * 0.5, each operation rounded
-abbrev pub midpoint : Interval → Float
-midpoint i = (i .low ⊕ i .high) ⊗ half
-
 abbrev pub lowerHalf : Interval → Interval
-lowerHalf i = record { low = i .low; high = midpoint i }
+lowerHalf i = record { low = i .low; high = Interval·midpoint i }
 
 abbrev pub upperHalf : Interval → Interval
-upperHalf i = record { low = midpoint i; high = i .high }
+upperHalf i = record { low = Interval·midpoint i; high = i .high }
 
 -- "cut by rounded midpoints d times": 2 ^ d pieces, rising
 unfoldable pub pieces : ℕ → Interval → List Interval

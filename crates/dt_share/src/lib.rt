@@ -1,7 +1,7 @@
 // The share of a move's dt that a window of times has. Its pieces are definitions and laws alone: see specs/ and proofs/.
 use interval::Interval;
 ghost use mathlib.Core.Path.{_≡_};
-ghost use Rattle.dt_share.specs.Share.{limited, share, midpoint};
+ghost use Rattle.dt_share.specs.Share.{limited, share};
 
 // A number held between 0 and 1. Accuracy: exact.
 fn limited(x: f32) -> f32
@@ -18,11 +18,4 @@ pub fn share(start: f32, end: f32, earlier: f32, later: f32) -> Interval
         low: limited(unit_interval::dt(start, end, earlier)),
         high: limited(unit_interval::dt(start, end, later)),
     }
-}
-
-// Where an interval of dt is cut in two. Accuracy: each operation is correctly rounded.
-pub fn midpoint(i: Interval) -> f32
-    ensures value { λ r. ⌜ r ≡ midpoint i ⌝ }
-{
-    (i.low + i.high) * 0.5
 }

@@ -3,7 +3,7 @@
 use mathlib.Core.Bool.{Bool, cond, _&&_}
 use lib.Ieee.{Float, binary32, ofBits, lt, neg}
 use Rattle.float32.specs.MinMax.{minNum, maxNum}
-use Rattle.float32.specs.Operators.{_⊕_, _⊖_, _⊗_, _⊘_, one, two}
+use Rattle.float32.specs.Operators.{_⊕_, _⊖_, _⊗_, _⊘_, one, two, half}
 use Rattle.trig.specs.SinCos.{sin, cos}
 use Rattle.interval.specs.declared.Interval.{Interval}
 
@@ -18,6 +18,10 @@ Interval·point f = record { low = f; high = f }
 -- The smallest interval that contains both: the union of two boxes on one axis.
 unfoldable pub Interval·hull : Interval → Interval → Interval
 Interval·hull X Y = record { low = minNum (X .low) (Y .low); high = maxNum (X .high) (Y .high) }
+
+-- (i.low + i.high) * 0.5
+abbrev pub Interval·midpoint : Interval → Float
+Interval·midpoint i = (i .low ⊕ i .high) ⊗ half
 
 -- From the least to the greatest of four, in 000's order: of the first two, of the last two, then of what these give.
 unfoldable pub Interval·ofFour : Float → Float → Float → Float → Interval

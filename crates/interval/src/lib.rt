@@ -6,8 +6,8 @@ use trig::SinCos;
 ghost use mathlib.Core.Path.{_≡_};
 ghost use Rattle.trig.specs.SinCos.{sin, cos};
 ghost use Rattle.trig.specs.Range.{lies};
-ghost use Rattle.interval.specs.Interval.{Interval·new, Interval·point, Interval·hull, Interval·ofFour, Interval·add, Interval·sub, Interval·mul};
-ghost use Rattle.interval.specs.Interval.{Interval·straddles, Interval·sinBetween, Interval·sin, Interval·cosBetween, Interval·cos};
+ghost use Rattle.interval.specs.Interval.{Interval·new, Interval·point, Interval·hull, Interval·midpoint, Interval·ofFour, Interval·add, Interval·sub};
+ghost use Rattle.interval.specs.Interval.{Interval·mul, Interval·straddles, Interval·sinBetween, Interval·sin, Interval·cosBetween, Interval·cos};
 ghost use Rattle.interval.specs.Enclosure.{notFinite, notPositive, Judged·judge, Judged·addEnclosure, Judged·subEnclosure, Judged·mulEnclosure};
 ghost use Rattle.interval.specs.Enclosure.{Judged·divEnclosure, Judged·sqrtEnclosure, Judged·sinEnclosure, Judged·cosEnclosure};
 ghost use Rattle.interval.specs.means.EndAngle.{EndAngle·fromSinCos, EndAngle·new, EndAngle·sinRange, EndAngle·cosRange};
@@ -82,6 +82,13 @@ impl Interval {
             low: float32::min(self.low, i.low),
             high: float32::max(self.high, i.high),
         }
+    }
+
+    // Where an interval is cut in two: half of the sum of its ends. Accuracy: each operation is correctly rounded.
+    pub fn midpoint(self) -> f32
+        ensures value { λ r. ⌜ r ≡ Interval·midpoint self ⌝ }
+    {
+        (self.low + self.high) * 0.5
     }
 
     // From the least to the greatest of four.

@@ -13,7 +13,7 @@ use Rattle.float32.specs.MinMax.{minNum, maxNum}
 use Rattle.float32.specs.Operators.{half}
 use Rattle.interval.specs.declared.Interval.{Interval}
 use Rattle.interval.specs.Contains.{Contains, Subset, Finite, Encloses}
-use Rattle.interval.specs.Interval.{Interval·new, Interval·point, Interval·hull, Interval·ofFour}
+use Rattle.interval.specs.Interval.{Interval·new, Interval·point, Interval·hull, Interval·midpoint, Interval·ofFour}
 use Rattle.interval.specs.Enclosure.{Interval·addEnclosure, Interval·mulEnclosure}
 use Rattle.interval.proofs.Contains.{subset-low, subset-high, point-encloses, new-subset}
 use Rattle.interval.proofs.Extends.{add-contains, mul-contains}
@@ -24,7 +24,7 @@ use Rattle.motion_derivative.specs.Derivative.{MotionDerivative·excludesZero}
 use Rattle.zero_list.specs.declared.Zeros.{Zeros}
 use Rattle.zero_search.specs.declared.Search.{Search}
 use Rattle.zero_search.specs.Search as search
-use Rattle.zero_search.specs.Search.{midpoint, lowerHalf, upperHalf, findZeros, intervalFindZeros, searchDepth}
+use Rattle.zero_search.specs.Search.{lowerHalf, upperHalf, findZeros, intervalFindZeros, searchDepth}
 use Rattle.zero_list.specs.Zeros.{Zeros·empty}
 use Rattle.search_range.specs.Examined.{searchIntervals, examinedIntervals, Examined}
 
@@ -44,10 +44,10 @@ halves-unit : Interval·mulEnclosure sums (Interval·point half) ≡ unitInterva
 unfolding sums Interval·mulEnclosure Interval·addEnclosure Interval·ofFour Interval·hull Interval·new minNum maxNum isNan add mul round lt ofBits
 halves-unit = refl
 
-pub midpoint-unit : {i : Interval} → Subset i unitInterval → Contains unitInterval (midpoint i)
+pub midpoint-unit : {i : Interval} → Subset i unitInterval → Contains unitInterval (Interval·midpoint i)
 unfolding sums
 midpoint-unit {i} s =
-    subst (λ (X : Interval). Contains X (midpoint i)) halves-unit
+    subst (λ (X : Interval). Contains X (Interval·midpoint i)) halves-unit
     (mul-contains sums-finite (half-encloses .finite) (add-contains unit-finite unit-finite (subset-low s) (subset-high s)) (half-encloses .contains))
 
 pub lower-unit : {i : Interval} → Subset i unitInterval → Subset (lowerHalf i) unitInterval

@@ -28,7 +28,7 @@ use Rattle.trig.proofs.Monotone.{angle-near}
 use Rattle.quaternion.specs.Quaternion.{Quaternion·dot}
 use Rattle.interval.specs.declared.Interval.{Interval}
 use Rattle.interval.specs.Contains.{Contains, Subset, Finite}
-use Rattle.interval.specs.Interval.{Interval·new, Interval·point, Interval·hull, Interval·ofFour}
+use Rattle.interval.specs.Interval.{Interval·new, Interval·point, Interval·hull, Interval·midpoint, Interval·ofFour}
 use Rattle.interval.specs.Enclosure.{Interval·addEnclosure, Interval·subEnclosure, Interval·mulEnclosure}
 use Rattle.interval.proofs.Contains.{subset-low, subset-high, contains-finite, point-encloses}
 use Rattle.interval.proofs.Extends.{add-contains, sub-contains, mul-contains}
@@ -40,7 +40,7 @@ use Rattle.pose_steps.proofs.Angle.{unit-finite, theta-quarter}
 use Rattle.motion_derivative.specs.declared.MotionDerivative.{MotionDerivative}
 use Rattle.motion_derivative.specs.Derivative.{MotionDerivative·newton}
 use Rattle.zero_list.specs.declared.Zeros.{Zeros}
-use Rattle.zero_search.specs.Search.{midpoint, newtonZero}
+use Rattle.zero_search.specs.Search.{newtonZero}
 use Rattle.zero_list.specs.Zeros.{tolerance, nearInterval, Zeros·store, Zeros·accept}
 use Rattle.zero_search.proofs.Stored.{accept-nan}
 use Rattle.animated_transform.specs.declared.AnimatedTransform.{AnimatedTransform}
@@ -264,8 +264,8 @@ stores-none f fθ j u z x r = at-theta (lt (abs (f .theta)) (ofBits binary32 0x7
     nothing e = ap (Zeros·accept z j) e ∙ accept-nan z j
 
     at-u : (b : Bool) → lt (abs u) (ofBits binary32 0x7f000000) ≡ b → Doubles (f .theta) → Zeros·accept z j (newtonZero f j) ≡ z
-    at-u true d dθ = nothing (ends-in-nan f fθ dθ 4 (midpoint j) u (mul-fits binary32 _ _) r d)
-    at-u false l dθ = elim (run-one-far f 4 (midpoint j) u r) [
+    at-u true d dθ = nothing (ends-in-nan f fθ dθ 4 (Interval·midpoint j) u (mul-fits binary32 _ _) r d)
+    at-u false l dθ = elim (run-one-far f 4 (Interval·midpoint j) u r) [
       | inl e ↦ ap (Zeros·accept z j) e ∙ large-refused (examined-unit f j x) u l z
       | inr e ↦ nothing e
     ]
@@ -274,7 +274,8 @@ stores-none f fθ j u z x r = at-theta (lt (abs (f .theta)) (ofBits binary32 0x7
     at-theta true d = at-u (lt (abs u) (ofBits binary32 0x7f000000)) refl d
     at-theta false l =
         let m = examined-midpoint f j x in
-        nothing (newton-far f 3 (midpoint j) (large-value (f .theta) (midpoint j) l) (large-times (two ⊗ midpoint j) (f .theta) (twice-high m) l))
+        let mid = Interval·midpoint j in
+        nothing (newton-far f 3 mid (large-value (f .theta) mid l) (large-times (two ⊗ mid) (f .theta) (twice-high m) l))
 
 -- ---- a built move
 half-full : halfTurnFloat ≼ fullTurnFloat

@@ -16,7 +16,7 @@ use Rattle.float32.specs.Operators.{_⊕_, positiveZero, one, half}
 use Rattle.float32.proofs.MinMax.{max-left, max-right}
 use Rattle.interval.specs.declared.Interval.{Interval}
 use Rattle.interval.specs.Contains.{Contains, Subset, Finite}
-use Rattle.interval.specs.Interval.{Interval·new, Interval·point, Interval·hull, Interval·ofFour}
+use Rattle.interval.specs.Interval.{Interval·new, Interval·point, Interval·hull, Interval·midpoint, Interval·ofFour}
 use Rattle.interval.specs.Enclosure.{Interval·addEnclosure, Interval·mulEnclosure}
 use Rattle.interval.proofs.Contains.{subset-low, subset-high, contains-finite}
 use Rattle.interval.proofs.Extends.{add-contains, mul-contains}
@@ -27,7 +27,7 @@ use Rattle.motion_derivative.specs.declared.MotionDerivative.{MotionDerivative}
 use Rattle.motion_derivative.specs.Derivative.{MotionDerivative·excludesZero}
 use Rattle.zero_list.specs.declared.Zeros.{Zeros}
 use Rattle.zero_search.specs.Search as search
-use Rattle.zero_search.specs.Search.{midpoint, lowerHalf, upperHalf, findZeros, searchDepth}
+use Rattle.zero_search.specs.Search.{lowerHalf, upperHalf, findZeros, searchDepth}
 use Rattle.zero_list.specs.Zeros.{Zeros·empty}
 use Rattle.search_range.specs.Examined.{searchIntervals, examinedIntervals, Examined}
 use Rattle.search_range.proofs.Examined.{half-encloses, lower-unit, upper-unit, cond-member, whole-unit, examined-unit}
@@ -64,22 +64,22 @@ module _ (n : ℕ) (l : n ≤ 8) {i : Interval} (s : Subset i unitInterval) (c :
   unfolding Interval·addEnclosure
   sum-finite = record { low = halved n l .0; high = one-and-one }
 
-  midpoint-high : Contains (highs (suc n)) (midpoint i)
+  midpoint-high : Contains (highs (suc n)) (Interval·midpoint i)
   midpoint-high =
-      subst (λ (X : Interval). Contains X (midpoint i)) (halved n l .1)
+      subst (λ (X : Interval). Contains X (Interval·midpoint i)) (halved n l .1)
       (mul-contains sum-finite (half-encloses .finite) (add-contains unit-finite (highs-finite n) (subset-low s) c) (half-encloses .contains))
 
   lower-high : Contains (highs (suc n)) (lowerHalf i .high)
   unfolding Interval·new
   lower-high =
       let m = midpoint-high in
-      record { low = ≼-trans (m .low) (max-right (i .low) (midpoint i) (number-right (m .low))); high = lower-unit s .high }
+      record { low = ≼-trans (m .low) (max-right (i .low) (Interval·midpoint i) (number-right (m .low))); high = lower-unit s .high }
 
   upper-high : Contains (highs (suc n)) (upperHalf i .high)
   unfolding Interval·new
   upper-high =
       let m = midpoint-high in
-      record { low = ≼-trans (m .low) (max-left (midpoint i) (i .high) (number-right (m .low))); high = upper-unit s .high }
+      record { low = ≼-trans (m .low) (max-left (Interval·midpoint i) (i .high) (number-right (m .low))); high = upper-unit s .high }
 
 -- ---- the search
 widened : (n : ℕ) → n ≤ 8 → {x : Float} → Contains (highs n) x → Contains (highs 8) x
@@ -111,7 +111,7 @@ whole-high : Contains (highs 0) (search.searchedInterval .high)
 unfolding Interval·new minNum maxNum isNan lt le round ofBits sliceEnd
 whole-high = record { low = record { holds = tt }; high = record { holds = tt } }
 
-pub examined-midpoint : (f : MotionDerivative) (j : Interval) → Examined f j → Contains (highs 9) (midpoint j)
+pub examined-midpoint : (f : MotionDerivative) (j : Interval) → Examined f j → Contains (highs 9) (Interval·midpoint j)
 unfolding examinedIntervals
 examined-midpoint f j m =
     midpoint-high 8 (omega arith) (examined-unit f j m)

@@ -11,13 +11,13 @@ use Rattle.float32.specs.Operators.{_⊖_, _⊗_, _⊘_, positiveZero, two}
 use Rattle.trig.specs.SinCos.{near}
 use Rattle.interval.specs.declared.Interval.{Interval}
 use Rattle.interval.specs.Contains.{Subset}
-use Rattle.interval.specs.Interval.{Interval·point}
+use Rattle.interval.specs.Interval.{Interval·point, Interval·midpoint}
 use Rattle.interval.specs.Enclosure.{Interval·mulEnclosure}
 use Rattle.unit_interval.specs.Unit.{unitInterval, dt}
 use Rattle.motion_derivative.specs.declared.MotionDerivative.{MotionDerivative}
 use Rattle.motion_derivative.specs.Derivative.{MotionDerivative·angles, MotionDerivative·value, MotionDerivative·slope, MotionDerivative·newton}
 use Rattle.zero_list.specs.declared.Zeros.{Zeros}
-use Rattle.zero_search.specs.Search.{midpoint, newtonZero}
+use Rattle.zero_search.specs.Search.{newtonZero}
 use Rattle.zero_list.specs.Zeros.{Zeros·accept}
 use Rattle.animated_transform.specs.declared.AnimatedTransform.{AnimatedTransform}
 use Rattle.motion_point.specs.TransformPoint.{AnimatedTransform·constants}
@@ -53,7 +53,7 @@ EndsInNan f = (n : ℕ) (t u : Float) → T (fits binary32 t) → MeetsFar f n t
 
 -- ".. and stores no zero": from the midpoint of an interval that the search examines, what the run leaves there is not taken.
 abbrev pub StoresNone : MotionDerivative → Type 0
-StoresNone f = (j : Interval) (u : Float) (z : Zeros) → Examined f j → MeetsFar f 4 (midpoint j) u → Zeros·accept z j (newtonZero f j) ≡ z
+StoresNone f = (j : Interval) (u : Float) (z : Zeros) → Examined f j → MeetsFar f 4 (Interval·midpoint j) u → Zeros·accept z j (newtonZero f j) ≡ z
 
 -- The angle of slerp at every time between the ends, those at the ends of every interval of dt, as a cover's slices are, and those of every interval that a
 -- search with the move's theta examines.

@@ -5,29 +5,25 @@ use Prim.Native.Nat.{ℕ, zero, suc, _+_}
 use mathlib.Core.Bool.{Bool, true, false, cond}
 use lib.Dec.{eqb}
 use lib.Ieee.{Float}
-use Rattle.float32.specs.Operators.{_⊕_, _⊗_, positiveZero, one, half}
+use Rattle.float32.specs.Operators.{positiveZero, one}
 use Rattle.interval.specs.declared.Interval.{Interval}
-use Rattle.interval.specs.Interval.{Interval·new}
+use Rattle.interval.specs.Interval.{Interval·new, Interval·midpoint}
 use Rattle.motion_derivative.specs.declared.MotionDerivative.{MotionDerivative}
 use Rattle.zero_list.specs.declared.Zeros.{Zeros}
 use Rattle.zero_list.specs.Zeros.{Zeros·empty, Zeros·accept}
 use Rattle.zero_search.specs.declared.Search.{Search}
 use Rattle.motion_derivative.specs.Derivative.{MotionDerivative·excludesZero, MotionDerivative·newton}
 
--- (i.low + i.high) * 0.5
-abbrev pub midpoint : Interval → Float
-midpoint i = (i .low ⊕ i .high) ⊗ half
-
 -- Newton's result from the midpoint, after `for _ in 0..4`.
 abbrev pub newtonZero : MotionDerivative → Interval → Float
-newtonZero f i = MotionDerivative·newton f 4 (midpoint i)
+newtonZero f i = MotionDerivative·newton f 4 (Interval·midpoint i)
 
 -- Interval::new(i.low, mid) and Interval::new(mid, i.high)
 abbrev pub lowerHalf : Interval → Interval
-lowerHalf i = Interval·new (i .low) (midpoint i)
+lowerHalf i = Interval·new (i .low) (Interval·midpoint i)
 
 abbrev pub upperHalf : Interval → Interval
-upperHalf i = Interval·new (midpoint i) (i .high)
+upperHalf i = Interval·new (Interval·midpoint i) (i .high)
 
 -- The body of 000's interval_find_zeros at a depth; whether the range test leaves the interval out is an argument, to match on.
 -- The zeros found, those handed in first, and how many intervals were examined: each once, document 02's "roots included", also one that is halved no further,

@@ -5,7 +5,7 @@ ghost use Prim.Native.Nat.{_≤_};
 ghost use Rattle.sine_table.specs.Table.{sineTable};
 ghost use Rattle.interval.specs.Interval.{Interval·new};
 ghost use Rattle.motion_derivative.specs.Derivative.{MotionDerivative·excludesZero};
-ghost use Rattle.zero_search.specs.Search.{midpoint, findZeros, unitSearch, intervalFindZeros};
+ghost use Rattle.zero_search.specs.Search.{findZeros, unitSearch, intervalFindZeros};
 ghost use Rattle.zero_search.specs.means.EndAngles.{AngleAt, AnglesAt};
 use interval::Interval;
 use interval::IntervalSinCos;
@@ -26,12 +26,6 @@ pub struct Search {
 struct EndAngles {
     low: SinCos,
     high: SinCos,
-}
-
-fn midpoint(i: Interval) -> f32
-    ensures value { λ r. ⌜ r ≡ midpoint i ⌝ }
-{
-    (i.low + i.high) * 0.5
 }
 
 fn end_at(table: &[u32; 2049], f: MotionDerivative, t: f32) -> SinCos
@@ -100,7 +94,7 @@ fn find_zeros(
             examined: 1,
         };
     }
-    let mid = midpoint(i);
+    let mid = i.midpoint();
     if depth == 0 {
         let zeros = found.accept(i, newton_method::newton(table, f, mid));
         return Search { zeros, examined: 1 };

@@ -4,8 +4,8 @@ use Prim.Native.Nat.{ℕ, _<_}
 use native.Mathlib.Omega.{arith}
 use borrow.Fn.Kinds.{In, Out}
 use borrow.Fn.PlainCycle.{Measures, is, falls, and}
-use Rattle.dt_share.proofs.midpoint.Reads as midpoint-reads
-use Rattle.dt_share.proofs.midpoint.Kinds as midpoint-kinds
+use Rattle.interval.proofs.Interval.midpoint.Reads as midpoint-reads
+use Rattle.interval.proofs.Interval.midpoint.Kinds as midpoint-kinds
 use Rattle.dt_pieces.specs.means.Pieces.{pieceBox}
 use Rattle.dt_pieces.proofs.Halves.{pieces-whole, pieces-halves}
 use Rattle.dt_pieces.proofs.union_pieces.Reads as union-pieces

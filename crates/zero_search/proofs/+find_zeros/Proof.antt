@@ -12,6 +12,8 @@ use Rattle.zero_search.proofs.find_zeros.Kinds as find-zeros-kinds
 use Rattle.zero_search.proofs.+find_zeros.Lts-find_zeros as find-zeros-lts
 use Rattle.interval.proofs.Interval.new.Reads as new-reads
 use Rattle.interval.proofs.Interval.new.Kinds as new-kinds
+use Rattle.interval.proofs.Interval.midpoint.Reads as midpoint-reads
+use Rattle.interval.proofs.Interval.midpoint.Kinds as midpoint-kinds
 use Rattle.zero_list.proofs.Zeros.accept.Reads as accept-reads
 use Rattle.zero_list.proofs.Zeros.accept.Kinds as accept-kinds
 use Rattle.zero_search.proofs.end_angles.Reads as end-angles-reads
@@ -20,8 +22,6 @@ use Rattle.zero_search.proofs.end_at.Reads as end-at-reads
 use Rattle.zero_search.proofs.end_at.Kinds as end-at-kinds
 use Rattle.zero_search.proofs.excludes_zero.Reads as excludes-zero-reads
 use Rattle.zero_search.proofs.excludes_zero.Kinds as excludes-zero-kinds
-use Rattle.zero_search.proofs.midpoint.Reads as midpoint-reads
-use Rattle.zero_search.proofs.midpoint.Kinds as midpoint-kinds
 use Rattle.newton_method.proofs.newton.Reads as newton-reads
 use Rattle.newton_method.proofs.newton.Kinds as newton-kinds
 use Rattle.zero_search.proofs.+find_zeros.{statement}
