@@ -71,15 +71,17 @@ fn boom_end(line: &[u8], at: usize) -> usize
 // Whether a text is the words of a boom, which then stands at its place. Of more than 8 booms none but the first are kept: their number is refused.
 fn put_boom(text: &[u8], place: usize, boxes: &mut [[f32; 6]; 8], lengths: &mut [u32; 8]) -> bool {
     let mut b = [0.0f32; 6];
-    let ticks = read_boom(text, &mut b);
-    if is_malformed(ticks) {
-        return false;
+    match read_boom(text, &mut b) {
+        Decimal::Value(ticks) => {
+            if place < 8 {
+                boxes[place] = b;
+                lengths[place] = question_lines::saturated(ticks);
+            }
+        }
+        Decimal::Malformed => {
+            return false;
+        }
     }
-    if 8 <= place {
-        return true;
-    }
-    boxes[place] = b;
-    lengths[place] = ticks_of(ticks);
     true
 }
 
@@ -95,20 +97,6 @@ fn read_boom(text: &[u8], b: &mut [f32; 6]) -> Decimal {
         return question_lines::read_decimal(part(text, 55, text.len()));
     }
     Decimal::Malformed
-}
-
-fn is_malformed(ticks: Decimal) -> bool {
-    match ticks {
-        Decimal::Value(_) => false,
-        Decimal::Malformed => true,
-    }
-}
-
-fn ticks_of(ticks: Decimal) -> u32 {
-    match ticks {
-        Decimal::Value(n) => question_lines::saturated(n),
-        Decimal::Malformed => 0,
-    }
 }
 
 // The starting ticks, or the number of a refusal.

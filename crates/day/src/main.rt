@@ -120,15 +120,17 @@ fn put_boom(line: &[u8], place: usize, boxes: &mut [[f32; 6]; 8], lengths: &mut 
     if !read_box(line, &mut b) {
         return false;
     }
-    let ticks = question_lines::read_decimal(part(line, 54, line.len()));
-    if is_malformed(ticks) {
-        return false;
+    match question_lines::read_decimal(part(line, 54, line.len())) {
+        Decimal::Value(ticks) => {
+            if place < 8 {
+                boxes[place] = b;
+                lengths[place] = question_lines::saturated(ticks);
+            }
+        }
+        Decimal::Malformed => {
+            return false;
+        }
     }
-    if 8 <= place {
-        return true;
-    }
-    boxes[place] = b;
-    lengths[place] = ticks_of(ticks);
     true
 }
 
@@ -168,18 +170,4 @@ fn read_value(line: &[u8], k: usize, b: &mut [f32; 6]) -> bool
         }
     }
     line[9 * k + 8] == b' '
-}
-
-fn is_malformed(ticks: Decimal) -> bool {
-    match ticks {
-        Decimal::Value(_) => false,
-        Decimal::Malformed => true,
-    }
-}
-
-fn ticks_of(ticks: Decimal) -> u32 {
-    match ticks {
-        Decimal::Value(n) => question_lines::saturated(n),
-        Decimal::Malformed => 0,
-    }
 }
