@@ -6,8 +6,10 @@
 set -u
 cd "$(dirname "$0")/.." || exit 2
 command -v rt >/dev/null || { echo "rt, the Rattle toolchain's command, is not on the PATH"; echo "0 passed, 1 failed"; exit 2; }
+room=$(tools/memory.sh)
+[ -z "$room" ] || export TMPDIR=$room
 log=$(mktemp)
-trap 'rm -f "$log"' EXIT
+trap 'rm -rf "$log" ${room:+"$room"}' EXIT
 # rt waits for all of a batch of checks before it starts the next: more of them than there are cores leave fewer cores idle at its end.
 RT_JOBS=${RT_JOBS:-8} rt ci >"$log" 2>&1
 status=$?
