@@ -1,8 +1,7 @@
 #!/usr/bin/env bash
 # Makes an empty folder in memory for a run's temporary files, and prints it; nothing where TMPDIR is set, where memory has no room for a batch of eight checks, or where no program may be run there.
 # A check copies the libraries below it, thousands of files and several hundred MB, to a temporary folder: in memory that takes a third of the time. `rt ci` runs there, as nobody, what it has proved.
-#   TMPDIR=$(tools/memory.sh) rt check
-# Whoever asked for the folder removes it.
+# Whoever asks for the folder, as tools/test.sh does, removes it.
 set -u
 [ -z "${TMPDIR:-}" ] || exit 0
 room=$(mktemp -d /dev/shm/jellyplain.XXXXXX 2>/dev/null) || exit 0
