@@ -130,7 +130,7 @@ JELLYPLAIN_CHECKED uint8_t jellyplain_bound_point_motion(const jellyplain_move *
 JELLYPLAIN_CHECKED uint8_t jellyplain_motion_bounds(const jellyplain_move *motion, const float b[6], float bounds[6], uint32_t examined[3]);
 
 /* A box that holds every point of the box b at every time but NaN, and that point less and plus the pad at that time on each axis, each rounded; from 2^depth slices of the
- * move. A greater depth, up to 12, is not refused where a lesser was accepted, and its box lies in the lesser's. Numbers 5, 6, 7, 8 and 10. */
+ * move. A greater depth, up to 12, is not refused where a lesser was accepted, and its box lies in the lesser's. Numbers 6, 7 and 8, in this order, then 5 or 10, whichever is met first. */
 JELLYPLAIN_CHECKED uint8_t jellyplain_cover(const jellyplain_move *motion, const float b[6], uint32_t depth, float bounds[6]);
 
 /* ---- chains, by their moves; the inline functions below take the struct */
@@ -165,15 +165,17 @@ JELLYPLAIN_CHECKED uint8_t jellyplain_moves_pad(const jellyplain_move *moves, si
 JELLYPLAIN_CHECKED uint8_t jellyplain_moves_points(const jellyplain_move *moves, size_t count, const float *times, size_t times_count, const float p[3], float *answers, size_t places);
 
 /* A box that holds every point of the box b at every time but NaN, less and plus its pad as above, from 2^depth slices of each move; greater depths as above.
- * Numbers 5, 6, 7, 8 and 10, and 12 for no moves. */
+ * Numbers 12 for no moves, then 6, 7 and 8, then 5 or 10, whichever is met first. */
 JELLYPLAIN_CHECKED uint8_t jellyplain_moves_cover(const jellyplain_move *moves, size_t count, const float b[6], uint32_t depth, float bounds[6]);
 
 /* The cover of the box b if the pose at a place, counted from 0, were this one: what jellyplain_moves_cover answers of a chain that is built with it. Only the moves beside the
- * place are built, and `moves` stays as it is. Numbers 19 for a place beyond the last pose, then those of jellyplain_build_moves for the changed poses, then 6, 7, 8, 5 and 10. */
+ * place are built, and `moves` stays as it is. Numbers 19 for a place beyond the last pose, then 1, 2, 16, 12, 3, of a rigid
+ * chain 17 and 18, then 4 or 5 of the changed chain, then 6, 7 and 8, then 5 or 10. No moves have no pose: 19. */
 JELLYPLAIN_CHECKED uint8_t jellyplain_moves_try(const jellyplain_move *moves, size_t count, size_t place, const jellyplain_pose *pose, const float b[6], uint32_t depth, float bounds[6]);
 
 /* A box for each of 1 to 16 boxes that holds every point of it at every time but NaN, as jellyplain_moves_cover does, in order, the places behind them +0; and the union of them.
- * It costs far less than that query for each box. Numbers 14, then 5, 6, 7, 8 and 10 of the first refused box, and 12 for no moves; `covers` and `all` stay after a refusal. */
+ * It costs far less than that query for each box. Numbers 12 for no moves, then 14, then those of the first refused box,
+ * as for jellyplain_moves_cover; `covers` and `all` stay after a refusal. */
 JELLYPLAIN_CHECKED uint8_t jellyplain_moves_covers(const jellyplain_move *moves, size_t count, const float (*boxes)[6], size_t boxes_count, uint32_t depth, float covers[JELLYPLAIN_BOXES][6],
                                 float all[6]);
 
@@ -190,7 +192,7 @@ typedef struct {
 } jellyplain_windows;
 
 /* A box that holds every point of the box b at every time from one tick to a later one, both included, less and plus its pad as above; each move's share of the window is cut depth
- * times. Greater depths as above. Ticks may be infinite. Numbers 21 where the ticks don't rise, then 5, 6, 7, 8 and 10, and 12 for no moves. */
+ * times. Greater depths as above. Ticks may be infinite. Numbers 12 for no moves, then 21 where the ticks don't rise, then 6, 7 and 8, then 5 or 10. */
 JELLYPLAIN_CHECKED uint8_t jellyplain_moves_window_cover(const jellyplain_move *moves, size_t count, const float b[6], uint32_t depth, float earlier, float later, float bounds[6]);
 
 /* The windows between neighbouring ticks, counted from 0, in which the boxes of two chains meet, touching included, into the front of `places`, 0 behind them. In any other window, ticks included,
@@ -247,7 +249,8 @@ typedef struct {
 } jellyplain_reached;
 
 /* The places, counted from 0, of those of 1 to 256 rows, each a box, that a cover meets, touching included, into the front of `places`, 0 behind them. A row that is not named holds no
- * point of the boom at any time, less or plus its pad or anything between, where the cover is one that this library gave for the boom's box: jellyplain_cover, jellyplain_moves_cover and the others.
+ * point of the boom at any time, less or plus its pad or anything between, where the cover is one that this library gave for the boom's box: jellyplain_cover, jellyplain_moves_cover,
+ * of a set the union. A window's cover says so at the times of its window only.
  * Numbers 14 for no rows or more than 256, then 6 and 7 of the cover, then 6 and 7 of the first refused row; all places stay after a refusal. */
 JELLYPLAIN_CHECKED jellyplain_reached jellyplain_reached_rows(const float cover[6], const float (*rows)[6], size_t rows_count, uint32_t places[JELLYPLAIN_ROWS]);
 

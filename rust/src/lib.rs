@@ -20,8 +20,8 @@
 //! # Ok::<(), Refusal>(())
 //! ```
 //!
-//! Any floats may be handed in, NaN and infinities included; what can't be worked with is refused. What builds, reads a file or tries a day panics where the library that is linked is not
-//! [`compatible`], and nothing else panics.
+//! Any floats may be handed in, NaN and infinities included; what can't be worked with is refused. Some calls panic where the library that is linked is not [`compatible`], and nothing else panics:
+//! those that build, [`Chain::refused_run`] and [`Chain::refused_rigid_run`], [`MoveFile::read`], [`starting_ticks`] and [`reached_rows`].
 //!
 //! The package needs neither `std` nor an allocator: lists are kept in place ([`List`]), and what has no bound is lent by the caller ([`Chain::points`], [`Chain::write`]). A [`Chain`] takes 22 kB and a
 //! [`MoveFile`] 40 kB, wherever they are put; a call takes at most 96 kB of stack beside (`JELLYPLAIN_STACK` of c/jellyplain.h). That header also says what the guarantee asks of the thread's floating-point
@@ -199,8 +199,8 @@ impl Move {
     }
 
     /// A box that holds every point of `b` at every time but NaN: [`Move::point`] answers a point inside it, and less and plus [`Move::pad`] on each axis, each rounded, that
-    /// point is inside too. It is worked from 2^depth slices of the move, `depth` from 0 to 12; a greater depth costs twice as much and never gives a larger box. Refused with [`Refusal::Query`], [`Refusal::Corners`], [`Refusal::Depth`], [`Refusal::NotFinite`]
-    /// and [`Refusal::SquaredLength`].
+    /// point is inside too. It is worked from 2^depth slices of the move, `depth` from 0 to 12; a greater depth costs twice as much and never gives a larger box. Refused with [`Refusal::Query`], [`Refusal::Corners`] and [`Refusal::Depth`], in this
+    /// order, then with [`Refusal::NotFinite`] or [`Refusal::SquaredLength`], whichever is met first.
     pub fn cover(&self, b: &Bounds, depth: u32) -> Result<Bounds, Refusal> {
         let mut bounds = [0.0; 6];
         let number = unsafe { library::jellyplain_cover(&self.rows, &b.to_array(), depth, &mut bounds) };
@@ -306,7 +306,8 @@ impl Chain {
     }
 
     /// The cover of `b` if the pose at `place`, counted from 0, were this one: the same as that of a chain built with it. Only the moves beside the place are built for it, and the
-    /// chain stays as it is. Refused with [`Refusal::Place`] for a place beyond the last pose, then as [`Chain::new`] of the changed poses, then as [`Chain::cover`].
+    /// chain stays as it is. Refused with [`Refusal::Place`] for a place beyond the last pose, then as
+    /// [`Chain::new`] or [`Chain::rigid`] of the changed poses, by the chain's kind: 1, 2, 16, 12, 3, of a rigid chain 17 and 18, then 4 or 5; then as [`Chain::cover`].
     pub fn try_pose(&self, place: usize, pose: &Pose, b: &Bounds, depth: u32) -> Result<Bounds, Refusal> {
         let mut bounds = [0.0; 6];
         let number = unsafe { library::jellyplain_moves_try(self.moves.as_ptr(), self.moves.len(), place, pose, &b.to_array(), depth, &mut bounds) };
@@ -432,7 +433,7 @@ impl ReachedRows {
 }
 
 /// Which of 1 to 256 rows a cover meets, touching included. Where the cover is that of a boom's box, as [`Chain::cover`], [`Chain::covers`] or [`Move::cover`] give it, a row that is not named holds no
-/// point of the boom at any time, less or plus its pad or anything between. Refused with [`Refusal::Set`] for no rows or more than 256, then with [`Refusal::Query`] and [`Refusal::Corners`] of
+/// point of the boom at any time, less or plus its pad or anything between; where it is that of a window ([`Chain::window_cover`]), at no time of the window. Refused with [`Refusal::Set`] for no rows or more than 256, then with [`Refusal::Query`] and [`Refusal::Corners`] of
 /// the cover, then of the first row in order that is refused.
 ///
 /// ```
