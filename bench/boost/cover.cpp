@@ -3,6 +3,7 @@
 //
 //     boost_cover          all terms of the two products of matrices, as the Rust works them
 //     boost_cover_affine   without the terms in which a matrix always has a 0 or a 1: the same box in less time
+//     boost_cover_rigid    of a rigid move: likewise, and without its scale, which is the identity
 
 #include <algorithm>
 #include <array>
@@ -159,17 +160,27 @@ Matrix product(const Matrix &a, const Matrix &b) {
 }
 
 struct Whole {
-    static Matrix pose(const Matrix &translation, const Matrix &rotation, const Matrix &scale) { return product(product(translation, rotation), scale); }
+    static Matrix pose(const Motion &m, const Lerp &lerp, const Matrix &rotation) { return product(product(translation(m, lerp), rotation), scale(m, lerp)); }
 };
 
 // The upper three rows; the last is 0 0 0 1 in all of them.
 struct Affine {
-    static Matrix pose(const Matrix &translation, const Matrix &rotation, const Matrix &scale) {
+    static Matrix pose(const Motion &m, const Lerp &lerp, const Matrix &rotation) {
+        const Matrix s = scale(m, lerp);
         Matrix c;
         for (int i = 0; i < 3; i++) {
-            for (int j = 0; j < 3; j++) c[i][j] = rotation[i][0] * scale[0][j] + rotation[i][1] * scale[1][j] + rotation[i][2] * scale[2][j];
-            c[i][3] = translation[i][3];
+            for (int j = 0; j < 3; j++) c[i][j] = rotation[i][0] * s[0][j] + rotation[i][1] * s[1][j] + rotation[i][2] * s[2][j];
+            c[i][3] = lerp(m.t[0][i], m.t[1][i]);
         }
+        return c;
+    }
+};
+
+// The same with the identity for the scale.
+struct Rigid {
+    static Matrix pose(const Motion &m, const Lerp &lerp, const Matrix &rotation) {
+        Matrix c = rotation;
+        for (int i = 0; i < 3; i++) c[i][3] = lerp(m.t[0][i], m.t[1][i]);
         return c;
     }
 };
@@ -192,7 +203,7 @@ template <class Products> [[gnu::noinline]] uint8_t cover(const Motion &m, const
     for (float k = 0; k < slices; k++) {
         const Lerp lerp(Interval(k / slices, (k + 1) / slices));
         if (!slerp(m, towards, lerp, q)) return squared_length;
-        covered = hull(covered, moved(Products::pose(translation(m, lerp), rotation(q), scale(m, lerp)), b));
+        covered = hull(covered, moved(Products::pose(m, lerp, rotation(q)), b));
     }
     const auto is_finite = [](const Interval &i) { return -FLT_MAX <= i.lower() && i.upper() <= FLT_MAX; };
     return std::all_of(covered.begin(), covered.end(), is_finite) ? 0 : not_finite;
@@ -217,6 +228,7 @@ template <class Products> uint8_t cover(const Motion *m, const float *b, uint32_
 // The box x0 y0 z0 x1 y1 z1 of a finite box whose corners are in order, at a depth from 0 to 12; 0, or document 01's number of a refusal.
 extern "C" uint8_t boost_cover(const Motion *m, const float *b, uint32_t depth, float *out) noexcept { return cover<Whole>(m, b, depth, out); }
 extern "C" uint8_t boost_cover_affine(const Motion *m, const float *b, uint32_t depth, float *out) noexcept { return cover<Affine>(m, b, depth, out); }
+extern "C" uint8_t boost_cover_rigid(const Motion *m, const float *b, uint32_t depth, float *out) noexcept { return cover<Rigid>(m, b, depth, out); }
 
 // The ends of a quotient, by which the caller sees that ends are rounded outward.
 extern "C" void boost_quotient(float x, float y, float *ends) noexcept {

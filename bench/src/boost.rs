@@ -1,9 +1,10 @@
 //! The cover by Boost.Interval (boost/cover.cpp) beside the port's and the second implementation's: first that its boxes hold what they must and how wide they are, then the times.
 
 use crate::inputs::{array, Case};
-use crate::{measure, median, port_cover, quantile, ratios, second_cover, COVERS};
+use crate::rigid::{pairs, rigid_cover, Pair};
+use crate::{compare as compare_two, measure, median, port_cover, quantile, ratios, second_cover, COVERS};
 use oracle::angles::{acos, STEPS, TABLE};
-use oracle::judged::{quaternion_values, vector_values};
+use oracle::judged::{quaternion_values, vector_values, Move};
 use std::hint::black_box;
 
 /// The constants of a built move, as boost/cover.cpp reads them.
@@ -24,6 +25,7 @@ type Cover = unsafe extern "C" fn(motion: &Motion, b: &[f32; 6], depth: u32, out
 extern "C" {
     fn boost_cover(motion: &Motion, b: &[f32; 6], depth: u32, out: &mut [f32; 6]) -> u8;
     fn boost_cover_affine(motion: &Motion, b: &[f32; 6], depth: u32, out: &mut [f32; 6]) -> u8;
+    fn boost_cover_rigid(motion: &Motion, b: &[f32; 6], depth: u32, out: &mut [f32; 6]) -> u8;
     fn boost_quotient(x: f32, y: f32, ends: &mut [f32; 2]);
 }
 
@@ -33,14 +35,22 @@ struct Question {
     bounds: [f32; 6],
 }
 
-fn question(case: &Case) -> Question {
-    let f = &case.original.fields;
+fn question(original: &Move, bounds: [f32; 6]) -> Question {
+    let f = &original.fields;
     let (t, r) = ([0, 1].map(|i| vector_values(&f.t[i])), [0, 1].map(|i| quaternion_values(&f.r[i])));
     let [a, b] = r;
     let cos_theta = (a[0] * b[0] + a[1] * b[1] + a[2] * b[2]) + a[3] * b[3];
     let (start, end, s) = (f.start.m.m, f.end.m.m, [f.s[0].m, f.s[1].m]);
     let motion = Motion { start, end, t, r, s, cos_theta, theta: acos(cos_theta.clamp(-1.0, 1.0)), sine_table: &TABLE };
-    Question { motion, bounds: array(&case.bounds) }
+    Question { motion, bounds }
+}
+
+fn case_question(case: &Case) -> Question {
+    question(&case.original, array(&case.bounds))
+}
+
+fn pair_question(pair: &Pair) -> Question {
+    question(&pair.second, array(&pair.bounds))
 }
 
 fn ask(cover: Cover, question: &Question, depth: u32) -> [f32; 6] {
@@ -87,7 +97,7 @@ fn held(case: &Case, question: &Question, depth: u32) -> [f64; 3] {
 pub fn hold(kind: &str, cases: &[Case]) {
     assert!(rounding_holds(), "Boost.Interval doesn't round outward here, or leaves the rounding mode changed");
     for (depth, ..) in COVERS {
-        let mut extents: Vec<f64> = cases.iter().flat_map(|case| held(case, &question(case), depth)).collect();
+        let mut extents: Vec<f64> = cases.iter().flat_map(|case| held(case, &case_question(case), depth)).collect();
         let (middle, greatest) = (median(&mut extents), quantile(&mut extents, 1.0));
         println!("{:32} {:>12} {middle:>12.7} {greatest:>12.7}", format!("cover of depth {depth}, {kind}"), cases.len());
     }
@@ -96,7 +106,7 @@ pub fn hold(kind: &str, cases: &[Case]) {
 pub fn compare(kind: &str, cases: &[Case]) {
     for (depth, rounds, some) in COVERS {
         let some = &cases[..some];
-        let questions: Vec<Question> = some.iter().map(question).collect();
+        let questions: Vec<Question> = some.iter().map(case_question).collect();
         let mut port = || port_cover(some, depth);
         let mut boost = || ask_all(boost_cover, &questions, depth);
         let mut affine = || ask_all(boost_cover_affine, &questions, depth);
@@ -109,5 +119,22 @@ pub fn compare(kind: &str, cases: &[Case]) {
             print!("   {:>5.2} ({:.2} to {:.2})", median(&mut ratios), quantile(&mut ratios, 0.25), quantile(&mut ratios, 0.75));
         });
         println!();
+    }
+}
+
+/// Rigid covers: each box of Boost holds the port's; then the times.
+pub fn compare_rigid(kind: &str, cases: &[Case]) {
+    let pairs = pairs(cases);
+    for (depth, rounds, some) in COVERS {
+        let some = &pairs[..some.min(pairs.len())];
+        let questions: Vec<Question> = some.iter().map(pair_question).collect();
+        for (pair, question) in some.iter().zip(&questions) {
+            let rigid = ask(boost_cover_rigid, question, depth);
+            let port = array(&pair.rigid.cover(&pair.bounds, depth).expect("a cover that is answered at depth 8"));
+            assert!(is_inside(&port, &rigid), "the port's box {port:?} is not inside Boost's {rigid:?}");
+        }
+        compare_two(&format!("cover of depth {depth}, {kind}"), rounds, some.len(), &mut || rigid_cover(some, depth), &mut || {
+            ask_all(boost_cover_rigid, &questions, depth);
+        });
     }
 }

@@ -3,6 +3,7 @@
 //!
 //!     bench                      every comparison, and how the cover's cost grows with its depth
 //!     bench rigid                rigid moves beside plain ones alone
+//!     bench boost                covers beside Boost.Interval alone
 //!     bench profile OP SECONDS   the port alone, for a profiler: OP is build, point, interpolate, motion or cover
 
 #[cfg(boost)]
@@ -181,6 +182,8 @@ fn compare_boost(kinds: &[(&str, &[Case])]) {
     let ratios = ["port/Boost", "port/affine", "Boost/second", "affine/second"].map(|ratio| format!("   {ratio:20}")).concat();
     println!("\n{:32}{columns}{}", "nanoseconds a call, medians", ratios.trim_end());
     kinds.iter().for_each(|(kind, cases)| boost::compare(kind, cases));
+    println!("\n{:32} {:>12} {:>12} {:>8}   quartiles", "rigid, nanoseconds a call", "port", "Boost", "ratio");
+    kinds.iter().for_each(|(kind, cases)| boost::compare_rigid(kind, cases));
 }
 
 #[cfg(not(boost))]
@@ -231,6 +234,9 @@ fn main() {
     let shifting = cases(Kind::Shifting, 32, &mut random);
     if arguments == ["rigid"] {
         return compare_rigid(&turning, &shifting);
+    }
+    if arguments == ["boost"] {
+        return compare_boost(&[("turning", &turning), ("shifting", &shifting)]);
     }
     if arguments == ["chains"] {
         return compare_chains(&mut random);

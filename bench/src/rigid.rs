@@ -7,12 +7,13 @@ use oracle::cover::cover;
 use oracle::judged;
 use std::hint::black_box;
 
-/// The same poses on both sides, one move of each kind, with a box.
-struct Pair {
+/// The same poses on both sides, one move of each kind, with a box, and the rigid move of the second implementation.
+pub struct Pair {
     poses: [Pose; 2],
     plain: Move,
-    rigid: Move,
-    bounds: Bounds,
+    pub rigid: Move,
+    pub second: judged::Move,
+    pub bounds: Bounds,
 }
 
 /// A pose with the columns of its rotation made of length 1.
@@ -26,7 +27,7 @@ fn without_scale(pose: &Pose) -> Pose {
 }
 
 /// The moves of some cases without their scales. The rigid one's cover must be the second implementation's.
-fn pairs(cases: &[Case]) -> Vec<Pair> {
+pub fn pairs(cases: &[Case]) -> Vec<Pair> {
     let pair = |case: &Case| {
         let poses = case.poses.map(|pose| without_scale(&pose));
         let (plain, rigid) = (Move::new(&poses[0], &poses[1]).ok()?, Move::rigid(&poses[0], &poses[1]).ok()?);
@@ -35,7 +36,7 @@ fn pairs(cases: &[Case]) -> Vec<Pair> {
         let covered = rigid.cover(&case.bounds, 8).ok()?;
         assert_eq!(cover(&second, &array(&case.bounds), 8), Ok(array(&covered)), "the rigid cover of {:?}", case.bounds);
         plain.cover(&case.bounds, 8).ok()?;
-        Some(Pair { poses, plain, rigid, bounds: case.bounds })
+        Some(Pair { poses, plain, rigid, second, bounds: case.bounds })
     };
     cases.iter().filter_map(pair).collect()
 }
@@ -56,13 +57,17 @@ fn covers(pairs: &[Pair], depth: u32, of: fn(&Pair) -> &Move) {
     }
 }
 
+pub fn rigid_cover(pairs: &[Pair], depth: u32) {
+    covers(pairs, depth, |pair| &pair.rigid);
+}
+
 pub fn compare_kinds(kind: &str, cases: &[Case]) {
     let pairs = pairs(cases);
     compare(&format!("build, {kind}"), 300, pairs.len(), &mut || build(&pairs, Move::rigid), &mut || build(&pairs, Move::new));
     for (depth, rounds, some) in crate::COVERS {
         let some = &pairs[..some.min(pairs.len())];
         let name = format!("cover of depth {depth}, {kind}");
-        compare(&name, rounds, some.len(), &mut || covers(some, depth, |pair| &pair.rigid), &mut || covers(some, depth, |pair| &pair.plain));
+        compare(&name, rounds, some.len(), &mut || rigid_cover(some, depth), &mut || covers(some, depth, |pair| &pair.plain));
     }
 }
 
