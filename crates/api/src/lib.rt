@@ -229,7 +229,7 @@ pub extern "C" fn jellyplain_version() -> u32
 }
 
 // Builds a chain from 2 to 32 poses; the rows of its moves, one fewer than poses, then stand in the front blocks; a rigid one's moves are rigid.
-// Refused with 1, 2, 16, 12, 3, 4 or 5, and a rigid one with 17 or 18.
+// Refused with 1, 2, 16, 12 or 3, a rigid one then with 17 or 18, pose by pose, then with 4 or 5.
 // Accuracy: each operation but the arc cosine is correctly rounded.
 #[no_mangle]
 pub extern "C" fn jellyplain_build_moves(
@@ -350,7 +350,8 @@ pub extern "C" fn jellyplain_moves_cover(
 }
 
 // The cover of a chain if the pose at a place were this one, 18 floats, as changing a copy and asking that gives it; where 0 is returned it stands in `bounds`.
-// Places count from 0. Refused with 19 for a place beyond the last pose, then with 1, 2, 16, 12, 3, 4 or 5 as the changed chain is, then with 6, 7, 8, 5 or 10.
+// Places count from 0. Refused with 19 for a place beyond the last pose, then as the changed chain is: 1, 2, 16, 12, 3,
+// of a rigid one 17 and 18, then 4 or 5; then with 6, 7 or 8, then with 5 or 10.
 // The chain is as it was. Accuracy: encloses.
 #[no_mangle]
 pub extern "C" fn jellyplain_moves_try(

@@ -4,7 +4,7 @@
 -- Then at every time but NaN, both infinities included, and for every point of the box, the point query answers a moved point,
 -- and that point is inside the cover on all three axes, by itself and less and plus the pad at that time, each rounded.
 --
---   Built m                          m is what building gives, unrefused, for two poses whose times are binary32 crates/animated_transform/specs/Built.antt
+--   Built m                          m is what building gives, unrefused, for poses with times and pads in binary32 crates/animated_transform/specs/Built.antt
 --   BoundsAnswer·refusal c ≡ 0       the cover is accepted, and `BoundsAnswer·bounds c` is its box               crates/transform/specs/Answer.antt
 --   AnimatedTransform·transformPoint the point query, whose answer has a number and a point likewise             crates/motion_point/specs/TransformPoint.antt
 --   AnimatedTransform·padAt          the pad at a time                                                           crates/motion_point/specs/PadAt.antt
