@@ -18,10 +18,9 @@ use Rattle.matrix4x4.specs.Rows.{positiveZero, Matrix4x4·toRows}
 use Rattle.matrix4x4.specs.IsFinite.{Matrix4x4·isFinite}
 use Rattle.matrix4x4.specs.IsAffine.{Matrix4x4·isAffine}
 use Rattle.matrix_inverse.specs.Inverse.{Matrix4x4·inverse}
-use Rattle.matrix_inverse.proofs.Refusal.{inverse-finite}
 use Rattle.transform.specs.declared.Transform.{Transform}
 use Rattle.transform.specs.Transform.{Transform·fromMatrix}
-use Rattle.transform.proofs.FromMatrix.{from-matrix-refusal, from-matrix-accepted}
+use Rattle.transform.proofs.FromMatrix.{from-matrix-refusal, from-matrix-accepted, from-matrix-finite}
 use Rattle.quaternion.specs.declared.Quaternion.{Quaternion}
 use Rattle.quaternion.specs.Quaternion.{Quaternion·dot, Quaternion·neg}
 use Rattle.quaternion.specs.Slerp.{slerpThreshold}
@@ -127,7 +126,7 @@ stored : (p : Pose) → PosePassed p → Transform·fromMatrix (Matrix4x4·toRow
 stored p h e =
     let m = Matrix4x4·toRows (p .m) in
     let i : Matrix4x4·inverse m .refusal ≡ 0 = sym (from-matrix-refusal m) ∙ e in
-    rw (from-matrix-accepted m i) (record { same = refl; stored = record { affine = h .affine; matrix = h .matrix; inverse = inverse-finite m i } })
+    rw (from-matrix-accepted m i) (record { same = refl; stored = record { affine = h .affine; matrix = h .matrix; inverse = from-matrix-finite m i } })
 
 -- ---- the pair
 finite-neg : (x : Float) → finite (neg x) ≡ finite x

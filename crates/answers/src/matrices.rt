@@ -32,7 +32,7 @@ fn quaternion_value(kind: usize, x: &[f32; 34]) -> Quaternion {
 
 fn inverse(x: &[f32; 34], rows: &mut [[f32; 4]; 9]) -> u8 {
     let r = matrix_inverse::inverse(matrix_at(x, 0));
-    put_matrix(r.m.to_rows(), 0, rows);
+    put_matrix(r.matrix(), 0, rows);
     r.refusal
 }
 

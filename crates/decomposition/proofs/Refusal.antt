@@ -65,8 +65,8 @@ round-numbered k (unsettled r) h = go (eqb (rit .refusal) 0) refl
     rit : InverseAnswer
     rit = Matrix4x4·inverse (Matrix4x4·transpose r)
 
-    go : (b : Bool) → eqb (rit .refusal) 0 ≡ b → Numbered (cond b (judgedRound r (mean r (Matrix4x4·toRows (rit .m)))) (refused (rit .refusal)))
-    go true e = judged-numbered r (mean r (Matrix4x4·toRows (rit .m)))
+    go : (b : Bool) → eqb (rit .refusal) 0 ≡ b → Numbered (cond b (judgedRound r (mean r (rit .m))) (refused (rit .refusal)))
+    go true e = judged-numbered r (mean r (rit .m))
     go false e = stopped (number (inverse-refusal (Matrix4x4·transpose r)) (eqb-false (rit .refusal) 0 e))
 
 polar-numbered : (m : Rows) → Numbered (polar m)
@@ -97,9 +97,9 @@ unfolding parts
 parts-answered rigid m r = go (eqb (Matrix4x4·inverse r .refusal) 0) refl
   where
     go : (b : Bool) → eqb (Matrix4x4·inverse r .refusal) 0 ≡ b
-        → Answered m (cond b (Decomposition·judged m (Quaternion·fromMatrix r) (scaleBy rigid (Matrix4x4·toRows (Matrix4x4·inverse r .m)) m))
+        → Answered m (cond b (Decomposition·judged m (Quaternion·fromMatrix r) (scaleBy rigid (Matrix4x4·inverse r .m) m))
         (Decomposition·refused (Matrix4x4·inverse r .refusal)))
-    go true e = judged-answered m (Quaternion·fromMatrix r) (scaleBy rigid (Matrix4x4·toRows (Matrix4x4·inverse r .m)) m)
+    go true e = judged-answered m (Quaternion·fromMatrix r) (scaleBy rigid (Matrix4x4·inverse r .m) m)
     go false e = none (Matrix4x4·inverse r .refusal) (number (inverse-refusal r) (eqb-false (Matrix4x4·inverse r .refusal) 0 e)) refl
 
 finish-answered : (rigid : Bool) (m : Rows) (s : Polar) → Numbered s → Answered m (finish rigid m s)

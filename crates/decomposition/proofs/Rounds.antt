@@ -11,7 +11,7 @@ use native.Mathlib.Omega.{arith}
 use lib.Dec.{leb}
 use lib.Ieee.{le}
 use borrow.Author.Tests.{leb-true, leb-false, eq-eqb, ne-eqb}
-use Rattle.matrix4x4.specs.Rows.{Rows, Matrix4x4·toRows}
+use Rattle.matrix4x4.specs.Rows.{Rows}
 use Rattle.matrix4x4.specs.Transpose.{Matrix4x4·transpose}
 use Rattle.matrix4x4.specs.IsFinite.{Matrix4x4·isFinite}
 use Rattle.control_flow.specs.Loop.{loop}
@@ -48,7 +48,7 @@ module _ {m : Rows} {k : ℕ} {r : Rows} (reached : Reached m k r) where
     unfolding polarRound finish
     inverse-refuses rigid n = stays rigid (refused (rit .refusal)) (λ _. refl) (rw (← inverted, ne-eqb (rit .refusal) 0 n))
 
-    module _ (ok : rit .refusal ≡ 0) (rnext : Rows) (averaged : rnext ≡ mean r (Matrix4x4·toRows (rit .m))) where
+    module _ (ok : rit .refusal ≡ 0) (rnext : Rows) (averaged : rnext ≡ mean r (rit .m)) where
       rounded : polarRound k (unsettled r) ≡ judgedRound r rnext
       unfolding polarRound
       rounded = rw (← inverted, eq-eqb (rit .refusal) 0 ok, averaged)

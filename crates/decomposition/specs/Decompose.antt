@@ -6,7 +6,7 @@ use mathlib.Core.Bool.{Bool, true, false, _&&_, cond}
 use lib.Dec.{eqb}
 use Rattle.float32.specs.Operators.{one}
 use Rattle.vector3.specs.declared.Vector3f.{Vector3f}
-use Rattle.matrix4x4.specs.Rows.{Rows, at, tabulate, positiveZero, Matrix4x4·toRows, Matrix4x4·fromRows, Matrix4x4·zero}
+use Rattle.matrix4x4.specs.Rows.{Rows, at, tabulate, positiveZero, Matrix4x4·fromRows, Matrix4x4·zero}
 use Rattle.matrix4x4.specs.Mul.{Matrix4x4·mul}
 use Rattle.matrix4x4.specs.IsFinite.{Matrix4x4·isFinite}
 use Rattle.matrix_inverse.specs.Inverse.{Matrix4x4·inverse}
@@ -42,7 +42,7 @@ unfoldable pub parts : Bool → Rows → Rows → Decomposition
 parts rigid m r =
     let inverse = Matrix4x4·inverse r in
     cond (eqb (inverse .refusal) 0)
-    (Decomposition·judged m (Quaternion·fromMatrix r) (scaleBy rigid (Matrix4x4·toRows (inverse .m)) m))
+    (Decomposition·judged m (Quaternion·fromMatrix r) (scaleBy rigid (inverse .m) m))
     (Decomposition·refused (inverse .refusal))
 
 unfoldable pub finish : Bool → Rows → Polar → Decomposition

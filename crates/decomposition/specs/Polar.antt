@@ -4,7 +4,7 @@ use Prim.Native.Nat.{ℕ}
 use mathlib.Core.Bool.{cond}
 use lib.Dec.{eqb}
 use lib.Ieee.{Float, binary32, ofBits, le}
-use Rattle.matrix4x4.specs.Rows.{Rows, Matrix4x4·toRows}
+use Rattle.matrix4x4.specs.Rows.{Rows}
 use Rattle.matrix4x4.specs.Transpose.{Matrix4x4·transpose}
 use Rattle.matrix4x4.specs.IsFinite.{Matrix4x4·isFinite}
 use Rattle.control_flow.specs.Loop.{loop}
@@ -31,7 +31,7 @@ polarRound k (refused n) = refused n
 polarRound k (settled r) = settled r
 polarRound k (unsettled r) =
     let rit = Matrix4x4·inverse (Matrix4x4·transpose r) in
-    cond (eqb (rit .refusal) 0) (judgedRound r (mean r (Matrix4x4·toRows (rit .m)))) (refused (rit .refusal))
+    cond (eqb (rit .refusal) 0) (judgedRound r (mean r (rit .m))) (refused (rit .refusal))
 
 -- document 01, Move: "The polar rounds stop at 100 rounds or a norm of 0.0001 or less."
 unfoldable pub polar : Rows → Polar

@@ -81,7 +81,7 @@ fn parts(rigid: bool, m: [[f32; 4]; 4], r: [[f32; 4]; 4]) -> Decomposition
         judged(
             m,
             matrix_quaternion::quaternion_from_matrix(r),
-            scale_by(rigid, inverse.m.to_rows(), m),
+            scale_by(rigid, inverse.matrix(), m),
         )
     } else {
         refused(inverse.refusal)
@@ -100,7 +100,7 @@ pub fn decompose(rigid: bool, m: [[f32; 4]; 4]) -> Decomposition
         if rit.refusal != 0 {
             return refused(rit.refusal);
         }
-        let rnext = polar_round::mean(r, rit.m.to_rows());
+        let rnext = polar_round::mean(r, rit.matrix());
         if !matrix4x4::is_finite(rnext) {
             return refused(5);
         }

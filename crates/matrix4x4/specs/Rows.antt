@@ -1,5 +1,5 @@
 -- A 4x4 matrix by value, `[[f32; 4]; 4]`, is a list of four rows of four floats: `at` reads an entry, `tabulate` makes a row or a matrix.
--- Inside a struct the matrix is a Matrix4x4, with a field for each row: `Matrix4x4·toRows`, `Matrix4x4·fromRows`.
+-- A matrix that is kept, a transform's, a pose's or a scale, is a Matrix4x4, with a field for each row: `Matrix4x4·toRows`, `Matrix4x4·fromRows`.
 -- An entry outside the four rows and columns would read as NaN; no definition reads one. Definitions only.
 use Prim.Native.Nat.{ℕ}
 use mathlib.Core.Bool.{Bool, _&&_}

@@ -9,7 +9,8 @@ ghost use Rattle.matrix4x4.specs.Eq.{Matrix4x4·eq};
 ghost use Rattle.matrix4x4.specs.IsFinite.{Matrix4x4·isFinite};
 ghost use Rattle.matrix4x4.specs.IsAffine.{Matrix4x4·isAffine};
 
-// A matrix inside a struct, which can't have a field that is an array of arrays.
+// A matrix that is kept: a transform's, a pose's, a scale. It has a field for each row, since many of its readers take single rows.
+// A field `[[f32; 4]; 4]` is made and read whole, by functions whose code is walked by hand: `InverseAnswer` of matrix_inverse has one.
 pub struct Matrix4x4 {
     pub r0: [f32; 4],
     pub r1: [f32; 4],

@@ -3,7 +3,7 @@ use mathlib.Core.Path.{_≡_, refl}
 use mathlib.Core.List.{[], _∷_}
 use Prim.Native.Nat.{ℕ}
 use lib.Ieee.{binary32, ofBits}
-use Rattle.matrix4x4.specs.Rows.{Row, tabulate, Matrix4x4·fromRows}
+use Rattle.matrix4x4.specs.Rows.{Row, tabulate}
 use Rattle.matrix_inverse.specs.Inverse.{refused, Matrix4x4·inverse}
 use Rattle.matrix_inverse.specs.means.Computing.{computing}
 
@@ -14,7 +14,7 @@ bits a b c d = ofBits binary32 a ∷ ofBits binary32 b ∷ ofBits binary32 c ∷
 -- (x, y, z) to (2 y + 1, 4 z, x / 2)
 cyclic : Matrix4x4·inverse (bits 0 0x40000000 0 0x3f800000 ∷ bits 0 0 0x40800000 0 ∷ bits 0x3f000000 0 0 0 ∷ bits 0 0 0 0x3f800000 ∷ [])
     ≡ record {
-      m = Matrix4x4·fromRows (bits 0 0 0x40000000 0 ∷ bits 0x3f000000 0 0 0xbf000000 ∷ bits 0 0x3e800000 0 0 ∷ bits 0 0 0 0x3f800000 ∷ []);
+      m = bits 0 0 0x40000000 0 ∷ bits 0x3f000000 0 0 0xbf000000 ∷ bits 0 0x3e800000 0 0 ∷ bits 0 0 0 0x3f800000 ∷ [];
       refusal = 0;
     }
 unfolding computing

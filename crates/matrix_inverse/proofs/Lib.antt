@@ -1,3 +1,4 @@
+mod RowsField
 pub mod InRange
 pub mod Rounds
 pub mod Refusal

@@ -4,7 +4,7 @@ use mathlib.Core.Bool.{Bool, true, false, cond}
 use mathlib.Core.Logic.{_⊎_, inl, inr}
 use native.Mathlib.Omega.{arith}
 use lib.Dec.{T}
-use Rattle.matrix4x4.specs.Rows.{Rows, Matrix4x4·toRows, Matrix4x4·fromRows}
+use Rattle.matrix4x4.specs.Rows.{Rows}
 use Rattle.matrix4x4.specs.IsFinite.{Matrix4x4·isFinite}
 use Rattle.matrix_inverse.specs.declared.InverseAnswer.{InverseAnswer}
 use Rattle.control_flow.specs.Loop.{loop}
@@ -16,13 +16,13 @@ use Rattle.matrix_inverse.specs.Inverse.{refused, InverseAnswer·judged,
 data Answered (r : InverseAnswer) : Type 0 where
   stopped : r .refusal ≡ 4 → Answered r
   overflowed : r .refusal ≡ 5 → Answered r
-  accepted : r .refusal ≡ 0 → T (Matrix4x4·isFinite (Matrix4x4·toRows (r .m))) → Answered r
+  accepted : r .refusal ≡ 0 → T (Matrix4x4·isFinite (r .m)) → Answered r
 
 judged-answered : (m : Rows) → Answered (InverseAnswer·judged m)
-unfolding InverseAnswer·judged Matrix4x4·isFinite
+unfolding InverseAnswer·judged
 judged-answered m = go (Matrix4x4·isFinite m) (λ h. h)
   where
-    go : (b : Bool) → (T b → T (Matrix4x4·isFinite m)) → Answered (cond b (record { m = Matrix4x4·fromRows m; refusal = 0 }) (refused 5))
+    go : (b : Bool) → (T b → T (Matrix4x4·isFinite m)) → Answered (cond b (record { m = m; refusal = 0 }) (refused 5))
     go true f = accepted refl (f tt)
     go false f = overflowed refl
 
@@ -43,10 +43,10 @@ inverse-refusal m = go (Matrix4x4·inverse m) (inverse-answered m)
     go r (stopped e) = inr (inl e)
     go r (overflowed e) = inr (inr e)
 
-pub inverse-finite : (m : Rows) → Matrix4x4·inverse m .refusal ≡ 0 → T (Matrix4x4·isFinite (Matrix4x4·toRows (Matrix4x4·inverse m .m)))
+pub inverse-finite : (m : Rows) → Matrix4x4·inverse m .refusal ≡ 0 → T (Matrix4x4·isFinite (Matrix4x4·inverse m .m))
 inverse-finite m h = go (Matrix4x4·inverse m) h (inverse-answered m)
   where
-    go : (r : InverseAnswer) → r .refusal ≡ 0 → Answered r → T (Matrix4x4·isFinite (Matrix4x4·toRows (r .m)))
+    go : (r : InverseAnswer) → r .refusal ≡ 0 → Answered r → T (Matrix4x4·isFinite (r .m))
     go r h (accepted e f) = f
     go r h (stopped e) = absurd (omega arith)
     go r h (overflowed e) = absurd (omega arith)

@@ -6,7 +6,7 @@ use mathlib.Core.Bool.{cond}
 use mathlib.Core.List.{List}
 use lib.ListN.{getD, set}
 use lib.Ieee.{eq}
-use Rattle.matrix4x4.specs.Rows.{Rows, at, tabulate, positiveZero, Matrix4x4·fromRows, Matrix4x4·zero}
+use Rattle.matrix4x4.specs.Rows.{Rows, at, tabulate, positiveZero}
 use Rattle.matrix4x4.specs.IsFinite.{Matrix4x4·isFinite}
 use Rattle.matrix_inverse.specs.declared.InverseAnswer.{InverseAnswer}
 use Rattle.control_flow.specs.Loop.{loop}
@@ -30,11 +30,11 @@ eliminationRound i (running minv ipiv indxr indxc) =
     (running (eliminate s (p .icol)) (set ipiv (p .icol) (getD ipiv (p .icol) 0 + 1)) (set indxr i (p .irow)) (set indxc i (p .icol)))
 
 abbrev pub refused : ℕ → InverseAnswer
-refused n = record { m = Matrix4x4·zero; refusal = n }
+refused n = record { m = tabulate (λ i. tabulate (λ j. positiveZero)); refusal = n }
 
 -- document 01, Refusals: "Each inverse, product and polar round's matrix is judged as its last entry is written."
 unfoldable pub InverseAnswer·judged : Rows → InverseAnswer
-InverseAnswer·judged m = cond (Matrix4x4·isFinite m) (record { m = Matrix4x4·fromRows m; refusal = 0 }) (refused 5)
+InverseAnswer·judged m = cond (Matrix4x4·isFinite m) (record { m = m; refusal = 0 }) (refused 5)
 
 unfoldable pub finish : Elimination → InverseAnswer
 finish zeroPivot = refused 4

@@ -1,6 +1,5 @@
 // The inverse of a 4x4 matrix: pbrt's Gauss-Jordan elimination with full pivoting, in its order of operations.
 use float32::select;
-use matrix4x4::Matrix4x4;
 ghost use mathlib.Core.Path.{_≡_};
 ghost use Prim.Native.Nat.{_<_};
 ghost use Rattle.matrix_inverse.specs.Pivot.{consider, searchRow, Pivot·search};
@@ -17,8 +16,25 @@ pub struct Pivot {
 
 // A matrix and a refusal (error code, 0 for none), after which every entry is +0.
 pub struct InverseAnswer {
-    pub m: Matrix4x4,
+    pub m: [[f32; 4]; 4],
     pub refusal: u8,
+}
+
+// The borrow checker covers no field that is an array of arrays. `new` makes this one and `matrix` reads it, both proved by a walk of their code by hand;
+// all other code goes through the two.
+impl InverseAnswer {
+    fn new(m: [[f32; 4]; 4], refusal: u8) -> InverseAnswer
+        ensures value { λ r. ⌜ r ≡ record { m = m; refusal = refusal } ⌝ }
+    {
+        InverseAnswer { m, refusal }
+    }
+
+    // The matrix. Accuracy: exact.
+    pub fn matrix(self) -> [[f32; 4]; 4]
+        ensures value { λ r. ⌜ r ≡ self .m ⌝ }
+    {
+        self.m
+    }
 }
 
 fn consider(row: [f32; 4], ipiv: [u32; 4], j: usize, k: usize, p: Pivot) -> Pivot
@@ -186,24 +202,14 @@ fn restore_columns(m: [[f32; 4]; 4], indxr: [usize; 4], indxc: [usize; 4]) -> [[
 fn refused(refusal: u8) -> InverseAnswer
     ensures value { λ r. ⌜ r ≡ refused refusal ⌝ }
 {
-    let m = Matrix4x4 {
-        r0: [0.0; 4],
-        r1: [0.0; 4],
-        r2: [0.0; 4],
-        r3: [0.0; 4],
-    };
-    InverseAnswer { m, refusal }
+    InverseAnswer::new([[0.0; 4]; 4], refusal)
 }
 
 fn judged(m: [[f32; 4]; 4]) -> InverseAnswer
     ensures value { λ r. ⌜ r ≡ InverseAnswer·judged m ⌝ }
 {
     if matrix4x4::is_finite(m) {
-        let rows = Matrix4x4::from_rows(m);
-        InverseAnswer {
-            m: rows,
-            refusal: 0,
-        }
+        InverseAnswer::new(m, 0)
     } else {
         refused(5)
     }

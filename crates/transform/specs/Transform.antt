@@ -30,7 +30,7 @@ unfoldable pub Transform·fromMatrix : Rows → TransformAnswer
 Transform·fromMatrix m =
     let inverse = Matrix4x4·inverse m in
     cond (eqb (inverse .refusal) 0)
-    (record { transform = record { m = Matrix4x4·fromRows m; «m_inv» = inverse .m }; refusal = 0 })
+    (record { transform = record { m = Matrix4x4·fromRows m; «m_inv» = Matrix4x4·fromRows (inverse .m) }; refusal = 0 })
     (TransformAnswer·refused (inverse .refusal))
 
 -- The matrix that adds (x, y, z) to a point.

@@ -160,7 +160,7 @@ impl Transform {
         let inverse = matrix_inverse::inverse(m);
         if inverse.refusal == 0 {
             let a = Matrix4x4::from_rows(m);
-            let b = inverse.m;
+            let b = Matrix4x4::from_rows(inverse.matrix());
             let transform = Transform { m: a, m_inv: b };
             TransformAnswer {
                 transform,

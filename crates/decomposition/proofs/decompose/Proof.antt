@@ -37,8 +37,8 @@ returns c =
     let rit = c3 .inverse in
     c .refused .ensures ∙ sym (inverse-refuses (l .inv) (rit .result) (rw (← c4 .transpose .ensures) (rit .ensures)) _ (c1 .if1 .taken))
 
-to-rows-requires : tie.Need-to-rows-requires Inv-loop μ-loop
-to-rows-requires c κs = search needs
+matrix-requires : tie.Need-matrix-requires Inv-loop μ-loop
+matrix-requires c κs = search needs
 
 mean-requires : tie.Need-mean-requires Inv-loop μ-loop
 mean-requires c κs = search needs
@@ -59,7 +59,7 @@ returns-2 c =
     c .refused2 .ensures ∙
     sym
     (matrix-refuses (l .inv) (rit .result) (rw (← c8 .transpose .ensures) (rit .ensures)) (c5 .if1 .left)
-    (rnext .result) (rw (← c4 .to-rows .ensures) (rnext .ensures)) _ (sym (c2 .is-finite .ensures) ∙ not-true _ (c1 .if2 .taken)))
+    (rnext .result) (rw (← c4 .matrix .ensures) (rnext .ensures)) _ (sym (c2 .is-finite .ensures) ∙ not-true _ (c1 .if2 .taken)))
 
 distance-requires : tie.Need-distance-requires Inv-loop μ-loop
 distance-requires c κs = search needs
@@ -78,7 +78,7 @@ loop-again c =
     let rit = c8 .inverse in
     let rnext = c4 .mean in
     turn-next (l .inv) (rit .result) (rw (← c9 .transpose .ensures) (rit .ensures)) (c6 .if1 .left)
-    (rnext .result) (rw (← c5 .to-rows .ensures) (rnext .ensures))
+    (rnext .result) (rw (← c5 .matrix .ensures) (rnext .ensures))
     (sym (c3 .is-finite .ensures) ∙ not-false _ (c2 .if2 .left)) (rw (c1 .distance .ensures) at (c .if3 .left))
 
 parts-requires : tie.Need-parts-requires Inv-loop μ-loop
@@ -94,7 +94,7 @@ returns-3 c =
     c .parts .ensures ∙
     sym
     (turn-last (l .inv) (rit .result) (rw (← c10 .transpose .ensures) (rit .ensures)) (c7 .if1 .left)
-    (rnext .result) (rw (← c6 .to-rows .ensures) (rnext .ensures))
+    (rnext .result) (rw (← c6 .matrix .ensures) (rnext .ensures))
     (sym (c4 .is-finite .ensures) ∙ not-false _ (c3 .if2 .left)) _ (rw (c2 .distance .ensures) at (c1 .if3 .taken)))
 
 pub decompose-spec : {M : Type 1} → statement M
@@ -109,7 +109,7 @@ decompose-spec =
     inverse-requires
     refused-requires
     returns
-    to-rows-requires
+    matrix-requires
     mean-requires
     is-finite-requires
     refused-requires-2

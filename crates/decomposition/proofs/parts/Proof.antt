@@ -13,8 +13,8 @@ inverse-requires c κs = search needs
 quaternion-from-matrix-requires : tie.Need-quaternion-from-matrix-requires
 quaternion-from-matrix-requires c κs = search needs
 
-to-rows-requires : tie.Need-to-rows-requires
-to-rows-requires c κs = search needs
+matrix-requires : tie.Need-matrix-requires
+matrix-requires c κs = search needs
 
 scale-by-requires : tie.Need-scale-by-requires
 scale-by-requires c κs = search needs
@@ -31,8 +31,8 @@ returns c =
     let c1 = c .before in let c2 = c1 .before in let c3 = c2 .before in let c4 = c3 .before in
     let c5 = c4 .before in let c6 = c5 .before in let c7 = c6 .before in
     let rotation : c3 .quaternion-from-matrix .result ≡ Quaternion·fromMatrix (c7 .args .r) = c3 .quaternion-from-matrix .ensures in
-    let scale : c1 .scale-by .result ≡ scaleBy (c7 .args .rigid) (c2 .to-rows .result) (c7 .args .m) = c1 .scale-by .ensures in
-    rw (← c6 .inverse .ensures, eq-eqb _ 0 (c4 .if1 .taken), ← rotation, ← c2 .to-rows .ensures, ← scale) (c .judged .ensures)
+    let scale : c1 .scale-by .result ≡ scaleBy (c7 .args .rigid) (c2 .matrix .result) (c7 .args .m) = c1 .scale-by .ensures in
+    rw (← c6 .inverse .ensures, eq-eqb _ 0 (c4 .if1 .taken), ← rotation, ← c2 .matrix .ensures, ← scale) (c .judged .ensures)
 
 returns-2 : tie.Need-returns-2
 unfolding parts
@@ -46,7 +46,7 @@ parts-spec =
     (tie.spec
     inverse-requires
     quaternion-from-matrix-requires
-    to-rows-requires
+    matrix-requires
     scale-by-requires
     judged-requires
     refused-requires

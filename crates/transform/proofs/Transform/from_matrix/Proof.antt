@@ -11,17 +11,25 @@ inverse-requires c κs = search needs
 from-rows-requires : tie.Need-from-rows-requires
 from-rows-requires c κs = search needs
 
+matrix-requires : tie.Need-matrix-requires
+matrix-requires c κs = search needs
+
+from-rows-requires-2 : tie.Need-from-rows-requires-2
+from-rows-requires-2 c κs = search needs
+
 refused-requires : tie.Need-refused-requires
 refused-requires c κs = search needs
 
 returns : tie.Need-returns
 unfolding Transform·fromMatrix
 returns c =
-    let c1 = c .before in let c2 = c1 .before in let c3 = c2 .before in let c4 = c3 .before in
+    let c1 = c .before in let c2 = c1 .before in let c3 = c2 .before in let c4 = c3 .before in let c5 = c4 .before in
     rw (
-      eq-eqb _ 0 (rw (c4 .inverse .ensures) at (c2 .if1 .taken)),
-      c1 .from-rows .ensures,
-      c4 .inverse .ensures,
+      eq-eqb _ 0 (rw (c5 .inverse .ensures) at (c3 .if1 .taken)),
+      c2 .from-rows .ensures,
+      c .from-rows2 .ensures,
+      c1 .matrix .ensures,
+      c5 .inverse .ensures,
     )
 
 returns-2 : tie.Need-returns-2
@@ -36,4 +44,4 @@ returns-2 c =
 
 pub from-matrix-spec : {M : Type 1} → statement M
 from-matrix-spec =
-    tie.close (tie.spec inverse-requires from-rows-requires refused-requires returns returns-2)
+    tie.close (tie.spec inverse-requires from-rows-requires matrix-requires from-rows-requires-2 refused-requires returns returns-2)
