@@ -1,5 +1,6 @@
 -- Every interval that a zero search examines lies in 0 to 1, its ends in order: `examined-unit`. The midpoint of such an interval lies in 0 to 1, since
--- rounding keeps the order, so that its halves are again such. There are as many as zero_search counts: `searchIntervals-count`, `examinedIntervals-count`.
+-- rounding keeps the order, so that its halves are again such. There are as many as zero_search counts: `searchIntervals-count`, `examinedIntervals-count`;
+-- and as an answer carries that is not refused: `answered-count`.
 use mathlib.Core.Path.{_≡_, refl, sym, subst}
 use mathlib.Core.Bool.{Bool, true, false, cond}
 use mathlib.Core.Logic.{inl, inr}
@@ -119,9 +120,20 @@ searchIntervals-count (suc d) false f i z =
     halved true l u x y below above = omega (arith, length-append l u, below, above)
     halved false l u x y below above = omega (arith, length-append l [], below)
 
-pub examinedIntervals-count : (c1 c2 c3 c4 c5 theta : Float)
-    → length (examinedIntervals (record { c1 = c1; c2 = c2; c3 = c3; c4 = c4; c5 = c5; theta = theta })) ≡ intervalFindZeros c1 c2 c3 c4 c5 theta .examined
-unfolding examinedIntervals intervalFindZeros
-examinedIntervals-count c1 c2 c3 c4 c5 theta =
-    let f : MotionDerivative = record { c1 = c1; c2 = c2; c3 = c3; c4 = c4; c5 = c5; theta = theta } in
+pub examinedIntervals-count : (f : MotionDerivative) → length (examinedIntervals f) ≡ search.unitSearch f .examined
+unfolding examinedIntervals
+examinedIntervals-count f =
     searchIntervals-count searchDepth (MotionDerivative·excludesZero f search.searchedInterval) f search.searchedInterval (Zeros·empty 0)
+
+-- So an answer that isn't refused counts them; one that is counts none.
+pub answered-count : (c1 c2 c3 c4 c5 theta : Float) → intervalFindZeros c1 c2 c3 c4 c5 theta .zeros .refusal ≡ 0
+    → intervalFindZeros c1 c2 c3 c4 c5 theta .examined
+    ≡ length (examinedIntervals (record { c1 = c1; c2 = c2; c3 = c3; c4 = c4; c5 = c5; theta = theta }))
+unfolding intervalFindZeros search.Search·judged
+answered-count c1 c2 c3 c4 c5 theta h =
+    let f : MotionDerivative = record { c1 = c1; c2 = c2; c3 = c3; c4 = c4; c5 = c5; theta = theta } in
+    go (eqb (search.unitSearch f .zeros .refusal) 0) (search.unitSearch f) (sym (examinedIntervals-count f)) h
+  where
+    go : {k : ℕ} (b : Bool) (s : Search) → s .examined ≡ k → cond b s search.Search·refused .zeros .refusal ≡ 0 → cond b s search.Search·refused .examined ≡ k
+    go true s e h = e
+    go false s e h = absurd (omega (arith, h))

@@ -11,7 +11,7 @@ use Rattle.motion_derivative.specs.declared.MotionDerivative.{MotionDerivative}
 use Rattle.zero_list.specs.declared.Zeros.{Zeros}
 use Rattle.zero_search.specs.declared.Search.{Search}
 use Rattle.motion_derivative.specs.Derivative.{MotionDerivative·excludesZero}
-use Rattle.zero_search.specs.Search.{lowerHalf, upperHalf, search, findZeros, intervalFindZeros, searchDepth, searchedInterval}
+use Rattle.zero_search.specs.Search.{lowerHalf, upperHalf, search, findZeros, searchDepth, searchedInterval, unitSearch, Search·judged, intervalFindZeros}
 use Rattle.zero_list.specs.Zeros.{Zeros·empty}
 use Rattle.zero_search.proofs.Clauses.{either-search}
 
@@ -34,7 +34,8 @@ few-examined d l f i z =
     omega (arith, search-examined-below d (MotionDerivative·excludesZero f i) f i z, pow-mono {i = suc d} {j = 9} (omega (arith, l)))
 
 pub examined-below : (c1 c2 c3 c4 c5 theta : Float) → intervalFindZeros c1 c2 c3 c4 c5 theta .examined ≤ 511
-unfolding intervalFindZeros
+unfolding intervalFindZeros Search·judged
 examined-below c1 c2 c3 c4 c5 theta =
     let f : MotionDerivative = record { c1 = c1; c2 = c2; c3 = c3; c4 = c4; c5 = c5; theta = theta } in
-    few-examined searchDepth (omega arith) f searchedInterval (Zeros·empty 0)
+    either-search (λ s. s .examined ≤ 511) (eqb (unitSearch f .zeros .refusal) 0) _ _
+    (few-examined searchDepth (omega arith) f searchedInterval (Zeros·empty 0)) (omega arith)

@@ -20,7 +20,7 @@ use Rattle.motion_derivative.specs.Derivative.{MotionDerivative·excludesZero}
 use Rattle.zero_list.specs.declared.Zeros.{Zeros}
 use Rattle.zero_search.specs.Search.{newtonZero, lowerHalf, upperHalf}
 use Rattle.zero_list.specs.Zeros.{tolerance, eightZeros, nearInterval, Zeros·empty, Zeros·store, Zeros·accept}
-use Rattle.zero_search.specs.Search.{search, findZeros, searchDepth, searchedInterval, intervalFindZeros}
+use Rattle.zero_search.specs.Search.{search, findZeros, searchDepth, searchedInterval, unitSearch, Search·judged, intervalFindZeros}
 use Rattle.zero_search.specs.Stored.{Stored}
 use Rattle.zero_search.proofs.Clauses.{either-search}
 
@@ -111,7 +111,8 @@ search-stored (suc d) false f i z h =
     (search-stored d (MotionDerivative·excludesZero f (upperHalf i)) f (upperHalf i) _ lower) lower
 
 pub intervalFindZeros-stored : (c1 c2 c3 c4 c5 theta : Float) → Stored (intervalFindZeros c1 c2 c3 c4 c5 theta .zeros)
-unfolding intervalFindZeros
+unfolding intervalFindZeros Search·judged
 intervalFindZeros-stored c1 c2 c3 c4 c5 theta =
     let f : MotionDerivative = record { c1 = c1; c2 = c2; c3 = c3; c4 = c4; c5 = c5; theta = theta } in
-    search-stored searchDepth (MotionDerivative·excludesZero f searchedInterval) f searchedInterval (Zeros·empty 0) empty-stored
+    either-search (λ s. Stored (s .zeros)) (eqb (unitSearch f .zeros .refusal) 0) _ _
+    (search-stored searchDepth (MotionDerivative·excludesZero f searchedInterval) f searchedInterval (Zeros·empty 0) empty-stored) refused-stored

@@ -1,5 +1,5 @@
 -- 000's `interval_find_zeros` by value: the zeros found, in an array of eight with a count, and the refusal 9 where a ninth would be stored, at which
--- the search ends; with them how many intervals it examined. `intervalFindZeros` is the search from 0 to 1 at depth 8.
+-- the search ends; with them how many intervals it examined. `intervalFindZeros` is the search from 0 to 1 at depth 8; after 9 it answers nothing else.
 -- Definitions only.
 use Prim.Native.Nat.{ℕ, zero, suc, _+_}
 use mathlib.Core.Bool.{Bool, true, false, cond}
@@ -53,6 +53,14 @@ searchedInterval = Interval·new positiveZero one
 abbrev pub unitSearch : MotionDerivative → Search
 unitSearch f = findZeros searchDepth f searchedInterval (Zeros·empty 0)
 
+-- document 01: "after a refusal every other number in it is +0"; document 02: "A refusal 9 carries no counts"
+abbrev pub Search·refused : Search
+Search·refused = record { zeros = Zeros·empty 9; examined = 0 }
+
+-- A search's answer: what was found and examined, unless it was refused; 9 is a search's only refusal (`Stored`).
+unfoldable pub Search·judged : Search → Search
+Search·judged s = cond (eqb (s .zeros .refusal) 0) s Search·refused
+
 -- interval_find_zeros from 0 to 1 at depth 8, as bound_point_motion calls it
 unfoldable pub intervalFindZeros : Float → Float → Float → Float → Float → Float → Search
-intervalFindZeros c1 c2 c3 c4 c5 theta = unitSearch (record { c1 = c1; c2 = c2; c3 = c3; c4 = c4; c5 = c5; theta = theta })
+intervalFindZeros c1 c2 c3 c4 c5 theta = Search·judged (unitSearch (record { c1 = c1; c2 = c2; c3 = c3; c4 = c4; c5 = c5; theta = theta }))

@@ -5,7 +5,7 @@ ghost use Prim.Native.Nat.{_≤_};
 ghost use Rattle.sine_table.specs.Table.{sineTable};
 ghost use Rattle.interval.specs.Interval.{Interval·new};
 ghost use Rattle.motion_derivative.specs.Derivative.{MotionDerivative·excludesZero};
-ghost use Rattle.zero_search.specs.Search.{findZeros, unitSearch, intervalFindZeros};
+ghost use Rattle.zero_search.specs.Search.{findZeros, unitSearch, Search·judged, intervalFindZeros};
 ghost use Rattle.zero_search.specs.means.EndAngles.{AngleAt, AnglesAt};
 use interval::Interval;
 use interval::IntervalSinCos;
@@ -16,7 +16,7 @@ use zero_list::Zeros;
 // How often the interval from 0 to 1 is halved.
 const DEPTH: u32 = 8;
 
-// What a search finds, and how many intervals it examines: each once, also one that the range test leaves out.
+// What a search finds, and how many intervals it examines: each once, also one that the range test leaves out. An answer with a refusal counts none.
 pub struct Search {
     pub zeros: Zeros,
     pub examined: u32,
@@ -134,8 +134,20 @@ fn unit_search(f: MotionDerivative) -> Search
     find_zeros(&table, f, i, ends, DEPTH, Zeros::empty(0))
 }
 
+// A search's answer: 9 carries neither zeros nor a count. Accuracy: exact.
+fn judged(found: Search) -> Search
+    ensures value { λ r. ⌜ r ≡ Search·judged found ⌝ }
+{
+    let zeros = found.zeros;
+    if zeros.refusal == 0 {
+        return found;
+    }
+    let zeros = Zeros::empty(9);
+    Search { zeros, examined: 0 }
+}
+
 // pbrt's `interval_find_zeros` from the interval 0 to 1 at depth 8, with how many intervals it examined, at most 511;
-// refused with 9 where a ninth zero would be stored. Accuracy: heuristic.
+// refused with 9, and then without a count, where a ninth zero would be stored. Accuracy: heuristic.
 pub fn interval_find_zeros(c1: f32, c2: f32, c3: f32, c4: f32, c5: f32, theta: f32) -> Search
     ensures value { λ r. ⌜ r ≡ intervalFindZeros c1 c2 c3 c4 c5 theta ⌝ }
 {
@@ -147,5 +159,5 @@ pub fn interval_find_zeros(c1: f32, c2: f32, c3: f32, c4: f32, c5: f32, theta: f
         c5,
         theta,
     };
-    unit_search(f)
+    judged(unit_search(f))
 }
