@@ -1,5 +1,5 @@
 -- Cases of the definitions, by computing: the limit's bits; for t - 1/2, the intervals of a search at depth 1, and those of the whole search for a constant;
--- angles at which the assertions hold, and at which each fails; a run that meets a far angle and doesn't end in NaN, since its theta doesn't double.
+-- angles at which the assertions hold, and at which each fails; runs that meet a far angle and don't end in NaN, since theta doesn't double, or is 0.
 use mathlib.Core.Path.{_≡_, refl}
 use mathlib.Core.Bool.{true, false}
 use mathlib.Core.List.{[], _∷_}
@@ -63,3 +63,19 @@ slope-angle-near = refl
 ends-at-t : MotionDerivative·newton still 4 tiny ≡ tiny
 unfolding computing
 ends-at-t = refl
+
+-- theta is 0, as that of a move without rotation may be, and t is 2^127: 2.0 * t overflows, so that the slope's angle is NaN; the value is 0, and the run
+-- ends at t.
+abbrev unturned : MotionDerivative
+unturned = line positiveZero positiveZero positiveZero
+
+abbrev large : Float
+large = ofBits binary32 0x7f000000
+
+unturned-far : near (slopeAngle unturned large) ≡ false
+unfolding computing
+unturned-far = refl
+
+unturned-ends-at-t : MotionDerivative·newton unturned 4 large ≡ large
+unfolding computing
+unturned-ends-at-t = refl

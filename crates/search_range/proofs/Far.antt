@@ -1,7 +1,8 @@
--- What far angles do to the zero search: a run of Newton's steps that meets one stores no zero, whatever the coefficients (`stores-none`), and
--- with a built move's theta it ends in NaN (`built-ends-in-nan`). No angle of a built move's poses or covers is far (`built-angles-near`).
+-- What far angles do to the zero search: a run of Newton's steps that meets one stores no zero, whatever the coefficients (`stores-none`); with the theta of a
+-- built move with rotation it ends in NaN (`rotation-ends-in-nan`), with any built move's where it is met below 2^127 (`built-ends-in-nan`).
+-- No angle of a built move's poses or covers is far (`built-angles-near`).
 -- A theta of 2^127 or more in size makes both angles of the first step far, since a midpoint is at least 2^-9; with a smaller one a run ends in NaN, or where
--- it is, at a t of 2^127 or more in size, which lies outside the search's intervals.
+-- it is, at a t of 2^127 or more in size, which lies outside the search's intervals. At such a t both angles are far where theta is at least 2^-28.
 use mathlib.Core.Path.{_≡_, refl, sym, ap, subst, _∙_}
 use mathlib.Core.Logic.{_⊎_, inl, inr}
 use mathlib.Core.Bool.{Bool, true, false, not, cond, true≢false}
@@ -47,11 +48,12 @@ use Rattle.animated_transform.specs.declared.AnimatedTransform.{AnimatedTransfo
 use Rattle.animated_transform.specs.Built.{Built}
 use Rattle.animated_transform.proofs.Built.{built-judged}
 use Rattle.motion_point.specs.TransformPoint.{AnimatedTransform·constants}
-use Rattle.search_range.specs.Far.{Far, MeetsFar, Doubles, EndsInNan, StoresNone, AnglesNear}
+use Rattle.search_range.specs.Far.{Far, MeetsFar, Doubles, EndsInNan, EndsInNanBelow, StoresNone, AnglesNear}
 use Rattle.search_range.proofs.Examined.{examined-unit}
 use Rattle.search_range.proofs.Assertions.{halfTurn, scale-half-turn, angles-subset}
 use Rattle.search_range.proofs.Newton.{mul-nan, nan-far, newton-far, newton-one-far, further-newton, ends-in-nan}
 use Rattle.search_range.proofs.Midpoints.{highs, examined-midpoint}
+use Rattle.search_range.proofs.Rotation.{rotations, rotation-theta}
 
 -- |x| is 2^127 or more, or x is not finite.
 abbrev Large : Float → Type 0
@@ -156,46 +158,66 @@ large-value (fin s m e) t h =
     double : (k a d : ℕ) → k * d ≤ a → 2 * k * (1 * d) ≤ 1 * 2 * a
     double k a d h = omega arith
 
--- ---- and a large number times one of 2^-8 or more is far
-abbrev twiceHighs : Interval
-twiceHighs = record { low = sliceEnd 8 1; high = two }
+-- ---- and a large number times one of 2^-27 or more is far
+abbrev factors : Interval
+factors = record { low = ofBits binary32 0x32000000; high = halfTurnFloat }
 
-twice-highs-finite : Finite twiceHighs
-unfolding round ofBits sliceEnd
-twice-highs-finite = record { low = tt; high = tt }
+factors-finite : Finite factors
+unfolding ofBits
+factors-finite = record { low = tt; high = tt }
 
-twice-highs : Interval·mulEnclosure (Interval·point two) (highs 9) ≡ twiceHighs
-unfolding Interval·mulEnclosure Interval·ofFour Interval·hull Interval·new minNum maxNum isNan mul round lt ofBits sliceEnd
-twice-highs = refl
-
-highs-finite : Finite (highs 9)
-unfolding round ofBits sliceEnd
-highs-finite = record { low = tt; high = tt }
-
-twice-high : {t : Float} → Contains (highs 9) t → Contains twiceHighs (two ⊗ t)
-twice-high {t} c =
-    let p = point-encloses two (unfold ofBits in tt) in
-    subst (λ (X : Interval). Contains X (two ⊗ t)) twice-highs (mul-contains (p .finite) highs-finite (p .contains) c)
-
-large-times : (x θ : Float) → Contains twiceHighs x → Large θ → Far (x ⊗ θ)
-unfolding mul
+large-times : (x y : Float) → Contains factors x → Large y → Far (x ⊗ y)
+unfolding mul ofBits
 large-times x nan c h = rw (mul-nan x) nan-far
 large-times x (inf s) c h = times-infinite x s
-large-times nan (fin s m e) c h = absurd (contains-finite twice-highs-finite c)
-large-times (inf r) (fin s m e) c h = absurd (contains-finite twice-highs-finite c)
+large-times nan (fin s m e) c h = absurd (contains-finite factors-finite c)
+large-times (inf r) (fin s m e) c h = absurd (contains-finite factors-finite c)
 large-times (fin r n d) (fin s m e) c h =
     round-far (unlike r s) (n * up d * (m * up e)) (down d * down e) (mul-pos (down-pos d) (down-pos e))
     (far (down d) (n * up d) (down e) (m * up e) (least r (c .low)) (le-trans (mul-le-mul-right (down e) (lit≤ tt)) (large-size s m e h)))
   where
-    least : (r : Bool) → sliceEnd 8 1 ≼ fin r n d → down d ≤ 2 ^ 8 * (n * up d)
+    least : (r : Bool) → fin false 1 (ℤ.negsuc 26) ≼ fin r n d → down d ≤ 2 ^ 27 * (n * up d)
     least true h =
-        let l = to-fraction {x = fin false 1 (ℤ.negsuc 7)} {y = fin true n d} tt tt (unfold sliceEnd round in h) in
+        let l = to-fraction {x = fin false 1 (ℤ.negsuc 26)} {y = fin true n d} tt tt h in
         let p = down-pos d in
         absurd (omega (arith, l, p))
-    least false h = let l = to-fraction {x = fin false 1 (ℤ.negsuc 7)} {y = fin false n d} tt tt (unfold sliceEnd round in h) in omega (arith, l)
+    least false h = let l = to-fraction {x = fin false 1 (ℤ.negsuc 26)} {y = fin false n d} tt tt h in omega (arith, l)
 
-    far : (D N E M : ℕ) → D ≤ 2 ^ 8 * N → 2 ^ 40 * E ≤ M → 2 ^ 24 * (D * E) ≤ N * M
-    far D N E M h k = let l : D * (2 ^ 40 * E) ≤ 2 ^ 8 * N * M = mul-le-mul h k in omega (arith, l)
+    far : (D N E M : ℕ) → D ≤ 2 ^ 27 * N → 2 ^ 51 * E ≤ M → 2 ^ 24 * (D * E) ≤ N * M
+    far D N E M h k = let l : D * (2 ^ 51 * E) ≤ 2 ^ 27 * N * M = mul-le-mul h k in omega (arith, l)
+
+-- Twice a number from a to b, where twice a and twice b are as computed.
+module _ {X Y : Interval} (f : Finite X) (e : Interval·mulEnclosure (Interval·point two) X ≡ Y) (low : factors .low ≼ Y .low)
+    (high : Y .high ≼ factors .high) where
+  twice-factor : {x : Float} → Contains X x → Contains factors (two ⊗ x)
+  twice-factor {x} c =
+      let p = point-encloses two (unfold ofBits in tt) in
+      let y = subst (λ (Z : Interval). Contains Z (two ⊗ x)) e (mul-contains (p .finite) f (p .contains) c) in
+      record { low = ≼-trans low (y .low); high = ≼-trans (y .high) high }
+
+-- that of a midpoint
+highs-finite : Finite (highs 9)
+unfolding round ofBits sliceEnd
+highs-finite = record { low = tt; high = tt }
+
+twice-highs : Interval·mulEnclosure (Interval·point two) (highs 9) ≡ record { low = sliceEnd 8 1; high = two }
+unfolding Interval·mulEnclosure Interval·ofFour Interval·hull Interval·new minNum maxNum isNan mul round lt ofBits sliceEnd
+twice-highs = refl
+
+twice-high : {t : Float} → Contains (highs 9) t → Contains factors (two ⊗ t)
+twice-high c = twice-factor highs-finite twice-highs (record { holds = unfold le round ofBits sliceEnd in tt }) (record { holds = unfold le ofBits in tt }) c
+
+-- and that of the theta of a built move with rotation
+rotations-finite : Finite rotations
+unfolding ofBits
+rotations-finite = record { low = tt; high = tt }
+
+twice-rotations : Interval·mulEnclosure (Interval·point two) rotations ≡ factors
+unfolding Interval·mulEnclosure Interval·ofFour Interval·hull Interval·new minNum maxNum isNan mul round lt ofBits
+twice-rotations = refl
+
+twice-rotation : {θ : Float} → Contains rotations θ → Contains factors (two ⊗ θ)
+twice-rotation c = twice-factor rotations-finite twice-rotations (record { holds = unfold le ofBits in tt }) (record { holds = unfold le ofBits in tt }) c
 
 -- ---- a number near an interval of 0 to 1 is small
 abbrev wide : Interval
@@ -277,6 +299,27 @@ stores-none f fθ j u z x r = at-theta (lt (abs (f .theta)) (ofBits binary32 0x7
         let mid = Interval·midpoint j in
         nothing (newton-far f 3 mid (large-value (f .theta) mid l) (large-times (two ⊗ mid) (f .theta) (twice-high m) l))
 
+quarter-two : quarterTurnFloat ≼ two
+quarter-two = record { holds = unfold le ofBits in tt }
+
+minus-one-rotation : neg one ≼ rotations .low
+minus-one-rotation = record { holds = unfold le neg ofBits in tt }
+
+-- With a theta from 2^-28 to a quarter turn such a run ends in NaN, wherever it meets the angle.
+meets-ends-in-nan : (f : MotionDerivative) → T (fits binary32 (f .theta)) → Contains rotations (f .theta) → EndsInNan f
+meets-ends-in-nan f fθ c n t u ft r = go (lt (abs u) (ofBits binary32 0x7f000000)) refl
+  where
+    doubles : Doubles (f .theta)
+    doubles = wide-doubles (f .theta) (record { low = ≼-trans minus-one-rotation (c .low); high = ≼-trans (c .high) quarter-two })
+
+    met : (n : ℕ) (t : Float) → MeetsFar f n t u → Large u → MotionDerivative·newton f n t ≡ nan
+    met (suc n) t (MeetsFar.here h) l = newton-far f n t (large-times (two ⊗ f .theta) t (twice-rotation c) l) (large-value t (f .theta) l)
+    met (suc n) t (MeetsFar.further h r) l = further-newton f n t h ∙ met n _ r l
+
+    go : (b : Bool) → lt (abs u) (ofBits binary32 0x7f000000) ≡ b → MotionDerivative·newton f n t ≡ nan
+    go true d = ends-in-nan f fθ doubles n t u ft r d
+    go false l = met n t r l
+
 -- ---- a built move
 half-full : halfTurnFloat ≼ fullTurnFloat
 half-full = record { holds = unfold le ofBits in tt }
@@ -287,9 +330,6 @@ half-near c = angle-near (record { from-zero = c .low; to-full-turn = ≼-trans 
 acos-fits : (c : Float) → T (fits binary32 (acos c))
 unfolding acos
 acos-fits c = cond-fits binary32 (inDomain c) _ _ (round-fits binary32 false (leastAngle (floorUnits c)) (2 ^ 28)) (nan-fits binary32)
-
-quarter-two : quarterTurnFloat ≼ two
-quarter-two = record { holds = unfold le ofBits in tt }
 
 minus-one-zero : neg one ≼ positiveZero
 minus-one-zero = record { holds = unfold le neg ofBits in tt }
@@ -312,11 +352,15 @@ module _ {m : AnimatedTransform} (b : Built m) where
   unfolding PoseConstants·new
   theta-fits = acos-fits (clamp (Quaternion·dot (m .r0) (m .r1)) (neg one) one)
 
-  pub built-ends-in-nan : (f : MotionDerivative) → f .theta ≡ AnimatedTransform·constants m .theta → EndsInNan f
+  pub built-ends-in-nan : (f : MotionDerivative) → f .theta ≡ AnimatedTransform·constants m .theta → EndsInNanBelow f
   built-ends-in-nan f e =
       let t = theta-bounds in
       ends-in-nan f (subst (λ (x : Float). T (fits binary32 x)) (sym e) theta-fits)
       (subst Doubles (sym e) (wide-doubles _ (record { low = ≼-trans minus-one-zero (t .low); high = ≼-trans (t .high) quarter-two })))
+
+  pub rotation-ends-in-nan : m .«has_rotation» ≡ true → (f : MotionDerivative) → f .theta ≡ AnimatedTransform·constants m .theta → EndsInNan f
+  rotation-ends-in-nan r f e =
+      meets-ends-in-nan f (subst (λ (x : Float). T (fits binary32 x)) (sym e) theta-fits) (subst (Contains rotations) (sym e) (rotation-theta b r))
 
   pub built-angles-near : AnglesNear m
   built-angles-near = record {

@@ -4,5 +4,6 @@ pub mod Built
 pub mod Double
 pub mod Newton
 pub mod Midpoints
+pub mod Rotation
 pub mod Far
 mod Cases

@@ -1,5 +1,5 @@
 -- A far angle in Newton's steps: where both angles of a step are far it gives NaN, and stays there (`newton-far`); where one is, the run ends where it is or
--- in NaN (`newton-one-far`). Where theta and t double, one is far as the other is, so that a run that meets one ends in NaN (`ends-in-nan`).
+-- in NaN (`newton-one-far`). Where theta and t double, one is far as the other is, so that a run that meets one there ends in NaN (`ends-in-nan`).
 use mathlib.Core.Path.{_≡_, refl, sym, ap, subst, _∙_}
 use mathlib.Core.Logic.{_⊎_, inl, inr}
 use mathlib.Core.Bool.{Bool, true, false, cond, _||_}
@@ -14,7 +14,7 @@ use Rattle.trig.proofs.Monotone.{sin-far}
 use Rattle.motion_derivative.specs.declared.MotionDerivative.{MotionDerivative}
 use Rattle.motion_derivative.specs.Derivative.{MotionDerivative·valueAt, MotionDerivative·value}
 use Rattle.motion_derivative.specs.Derivative.{MotionDerivative·slopeAt, MotionDerivative·slope, MotionDerivative·newton}
-use Rattle.search_range.specs.Far.{Far, valueAngle, slopeAngle, MeetsFar, Doubles, EndsInNan}
+use Rattle.search_range.specs.Far.{Far, valueAngle, slopeAngle, MeetsFar, Doubles, EndsInNanBelow}
 use Rattle.search_range.proofs.Double.{angles-same}
 
 -- ---- NaN in each operation
@@ -114,7 +114,7 @@ further-newton f n t h =
     let next = MotionDerivative·newton f n (t ⊖ MotionDerivative·value f t ⊘ MotionDerivative·slope f t) in
     newton-step f t n (MotionDerivative·value f t) (MotionDerivative·slope f t) refl refl ∙ ap (λ (b : Bool). cond b t next) h
 
-pub ends-in-nan : (f : MotionDerivative) → T (fits binary32 (f .theta)) → Doubles (f .theta) → EndsInNan f
+pub ends-in-nan : (f : MotionDerivative) → T (fits binary32 (f .theta)) → Doubles (f .theta) → EndsInNanBelow f
 ends-in-nan f fθ dθ (suc n) t u ft (MeetsFar.here h) d = newton-far f n t (both h .0) (both h .1)
   where
     both : Far (valueAngle f t) ⊎ Far (slopeAngle f t) → Far (valueAngle f t) × Far (slopeAngle f t)

@@ -1,5 +1,5 @@
--- Far angles in the zero search, document 02's "Far angles in the Newton steps": `MeetsFar`, a run of Newton's steps that meets one; `EndsInNan` and
--- `StoresNone`, what becomes of such a run; `AnglesNear`, that the poses and the cover of a move meet none. Definitions only.
+-- Far angles in the zero search, document 02's "Far angles in the Newton steps": `MeetsFar`, a run of Newton's steps that meets one; `EndsInNan`,
+-- `EndsInNanBelow` and `StoresNone`, what becomes of such a run; `AnglesNear`, that the poses and the cover of a move meet none. Definitions only.
 use mathlib.Core.Path.{_≡_}
 use mathlib.Core.Logic.{_⊎_}
 use mathlib.Core.Bool.{true, false, _||_}
@@ -47,9 +47,13 @@ pub data MeetsFar (f : MotionDerivative) : ℕ → Float → Float → Type 0 wh
 abbrev pub Doubles : Float → Type 0
 Doubles x = lt (abs x) (ofBits binary32 0x7f000000) ≡ true
 
--- document 02: "a run of steps that meets such an angle ends in NaN", where it is met at a u below 2^127 in size.
+-- document 02: "a run of steps that meets such an angle ends in NaN".
 abbrev pub EndsInNan : MotionDerivative → Type 0
-EndsInNan f = (n : ℕ) (t u : Float) → T (fits binary32 t) → MeetsFar f n t u → Doubles u → MotionDerivative·newton f n t ≡ nan
+EndsInNan f = (n : ℕ) (t u : Float) → T (fits binary32 t) → MeetsFar f n t u → MotionDerivative·newton f n t ≡ nan
+
+-- The same where it is met at a u below 2^127 in size.
+abbrev pub EndsInNanBelow : MotionDerivative → Type 0
+EndsInNanBelow f = (n : ℕ) (t u : Float) → T (fits binary32 t) → MeetsFar f n t u → Doubles u → MotionDerivative·newton f n t ≡ nan
 
 -- ".. and stores no zero": from the midpoint of an interval that the search examines, what the run leaves there is not taken.
 abbrev pub StoresNone : MotionDerivative → Type 0
