@@ -35,25 +35,15 @@ fn end_at(table: &[u32; 2049], f: MotionDerivative, t: f32) -> SinCos
     trig::sin_cos_in(table, 2.0 * f.theta * t)
 }
 
-// The angles at the ends of `Interval::new(a, b)`: those at a and b where a is below b, as it is unless rounding makes them equal.
-fn end_angles(
-    table: &[u32; 2049],
-    f: MotionDerivative,
-    a: f32,
-    at_a: SinCos,
-    b: f32,
-    at_b: SinCos,
-) -> EndAngles
-    requires { ⌜ now table ≡ sineTable ⌝ ∗ ⌜ AngleAt f a «at_a» × AngleAt f b «at_b» ⌝ }
-    ensures value { λ r. ⌜ AnglesAt f (Interval·new a b) r ⌝ }
+// The angles at the ends of `Interval::new(i.low, i.high)`: those at i's own ends where they are in order, as they are unless rounding makes them equal.
+fn end_angles(table: &[u32; 2049], f: MotionDerivative, i: Interval, ends: EndAngles) -> EndAngles
+    requires { ⌜ now table ≡ sineTable ⌝ ∗ ⌜ AnglesAt f i ends ⌝ }
+    ensures value { λ r. ⌜ AnglesAt f (Interval·new (i .low) (i .high)) r ⌝ }
 {
-    if a < b {
-        return EndAngles {
-            low: at_a,
-            high: at_b,
-        };
+    if i.low < i.high {
+        return ends;
     }
-    let i = Interval::new(a, b);
+    let i = Interval::new(i.low, i.high);
     let low = end_at(table, f, i.low);
     let high = end_at(table, f, i.high);
     EndAngles { low, high }
@@ -100,19 +90,36 @@ fn find_zeros(
         return Search { zeros, examined: 1 };
     }
     let middle = end_at(table, f, mid);
-    let below = end_angles(table, f, i.low, ends.low, mid, middle);
-    let lower = find_zeros(table, f, Interval::new(i.low, mid), below, depth - 1, found);
+    let low = ends.low;
+    let below = Interval {
+        low: i.low,
+        high: mid,
+    };
+    let below_angles = end_angles(table, f, below, EndAngles { low, high: middle });
+    let lower = find_zeros(
+        table,
+        f,
+        Interval::new(below.low, below.high),
+        below_angles,
+        depth - 1,
+        found,
+    );
     let zeros = lower.zeros;
     if zeros.refusal != 0 {
         let examined = 1 + lower.examined;
         return Search { zeros, examined };
     }
-    let above = end_angles(table, f, mid, middle, i.high, ends.high);
+    let high = ends.high;
+    let above = Interval {
+        low: mid,
+        high: i.high,
+    };
+    let above_angles = end_angles(table, f, above, EndAngles { low: middle, high });
     let upper = find_zeros(
         table,
         f,
-        Interval::new(mid, i.high),
-        above,
+        Interval::new(above.low, above.high),
+        above_angles,
         depth - 1,
         zeros,
     );

@@ -101,9 +101,10 @@ end-at-requires t c κs =
 
 end-angles-requires : (t : ℕ) → find-zeros-lts.Need-end-angles-requires (calls t) (find-zeros-at t) find-zeros.Post
 end-angles-requires t c κs =
-    let c1 = c .before in let c2 = c1 .before in let c3 = c2 .before in let c4 = c3 .before in let c5 = c4 .before in
-    let pre = c5 .pre .1 in
-    (pre .0, (pre .1 .0 .0, c .end-at .ensures))
+    let c1 = c .before in let c2 = c1 .before in let c3 = c2 .before in let c4 = c3 .before in let c5 = c4 .before in let c6 = c5 .before in
+    let middle = c1 in
+    let pre = c6 .pre .1 in
+    (pre .0, (pre .1 .0 .0, middle .end-at .ensures))
 
 sub-find-zeros : (t : ℕ) → find-zeros-lts.Need-sub-find-zeros (calls t) (find-zeros-at t) find-zeros.Post
 sub-find-zeros t c = omega arith
@@ -111,26 +112,27 @@ sub-find-zeros t c = omega arith
 find-zeros-requires : (t : ℕ) → find-zeros-lts.Need-find-zeros-requires (calls t) (find-zeros-at t) find-zeros.Post
 find-zeros-requires t c κs =
     let c1 = c .before in let c2 = c1 .before in let c3 = c2 .before in let c4 = c3 .before in
-    let c5 = c4 .before in let c6 = c5 .before in let c7 = c6 .before in
-    let start = c7 in
+    let c5 = c4 .before in let c6 = c5 .before in let c7 = c6 .before in let c8 = c7 .before in
+    let start = c8 in
     (omega arith, (start .pre .1 .0, (rw (c .new .ensures) (c1 .end-angles .ensures), omega (arith, start .pre .1 .1 .1))))
 
 add-examined : (t : ℕ) → find-zeros-lts.Need-add-examined (calls t) (find-zeros-at t) find-zeros.Post
 add-examined t c =
     let c1 = c .before in let c2 = c1 .before in let c3 = c2 .before in let c4 = c3 .before in let c5 = c4 .before in let c6 = c5 .before in
     let c7 = c6 .before in let c8 = c7 .before in let c9 = c8 .before in let c10 = c9 .before in let c11 = c10 .before in let c12 = c11 .before in
+    let c13 = c12 .before in
     let lower = c4 in
-    let start = c12 in
+    let start = c13 in
     let few : lower .find-zeros .result .examined ≤ 511 = rw (lower .find-zeros .ensures) (few-examined _ (omega (arith, start .pre .1 .1 .1)) _ _ _) in
     omega (arith, few)
 
 returns-3 : (t : ℕ) → find-zeros-lts.Need-returns-3 (calls t) (find-zeros-at t) find-zeros.Post
 returns-3 t c =
     let c1 = c .before in let c2 = c1 .before in let c3 = c2 .before in let c4 = c3 .before in
-    let c5 = c4 .before in let c6 = c5 .before in let c7 = c6 .before in let c8 = c7 .before in
+    let c5 = c4 .before in let c6 = c5 .before in let c7 = c6 .before in let c8 = c7 .before in let c9 = c8 .before in
     let lower = c4 in
     let half = lower .before in
-    let split = c8 in
+    let split = c9 in
     let mid = split .before in
     let range = mid .before .before in
     let a = range .before .args in
@@ -141,9 +143,10 @@ returns-3 t c =
 end-angles-requires-2 : (t : ℕ) → find-zeros-lts.Need-end-angles-requires-2 (calls t) (find-zeros-at t) find-zeros.Post
 end-angles-requires-2 t c κs =
     let c1 = c .before in let c2 = c1 .before in let c3 = c2 .before in let c4 = c3 .before in let c5 = c4 .before in let c6 = c5 .before in
-    let c7 = c6 .before in let c8 = c7 .before in let c9 = c8 .before in let c10 = c9 .before in let c11 = c10 .before in
-    let middle = c6 in
-    let pre = c11 .pre .1 in
+    let c7 = c6 .before in let c8 = c7 .before in let c9 = c8 .before in let c10 = c9 .before in let c11 = c10 .before in let c12 = c11 .before in
+    let c13 = c12 .before in
+    let middle = c8 in
+    let pre = c13 .pre .1 in
     (pre .0, (middle .end-at .ensures, pre .1 .0 .1))
 
 sub-find-zeros-2 : (t : ℕ) → find-zeros-lts.Need-sub-find-zeros-2 (calls t) (find-zeros-at t) find-zeros.Post
@@ -153,9 +156,9 @@ find-zeros-requires-2 : (t : ℕ) → find-zeros-lts.Need-find-zeros-requires-2 
 find-zeros-requires-2 t c κs =
     let c1 = c .before in let c2 = c1 .before in let c3 = c2 .before in let c4 = c3 .before in let c5 = c4 .before in
     let c6 = c5 .before in let c7 = c6 .before in let c8 = c7 .before in let c9 = c8 .before in
-    let c10 = c9 .before in let c11 = c10 .before in let c12 = c11 .before in let c13 = c12 .before in
-    let split = c9 in
-    let pre = c13 .pre in
+    let c10 = c9 .before in let c11 = c10 .before in let c12 = c11 .before in let c13 = c12 .before in let c14 = c13 .before in let c15 = c14 .before in
+    let split = c11 in
+    let pre = c15 .pre in
     (omega (arith, split .if2 .left, pre .0), (pre .1 .0, (rw (c .new2 .ensures) (c1 .end-angles2 .ensures), omega (arith, pre .1 .1 .1))))
 
 add-examined-2 : (t : ℕ) → find-zeros-lts.Need-add-examined-2 (calls t) (find-zeros-at t) find-zeros.Post
@@ -163,8 +166,9 @@ add-examined-2 t c =
     let c1 = c .before in let c2 = c1 .before in let c3 = c2 .before in let c4 = c3 .before in let c5 = c4 .before in let c6 = c5 .before in
     let c7 = c6 .before in let c8 = c7 .before in let c9 = c8 .before in let c10 = c9 .before in let c11 = c10 .before in
     let c12 = c11 .before in let c13 = c12 .before in let c14 = c13 .before in let c15 = c14 .before in let c16 = c15 .before in
-    let lower = c8 in
-    let start = c16 in
+    let c17 = c16 .before in let c18 = c17 .before in
+    let lower = c9 in
+    let start = c18 in
     let few : lower .find-zeros .result .examined ≤ 511 = rw (lower .find-zeros .ensures) (few-examined _ (omega (arith, start .pre .1 .1 .1)) _ _ _) in
     omega (arith, few)
 
@@ -173,9 +177,10 @@ add-examined-3 t c =
     let c1 = c .before in let c2 = c1 .before in let c3 = c2 .before in let c4 = c3 .before in let c5 = c4 .before in let c6 = c5 .before in
     let c7 = c6 .before in let c8 = c7 .before in let c9 = c8 .before in let c10 = c9 .before in let c11 = c10 .before in
     let c12 = c11 .before in let c13 = c12 .before in let c14 = c13 .before in let c15 = c14 .before in let c16 = c15 .before in
+    let c17 = c16 .before in let c18 = c17 .before in
     let upper = c2 in
-    let lower = c8 in
-    let start = c16 in
+    let lower = c9 in
+    let start = c18 in
     let shallow = start .pre .1 .1 .1 in
     let few : lower .find-zeros .result .examined ≤ 511 = rw (lower .find-zeros .ensures) (few-examined _ (omega (arith, shallow)) _ _ _) in
     let few-2 : upper .find-zeros2 .result .examined ≤ 511 = rw (upper .find-zeros2 .ensures) (few-examined _ (omega (arith, shallow)) _ _ _) in
@@ -185,12 +190,13 @@ returns-4 : (t : ℕ) → find-zeros-lts.Need-returns-4 (calls t) (find-zeros-at
 returns-4 t c =
     let c1 = c .before in let c2 = c1 .before in let c3 = c2 .before in let c4 = c3 .before in let c5 = c4 .before in let c6 = c5 .before in
     let c7 = c6 .before in let c8 = c7 .before in let c9 = c8 .before in let c10 = c9 .before in let c11 = c10 .before in let c12 = c11 .before in
+    let c13 = c12 .before in let c14 = c13 .before in
     let upper = c2 in
     let above = upper .before in
-    let left = above .before .before in
-    let lower = c8 in
+    let left = above .before .before .before in
+    let lower = c9 in
     let below = lower .before in
-    let split = c12 in
+    let split = c14 in
     let mid = split .before in
     let range = mid .before .before in
     let a = range .before .args in

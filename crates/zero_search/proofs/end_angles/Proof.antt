@@ -5,7 +5,7 @@ use Rattle.zero_search.proofs.end_angles.Statement.{statement}
 use Rattle.zero_search.proofs.end_angles.Tie as tie
 
 returns : tie.Need-returns
-returns c = rw (new-ordered _ _ (c .if1 .taken)) (c .before .pre .1)
+returns c = rw (new-ordered _ _ (c .if1 .taken)) (c .before .before .pre .1)
 
 end-at-requires : tie.Need-end-at-requires
 end-at-requires c κs = search needs
