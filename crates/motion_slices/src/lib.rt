@@ -19,7 +19,7 @@ ghost use Rattle.pose_slerp.specs.means.Unjudged.{Perpendicular·of};
 ghost use Rattle.motion_point.specs.TransformPoint.{AnimatedTransform·constants};
 ghost use Rattle.bounds_query.specs.Query.{maxDepth};
 ghost use Rattle.motion_cover.specs.Cover.{AnimatedTransform·encloseBounds, unionSlices};
-ghost use Rattle.motion_slices.specs.means.Border.{Border·at};
+ghost use Rattle.motion_slices.specs.means.Border.{Border·at, Slice·dt, Slice·Of};
 
 const MAX_DEPTH: u32 = 12;
 
@@ -27,6 +27,12 @@ const MAX_DEPTH: u32 = 12;
 struct Border {
     t: f32,
     angle: EndAngle,
+}
+
+// A slice of dt, by the borders at its ends.
+struct Slice {
+    low: Border,
+    high: Border,
 }
 
 // Where slerp is linear no angle is asked for, and a border has none.
@@ -49,18 +55,14 @@ fn border_at(table: &[u32; 2049], a: PoseConstants, t: f32) -> Border
     }
 }
 
-// The rotation from a border to another, by the angles that are kept there. Judging is left out where a sum over all ends is finite, which gives the same.
+// The rotation in a slice, by the angles that are kept at its borders. Judging is left out where a sum over all ends is finite, which gives the same.
 // Accuracy: encloses.
-fn slerp_enclosure(
-    m: u8,
-    a: PoseConstants,
-    perp: Perpendicular,
-    from: Border,
-    to: Border,
-) -> JudgedQuaternion
-    requires { ⌜ perp ≡ Perpendicular·of (a .r0) (a .r1) (a .«cos_theta») ⌝ ∗ ⌜ from ≡ Border·at a (from .t) ⌝ ∗ ⌜ to ≡ Border·at a (to .t) ⌝ }
-    ensures value { λ r. ⌜ r ≡ Pose·encloseSlerp m a (record { low = from .t; high = to .t }) ⌝ }
+fn slerp_enclosure(m: u8, a: PoseConstants, perp: Perpendicular, slice: Slice) -> JudgedQuaternion
+    requires { ⌜ perp ≡ Perpendicular·of (a .r0) (a .r1) (a .«cos_theta») ⌝ ∗ ⌜ Slice·Of a slice ⌝ }
+    ensures value { λ r. ⌜ r ≡ Pose·encloseSlerp m a (Slice·dt slice) ⌝ }
 {
+    let from = slice.low;
+    let to = slice.high;
     let t = Interval {
         low: from.t,
         high: to.t,
@@ -90,24 +92,23 @@ fn slerp_enclosure(
     }
 }
 
-// The poses from a border to another over a box, with the move's constants at hand, grown by the high end of their pad interval. Accuracy: encloses.
+// The poses in a slice over a box, with the move's constants at hand, grown by the high end of their pad interval. Accuracy: encloses.
 fn slice_enclosure(
     m: AnimatedTransform,
     a: PoseConstants,
     perp: Perpendicular,
-    from: Border,
-    to: Border,
+    slice: Slice,
     b: Bounds3f,
 ) -> BoundsAnswer
-    requires { ⌜ perp ≡ Perpendicular·of (a .r0) (a .r1) (a .«cos_theta») ⌝ ∗ ⌜ from ≡ Border·at a (from .t) ⌝ ∗ ⌜ to ≡ Border·at a (to .t) ⌝ }
-    ensures value { λ r. ⌜ r ≡ AnimatedTransform·encloseBounds m a (record { low = from .t; high = to .t }) b ⌝ }
+    requires { ⌜ perp ≡ Perpendicular·of (a .r0) (a .r1) (a .«cos_theta») ⌝ ∗ ⌜ Slice·Of a slice ⌝ }
+    ensures value { λ r. ⌜ r ≡ AnimatedTransform·encloseBounds m a (Slice·dt slice) b ⌝ }
 {
     let dt = Interval {
-        low: from.t,
-        high: to.t,
+        low: slice.low.t,
+        high: slice.high.t,
     };
     let trans = pose_parts::translation_enclosure(0, a.t0, a.t1, dt);
-    let rotate = slerp_enclosure(trans.refusal, a, perp, from, to);
+    let rotate = slerp_enclosure(trans.refusal, a, perp, slice);
     let pose = pose::composition_enclosure(a.rigid, trans.vector, rotate, m.s0, m.s1, dt);
     let moved = motion_piece::from_enclosure(pose_point::transform_point_enclosure(
         pose.refusal,
@@ -140,9 +141,13 @@ pub fn union_slices(m: AnimatedTransform, b: Bounds3f, d: u32, first: Bounds3f) 
     while k < slices {
         let high = float_bits::from_fixed(k + 1, h);
         let to = border_at(&table, a, high);
-        let slice = slice_enclosure(m, a, perp, from, to, b);
-        let BoundsAnswer::Bounds(moved) = slice else {
-            return slice;
+        let slice = Slice {
+            low: from,
+            high: to,
+        };
+        let answer = slice_enclosure(m, a, perp, slice, b);
+        let BoundsAnswer::Bounds(moved) = answer else {
+            return answer;
         };
         let next = union.union_bounds(moved);
         union = next;

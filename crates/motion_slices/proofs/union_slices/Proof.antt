@@ -58,8 +58,8 @@ slice-enclosure-requires c κs =
     let l = c4 in
     (c7 .perpendicular-to .ensures, (l .loop .inv .2, border-own _ _ _ (c .border-at2 .ensures)))
 
-enum-known-slice : tie.Need-enum-known-slice Inv-loop μ-loop
-enum-known-slice c = search needs
+enum-known-answer : tie.Need-enum-known-answer Inv-loop μ-loop
+enum-known-answer c = search needs
 
 enum-told : tie.Need-enum-told Inv-loop μ-loop
 enum-told c = search needs
@@ -113,7 +113,7 @@ loop-again c =
     let h : d ≤ maxDepth = omega (arith, held .ensures) in (
       omega (arith, c8 .loop-test .taken),
       reached-next (l .inv .1) (to .result .t) (border-time _ _ _ (to .ensures) ∙ rw (high .ensures) (slice-end d _ h)) (slice .result)
-          (slice .ensures) (c2 .slice .given .0 .0) (c2 .slice .given .1) (c .union-bounds .result) (c .union-bounds .ensures),
+          (slice .ensures) (c2 .answer .given .0 .0) (c2 .answer .given .1) (c .union-bounds .result) (c .union-bounds .ensures),
       border-own _ _ _ (to .ensures),
     )
 
@@ -145,7 +145,7 @@ union-slices-spec =
     from-fixed-requires
     border-at-requires-2
     slice-enclosure-requires
-    enum-known-slice
+    enum-known-answer
     enum-told
     returns
     union-bounds-requires
