@@ -1,5 +1,5 @@
 -- What the tests on the way say where the work between the poses is not refused (`composed-accepted`),
--- and that an answer of a built move that is not refused is finite in both halves (`interpolate-finite`).
+-- and that an answer that is not refused is finite in both halves, whatever the move (`interpolate-finite`).
 use mathlib.Core.Path.{_≡_, refl, _∙_}
 use mathlib.Core.Bool.{Bool, true, false, _&&_, cond}
 use Prim.Native.Nat.{ℕ}
@@ -7,7 +7,7 @@ use native.Mathlib.Omega.{arith}
 use borrow.Author.Tests.{eqb-true, eqb-false}
 use lib.Dec.{T, eqb}
 use lib.Ieee.{Float}
-use lib.Ieee.Fits.{and-l, and-r, and-i}
+use lib.Ieee.Fits.{and-l, and-r}
 use Rattle.matrix4x4.specs.Rows.{Rows, Matrix4x4·toRows}
 use Rattle.matrix4x4.specs.IsFinite.{Matrix4x4·isFinite}
 use Rattle.vector3.specs.declared.Vector3f.{Vector3f}
@@ -20,8 +20,6 @@ use Rattle.transform.specs.Transform.{TransformAnswer·refused, Transform·from
 use Rattle.rotation.specs.FromQuaternion.{Transform·fromQuaternion}
 use Rattle.pose_steps.specs.Composition.{lerpTranslation, lerpScaleBy}
 use Rattle.animated_transform.specs.declared.AnimatedTransform.{AnimatedTransform}
-use Rattle.animated_transform.specs.Built.{Built, StoredPose}
-use Rattle.animated_transform.proofs.Built.{built-judged}
 use Rattle.interpolation.specs.Interpolate.{Transform·isFinite, TransformAnswer·accepted, TransformAnswer·judged}
 use Rattle.interpolation.specs.Interpolate.{scaled, composed, AnimatedTransform·poseAt, AnimatedTransform·interpolate}
 use Rattle.interpolation.proofs.Numbers.{interpolate-cases}
@@ -92,13 +90,12 @@ composed-accepted trans rotate scale h =
       value = v ∙ w ∙ u;
     }
 
-stored-finite : (t : Transform) → StoredPose t → T (Transform·isFinite t)
-unfolding Transform·isFinite
-stored-finite t s = and-i (Matrix4x4·isFinite (Matrix4x4·toRows (t .m))) (Matrix4x4·isFinite (Matrix4x4·toRows (t .«m_inv»))) (s .matrix) (s .inverse)
-
 -- Where nothing is refused, both halves are finite.
 abbrev FiniteAnswer : TransformAnswer → Type 0
 FiniteAnswer a = a .refusal ≡ 0 → T (Transform·isFinite (a .transform))
+
+judged-finite : (t : Transform) → FiniteAnswer (TransformAnswer·judged t)
+judged-finite t h = let (f, e) = judged-accepted t h in rw e f
 
 pose-at-finite : (m : AnimatedTransform) (x : Float) → FiniteAnswer (AnimatedTransform·poseAt m x)
 unfolding AnimatedTransform·poseAt
@@ -107,12 +104,11 @@ pose-at-finite m x h =
     (lerpScaleBy (m .rigid) (Matrix4x4·toRows (m .s0)) (Matrix4x4·toRows (m .s1)) x) h in
     rw (c .value) (c .last-finite)
 
-pub interpolate-finite : {m : AnimatedTransform} → Built m → (time : Float) → AnimatedTransform·interpolate m time .refusal ≡ 0
+pub interpolate-finite : (m : AnimatedTransform) (time : Float) → AnimatedTransform·interpolate m time .refusal ≡ 0
     → T (Transform·isFinite (AnimatedTransform·interpolate m time .transform))
-interpolate-finite {m} b time =
-    let j = built-judged b in
+interpolate-finite m time =
     interpolate-cases FiniteAnswer m time
     (λ h. absurd (omega arith))
-    (λ _. stored-finite (m .«start_transform») (j .start))
-    (λ _. stored-finite (m .«end_transform») (j .end))
+    (judged-finite (m .«start_transform»))
+    (judged-finite (m .«end_transform»))
     (pose-at-finite m _)

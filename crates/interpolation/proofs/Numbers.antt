@@ -27,7 +27,7 @@ use Rattle.interpolation.specs.Interpolate.{scaled, composed, AnimatedTr
 use Rattle.interpolation.specs.Promise.{InterpolationNumber}
 
 pub interpolate-cases : (P : TransformAnswer → Type 0) (m : AnimatedTransform) (time : Float) → P (TransformAnswer·refused 6)
-    → P (TransformAnswer·accepted (m .«start_transform»)) → P (TransformAnswer·accepted (m .«end_transform»))
+    → P (TransformAnswer·judged (m .«start_transform»)) → P (TransformAnswer·judged (m .«end_transform»))
     → P (AnimatedTransform·poseAt m (dt (m .«start_time») (m .«end_time») time)) → P (AnimatedTransform·interpolate m time)
 unfolding AnimatedTransform·interpolate
 interpolate-cases P m time p q r s = cond-keeps P (isNan time) _ _ p (cond-keeps P (atStart m time) _ _ q (cond-keeps P (atEnd m time) _ _ r s))
@@ -79,8 +79,8 @@ interpolate-answered : (m : AnimatedTransform) (time : Float) → Answered (Anim
 interpolate-answered m time =
     interpolate-cases Answered m time
     (refused-answered 6 (inr (inr (inr refl))))
-    (accepted-answered (m .«start_transform»))
-    (accepted-answered (m .«end_transform»))
+    (judged-answered (m .«start_transform»))
+    (judged-answered (m .«end_transform»))
     (pose-at-answered m _)
 
 pub interpolate-refusal : (m : AnimatedTransform) (time : Float) → InterpolationNumber (AnimatedTransform·interpolate m time .refusal)

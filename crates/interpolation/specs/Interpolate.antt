@@ -1,6 +1,6 @@
 -- pbrt's `AnimatedTransform::interpolate`, both halves, judged: 6 for a NaN time, a stored transform at and outside the end times and where the poses are
--- equal, and between them document 01's 4 or 5, whichever is met first: 5 for the quaternion, the scale, the translation, the rotation and their product,
--- the number of the scale's inverse, 5 for the last product. After a refusal every entry is +0. Definitions only.
+-- equal, 5 where that isn't finite, and between them document 01's 4 or 5, whichever is met first: 5 for the quaternion, the scale, the translation, the
+-- rotation and their product, the number of the scale's inverse, 5 for the last product. After a refusal every entry is +0. Definitions only.
 use mathlib.Core.Bool.{Bool, _&&_, cond}
 use lib.Dec.{eqb}
 use lib.Ieee.{Float, isNan}
@@ -58,6 +58,6 @@ AnimatedTransform·poseAt m dt =
 unfoldable pub AnimatedTransform·interpolate : AnimatedTransform → Float → TransformAnswer
 AnimatedTransform·interpolate m time =
     cond (isNan time) (TransformAnswer·refused 6)
-    (cond (atStart m time) (TransformAnswer·accepted (m .«start_transform»))
-    (cond (atEnd m time) (TransformAnswer·accepted (m .«end_transform»))
+    (cond (atStart m time) (TransformAnswer·judged (m .«start_transform»))
+    (cond (atEnd m time) (TransformAnswer·judged (m .«end_transform»))
     (AnimatedTransform·poseAt m (dt (m .«start_time») (m .«end_time») time))))

@@ -1,6 +1,6 @@
 // pbrt's `AnimatedTransform::interpolate`: the transform of a move at a time, both halves, judged.
-// At and outside the end times, and where the two poses are equal, it is a stored transform; between them it is computed, and refused with 4 or 5, whichever is
-// met first.
+// At and outside the end times, and where the two poses are equal, it is a stored transform, refused with 5 where it isn't finite, as in rows that nobody built;
+// between them it is computed, and refused with 4 or 5, whichever is met first.
 use animated_transform::AnimatedTransform;
 use matrix4x4::Matrix4x4;
 use quaternion::Quaternion;
@@ -19,6 +19,7 @@ fn is_finite(t: Transform) -> bool
     matrix4x4::is_finite(t.m.to_rows()) & matrix4x4::is_finite(t.m_inv.to_rows())
 }
 
+// 5 where a half isn't finite.
 fn judged(transform: Transform) -> TransformAnswer
     ensures value { λ r. ⌜ r ≡ TransformAnswer·judged transform ⌝ }
 {
@@ -73,7 +74,8 @@ fn pose_at(m: AnimatedTransform, dt: f32) -> TransformAnswer
     composed(trans, rotate, scale)
 }
 
-// pbrt's `interpolate`: the transform at a time; refused with 6 for a NaN time, and between the two poses with 4 or 5; pbrt goes on where this refuses.
+// pbrt's `interpolate`: the transform at a time; refused with 6 for a NaN time, with 5 for a stored transform that isn't finite, and between the two poses with 4
+// or 5; pbrt goes on where this refuses.
 // Accuracy: each operation but sine, cosine and arc cosine is correctly rounded.
 pub fn interpolate(m: AnimatedTransform, time: f32) -> TransformAnswer
     ensures value { λ r. ⌜ r ≡ AnimatedTransform·interpolate m time ⌝ }
@@ -82,18 +84,10 @@ pub fn interpolate(m: AnimatedTransform, time: f32) -> TransformAnswer
         return transform::refused(6);
     }
     if !m.actually_animated | (time <= m.start_time) {
-        let transform = m.start_transform;
-        return TransformAnswer {
-            transform,
-            refusal: 0,
-        };
+        return judged(m.start_transform);
     }
     if time >= m.end_time {
-        let transform = m.end_transform;
-        return TransformAnswer {
-            transform,
-            refusal: 0,
-        };
+        return judged(m.end_transform);
     }
     pose_at(m, unit_interval::dt(m.start_time, m.end_time, time))
 }

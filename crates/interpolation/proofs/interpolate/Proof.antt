@@ -1,5 +1,5 @@
 -- `interpolate` meets its contract: three tests choose, and `time != time` is the test for NaN (`differs-nan`).
-use mathlib.Core.Path.{sym, ap}
+use mathlib.Core.Path.{sym, ap, _∙_}
 use mathlib.Core.Bool.{Bool, cond}
 use lib.Ieee.{Float}
 use Rattle.rounding.proofs.Order.{differs-nan}
@@ -7,7 +7,7 @@ use Rattle.transform.specs.declared.TransformAnswer.{TransformAnswer}
 use Rattle.unit_interval.specs.Unit.{dt}
 use Rattle.animated_transform.specs.declared.AnimatedTransform.{AnimatedTransform}
 use Rattle.animated_transform.specs.AtTime.{atEnd}
-use Rattle.interpolation.specs.Interpolate.{TransformAnswer·accepted, AnimatedTransform·poseAt, AnimatedTransform·interpolate}
+use Rattle.interpolation.specs.Interpolate.{TransformAnswer·judged, AnimatedTransform·poseAt, AnimatedTransform·interpolate}
 use borrow.Author.Needs.{needs}
 use Rattle.interpolation.proofs.interpolate.Statement.{statement}
 use Rattle.interpolation.proofs.interpolate.Tie as tie
@@ -15,8 +15,8 @@ use Rattle.interpolation.proofs.interpolate.Tie as tie
 -- for a time that isn't NaN, by the answer of the second test
 abbrev known : AnimatedTransform → Float → Bool → TransformAnswer
 known m time b =
-    cond b (TransformAnswer·accepted (m .«start_transform»))
-    (cond (atEnd m time) (TransformAnswer·accepted (m .«end_transform»)) (AnimatedTransform·poseAt m (dt (m .«start_time») (m .«end_time») time)))
+    cond b (TransformAnswer·judged (m .«start_transform»))
+    (cond (atEnd m time) (TransformAnswer·judged (m .«end_transform»)) (AnimatedTransform·poseAt m (dt (m .«start_time») (m .«end_time») time)))
 
 refused-requires : tie.Need-refused-requires
 refused-requires c κs = search needs
@@ -25,19 +25,25 @@ returns : tie.Need-returns
 unfolding AnimatedTransform·interpolate
 returns c = rw (← differs-nan (c .before .before .args .time), c .before .if1 .taken, c .refused .ensures)
 
+judged-requires : tie.Need-judged-requires
+judged-requires c κs = search needs
+
 returns-2 : tie.Need-returns-2
 unfolding AnimatedTransform·interpolate
 returns-2 c =
     let c1 = c .before in let c2 = c1 .before in let c3 = c2 .before in let c4 = c3 .before in let c5 = c4 .before in
     let args = c5 .args in
-    rw (← differs-nan (args .time), c4 .if1 .left) (sym (ap (known (args .m) (args .time)) (c1 .if2 .taken)))
+    rw (← differs-nan (args .time), c4 .if1 .left) (c .judged .ensures ∙ sym (ap (known (args .m) (args .time)) (c1 .if2 .taken)))
+
+judged-requires-2 : tie.Need-judged-requires-2
+judged-requires-2 c κs = search needs
 
 returns-3 : tie.Need-returns-3
 unfolding AnimatedTransform·interpolate
 returns-3 c =
     let c1 = c .before in let c2 = c1 .before in let c3 = c2 .before in let c4 = c3 .before in
     let c5 = c4 .before in let c6 = c5 .before in let c7 = c6 .before in
-    rw (← differs-nan (c7 .args .time), c6 .if1 .left, c3 .if2 .left, c1 .if3 .taken)
+    rw (← differs-nan (c7 .args .time), c6 .if1 .left, c3 .if2 .left, c1 .if3 .taken, c .judged2 .ensures)
 
 dt-requires : tie.Need-dt-requires
 dt-requires c κs = search needs
@@ -54,4 +60,4 @@ returns-4 c =
 
 pub interpolate-spec : {M : Type 1} → statement M
 interpolate-spec =
-    tie.close (tie.spec refused-requires returns returns-2 returns-3 dt-requires pose-at-requires returns-4)
+    tie.close (tie.spec refused-requires returns judged-requires returns-2 judged-requires-2 returns-3 dt-requires pose-at-requires returns-4)
