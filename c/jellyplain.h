@@ -141,7 +141,8 @@ JELLYPLAIN_CHECKED uint8_t jellyplain_build_moves(bool rigid, const jellyplain_p
 
 /* The moves of two chains made one, with the pose that they share once, into the front of `moves`, the first's and then the second's; those behind them stay. It answers as the first
  * up to the shared time, as the second above it, and its cover is the union of theirs. Numbers 20 where the last pose of the first and the first of the second differ in a bit of
- * time, matrix or pad, or one chain is rigid and the other isn't, then 12 for more than 32 poses; before both 12 where either has no moves. */
+ * time, matrix or pad, or one chain is rigid and the other isn't, then 12 for more than 32 poses, or for times that don't rise strictly, as where jellyplain_build wrote a move with
+ * equal times; before both 12 where either has no moves. */
 JELLYPLAIN_CHECKED uint8_t jellyplain_moves_join(const jellyplain_move *first, size_t first_count, const jellyplain_move *second, size_t second_count, jellyplain_move moves[JELLYPLAIN_MOVES]);
 
 /* A run's first place and its length and JELLYPLAIN_NONE, or 0, 0 and a refusal. */

@@ -247,7 +247,7 @@ pub extern "C" fn jellyplain_build_moves(
 
 // Makes one chain of two, with the pose that they share once; the rows of the first's moves and then of the second's stand in the front blocks.
 // Refused with 12 where either has no moves, then with 20 where the last pose of the first and the first of the second differ in a bit, or the
-// chains in their kind, then with 12 for more than 32 poses. Accuracy: exact.
+// chains in their kind, then with 12 for more than 32 poses or times that don't rise strictly, as in blocks of a move by itself. Accuracy: exact.
 #[no_mangle]
 pub extern "C" fn jellyplain_moves_join(
     first: &[[[f32; 4]; 45]],

@@ -29,7 +29,8 @@ use Rattle.chain_rows.specs.Kept.{Chain·toRows, Moves·chain, Moves·transform
 use Rattle.chain_rows.specs.Theorem.{Moves·Holds}
 use Rattle.chain_rows.proofs.Kept.{kept-chain, kept-point, kept-points, kept-pad, kept-cover}
 use Rattle.chain_build.specs.Build.{blocksLeft, ChainAnswer·left}
-use Rattle.joined_chains.specs.Join.{Chain·lastPose, Chain·firstPose, Chain·joinedPoses, mismatchRefusal, countRefusal, Chain·joinRefusal, Chain·join}
+use Rattle.joined_chains.specs.Join.{Chain·lastPose, Chain·firstPose, Chain·joinedPoses}
+use Rattle.joined_chains.specs.Join.{mismatchRefusal, countRefusal, riseRefusal, Chain·joinRefusal, Chain·join}
 use Rattle.joined_chains.specs.Theorem.{Chain·append, AnswersAs, sharedTime}
 use Rattle.joined_chains.proofs.Built.{map-append, joins}
 use Rattle.joined_chains.proofs.Answers.{join-answers}
@@ -68,11 +69,12 @@ pub some-blocks : (n m : ℕ) → (eqb n 0 || eqb m 0) ≡ false → (0 < n) × 
 some-blocks n m e = let (f, g) = either-empty n m e in (above-zero n f, above-zero m g)
 
 module _ (first second : List Rows) (some : (eqb (length first) 0 || eqb (length second) 0) ≡ false) where
-  refusal-of : {mismatch count : ℕ} → mismatch ≡ mismatchRefusal (Moves·chain first) (Moves·chain second)
+  refusal-of : {mismatch count rise : ℕ} → mismatch ≡ mismatchRefusal (Moves·chain first) (Moves·chain second)
       → count ≡ countRefusal (length first + length second + 1)
-      → firstRefusal mismatch count ≡ Moves·joinRefusal first second
+      → rise ≡ riseRefusal (Chain·joinedPoses (Moves·chain first) (Moves·chain second))
+      → firstRefusal mismatch (firstRefusal count rise) ≡ Moves·joinRefusal first second
   unfolding Moves·joinRefusal Chain·joinRefusal
-  refusal-of e f = let (n, m) = either-empty (length first) (length second) some in rw (some, joined-count first second n m, ← e, ← f)
+  refusal-of e f g = let (n, m) = either-empty (length first) (length second) some in rw (some, joined-count first second n m, ← e, ← f, ← g)
 
 -- ---- rows that building left
 module _ (first second : List Rows) (c d : Chain) (h : Moves·Holds first c) (k : Moves·Holds second d) where
@@ -151,15 +153,20 @@ pub no-moves : (first second old : List Rows) → (eqb (length first) 0 || eqb (
 no-moves first second old e = refused-clauses first second old (unfold Moves·joinRefusal in rw e) (λ z. absurd (omega (arith, z)))
 
 module _ (first second old : List Rows) (some : (eqb (length first) 0 || eqb (length second) 0) ≡ false)
-    {mismatch count r : ℕ} (e : mismatch ≡ mismatchRefusal (Moves·chain first) (Moves·chain second))
+    {mismatch count rise later r : ℕ} (e : mismatch ≡ mismatchRefusal (Moves·chain first) (Moves·chain second))
     (f : count ≡ countRefusal (length first + length second + 1))
-    (n : r ≡ firstRefusal mismatch count) where
+    (g : rise ≡ riseRefusal (Chain·joinedPoses (Moves·chain first) (Moves·chain second)))
+    (l : later ≡ firstRefusal count rise)
+    (n : r ≡ firstRefusal mismatch later) where
+  number-of : r ≡ Moves·joinRefusal first second
+  number-of = n ∙ ap (firstRefusal mismatch) l ∙ refusal-of first second some e f g
+
   pub not-joined : (r ≡ 0 → ⊥) → Clauses first second old old r
-  not-joined g = refused-clauses first second old (n ∙ refusal-of first second some e f) g
+  not-joined h = refused-clauses first second old number-of h
 
   pub has-room : r ≡ 0 → length first + length second ≤ 31
   has-room z = go (ltb maxPoses (length first + length second + 1))
-      (ltb-false maxPoses (length first + length second + 1)) (sym f ∙ first-zero mismatch count (sym n ∙ z) .1)
+      (ltb-false maxPoses (length first + length second + 1)) (sym f ∙ first-zero count rise (sym l ∙ first-zero mismatch later (sym n ∙ z) .1) .0)
     where
       go : (b : Bool) → (b ≡ false → length first + length second + 1 ≤ maxPoses) → _≡_ {A = ℕ} (cond b 12 0) 0 → length first + length second ≤ 31
       go true t x = absurd (omega (arith, x))
@@ -169,8 +176,8 @@ module _ (first second old : List Rows) (some : (eqb (length first) 0 || eqb (le
       → r ≡ 0 → {new : List Rows} → new ≡ blocksLeft (first ++ second) old → Clauses first second old new 0
   unfolding Moves·joinLeft
   all-joined same z {new} w =
-      let number : 0 ≡ Moves·joinRefusal first second = sym z ∙ (n ∙ refusal-of first second some e f) in
-      let poses = same (first-zero mismatch count (sym n ∙ z) .0) in
+      let number : 0 ≡ Moves·joinRefusal first second = sym z ∙ number-of in
+      let poses = same (first-zero mismatch later (sym n ∙ z) .0) in
       (number, (rw (← number) w, λ c d h k. joined number poses w c d h k))
     where
       joined : 0 ≡ Moves·joinRefusal first second → Chain·lastPose (Moves·chain first) ≡ Chain·firstPose (Moves·chain second)

@@ -10,7 +10,8 @@ ghost use Rattle.motion_rows.specs.Rows.{AnimatedTransform·fromRows};
 ghost use Rattle.motion_chain.specs.Chain.{Chain};
 ghost use Rattle.chain_rows.specs.Kept.{Moves·chain};
 ghost use Rattle.chain_rows.specs.Theorem.{Moves·Holds};
-ghost use Rattle.joined_chains.specs.Join.{Chain·lastPose, Chain·firstPose, mismatchRefusal, countRefusal};
+ghost use Rattle.joined_chains.specs.Join.{Chain·lastPose, Chain·firstPose, Chain·joinedPoses, mismatchRefusal, countRefusal, riseRefusal};
+ghost use Rattle.chain_join.specs.means.Rise.{riseFrom};
 ghost use Rattle.chain_join.specs.Rows.{Moves·joinRefusal, Moves·joinLeft};
 ghost use Rattle.chain_join.specs.Theorem.{Joined};
 
@@ -44,6 +45,35 @@ fn count_refusal(poses: usize) -> u8
     if 32 < poses { 12 } else { 0 }
 }
 
+// 12 where a time and the times at which the moves end don't rise strictly, and 0.
+fn rise_from(time: f32, moves: &[[[f32; 4]; 45]]) -> u8
+    ensures value { λ r. ⌜ r ≡ riseFrom time (now (moves .entry)) ⌝ }
+{
+    let mut last = time;
+    let mut i = 0;
+    while i < moves.len() {
+        let end = moves[i][17][3];
+        if !(last < end) {
+            return 12;
+        }
+        last = end;
+        i = i + 1;
+    }
+    0
+}
+
+// 12 where the times of the poses of the two, with the shared one once, don't rise strictly, and 0.
+fn rise_refusal(first: &[[[f32; 4]; 45]], second: &[[[f32; 4]; 45]]) -> u8
+    requires { ⌜ 0 < length (now first) ⌝ }
+    requires { ⌜ 0 < length (now second) ⌝ }
+    ensures value { λ r. ⌜ r ≡ riseRefusal (Chain·joinedPoses (Moves·chain (now (first .entry))) (Moves·chain (now (second .entry)))) ⌝ }
+{
+    let last = first.len() - 1;
+    let before = rise_from(first[0][16][3], first);
+    let after = rise_from(first[last][17][3], second);
+    first_refusal(before, after)
+}
+
 // The blocks with others put over them from `at` on.
 fn with_blocks(
     others: &[[[f32; 4]; 45]],
@@ -64,8 +94,8 @@ fn with_blocks(
 }
 
 // Makes one chain of two kept ones, with the pose that they share once, in the first blocks of `joined`. Refused with 12 where either has no moves, then with
-// 20 where the last pose of the first and the first pose of the second differ in a bit, or the chains in their kind, then with 12 for more than 32 poses.
-// Accuracy: exact.
+// 20 where the last pose of the first and the first pose of the second differ in a bit, or the chains in their kind, then with 12 for more than 32 poses or
+// times that don't rise strictly, as in the block of a move by itself. Accuracy: exact.
 pub fn join(
     first: &[[[f32; 4]; 45]],
     second: &[[[f32; 4]; 45]],
@@ -81,7 +111,9 @@ pub fn join(
     }
     let mismatch = mismatch_refusal(first, second);
     let count = count_refusal(first.len() + second.len() + 1);
-    let refusal = first_refusal(mismatch, count);
+    let rise = rise_refusal(first, second);
+    let later = first_refusal(count, rise);
+    let refusal = first_refusal(mismatch, later);
     if refusal != 0 {
         return refusal;
     }

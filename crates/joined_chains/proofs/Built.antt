@@ -1,5 +1,5 @@
 -- Two built chains that share a pose are one built chain, whose moves are theirs: `joins`. The pairs of the poses with that pose once are
--- the pairs of the first and then those of the second (`neighbours-append`), so that no check but the count can newly fail (`join-passed`),
+-- the pairs of the first and then those of the second (`neighbours-append`), so that no check but the count can newly fail (`join-passed`, `joins-rise`),
 -- and the moves of the pairs are those that stand.
 use Prim.Native.Nat.{ℕ, suc, _+_, _≤_}
 use mathlib.Core.Path.{_≡_, refl, sym, ap, subst, _∙_}
@@ -11,6 +11,7 @@ use borrow.Author.Tests.{eq-eqb, le-ltb, ltb-false}
 use lib.Dec.{T, ltb}
 use lib.ListN.{length, drop}
 use lib.Ieee.Fits.{and-l, and-r, and-i}
+use Rattle.refusal.specs.First.{firstRefusal}
 use Rattle.refusal.proofs.First.{first-zero}
 use Rattle.pose_pair.specs.declared.Pose.{Pose}
 use Rattle.pose_pair.specs.Pose.{Pose·isBinary32}
@@ -26,7 +27,7 @@ use Rattle.motion_chain.proofs.Built.{first-none, first-each, checks-passed, an
 use Rattle.built_poses.specs.Poses.{AnimatedTransform·startPose, AnimatedTransform·endPose, Chain·poses, Chain·isRigid}
 use Rattle.built_poses.proofs.Built.{built-poses, built-kind}
 use Rattle.joined_chains.specs.Join.{Chain·lastPose, Chain·firstPose, Chain·joinedPoses}
-use Rattle.joined_chains.specs.Join.{mismatchRefusal, countRefusal, Chain·joinRefusal, Chain·join}
+use Rattle.joined_chains.specs.Join.{mismatchRefusal, countRefusal, riseRefusal, Chain·joinRefusal, Chain·join}
 use Rattle.joined_chains.specs.Theorem.{Chain·append, Joins}
 
 -- ---- lists
@@ -178,11 +179,29 @@ count-passed n = go (ltb maxPoses n) (ltb-false maxPoses n)
     go true f e = absurd (omega (arith, e))
     go false f e = f refl
 
+-- The times of a built chain rise, and so do those of two that share a pose: the count alone can newly fail.
+own-rise : {c : Chain} → BuiltChain c → riseRefusal (Chain·poses c) ≡ 0
+unfolding chainRefusal
+own-rise {c} b =
+    let rigid = Chain·isRigid c in
+    let poses = Chain·poses c in
+    first-each (chainStages rigid poses) (built-from rigid poses c (own-poses b .accepted) .passed) .1 .1 .1 .1 .0
+
+pub joins-rise : (c d : Chain) → BuiltChain c → BuiltChain d → Chain·lastPose c ≡ Chain·firstPose d → riseRefusal (Chain·joinedPoses c d) ≡ 0
+unfolding Chain·joinedPoses Chain·poses
+joins-rise c d bc bd same =
+    let p = Chain·firstPose c in
+    let ps = map AnimatedTransform·endPose (Chain·moves c) in
+    pair-stage (Chain·isRigid c) p (Chain·firstPose d) ps (map AnimatedTransform·endPose (Chain·moves d))
+    (last-pose p (c .first) (c .rest) ∙ same) (Pair·number 12) (own-rise bc) (own-rise bd)
+
 pub joins : (c d : Chain) → Joins c d
 unfolding Chain·joinedPoses Chain·joinRefusal Chain·join Chain·poses every
 joins c d bc bd same none =
     let own = own-poses bc in
-    let met = first-zero (mismatchRefusal c d) (countRefusal (length (Chain·joinedPoses c d))) none in
+    let poses = Chain·joinedPoses c d in
+    let met = first-zero (mismatchRefusal c d) (firstRefusal (countRefusal (length poses)) (riseRefusal poses)) none in
+    let few = first-zero (countRefusal (length poses)) (riseRefusal poses) (met .1) .0 in
     let other = subst (λ (kind : Bool). OwnPoses kind d) (same-kind c d (met .0)) (own-poses bd) in
     let rigid = Chain·isRigid c in
     let p = Chain·firstPose c in
@@ -190,7 +209,7 @@ joins c d bc bd same none =
     let ps = map AnimatedTransform·endPose (Chain·moves c) in
     let qs = map AnimatedTransform·endPose (Chain·moves d) in
     let shared : lastOf p ps ≡ q = last-pose p (c .first) (c .rest) ∙ same in
-    let most = count-passed (length ((p ∷ ps) ++ qs)) (met .1) in
+    let most = count-passed (length ((p ∷ ps) ++ qs)) few in
     let new = worked-new rigid ((p ∷ ps) ++ qs) (Chain·append c d)
     (join-worked rigid p q ps qs shared c d most (built-from rigid (p ∷ ps) c (own .accepted)) (built-from rigid (q ∷ qs) d (other .accepted))) in (
       rw none new,

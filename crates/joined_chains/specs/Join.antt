@@ -8,7 +8,7 @@ use lib.ListN.{length, drop}
 use Rattle.refusal.specs.First.{firstRefusal}
 use Rattle.pose_pair.specs.declared.Pose.{Pose}
 use Rattle.pose_bits.specs.Bits.{Pose·sameBits}
-use Rattle.motion_chain.specs.Chain.{maxPoses, Chain, ChainAnswer, refused, Chain·new}
+use Rattle.motion_chain.specs.Chain.{maxPoses, neighbours, stage, Pair·number, Chain, ChainAnswer, refused, Chain·new}
 use Rattle.motion_chain.specs.MoveAt.{Chain·last}
 use Rattle.built_poses.specs.Poses.{AnimatedTransform·startPose, AnimatedTransform·endPose, Chain·poses, Chain·isRigid}
 
@@ -35,9 +35,15 @@ mismatchRefusal c d = cond (Pose·sameBits (Chain·lastPose c) (Chain·firstPose
 abbrev pub countRefusal : ℕ → ℕ
 countRefusal poses = cond (ltb maxPoses poses) 12 0
 
--- "and a result above 32 poses is 12 after it"
+-- "times that don't rise strictly are 12" ("Poses in a chain"), as where a move by itself with equal times is taken for a chain
+abbrev pub riseRefusal : List Pose → ℕ
+riseRefusal poses = stage (Pair·number 12) (neighbours poses)
+
+-- "and a result above 32 poses is 12 after it": the checks of a chain that two chains' poses may newly fail
 unfoldable pub Chain·joinRefusal : Chain → Chain → ℕ
-Chain·joinRefusal c d = firstRefusal (mismatchRefusal c d) (countRefusal (length (Chain·joinedPoses c d)))
+Chain·joinRefusal c d =
+    let poses = Chain·joinedPoses c d in
+    firstRefusal (mismatchRefusal c d) (firstRefusal (countRefusal (length poses)) (riseRefusal poses))
 
 unfoldable pub Chain·join : Chain → Chain → ChainAnswer
 Chain·join c d =

@@ -21,40 +21,55 @@ add-count-refusal-2 c = search needs
 count-refusal-requires : tie.Need-count-refusal-requires
 count-refusal-requires c κs = search needs
 
+rise-refusal-requires : tie.Need-rise-refusal-requires
+rise-refusal-requires c κs = some-blocks _ _ (c .before .before .if1 .left)
+
 first-refusal-requires : tie.Need-first-refusal-requires
 first-refusal-requires c κs = search needs
+
+first-refusal-requires-2 : tie.Need-first-refusal-requires-2
+first-refusal-requires-2 c κs = search needs
 
 returns-2 : tie.Need-returns-2
 returns-2 c =
     let number = c .before in
-    let count = number .before in
+    let later = number .before in
+    let rise = later .before in
+    let count = rise .before in
     let mismatch = count .before in
     let a = mismatch .before .before .args in
     not-joined (a .first .now) (a .second .now) (a .joined .now) (mismatch .before .if1 .left)
-    (mismatch .mismatch-refusal .ensures .0) (count .count-refusal .ensures) (number .first-refusal .ensures) (c .if2 .taken)
+    (mismatch .mismatch-refusal .ensures .0) (count .count-refusal .ensures) (rise .rise-refusal .ensures)
+    (later .first-refusal .ensures) (number .first-refusal2 .ensures) (c .if2 .taken)
 
 with-blocks-requires : tie.Need-with-blocks-requires
 with-blocks-requires c κs =
     let test = c .before in
     let number = test .before in
-    let count = number .before in
+    let later = number .before in
+    let rise = later .before in
+    let count = rise .before in
     let mismatch = count .before in
     let a = mismatch .before .before .args in
     let h =
     has-room (a .first .now) (a .second .now) (a .joined .now) (mismatch .before .if1 .left)
-    (mismatch .mismatch-refusal .ensures .0) (count .count-refusal .ensures) (number .first-refusal .ensures) (test .if2 .left) in
+    (mismatch .mismatch-refusal .ensures .0) (count .count-refusal .ensures) (rise .rise-refusal .ensures)
+    (later .first-refusal .ensures) (number .first-refusal2 .ensures) (test .if2 .left) in
     omega (arith, h)
 
 with-blocks-requires-2 : tie.Need-with-blocks-requires-2
 with-blocks-requires-2 c κs =
     let test = c .before .before in
     let number = test .before in
-    let count = number .before in
+    let later = number .before in
+    let rise = later .before in
+    let count = rise .before in
     let mismatch = count .before in
     let a = mismatch .before .before .args in
     let h =
     has-room (a .first .now) (a .second .now) (a .joined .now) (mismatch .before .if1 .left)
-    (mismatch .mismatch-refusal .ensures .0) (count .count-refusal .ensures) (number .first-refusal .ensures) (test .if2 .left) in
+    (mismatch .mismatch-refusal .ensures .0) (count .count-refusal .ensures) (rise .rise-refusal .ensures)
+    (later .first-refusal .ensures) (number .first-refusal2 .ensures) (test .if2 .left) in
     omega (arith, h)
 
 returns-3 : tie.Need-returns-3
@@ -62,7 +77,9 @@ returns-3 c =
     let c1 = c .before in let c2 = c1 .before in let c3 = c2 .before in
     let test = c3 in
     let number = test .before in
-    let count = number .before in
+    let later = number .before in
+    let rise = later .before in
+    let count = rise .before in
     let mismatch = count .before in
     let some = mismatch .before .if1 .left in
     let a = mismatch .before .before .args in
@@ -71,11 +88,13 @@ returns-3 c =
     let old = a .joined .now in
     let h =
     has-room first second old some
-    (mismatch .mismatch-refusal .ensures .0) (count .count-refusal .ensures) (number .first-refusal .ensures) (test .if2 .left) in
+    (mismatch .mismatch-refusal .ensures .0) (count .count-refusal .ensures) (rise .rise-refusal .ensures)
+    (later .first-refusal .ensures) (number .first-refusal2 .ensures) (test .if2 .left) in
     let put = c1 .with-blocks .ensures in
     let places = put .0 in
     all-joined first second old some
-    (mismatch .mismatch-refusal .ensures .0) (count .count-refusal .ensures) (number .first-refusal .ensures)
+    (mismatch .mismatch-refusal .ensures .0) (count .count-refusal .ensures) (rise .rise-refusal .ensures)
+    (later .first-refusal .ensures) (number .first-refusal2 .ensures)
     (mismatch .mismatch-refusal .ensures .1) (test .if2 .left)
     (two-fronts first second old (omega (arith, h, places)) (put .1) (c .with-blocks2 .ensures .1))
 
@@ -88,7 +107,9 @@ join-spec =
     add-count-refusal
     add-count-refusal-2
     count-refusal-requires
+    rise-refusal-requires
     first-refusal-requires
+    first-refusal-requires-2
     returns-2
     with-blocks-requires
     with-blocks-requires-2
