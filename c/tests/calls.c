@@ -145,6 +145,9 @@ static void moves(void)
     ACCEPTED(jellyplain_interpolate(&move, 0.5f, lent.transform));
     EXPECT(same(&lent.transform[0][0][0], &transform[0][0][0], 32));
     REFUSED(6, jellyplain_interpolate(&move, nan_value, lent.transform));
+    jellyplain_move unbuilt = move; /* an infinite entry in the stored start */
+    unbuilt.rows[0][0] = infinite;
+    REFUSED(5, jellyplain_interpolate(&unbuilt, -1, lent.transform));
 
     const float along[6] = {0, 0, 0, 1, 0, 0}, boxes[6] = {0, 0, 0, 2, 1, 1};
     ACCEPTED(jellyplain_bound_point_motion(&move, origin, lent.bounds, lent.examined));
@@ -330,6 +333,10 @@ static void chains(void)
     jellyplain_pose later[2] = {poses[JELLYPLAIN_POSES - 1], poses[JELLYPLAIN_POSES]};
     ACCEPTED(jellyplain_build_chain(false, later, 2, &second));
     REFUSED(12, jellyplain_chain_join(&whole, &second, &lent.chain));
+    jellyplain_pose rest = still(0); /* a move by itself may have equal times, which no chain has */
+    jellyplain_move lone;
+    ACCEPTED(jellyplain_build(false, &rest, &rest, &lone));
+    REFUSED(12, jellyplain_moves_join(&lone, 1, &lone, 1, lent.chain.moves));
 
     /* The shortest refused run. */
     jellyplain_pose bad[3] = {still(0), shifted(1, nan_value), still(2)};
