@@ -1,2 +1,2 @@
-pub mod Taken
-pub mod Passed
+pub mod Counted
+pub mod Put

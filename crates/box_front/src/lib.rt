@@ -7,7 +7,7 @@ ghost use mathlib.Core.Path.{_≡_};
 ghost use lib.ListN.{length};
 ghost use Rattle.transform.specs.Answer.{BoundsAnswer·refusal};
 ghost use Rattle.motion_piece.specs.means.Piece.{PaddedPose·encloseBounds};
-ghost use Rattle.box_front.specs.means.Front.{boxAt, BoundsAnswer·put, Judged, Takes};
+ghost use Rattle.box_front.specs.means.Front.{boxAt, Boxes·answers, Bounds3f·tested, Front·of, BoundsAnswer·put, PaddedPose·front, PaddedPose·places};
 
 const PLACE_COUNT: usize = 16;
 
@@ -19,7 +19,7 @@ pub struct Front {
 
 // The boxes before the first that is refused with 6, 7 or 8. Accuracy: exact.
 pub fn judged(boxes: &[[f32; 6]], depth: u32) -> Front
-    ensures value { λ r. ⌜ Judged (now (boxes .entry)) depth r ⌝ }
+    ensures value { λ r. ⌜ r ≡ Front·of (Boxes·answers (Bounds3f·tested depth) (now (boxes .entry))) ⌝ }
 {
     let n = boxes.len();
     let mut k = 0;
@@ -54,7 +54,8 @@ fn take_box(first: bool, pose: PaddedPose, boxes: &[[f32; 6]], i: usize, place: 
     lent_arrays::put_bounds(bounds_query::union_bounds(old, moved), place)
 }
 
-// One pose over the boxes in front, in order, up to the first that it refuses: those before it are then the front. Accuracy: encloses.
+// One pose over the boxes in front, in order, up to the first that it refuses: those before it are then the front. Nothing is done where the front
+// is of more boxes than are lent, or than there are places. Accuracy: encloses.
 pub fn take_pose(
     first: bool,
     pose: PaddedPose,
@@ -62,7 +63,8 @@ pub fn take_pose(
     front: Front,
     places: &mut [[f32; 6]; 16],
 ) -> Front
-    ensures taken { λ r. ⌜ Takes first pose (now (boxes .entry)) (now (places .entry)) (now (places .exit)) front r ⌝ }
+    ensures front { λ r. ⌜ r ≡ PaddedPose·front pose (now (boxes .entry)) front ⌝ }
+    ensures places { λ _. ⌜ now (places .exit) ≡ PaddedPose·places first pose (now (boxes .entry)) front (now (places .entry)) ⌝ }
 {
     let n = front.count;
     if n > boxes.len() {

@@ -2,38 +2,36 @@
 -- The guarantee is that of built moves, since rows that building has left are asked as the chain of their moves is (`kept-set`).
 use Prim.Native.Nat.{ℕ, _+_, _-_, _≤_, _<_}
 use mathlib.Core.Path.{_≡_, refl, sym, ap, subst, _∙_}
-use mathlib.Core.Bool.{Bool, true, false, cond}
-use mathlib.Core.List.{List, [], _∷_, _++_, map}
+use mathlib.Core.List.{List, [], _∷_, map}
 use native.Mathlib.Omega.{arith}
-use borrow.Author.Tests.{eq-eqb, ne-eqb, lt-ltb, le-ltb}
-use lib.Dec.{eqb, ltb}
-use lib.ListN.{length, take, drop, replicate, length-map, take-append-drop}
-use lib.Seq.{take-at}
+use borrow.Author.Tests.{eq-eqb, ne-eqb, lt-ltb}
+use lib.ListN.{length, take, length-map}
 use lib.Ieee.{Float}
-use Rattle.matrix4x4.specs.Rows.{Rows, positiveZero}
+use Rattle.matrix4x4.specs.Rows.{Rows}
 use Rattle.bounds3.specs.declared.Point3f.{Point3f}
 use Rattle.bounds3.specs.declared.Bounds3f.{Bounds3f}
 use Rattle.bounds3.specs.List.{Bounds3f·list, Bounds3f·ofList}
 use Rattle.transform.specs.declared.PointAnswer.{PointAnswer}
 use Rattle.transform.specs.declared.BoundsAnswer.{BoundsAnswer}
 use Rattle.transform.specs.Answer.{BoundsAnswer·bounds}
-use Rattle.motion_cover.proofs.NonZero.{BoundsAnswer·NonZero}
 use Rattle.motion_chain.specs.Chain.{Chain, Chain·transformPoint, Chain·cover}
 use Rattle.motion_chain.proofs.Cover.{chain-cover-nonzero}
-use Rattle.chain_rows.specs.Kept.{Chain·toRows, Moves·chain, Moves·transformPoint}
+use Rattle.chain_rows.specs.Kept.{Chain·toRows, Moves·chain, Moves·cover, Moves·transformPoint}
 use Rattle.chain_rows.proofs.Kept.{chain-inverse, kept-point, kept-chain, built-rows}
 use Rattle.box_set.specs.Set.{maxBoxes, SetAnswer, covered, refused, SetAnswer·refusal, SetAnswer·covers}
 use Rattle.box_set.specs.Set.{SetAnswer·union, SetAnswer·of, Boxes·covers, Chain·covers}
-use Rattle.box_set.specs.Theorem.{SetContains, SetWithin}
+use Rattle.box_set.specs.Theorem.{SetWithin}
 use Rattle.box_set.proofs.Contains.{moves-set-contains, moves-set-finer}
 use Rattle.box_front.specs.declared.Front.{Front}
-use Rattle.box_front.specs.means.Front.{boxAt}
-use Rattle.motion_fronts.specs.means.Worked.{Worked}
+use Rattle.box_front.specs.means.Front.{Boxes·answers, Front·of}
+use Rattle.motion_fronts.specs.means.Covered.{Places·of, Places·answered}
+use Rattle.motion_fronts.proofs.Front.{front-below}
+use Rattle.motion_fronts.proofs.Places.{Left, asked-all, places-front, answered-places, answered-size}
 use Rattle.chain_covers.specs.Kept.{Moves·covers, SetAnswer·coversLeft, SetAnswer·unionLeft}
 use Rattle.chain_covers.specs.Theorem.{KeptSetContainsMotion}
 use Rattle.chain_covers.specs.Finer.{KeptSetFiner}
 use Rattle.chain_covers.specs.means.Union.{unionPlaces}
-use Rattle.chain_covers.proofs.Places.{zeros, SetAccepted, places-accepted, places-refused}
+use Rattle.chain_covers.proofs.Places.{set-refused, set-number, set-accepted}
 
 -- ---- what the clauses say
 abbrev pub Clauses : List Rows → List (List Float) → ℕ → ℕ → List (List Float) → List (List Float) → List Float → List Float → Type 0
@@ -112,31 +110,55 @@ module _ (rows : List Rows) (boxes : List (List Float)) (depth : ℕ) (covers : 
   unfolding Moves·covers
   moves-covers n = rw (ne-eqb (length rows) 0 n)
 
-  -- ---- the work
-  module _ {places : List (List Float)} {front : Front} (n : length rows ≡ 0 → ⊥) (l : length boxes ≤ maxBoxes)
-      (w : Worked chainCover boxes (zeros maxBoxes) places front) where
+  -- ---- what the chain's covers leave
+  abbrev keptCover : Bounds3f → BoundsAnswer
+  keptCover b = Moves·cover rows b depth
+
+  pub places-size : {places : List (List Float)} {front : Front} → length boxes ≤ maxBoxes → Left keptCover boxes front places → length places ≡ maxBoxes
+  places-size {places} {front} l (e, w) =
+      let size = length-map boxes (λ b. keptCover (Bounds3f·ofList b)) in
+      rw (w, asked-all boxes l) (answered-size (Boxes·answers keptCover boxes) (omega (arith, size, l)))
+
+  module _ {places : List (List Float)} {front : Front} (n : length rows ≡ 0 → ⊥) (l : length boxes ≤ maxBoxes) (h : Left keptCover boxes front places) where
+    abbrev answers : List BoundsAnswer
+    answers = Boxes·answers chainCover boxes
+
+    chain-left : (front ≡ Front·of answers) × (places ≡ Places·answered answers)
+    chain-left =
+        let same : keptCover ≡ chainCover = λ i b. kept-cover b i in
+        subst (λ (f : Bounds3f → BoundsAnswer). (front ≡ Front·of (Boxes·answers f boxes)) × (places ≡ Places·answered (Boxes·answers f boxes))) same
+        (rw (asked-all boxes l) at h)
+      where
+        kept-cover : (b : Bounds3f) → keptCover b ≡ chainCover b
+        kept-cover b = unfold Moves·cover in rw (ne-eqb (length rows) 0 n)
+
     pub box-refused : front .count < length boxes → Clauses rows boxes depth (front .refusal) covers covers union union
-    box-refused h =
-        let nonzero : (b : Bounds3f) → BoundsAnswer·NonZero (chainCover b) = λ b. chain-cover-nonzero b depth (Moves·chain rows) in
-        let number = subst BoundsAnswer·NonZero (w .reached .stopped h) (nonzero (boxAt boxes (front .count))) in
-        refused-clauses (front .refusal) number (moves-covers n ∙ places-refused chainCover nonzero (w .reached) l h)
+    box-refused k =
+        let e = chain-left .0 in
+        let count = ap (λ (f : Front). f .count) e in
+        let less : Front·of answers .count < length boxes = omega (arith, k, count) in
+        let number = set-number chainCover boxes l (λ b. chain-cover-nonzero b depth (Moves·chain rows)) less in
+        rw e (refused-clauses (Front·of answers .refusal) number (moves-covers n ∙ set-refused chainCover boxes l less))
 
     pub all-accepted : (length boxes ≡ 0 → ⊥) → length boxes ≤ front .count → (u : Bounds3f) → u ≡ unionPlaces places (length boxes)
         → Clauses rows boxes depth 0 covers places union (Bounds3f·list u)
-    all-accepted some h u e =
-        let a = places-accepted chainCover w some l h in
-        let boxes' = map Bounds3f·ofList boxes in
-        let own : List Bounds3f = map (λ b. BoundsAnswer·bounds (chainCover b)) boxes' in
-        let answer : Moves·covers rows boxes depth ≡ covered own (unionPlaces places (length boxes)) = moves-covers n ∙ a .answer in
-        let size : length own ≡ length boxes = length-map boxes' (λ b. BoundsAnswer·bounds (chainCover b)) ∙ length-map boxes Bounds3f·ofList in
-        let left : map Bounds3f·list own ++ zeros (maxBoxes - length own) ≡ places =
-        rw (size, a .covers, ← a .behind) (take-append-drop (length boxes) places) in
-        let back : map Bounds3f·ofList (take (length boxes) places) ≡ own = rw (← a .covers) (round-trip own) in
+    all-accepted some k u e =
+        let count = ap (λ (f : Front). f .count) (chain-left .0) in
+        let below = front-below chainCover boxes in
+        let size = length-map boxes (λ b. chainCover (Bounds3f·ofList b)) in
+        let all : Front·of answers .count ≡ length boxes = omega (arith, k, count, below) in
+        let own : List Bounds3f = map BoundsAnswer·bounds answers in
+        let left : places ≡ Places·of own = chain-left .1 ∙ answered-places answers (omega (arith, all, size)) in
+        let answer : Moves·covers rows boxes depth ≡ covered own (unionPlaces places (length boxes)) =
+        moves-covers n ∙ set-accepted chainCover boxes l some all ∙ ap (λ (ps : List (List Float)). covered own (unionPlaces ps (length boxes))) (sym left) in
+        let front : take (length boxes) places ≡ map Bounds3f·list own =
+        rw left (places-front answers (length boxes) size) in
+        let back : map Bounds3f·ofList (take (length boxes) places) ≡ own = rw front (round-trip own) in
         let own-covers = back ∙ ap SetAnswer·covers (sym answer) in
         let own-union = e ∙ ap SetAnswer·union (sym answer) in (
           ap SetAnswer·refusal (sym answer),
           (
-            sym left ∙ ap (λ (s : SetAnswer). SetAnswer·coversLeft s covers) (sym answer),
+            left ∙ ap (λ (s : SetAnswer). SetAnswer·coversLeft s covers) (sym answer),
             (
               ap Bounds3f·list e ∙ ap (λ (s : SetAnswer). SetAnswer·unionLeft s union) (sym answer),
               (

@@ -1,3 +1,4 @@
 pub mod Front
 pub mod Moved
 pub mod Sliced
+pub mod Places

@@ -1,18 +1,20 @@
 -- What is answered of a box once its tests, the start transform, the end transform and the slices are joined is its cover:
--- `moved-stored`, `moved-slices`. The steps of the code: `judged-front`, `start-worked`, `end-worked`.
-use Prim.Native.Nat.{ℕ, _^_, _≤_, _<_}
-use mathlib.Core.Path.{_≡_, refl, ap, subst, _∙_}
+-- `moved-stored`, `moved-slices`. The steps of the code: `none-passed`, where no box passes its tests, `start-covered`, `end-covered`.
+use Prim.Native.Nat.{ℕ, _^_, _≤_}
+use mathlib.Core.Path.{_≡_, refl, sym, ap, subst, _∙_}
 use mathlib.Core.Bool.{Bool, true, false, cond}
-use mathlib.Core.List.{List}
+use mathlib.Core.List.{List, [], _∷_}
 use native.Mathlib.Omega.{arith}
-use borrow.Author.Tests.{eq-eqb, ne-eqb}
+use borrow.Author.Tests.{eqb-true}
 use lib.Dec.{eqb}
 use lib.ListN.{length}
 use lib.Ieee.{Float}
 use Rattle.float32.specs.MinMax.{maxNum}
 use Rattle.bounds3.specs.declared.Bounds3f.{Bounds3f}
+use Rattle.bounds3.specs.List.{Bounds3f·list, Bounds3f·ofList}
 use Rattle.transform.specs.declared.BoundsAnswer.{BoundsAnswer}
 use Rattle.transform.specs.declared.BoundsAnswer.the-variants.{Bounds, Refused}
+use Rattle.transform.specs.Answer.{BoundsAnswer·bounds}
 use Rattle.bounds_query.specs.Query.{BoundsAnswer·unionBounds, maxDepth, coverRefusal}
 use Rattle.animated_transform.specs.declared.AnimatedTransform.{AnimatedTransform}
 use Rattle.motion_point.specs.TransformPoint.{AnimatedTransform·constants}
@@ -24,44 +26,53 @@ use Rattle.motion_piece.specs.means.Piece.{PaddedPose·encloseBounds, PaddedPos
 use Rattle.motion_piece.proofs.Piece.{stored-composition}
 use Rattle.motion_pad.specs.Pad.{Pad·start}
 use Rattle.box_front.specs.declared.Front.{Front}
-use Rattle.box_front.specs.means.Front.{placeCount, boxAt, Judged, Takes}
-use Rattle.motion_fronts.specs.means.Worked.{FrontOf, Worked}
-use Rattle.motion_fronts.proofs.Front.{joined, take-worked}
-
--- What the tests of a box leave of it.
-abbrev pub tested : ℕ → Bounds3f → BoundsAnswer
-tested d b = cond (eqb (coverRefusal b d) 0) (Bounds b) (Refused (coverRefusal b d))
+use Rattle.box_front.specs.means.Front.{placeCount, Boxes·answers, Bounds3f·tested, Front·of, Places·put, PaddedPose·front, PaddedPose·places}
+use Rattle.motion_fronts.specs.means.Covered.{Covered}
+use Rattle.motion_fronts.proofs.Front.{joined, take-first, take-next}
 
 -- ---- the tests
-pub judged-front : {boxes : List (List Float)} {d : ℕ} {front : Front} (places : List (List Float)) → Judged boxes d front
-    → FrontOf true (tested d) boxes places front
-judged-front {boxes} {d} {front} places j =
-    record {
-      count = j .count;
-      held = λ i h. record { box = boxAt boxes i; accepted = rw (j .passed i h); kept = λ e. absurd (true-false e) };
-      stopped = λ h. let (e, n) = j .refused h in rw (e, ne-eqb (front .refusal) 0 n);
-    }
+pub passed-depth : (boxes : List (List Float)) (d : ℕ) → (Front·of (Boxes·answers (Bounds3f·tested d) boxes) .count ≡ 0 → ⊥) → d ≤ maxDepth
+unfolding Front·of
+passed-depth [] d h = absurd (h refl)
+passed-depth (b ∷ boxes) d h = go (eqb (coverRefusal (Bounds3f·ofList b) d) 0) (eqb-true (coverRefusal (Bounds3f·ofList b) d) 0) h
   where
-    true-false : true ≡ false → ⊥
-    true-false e = omega (arith, ap (λ (b : Bool). cond {A = ℕ} b 1 0) e)
+    number : ℕ
+    number = coverRefusal (Bounds3f·ofList b) d
 
-pub judged-depth : {boxes : List (List Float)} {d : ℕ} {front : Front} → Judged boxes d front → (front .count ≡ 0 → ⊥) → d ≤ maxDepth
-judged-depth {boxes} {d} {front} j h = cover-depth (boxAt boxes 0) d (j .passed 0 (omega (arith, h)))
+    go : (t : Bool) → (t ≡ true → number ≡ 0)
+        → (Front·of (cond t (Bounds (Bounds3f·ofList b)) (Refused number) ∷ Boxes·answers (Bounds3f·tested d) boxes) .count ≡ 0 → ⊥)
+        → d ≤ maxDepth
+    go true f k = cover-depth (Bounds3f·ofList b) d (f refl)
+    go false f k = absurd (k (unfold Front·of in refl))
 
--- No box passes its tests: there is nothing to work.
-pub none-passed : {boxes : List (List Float)} {d : ℕ} {front : Front} (m : AnimatedTransform) (places : List (List Float))
-    → Judged boxes d front → front .count ≡ 0 → Worked (λ b. AnimatedTransform·cover m b d) boxes places places front
-unfolding AnimatedTransform·cover
-none-passed {boxes} {d} {front} m places j z =
-    record {
-      size = refl;
-      behind = λ i h. refl;
-      reached = record {
-        count = j .count;
-        held = λ i h. absurd (omega (arith, h, z));
-        stopped = λ h. let (e, n) = j .refused h in rw (e, ne-eqb (front .refusal) 0 n);
-      };
-    }
+module _ (m : AnimatedTransform) (d : ℕ) where
+  abbrev cover : Bounds3f → BoundsAnswer
+  cover b = AnimatedTransform·cover m b d
+
+  none-front : (boxes : List (List Float)) → Front·of (Boxes·answers (Bounds3f·tested d) boxes) .count ≡ 0
+      → Front·of (Boxes·answers (Bounds3f·tested d) boxes) ≡ Front·of (Boxes·answers cover boxes)
+  unfolding Front·of AnimatedTransform·cover
+  none-front [] h = refl
+  none-front (b ∷ boxes) h = go (eqb (coverRefusal (Bounds3f·ofList b) d) 0) h
+    where
+      number : ℕ
+      number = coverRefusal (Bounds3f·ofList b) d
+
+      go : (t : Bool) → Front·of (cond t (Bounds (Bounds3f·ofList b)) (Refused number) ∷ Boxes·answers (Bounds3f·tested d) boxes) .count ≡ 0
+          → Front·of (cond t (Bounds (Bounds3f·ofList b)) (Refused number) ∷ Boxes·answers (Bounds3f·tested d) boxes)
+          ≡ Front·of (cond t (AnimatedTransform·encloseMotion m (Bounds3f·ofList b) d) (Refused number) ∷ Boxes·answers cover boxes)
+      go true k = absurd (unfold Front·of in omega (arith, k))
+      go false k = unfold Front·of in refl
+
+  pub none-passed : (boxes places : List (List Float)) {front : Front} → front ≡ Front·of (Boxes·answers (Bounds3f·tested d) boxes) → front .count ≡ 0
+      → Covered cover boxes places places front
+  none-passed boxes places {front} e z =
+      let none : Front·of (Boxes·answers (Bounds3f·tested d) boxes) .count ≡ 0 = ap (λ (x : Front). x .count) (sym e) ∙ z in
+      record { reached = e ∙ none-front boxes none; places = λ h. nothing boxes (sym h ∙ z) }
+    where
+      nothing : (bs : List (List Float)) → length bs ≡ 0 → places ≡ Places·put (λ a _. Bounds3f·list (BoundsAnswer·bounds a)) (Boxes·answers cover bs) places
+      nothing [] k = unfold Places·put in refl
+      nothing (b ∷ bs) k = absurd (omega (arith, k))
 
 -- ---- the move
 module _ (m : AnimatedTransform) (d : ℕ) (b : Bounds3f) where
@@ -71,7 +82,7 @@ module _ (m : AnimatedTransform) (d : ℕ) (b : Bounds3f) where
   abbrev end : BoundsAnswer
   end = PaddedPose·encloseBounds (PaddedPose·stored (m .pad1) (m .«end_transform»)) b
 
-  pub moved-stored : m .«actually_animated» ≡ false → joined true (tested d b) start ≡ AnimatedTransform·cover m b d
+  pub moved-stored : m .«actually_animated» ≡ false → joined true (Bounds3f·tested d b) start ≡ AnimatedTransform·cover m b d
   unfolding AnimatedTransform·cover
   moved-stored s =
       rw (motion-stored m b d s, stored-composition (maxNum (m .pad0) (m .pad1)) (m .«start_transform») b, ← start-equal) (go (eqb (coverRefusal b d) 0))
@@ -84,7 +95,7 @@ module _ (m : AnimatedTransform) (d : ℕ) (b : Bounds3f) where
       go false = refl
 
   pub moved-slices : m .«actually_animated» ≡ true
-      → unionSlices m (AnimatedTransform·constants m) b d (joined false (joined true (tested d b) start) end) (2 ^ d) ≡ AnimatedTransform·cover m b d
+      → unionSlices m (AnimatedTransform·constants m) b d (joined false (joined true (Bounds3f·tested d b) start) end) (2 ^ d) ≡ AnimatedTransform·cover m b d
   unfolding AnimatedTransform·cover AnimatedTransform·encloseEnds
   moved-slices s =
       rw (motion-slices m b d s, stored-composition (m .pad0) (m .«start_transform») b, stored-composition (m .pad1) (m .«end_transform») b, ← start-own)
@@ -101,23 +112,20 @@ module _ (m : AnimatedTransform) (d : ℕ) (b : Bounds3f) where
       go true = refl
       go false = unfold BoundsAnswer·unionBounds in refused-first m (AnimatedTransform·constants m) b d (coverRefusal b d) (2 ^ d)
 
--- ---- the steps of the code, each by the clause of its call
-module _ (m : AnimatedTransform) (d : ℕ) {boxes : List (List Float)} (count : length boxes ≤ placeCount) where
-  pub start-worked : {front to : Front} {places new : List (List Float)} {pose : PaddedPose} → Judged boxes d front → length places ≡ placeCount
+-- ---- the steps of the code, each by the clauses of its call
+module _ (m : AnimatedTransform) (d : ℕ) {boxes : List (List Float)} (room : length boxes ≤ placeCount) where
+  pub start-covered : {from to : Front} {old new : List (List Float)} {pose : PaddedPose} → from ≡ Front·of (Boxes·answers (Bounds3f·tested d) boxes)
       → pose ≡ PaddedPose·stored (Pad·start (m .«actually_animated») (m .pad0) (m .pad1)) (m .«start_transform»)
-      → Takes true pose boxes places new front to
-      → Worked (λ b. joined true (tested d b) (start m d b)) boxes places new to
-  start-worked {front} {to} {places} {new} {pose} j h e t =
-      let c = j .count in
-      subst (λ (x : PaddedPose). Worked (λ b. joined true (tested d b) (PaddedPose·encloseBounds x b)) boxes places new to) e
-      (take-worked (judged-front places j) (t c (omega (arith, c, count)) h) refl (λ i l. refl))
+      → to ≡ PaddedPose·front pose boxes from → new ≡ PaddedPose·places true pose boxes from old
+      → Covered (λ b. joined true (Bounds3f·tested d b) (start m d b)) boxes old new to
+  start-covered {from} {to} {old} {new} {pose} j e t n =
+      subst (λ (x : PaddedPose). Covered (λ b. joined true (Bounds3f·tested d b) (PaddedPose·encloseBounds x b)) boxes old new to) e
+      (take-first (Bounds3f·tested d) pose boxes room j t n)
 
-  pub end-worked : {f : Bounds3f → BoundsAnswer} {from to : Front} {first old new : List (List Float)} {pose : PaddedPose}
-      → Worked f boxes first old from → length first ≡ placeCount
+  pub end-covered : {f : Bounds3f → BoundsAnswer} {from to : Front} {first old new : List (List Float)} {pose : PaddedPose} → Covered f boxes first old from
       → pose ≡ PaddedPose·stored (m .pad1) (m .«end_transform»)
-      → Takes false pose boxes old new from to
-      → Worked (λ b. joined false (f b) (end m d b)) boxes first new to
-  end-worked {f} {from} {to} {first} {old} {new} {pose} w h e t =
-      let c = w .reached .count in
-      subst (λ (x : PaddedPose). Worked (λ b. joined false (f b) (PaddedPose·encloseBounds x b)) boxes first new to) e
-      (take-worked (w .reached) (t c (omega (arith, c, count)) (w .size ∙ h)) (w .size) (w .behind))
+      → to ≡ PaddedPose·front pose boxes from → new ≡ PaddedPose·places false pose boxes from old
+      → Covered (λ b. joined false (f b) (end m d b)) boxes first new to
+  end-covered {f} {from} {to} {first} {old} {new} {pose} c e t n =
+      subst (λ (x : PaddedPose). Covered (λ b. joined false (f b) (PaddedPose·encloseBounds x b)) boxes first new to) e
+      (take-next f pose boxes room c t n)

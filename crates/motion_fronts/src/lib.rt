@@ -9,8 +9,8 @@ ghost use Rattle.bounds_query.specs.Query.{maxDepth};
 ghost use Rattle.unit_interval.specs.Unit.{slice};
 ghost use Rattle.motion_point.specs.TransformPoint.{AnimatedTransform·constants};
 ghost use Rattle.motion_cover.specs.Cover.{unionSlices, AnimatedTransform·cover};
-ghost use Rattle.box_front.specs.means.Front.{placeCount};
-ghost use Rattle.motion_fronts.specs.means.Worked.{Works, Continues};
+ghost use Rattle.box_front.specs.means.Front.{placeCount, Boxes·answers, Front·of};
+ghost use Rattle.motion_fronts.specs.means.Covered.{Boxes·asked, Places·answered, Covered, Continues};
 
 const PLACE_COUNT: usize = 16;
 
@@ -36,7 +36,7 @@ fn take_slices(
 ) -> Front
     requires { ⌜ d ≤ maxDepth ⌝ }
     requires { ⌜ length (now boxes) ≤ placeCount ⌝ }
-    ensures worked { λ r. ⌜ Continues (λ answer b. unionSlices m (AnimatedTransform·constants m) b d (answer b) (2 ^ d))
+    ensures covered { λ r. ⌜ Continues (λ answer b. unionSlices m (AnimatedTransform·constants m) b d (answer b) (2 ^ d))
         (now (boxes .entry)) (now (places .entry)) (now (places .exit)) front r ⌝ }
 {
     let a = motion_point::constants(m);
@@ -52,22 +52,16 @@ fn take_slices(
     reached
 }
 
-// The cover of each box, in order, up to the first that is refused: its number is in the front. Nothing is worked where there are more boxes than places.
-// Accuracy: encloses.
-pub fn covers(
+// The cover of each box, in order, up to the first that is refused: its number is in the front. Accuracy: encloses.
+fn cover_boxes(
     m: AnimatedTransform,
     boxes: &[[f32; 6]],
     depth: u32,
     places: &mut [[f32; 6]; 16],
 ) -> Front
-    ensures worked { λ r. ⌜ Works (λ b. AnimatedTransform·cover m b depth) (now (boxes .entry)) (now (places .entry)) (now (places .exit)) r ⌝ }
+    requires { ⌜ length (now boxes) ≤ placeCount ⌝ }
+    ensures covered { λ r. ⌜ Covered (λ b. AnimatedTransform·cover m b depth) (now (boxes .entry)) (now (places .entry)) (now (places .exit)) r ⌝ }
 {
-    if boxes.len() > PLACE_COUNT {
-        return Front {
-            count: 0,
-            refusal: 0,
-        };
-    }
     let front = box_front::judged(boxes, depth);
     if front.count == 0 {
         return front;
@@ -81,4 +75,30 @@ pub fn covers(
     let end = motion_piece::stored_enclosure(m.pad1, m.end_transform);
     let ended = box_front::take_pose(false, end, boxes, started, places);
     take_slices(m, boxes, depth, ended, places)
+}
+
+// The cover of each box in a place of its own, the unused places +0. Where a box is refused, or there are more boxes than places, all are +0.
+// Gives the boxes before the first refused one and its number; of more boxes than places none is asked. Accuracy: encloses.
+pub fn covers(
+    m: AnimatedTransform,
+    boxes: &[[f32; 6]],
+    depth: u32,
+    places: &mut [[f32; 6]; 16],
+) -> Front
+    ensures front { λ r. ⌜ r ≡ Front·of (Boxes·answers (λ b. AnimatedTransform·cover m b depth) (Boxes·asked (now (boxes .entry)))) ⌝ }
+    ensures places { λ _. ⌜ now (places .exit) ≡ Places·answered (Boxes·answers (λ b. AnimatedTransform·cover m b depth) (Boxes·asked (now (boxes .entry)))) ⌝ }
+{
+    let none = [[0.0; 6]; 16];
+    *places = none;
+    if boxes.len() > PLACE_COUNT {
+        return Front {
+            count: 0,
+            refusal: 0,
+        };
+    }
+    let front = cover_boxes(m, boxes, depth, places);
+    if front.count < boxes.len() {
+        *places = none;
+    }
+    front
 }

@@ -1,22 +1,24 @@
--- `judged` meets its contract. The invariant: the boxes before k pass.
+-- `judged` meets its contract. The invariant: what is counted, with the front of what is left from k on, is the whole.
 use Prim.Native.Nat.{_-_, _≤_}
-use mathlib.Core.Path.{_≡_, refl, sym, ap, subst, _∙_}
+use mathlib.Core.Path.{_≡_, refl, sym, ap, _∙_}
 use native.Mathlib.Omega.{arith}
 use borrow.Author.Needs.{needs}
 use lib.ListN.{length}
 use Rattle.bounds_query.specs.Query.{coverRefusal}
-use Rattle.box_front.proofs.Passed.{Passed, passed-first, passed-next, passed-refused, passed-last}
+use Rattle.box_front.specs.means.Front.{boxAt, Boxes·answers, Bounds3f·tested, Front·of}
+use Rattle.box_front.proofs.Counted.{tested-number, box-tested, frontFrom, from-first, from-next, from-refused, from-end}
 use Rattle.box_front.proofs.judged.Statement.{statement}
 use Rattle.box_front.proofs.judged.Tie as tie
 
 abbrev Inv-loop : tie.InvT-loop
-Inv-loop boxes depth n k₀ k = (n ≡ length boxes) × ((k ≤ n) × Passed boxes depth k)
+Inv-loop boxes depth n k₀ k =
+    (n ≡ length boxes) × ((k ≤ n) × (frontFrom (Bounds3f·tested depth) boxes k ≡ Front·of (Boxes·answers (Bounds3f·tested depth) boxes)))
 
 abbrev μ-loop : tie.MeasureT-loop
 μ-loop boxes depth n k₀ k = n - k
 
 loop-holds : tie.Need-loop-holds Inv-loop μ-loop
-loop-holds c = (refl, (search needs, passed-first _ _))
+loop-holds c = let a = c .args in (refl, (search needs, from-first (Bounds3f·tested (a .depth)) (a .boxes .now)))
 
 mul-bounds : tie.Need-mul-bounds Inv-loop μ-loop
 mul-bounds c = search needs
@@ -35,8 +37,10 @@ returns c =
     let c1 = c .before in let c2 = c1 .before in let c3 = c2 .before in let c4 = c3 .before in let c5 = c4 .before in let c6 = c5 .before in
     let l = c5 .loop in
     let a = c6 .args in
-    passed-refused (a .boxes .now) (a .depth) (l .inv .1 .1) (omega (arith, l .inv .0, c4 .loop-test .taken))
-    (c1 .cover-refusal .ensures ∙ ap (λ b. coverRefusal b (a .depth)) (c2 .bounds .ensures)) (c .if1 .taken)
+    let number = c1 .cover-refusal .ensures ∙ ap (λ b. coverRefusal b (a .depth)) (c2 .bounds .ensures) in
+    let refused = from-refused (Bounds3f·tested (a .depth)) (a .boxes .now) (omega (arith, l .inv .0, c4 .loop-test .taken))
+    (number ∙ sym (tested-number (a .depth) (boxAt (a .boxes .now) (l .k)))) (c .if1 .taken) in
+    sym refused ∙ l .inv .1 .1
 
 add-k : tie.Need-add-k Inv-loop μ-loop
 add-k c = search needs
@@ -49,15 +53,17 @@ loop-again c =
     let c1 = c .before in let c2 = c1 .before in let c3 = c2 .before in let c4 = c3 .before in let c5 = c4 .before in let c6 = c5 .before in
     let l = c5 .loop in
     let a = c6 .args in
-    let e = sym (c1 .cover-refusal .ensures ∙ ap (λ b. coverRefusal b (a .depth)) (c2 .bounds .ensures)) ∙ c .if1 .left in
-    (l .inv .0, (omega (arith, c4 .loop-test .taken), passed-next (a .boxes .now) (a .depth) (l .inv .1 .1) e))
+    let number = c1 .cover-refusal .ensures ∙ ap (λ b. coverRefusal b (a .depth)) (c2 .bounds .ensures) in
+    let none = tested-number (a .depth) (boxAt (a .boxes .now) (l .k)) ∙ sym number ∙ c .if1 .left in
+    let next = from-next (Bounds3f·tested (a .depth)) (a .boxes .now) (box-tested (a .depth)) (omega (arith, l .inv .0, c4 .loop-test .taken)) none in
+    (l .inv .0, (omega (arith, c4 .loop-test .taken), next ∙ l .inv .1 .1))
 
 returns-2 : tie.Need-returns-2 Inv-loop μ-loop
 returns-2 c =
     let l = c .before .loop in
     let a = c .before .before .args in
     let e : l .k ≡ length (a .boxes .now) = omega (arith, l .inv .0, l .inv .1 .0, c .loop-test .left) in
-    passed-last (a .boxes .now) (a .depth) (subst (Passed (a .boxes .now) (a .depth)) e (l .inv .1 .1)) refl
+    sym (from-end (Bounds3f·tested (a .depth)) (a .boxes .now) {k = l .k} (omega (arith, e)) e) ∙ l .inv .1 .1
 
 pub judged-spec : {M : Type 1} → statement M
 judged-spec =

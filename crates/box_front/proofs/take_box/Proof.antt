@@ -3,7 +3,7 @@ use mathlib.Core.Path.{ap, _∙_}
 use Rattle.transform.specs.declared.BoundsAnswer.the-variants.{Bounds}
 use Rattle.bounds_query.specs.Query.{BoundsAnswer·unionBounds}
 use Rattle.motion_piece.specs.means.Piece.{PaddedPose·encloseBounds}
-use Rattle.box_front.proofs.Taken.{put-first, put-joined}
+use Rattle.box_front.proofs.Put.{put-first, put-joined}
 use borrow.Author.Needs.{needs}
 use Rattle.box_front.proofs.take_box.Statement.{statement}
 use Rattle.box_front.proofs.take_box.Tie as tie

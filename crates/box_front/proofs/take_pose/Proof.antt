@@ -1,29 +1,34 @@
 -- `take_pose` meets its contract. The invariant: the pose is taken over the boxes before i.
 use Prim.Native.Nat.{_-_, _≤_}
-use mathlib.Core.Path.{_≡_, refl, sym, ap, subst, _∙_}
+use mathlib.Core.Path.{_≡_, refl, sym, ap, _∙_}
 use native.Mathlib.Omega.{arith}
 use borrow.Author.Needs.{needs}
-use lib.ListN.{length, set}
-use Rattle.box_front.specs.means.Front.{placeCount}
-use Rattle.box_front.proofs.Taken.{Taking, taking-first, taking-next, taking-refused, taking-last}
+use lib.ListN.{set}
+use Rattle.box_front.proofs.Counted.{none-lent, none-placed}
+use Rattle.box_front.proofs.Put.{taken-none, Taking, taking-first, taking-next, taking-refused, taking-last}
 use Rattle.box_front.proofs.take_pose.Statement.{statement}
 use Rattle.box_front.proofs.take_pose.Tie as tie
 
 abbrev Inv-loop : tie.InvT-loop
 Inv-loop first pose boxes front places₀ n i₀ places i =
-    (n ≡ front .count) × ((i ≤ n) × (length places₀ ≡ placeCount → Taking first pose boxes places₀ places i))
+    (n ≡ front .count) × ((i ≤ n) × Taking first pose boxes front places₀ places i)
 
 abbrev μ-loop : tie.MeasureT-loop
 μ-loop first pose boxes front places₀ n i₀ places i = n - i
 
 returns : tie.Need-returns Inv-loop μ-loop
-returns c = λ h _ _. absurd (omega (arith, h, c .if1 .taken))
+returns c =
+    let a = c .before .args in
+    taken-none (a .first) (a .pose) (a .boxes .now) (a .front) (a .places .now) (none-lent (a .front) (a .boxes .now) (c .if1 .taken))
 
 returns-2 : tie.Need-returns-2 Inv-loop μ-loop
-returns-2 c = λ _ h _. absurd (omega (arith, h, c .if2 .taken))
+returns-2 c =
+    let a = c .before .before .args in
+    taken-none (a .first) (a .pose) (a .boxes .now) (a .front) (a .places .now)
+    (none-placed (a .front) (a .boxes .now) (c .before .if1 .left) (c .if2 .taken))
 
 loop-holds : tie.Need-loop-holds Inv-loop μ-loop
-loop-holds c = (refl, (search needs, λ _. taking-first _ _ _ _))
+loop-holds c = (refl, (search needs, taking-first _ _ _ _ _))
 
 mul-take-box : tie.Need-mul-take-box Inv-loop μ-loop
 mul-take-box c = search needs
@@ -40,8 +45,8 @@ returns-3 c =
     let c5 = c4 .before in let c6 = c5 .before in let c7 = c6 .before in
     let l = c4 .loop in
     let a = c7 .args in
-    λ _ _ h. taking-refused (a .first) (a .pose) (a .boxes .now) (l .inv .1 .1 h) (omega (arith, l .inv .0, c3 .loop-test .taken))
-    (c1 .take-box .ensures .0) (c .if3 .taken) (ap (set (l .places) (l .i)) (c1 .take-box .ensures .1))
+    taking-refused (a .first) (a .pose) (a .boxes .now) (a .front) (l .inv .1 .1) (omega (arith, l .inv .0, c3 .loop-test .taken))
+    (c6 .if1 .left) (c5 .if2 .left) (c1 .take-box .ensures .0) (c .if3 .taken) (ap (set (l .places) (l .i)) (c1 .take-box .ensures .1))
 
 add-i : tie.Need-add-i Inv-loop μ-loop
 add-i c = search needs
@@ -56,11 +61,11 @@ loop-again c =
     let l = c4 .loop in
     let a = c7 .args in
     let t = c3 .loop-test .taken in
-    let size = c5 .if2 .left in
     let taken = c1 .take-box .ensures in
     let written = ap (set (l .places) (l .i)) (taken .1) in
     let none = sym (taken .0) ∙ c .if3 .left in
-    (l .inv .0, (omega (arith, t), λ h. taking-next (a .first) (a .pose) (a .boxes .now) (l .inv .1 .1 h) (omega (arith, t, h, size)) none written))
+    let next = taking-next (a .first) (a .pose) (a .boxes .now) (a .front) (l .inv .1 .1) (omega (arith, t, l .inv .0)) (c6 .if1 .left) none written in
+    (l .inv .0, (omega (arith, t), next))
 
 returns-4 : tie.Need-returns-4 Inv-loop μ-loop
 returns-4 c =
@@ -68,7 +73,7 @@ returns-4 c =
     let l = c1 .loop in
     let a = c4 .args in
     let e : l .i ≡ a .front .count = omega (arith, l .inv .0, l .inv .1 .0, c .loop-test .left) in
-    λ _ _ h. taking-last (a .first) (a .pose) (a .boxes .now) (subst (Taking (a .first) (a .pose) (a .boxes .now) _ _) e (l .inv .1 .1 h))
+    taking-last (a .first) (a .pose) (a .boxes .now) (a .front) (l .inv .1 .1) e (c3 .if1 .left) (c2 .if2 .left)
 
 pub take-pose-spec : {M : Type 1} → statement M
 take-pose-spec =

@@ -1,7 +1,6 @@
 -- `covers` meets its contract: each way out is a law of Clauses.antt, by the places that the chain's covers stand in.
-use mathlib.Core.Path.{refl}
 use native.Mathlib.Omega.{arith}
-use Rattle.chain_covers.proofs.Clauses.{no-moves, no-boxes, many-boxes, box-refused, all-accepted}
+use Rattle.chain_covers.proofs.Clauses.{no-moves, no-boxes, many-boxes, places-size, box-refused, all-accepted}
 use borrow.Author.Needs.{needs}
 use Rattle.chain_covers.proofs.covers.Statement.{statement}
 use Rattle.chain_covers.proofs.covers.Tie as tie
@@ -34,17 +33,17 @@ returns-4 c =
     let some = else3 .before .before .if1 .left in
     let l = else3 .if3 .left in
     let a = c7 .args in
-    box-refused (a .moves .now) (a .boxes .now) (a .depth) (a .covers .now) (a .union .now) some l (front .covers .ensures some l refl) (c .if4 .taken)
+    box-refused (a .moves .now) (a .boxes .now) (a .depth) (a .covers .now) (a .union .now) some l (front .covers .ensures) (c .if4 .taken)
 
 union-places-requires : tie.Need-union-places-requires
 union-places-requires c κs =
     let c1 = c .before in let c2 = c1 .before in let c3 = c2 .before in
     let front = c3 in
     let else3 = front .before .before in
-    let some = else3 .before .before .if1 .left in
     let l = else3 .if3 .left in
     let n = else3 .before .if2 .left in
-    (omega (arith, n), (l, front .covers .ensures some l refl .size))
+    let a = else3 .before .before .before .args in
+    (omega (arith, n), (l, places-size (a .moves .now) (a .boxes .now) (a .depth) (a .covers .now) (a .union .now) l (front .covers .ensures)))
 
 bounds-values-requires : tie.Need-bounds-values-requires
 bounds-values-requires c κs = search needs
@@ -58,7 +57,7 @@ returns-5 c =
     let some = else3 .before .before .if1 .left in
     let l = else3 .if3 .left in
     let a = c10 .args in
-    let w = front .covers .ensures some l refl in
+    let w = front .covers .ensures in
     let u = c1 .union-places .ensures in
     rw (c .bounds-values .ensures)
     (all-accepted (a .moves .now) (a .boxes .now) (a .depth) (a .covers .now) (a .union .now) some l w (else3 .before .if2 .left) (c3 .if4 .left) _ u)

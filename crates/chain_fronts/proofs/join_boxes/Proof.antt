@@ -1,23 +1,22 @@
 -- `join_boxes` meets its contract. The invariant: the boxes before i are joined.
 use Prim.Native.Nat.{_-_, _≤_}
-use mathlib.Core.Path.{_≡_, ap, subst}
+use mathlib.Core.Path.{_≡_, ap, _∙_}
 use native.Mathlib.Omega.{arith}
 use borrow.Author.Needs.{needs}
-use lib.ListN.{length, set}
-use Rattle.box_front.specs.means.Front.{placeCount}
-use Rattle.chain_fronts.specs.means.Joined.{Joined}
+use lib.ListN.{set}
+use Rattle.chain_fronts.specs.means.Joined.{Places·joined}
 use Rattle.chain_fronts.proofs.Joined.{joined-first, joined-next}
 use Rattle.chain_fronts.proofs.join_boxes.Statement.{statement}
 use Rattle.chain_fronts.proofs.join_boxes.Tie as tie
 
 abbrev Inv-loop : tie.InvT-loop
-Inv-loop count moved places₀ i₀ places i = (i ≤ count) × (length places₀ ≡ placeCount → Joined moved places₀ places i)
+Inv-loop count moved places₀ i₀ places i = (i ≤ count) × (places ≡ Places·joined i moved places₀)
 
 abbrev μ-loop : tie.MeasureT-loop
 μ-loop count moved places₀ i₀ places i = count - i
 
 loop-holds : tie.Need-loop-holds Inv-loop μ-loop
-loop-holds c = (search needs, λ _. joined-first _ _)
+loop-holds c = let a = c .args in (search needs, joined-first (a .moved .now) (a .places .now))
 
 mul-join-box : tie.Need-mul-join-box Inv-loop μ-loop
 mul-join-box c = search needs
@@ -46,13 +45,16 @@ loop-again c =
     let l = c4 in
     let t = c3 .loop-test .taken in
     let h = l .before .pre in
-    (omega (arith, t), λ e. joined-next _ (l .loop .inv .1 e) (omega (arith, t, h, e)) (ap (set (l .loop .places) (l .loop .i)) (c .join-box .ensures)))
+    let a = l .before .args in
+    let written = ap (set (l .loop .places) (l .loop .i)) (c .join-box .ensures) in
+    (omega (arith, t), joined-next (a .moved .now) (a .places .now) (l .loop .inv .1) (omega (arith, t, h)) written)
 
 returns : tie.Need-returns Inv-loop μ-loop
 returns c =
     let l = c .before .loop in
     let a = c .before .before .args in
-    λ e. subst (Joined _ _ _) (omega (arith, l .inv .0, c .loop-test .left)) (l .inv .1 e)
+    let e : l .i ≡ a .count = omega (arith, l .inv .0, c .loop-test .left) in
+    l .inv .1 ∙ ap (λ n. Places·joined n (a .moved .now) (a .places .now)) e
 
 pub join-boxes-spec : {M : Type 1} → statement M
 join-boxes-spec =

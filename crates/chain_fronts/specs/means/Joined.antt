@@ -1,17 +1,14 @@
--- Boxes joined to what stands in their places, the first k of them: `Joined`. Definitions only.
-use Prim.Native.Nat.{ℕ, _≤_, _<_}
-use mathlib.Core.Path.{_≡_}
-use mathlib.Core.List.{List, []}
-use lib.ListN.{length, getD}
+-- A box joined to what stands in its place, `joinedBox`; the first n boxes of a list, each in its place, `Places·joined`. Definitions only.
+use Prim.Native.Nat.{ℕ}
+use mathlib.Core.List.{List}
+use lib.ListN.{take}
 use lib.Ieee.{Float}
 use Rattle.bounds3.specs.Bounds3f.{Bounds3f·unionBounds}
 use Rattle.bounds3.specs.List.{Bounds3f·list, Bounds3f·ofList}
+use Rattle.box_front.specs.means.Front.{Places·put}
 
 abbrev pub joinedBox : List Float → List Float → List Float
-joinedBox old moved = Bounds3f·list (Bounds3f·unionBounds (Bounds3f·ofList old) (Bounds3f·ofList moved))
+joinedBox moved old = Bounds3f·list (Bounds3f·unionBounds (Bounds3f·ofList old) (Bounds3f·ofList moved))
 
--- `old` before, `new` after it.
-pub record Joined (moved old new : List (List Float)) (k : ℕ) : Type 0 where
-  pub size : length new ≡ length old
-  pub each : (i : ℕ) → i < k → getD new i [] ≡ joinedBox (getD old i []) (getD moved i [])
-  pub behind : (i : ℕ) → k ≤ i → getD new i [] ≡ getD old i []
+abbrev pub Places·joined : ℕ → List (List Float) → List (List Float) → List (List Float)
+Places·joined n moved places = Places·put joinedBox (take n moved) places

@@ -58,7 +58,7 @@ loop-again c =
     let t = c4 .loop-test .taken in
     let slice = c3 .slice .ensures in
     let e = c2 .padded-enclosure .ensures ∙ ap (PaddedPose·over (l .before .constants .result) (a .m .s0) (a .m .s1) (a .m .pad0) (a .m .pad1)) slice in
-    (omega (arith, t), sliced-next _ _ _ _ _ _ (l .loop .inv .1) (l .before .before .pre .1) e (c .take-pose .ensures))
+    (omega (arith, t), sliced-next _ _ _ _ _ _ (l .loop .inv .1) (l .before .before .pre .1) e (c .take-pose .ensures .0) (c .take-pose .ensures .1))
 
 returns : tie.Need-returns Inv-loop μ-loop
 returns c =
