@@ -1,12 +1,13 @@
 // Whether two answered boxes meet, or the first refusal of the two.
 use bounds3::Bounds3f;
 use bounds3::Point3f;
+use refusal::first_refusal;
 use transform::BoundsAnswer;
 ghost use mathlib.Core.Path.{_≡_};
 ghost use Rattle.transform.specs.Answer.{BoundsAnswer·refusal, BoundsAnswer·bounds};
 ghost use Rattle.bounds_meeting.specs.Meeting.{Meeting·of};
 
-// Whether two boxes meet, and the first refusal of the two, 0 for none.
+// Whether two boxes meet, and the first refusal of the two, 0 for none, after which they don't.
 pub struct Meeting {
     pub meets: bool,
     pub refusal: u8,
@@ -36,21 +37,19 @@ fn corners(a: BoundsAnswer) -> Bounds3f
     }
 }
 
-// Whether two answered boxes meet, touching included; the first refusal of the two stands. Accuracy: exact.
+// Whether two answered boxes meet, touching included; the first refusal of the two stands, and after it they don't. Accuracy: exact.
 pub fn meet(r: BoundsAnswer, s: BoundsAnswer) -> Meeting
     ensures value { λ m. ⌜ m ≡ Meeting·of r s ⌝ }
 {
-    let meets = bounds_overlap::meets(corners(r), corners(s));
-    let first = number(r);
-    let second = number(s);
-    if first != 0 {
+    let refusal = first_refusal(number(r), number(s));
+    if refusal != 0 {
         return Meeting {
-            meets,
-            refusal: first,
+            meets: false,
+            refusal,
         };
     }
     Meeting {
-        meets,
-        refusal: second,
+        meets: bounds_overlap::meets(corners(r), corners(s)),
+        refusal: 0,
     }
 }

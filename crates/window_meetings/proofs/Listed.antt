@@ -59,7 +59,7 @@ module _ (cover cover' : Window → BoundsAnswer) where
       m = Bounds3f·meets (BoundsAnswer·bounds (cover w)) (BoundsAnswer·bounds (cover' w))
 
       go : (t : Bool) → (t ≡ true → n ≡ 0) → (r : WindowsAnswer) → windowsFrom cover cover' (suc k) ws ≡ r
-          → cond t (WindowsAnswer·cons m k r) (refused n) ≡ listed ks
+          → cond t (WindowsAnswer·cons (cond t m false) k r) (refused n) ≡ listed ks
           → Taken cover cover' k w ws ks
       go true f (listed rest) e h =
           let (a, a') = first-zero (BoundsAnswer·refusal (cover w)) (BoundsAnswer·refusal (cover' w)) (f refl) in

@@ -76,7 +76,7 @@ module _ (cover cover' : Window → BoundsAnswer) (own : (w : Window) → Number
       m = Bounds3f·meets (BoundsAnswer·bounds (cover w)) (BoundsAnswer·bounds (cover' w))
 
       go : (t : Bool) → (t ≡ false → n ≡ 0 → ⊥) → (r : WindowsAnswer) → WindowsAnswer·Numbered numbers r
-          → WindowsAnswer·Numbered numbers (cond t (WindowsAnswer·cons m k r) (refused n))
+          → WindowsAnswer·Numbered numbers (cond t (WindowsAnswer·cons (cond t m false) k r) (refused n))
       go true f (listed ks) h = unfold WindowsAnswer·cons in record { number = inl refl; none = λ _. refl }
       go true f (refused x) h = unfold WindowsAnswer·cons in h
       go false f r h =
