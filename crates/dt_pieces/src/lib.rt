@@ -4,9 +4,12 @@ use interval::Interval;
 use matrix4x4::Matrix4x4;
 use pose_steps::PoseConstants;
 use transform::BoundsAnswer;
+ghost use Prim.Native.Nat.{min};
 ghost use mathlib.Core.Path.{_≡_};
-ghost use Rattle.bounds_query.specs.Query.{BoundsAnswer·unionBounds};
+ghost use Rattle.bounds_query.specs.Query.{BoundsAnswer·unionBounds, maxDepth};
 ghost use Rattle.dt_pieces.specs.means.Pieces.{pieceBox, unionPieces};
+
+const MAX_DEPTH: u32 = 12;
 
 // The box of the poses over an interval of dt, grown by the high end of their pad interval, joined to r. Accuracy: encloses.
 fn union_piece(
@@ -28,7 +31,7 @@ fn union_piece(
 }
 
 // The boxes of the 2^depth pieces of an interval of dt, in rising order, joined to r; the first refusal stands, 5 or 10. Accuracy: encloses.
-pub fn union_pieces(
+fn union_halves(
     r: BoundsAnswer,
     a: PoseConstants,
     s0: Matrix4x4,
@@ -53,6 +56,31 @@ pub fn union_pieces(
         low: mid,
         high: dt.high,
     };
-    let below = union_pieces(r, a, s0, s1, pad0, pad1, lower, depth - 1, b);
-    union_pieces(below, a, s0, s1, pad0, pad1, upper, depth - 1, b)
+    let below = union_halves(r, a, s0, s1, pad0, pad1, lower, depth - 1, b);
+    union_halves(below, a, s0, s1, pad0, pad1, upper, depth - 1, b)
+}
+
+// A depth, held at 12. Accuracy: exact.
+fn held_depth(d: u32) -> u32
+    ensures value { λ r. ⌜ r ≡ min d maxDepth ⌝ }
+{
+    if d > MAX_DEPTH { MAX_DEPTH } else { d }
+}
+
+// The boxes of the 2^h pieces of an interval of dt, with h the depth, held at 12, in rising order, joined to r; the first refusal stands, 5 or 10.
+// Accuracy: encloses.
+pub fn union_pieces(
+    r: BoundsAnswer,
+    a: PoseConstants,
+    s0: Matrix4x4,
+    s1: Matrix4x4,
+    pad0: f32,
+    pad1: f32,
+    dt: Interval,
+    depth: u32,
+    b: Bounds3f,
+) -> BoundsAnswer
+    ensures value { λ u. ⌜ u ≡ unionPieces (pieceBox a s0 s1 pad0 pad1 b) r (min depth maxDepth) dt ⌝ }
+{
+    union_halves(r, a, s0, s1, pad0, pad1, dt, held_depth(depth), b)
 }

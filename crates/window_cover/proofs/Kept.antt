@@ -1,7 +1,7 @@
 -- What is kept of a chain is asked for a window's cover as the chain is, `kept-window`; so the guarantee holds of the rows,
 -- `kept-window-contains`, and a finer cover is no wider, `kept-window-finer`. It gives a window's numbers and 12 alone, `kept-window-numbered`.
 -- The clauses of the query, from its value: `window-clauses`.
-use Prim.Native.Nat.{ℕ, _+_, _-_}
+use Prim.Native.Nat.{ℕ, _+_, _-_, min}
 use mathlib.Core.Path.{_≡_, refl, sym, ap, subst, _∙_}
 use mathlib.Core.Logic.{inl, inr}
 use mathlib.Core.Bool.{false}
@@ -17,8 +17,9 @@ use Rattle.transform.specs.declared.BoundsAnswer.{BoundsAnswer}
 use Rattle.transform.specs.declared.BoundsAnswer.the-variants.{Refused}
 use Rattle.transform.specs.Answer.{BoundsAnswer·refusal, BoundsAnswer·bounds}
 use Rattle.transform.proofs.Answer.{one-of-wider}
-use Rattle.bounds_query.specs.Query.{coverRefusal}
+use Rattle.bounds_query.specs.Query.{maxDepth, coverRefusal}
 use Rattle.motion_cover.specs.Answer.{BoundsAnswer·Numbered}
+use Rattle.motion_cover.proofs.Contains.{cover-depth}
 use Rattle.cover_depth.specs.Finer.{Within}
 use Rattle.motion_chain.specs.Chain.{Chain}
 use Rattle.chain_rows.specs.Kept.{Chain·toRows, Moves·chain}
@@ -70,6 +71,10 @@ pub window-clauses : (rows : List Rows) (b : Bounds3f) (depth : ℕ) (w : Window
     × ((BoundsAnswer·refusal r ≡ 0 → KeptWindowContainsMotion rows b w (BoundsAnswer·bounds r))
     × (BoundsAnswer·refusal r ≡ 0 → KeptWindowFiner rows b depth w (BoundsAnswer·bounds r))))
 window-clauses rows b depth w e = (e, (λ c k. e ∙ kept-window rows c b depth w k, rw e (kept-window-contains rows b depth w, kept-window-finer rows b depth w)))
+
+-- A depth that is not refused is not held.
+pub held-depth : (b : Bounds3f) (depth : ℕ) → coverRefusal b depth ≡ 0 → min depth maxDepth ≡ depth
+held-depth b depth e = let h = cover-depth b depth e in omega (arith, h)
 
 -- ---- the query's returns
 module _ (rows : List Rows) (b : Bounds3f) (depth : ℕ) (w : Window) (some : length rows ≡ 0 → ⊥) where

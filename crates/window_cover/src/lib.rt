@@ -5,13 +5,14 @@ use bounds3::Bounds3f;
 use transform::BoundsAnswer;
 use transform::Transform;
 use window_times::Window;
-ghost use Prim.Native.Nat.{_+_, _<_};
+ghost use Prim.Native.Nat.{_+_, _<_, min};
 ghost use mathlib.Core.Path.{_≡_};
 ghost use mathlib.Core.Bool.{true, cond};
 ghost use mathlib.Core.List.{[], _∷_, map};
 ghost use lib.Dec.{eqb};
 ghost use lib.ListN.{length, getD};
 ghost use Rattle.transform.specs.Answer.{BoundsAnswer·refusal, BoundsAnswer·bounds};
+ghost use Rattle.bounds_query.specs.Query.{maxDepth};
 ghost use Rattle.bounds_answers.specs.UnionAll.{BoundsAnswer·unionAll};
 ghost use Rattle.motion_cover.specs.Cover.{Transform·enclosePadded};
 ghost use Rattle.motion_rows.specs.Rows.{AnimatedTransform·fromRows};
@@ -21,7 +22,7 @@ ghost use Rattle.chain_window.specs.Cover.{sliceBoxes, boxesFrom, Chain·window
 ghost use Rattle.window_cover.specs.means.Stage.{stageBoxes};
 ghost use Rattle.window_cover.specs.Kept.{Moves·windowCover, KeptWindowContainsMotion, KeptWindowFiner};
 
-// The slices of a move, joined to r. Accuracy: encloses.
+// The slices of a move, joined to r; the depth is held at 12, here and in what follows. Accuracy: encloses.
 fn union_slices(
     r: BoundsAnswer,
     m: AnimatedTransform,
@@ -29,7 +30,7 @@ fn union_slices(
     depth: u32,
     w: Window,
 ) -> BoundsAnswer
-    ensures value { λ u. ⌜ u ≡ BoundsAnswer·unionAll r (sliceBoxes b depth w m) ⌝ }
+    ensures value { λ u. ⌜ u ≡ BoundsAnswer·unionAll r (sliceBoxes b (min depth maxDepth) w m) ⌝ }
 {
     let overlaps = window_times::overlaps(w, m.start_time, m.end_time);
     if !(m.actually_animated & overlaps) {
@@ -65,7 +66,8 @@ fn union_move(
 ) -> BoundsAnswer
     requires { ⌜ i < length (now moves) ⌝ }
     ensures value { λ u. ⌜ u ≡ BoundsAnswer·unionAll r
-        (stageBoxes b depth w stage (eqb i 0) (eqb (i + 1) (length (now (moves .entry)))) (AnimatedTransform·fromRows (getD (now (moves .entry)) i []))) ⌝ }
+        (stageBoxes b (min depth maxDepth) w stage (eqb i 0) (eqb (i + 1) (length (now (moves .entry))))
+        (AnimatedTransform·fromRows (getD (now (moves .entry)) i []))) ⌝ }
 {
     let first = i == 0;
     let last = i + 1 == moves.len();
@@ -92,7 +94,7 @@ fn union_moves(
     w: Window,
 ) -> BoundsAnswer
     ensures value { λ u. ⌜ u ≡ BoundsAnswer·unionAll start
-        (boxesFrom (stageBoxes b depth w stage) true (map AnimatedTransform·fromRows (now (moves .entry)))) ⌝ }
+        (boxesFrom (stageBoxes b (min depth maxDepth) w stage) true (map AnimatedTransform·fromRows (now (moves .entry)))) ⌝ }
 {
     let mut r = start;
     let mut i = 0;

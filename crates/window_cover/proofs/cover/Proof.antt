@@ -4,7 +4,7 @@ use borrow.Author.Tests.{eq-eqb}
 use mathlib.Core.Path.{sym, _∙_}
 use Rattle.chain_window.specs.Cover.{firstPoseBoxes}
 use Rattle.window_cover.specs.Kept.{Moves·windowCover}
-use Rattle.window_cover.proofs.Kept.{window-clauses, ticks-refused, arguments-refused, window-worked}
+use Rattle.window_cover.proofs.Kept.{held-depth, window-clauses, ticks-refused, arguments-refused, window-worked}
 use Rattle.window_cover.proofs.Union.{worked}
 use Rattle.window_cover.proofs.cover.Statement.{statement}
 use Rattle.window_cover.proofs.cover.Tie as tie
@@ -69,14 +69,15 @@ returns-4 c =
     let ticks = box .before .before in
     let some = ticks .before .before in
     let a = some .before .args in
+    let none = sym (box .before .cover-refusal .ensures) ∙ box .if3 .left in
+    let held = held-depth (a .b) (a .depth) none in
     window-clauses (a .moves .now) (a .b) (a .depth) (a .w)
-    (window-worked (a .moves .now) (a .b) (a .depth) (a .w) (some .if1 .left) (sym (ticks .before .refusal .ensures) ∙ ticks .if2 .left)
-    (sym (box .before .cover-refusal .ensures) ∙ box .if3 .left)
+    (window-worked (a .moves .now) (a .b) (a .depth) (a .w) (some .if1 .left) (sym (ticks .before .refusal .ensures) ∙ ticks .if2 .left) none
     (worked (a .moves .now) (a .b) (a .depth) (a .w) (slices .union-moves .result) (pose .union-pose .result)
     (c .before .union-moves2 .result) (c .union-moves3 .result) (some .if1 .left)
-    (rw (slices .before .default .ensures) at (slices .union-moves .ensures))
+    (rw (slices .before .default .ensures, held) at (slices .union-moves .ensures))
     (rw (pose .before .asks-first .ensures, rows .from-rows .ensures) at (pose .union-pose .ensures))
-    (c .before .union-moves2 .ensures) (c .union-moves3 .ensures)))
+    (rw held at (c .before .union-moves2 .ensures)) (rw held at (c .union-moves3 .ensures))))
 
 pub cover-spec : {M : Type 1} → statement M
 cover-spec =

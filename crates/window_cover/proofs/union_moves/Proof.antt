@@ -1,9 +1,10 @@
 -- `union_moves` meets its contract. Its loop keeps the union of the whole pass: what is taken with what is left from i on.
-use Prim.Native.Nat.{_-_, _≤_}
+use Prim.Native.Nat.{_-_, _≤_, min}
 use mathlib.Core.Path.{_≡_, refl, sym, _∙_}
 use native.Mathlib.Omega.{arith}
 use borrow.Author.Needs.{needs}
 use lib.ListN.{length}
+use Rattle.bounds_query.specs.Query.{maxDepth}
 use Rattle.window_cover.specs.means.Stage.{stageBoxes}
 use Rattle.window_cover.proofs.Union.{passFrom, pass-next, pass-end}
 use Rattle.window_cover.proofs.union_moves.Statement.{statement}
@@ -11,7 +12,8 @@ use Rattle.window_cover.proofs.union_moves.Tie as tie
 
 abbrev Inv-loop : tie.InvT-loop
 Inv-loop stage moves b depth w r₀ i₀ n r i =
-    (n ≡ length moves) × ((i ≤ n) × (passFrom (stageBoxes b depth w stage) r moves i ≡ passFrom (stageBoxes b depth w stage) r₀ moves 0))
+    let boxes = stageBoxes b (min depth maxDepth) w stage in
+    (n ≡ length moves) × ((i ≤ n) × (passFrom boxes r moves i ≡ passFrom boxes r₀ moves 0))
 
 abbrev μ-loop : tie.MeasureT-loop
 μ-loop stage moves b depth w r₀ i₀ n r i = n - i
@@ -37,7 +39,7 @@ loop-again c =
       refl,
       (
         omega (arith, t),
-        pass-next (stageBoxes (a .b) (a .depth) (a .w) (a .stage)) (l .r)
+        pass-next (stageBoxes (a .b) (min (a .depth) maxDepth) (a .w) (a .stage)) (l .r)
             (c .union-move .result) (a .moves .now) (l .i) t (c .union-move .ensures) ∙ l .inv .1 .1,
       ),
     )
@@ -46,7 +48,8 @@ returns : tie.Need-returns Inv-loop μ-loop
 returns c =
     let l = c .before .loop in
     let a = c .before .before .args in
-    sym (pass-end (stageBoxes (a .b) (a .depth) (a .w) (a .stage)) (l .r) (a .moves .now) (l .i) (omega (arith, c .loop-test .left))) ∙ l .inv .1 .1
+    let boxes = stageBoxes (a .b) (min (a .depth) maxDepth) (a .w) (a .stage) in
+    sym (pass-end boxes (l .r) (a .moves .now) (l .i) (omega (arith, c .loop-test .left))) ∙ l .inv .1 .1
 
 pub union-moves-spec : {M : Type 1} → statement M
 union-moves-spec =

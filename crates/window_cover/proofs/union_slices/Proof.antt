@@ -1,7 +1,9 @@
 -- `union_slices` meets its contract: a move that the window asks for is its pieces, any other nothing.
+use Prim.Native.Nat.{min}
 use mathlib.Core.Bool.{_&&_}
 use borrow.Author.Needs.{needs}
 use borrow.Author.Tests.{not-true, not-false}
+use Rattle.bounds_query.specs.Query.{maxDepth}
 use Rattle.window_cover.proofs.Slices.{slices-pieces, slices-none}
 use Rattle.window_cover.proofs.union_slices.Statement.{statement}
 use Rattle.window_cover.proofs.union_slices.Tie as tie
@@ -14,7 +16,7 @@ returns c =
     let c1 = c .before in let c2 = c1 .before in let c3 = c2 .before in
     let a = c3 .args in
     let t = c2 .overlaps in
-    slices-none (a .m) (a .b) (a .depth) (a .w) (a .r) (rw (t .ensures) at (not-true (a .m .«actually_animated» && t .result) (c .if1 .taken)))
+    slices-none (a .m) (a .b) (min (a .depth) maxDepth) (a .w) (a .r) (rw (t .ensures) at (not-true (a .m .«actually_animated» && t .result) (c .if1 .taken)))
 
 constants-requires : tie.Need-constants-requires
 constants-requires c κs = search needs
@@ -32,7 +34,8 @@ returns-2 c =
     let a = c6 .args in
     let t = test .before .before .overlaps in
     rw (c .union-pieces .ensures, c1 .share .ensures, c2 .constants .ensures)
-    (slices-pieces (a .m) (a .b) (a .depth) (a .w) (a .r) (rw (t .ensures) at (not-false (a .m .«actually_animated» && t .result) (test .if1 .left))))
+    (slices-pieces (a .m) (a .b) (min (a .depth) maxDepth) (a .w) (a .r)
+    (rw (t .ensures) at (not-false (a .m .«actually_animated» && t .result) (test .if1 .left))))
 
 pub union-slices-spec : {M : Type 1} → statement M
 union-slices-spec = tie.close (tie.spec overlaps-requires returns constants-requires share-requires union-pieces-requires returns-2)
