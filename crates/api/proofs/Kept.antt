@@ -24,7 +24,7 @@ use Rattle.cover_depth.proofs.Finer.{cover-finer}
 use Rattle.bounds3.specs.List.{Bounds3f·list, Bounds3f·ofList}
 use Rattle.window_times.specs.declared.Window.{Window}
 use Rattle.window_cover.specs.Kept.{Moves·windowCover, KeptWindowContainsMotion, KeptWindowFiner}
-use Rattle.window_cover.proofs.Kept.{kept-window-contains, kept-window-finer, kept-window-numbered}
+use Rattle.window_cover.proofs.Kept.{kept-window, kept-window-contains, kept-window-finer, kept-window-numbered}
 use Rattle.lent_arrays.specs.Arrays.{Pose·ofList, BoundsAnswer·left}
 use Rattle.motion_rows.specs.Rows.{AnimatedTransform·toRows, AnimatedTransform·fromRows, AnimatedTransformAnswer·left}
 use Rattle.motion_rows.specs.Holds.{Rows·Holds}
@@ -33,6 +33,7 @@ use Rattle.motion_rows.proofs.RoundTrip.{from-rows-inverse, transform-point-kep
 use Rattle.motion_chain.specs.Chain.{Chain}
 use Rattle.chain_rows.specs.Theorem.{Moves·Holds, KeptChainContainsMotion}
 use Rattle.chain_rows.specs.Finer.{KeptChainFiner}
+use Rattle.chain_rows.proofs.Kept.{kept-cover}
 use Rattle.chain_rows.proofs.Contains as chain
 use Rattle.changed_chain.specs.Trial.{Chain·try}
 use Rattle.chain_trial.specs.Theorem.{TrialContainsMotion}
@@ -40,7 +41,7 @@ use Rattle.chain_trial.proofs.Try.{try-answered}
 use Rattle.chain_trial.proofs.Kept.{kept-try}
 use Rattle.api.specs.Answers.{Rows·cover}
 use Rattle.api.specs.Chains.{Moves·coverOf, Moves·tryOf}
-use Rattle.api.specs.Kept.{KeptCoverContainsMotion, KeptCoverFiner}
+use Rattle.api.specs.Kept.{KeptCoverContainsMotion, KeptCoverFiner, BoundsAnswer·Is, KeptCover, KeptWindowCover}
 
 -- Of what building gives for two poses: its number, what it leaves, and that this holds the move where the number is 0.
 pub build-clauses : (rigid : Bool) (s e : Pose) (a : AnimatedTransformAnswer) (r : ℕ) (rows old : Rows)
@@ -90,12 +91,21 @@ cover-clauses rows b d r bounds old number left = (number, (left, (contains, fin
         cover-finer (AnimatedTransform·fromRows rows) (Bounds3f·ofList b) d (k - d) built (omega (arith, same, most)) (sym number ∙ none) in
         rw (box-left none) (subst (λ (x : ℕ). Within (Rows·cover rows b x) own) same deeper)
 
+answered-as : {a own : BoundsAnswer} {r : ℕ} {old bounds : List Float}
+    → r ≡ BoundsAnswer·refusal a → bounds ≡ BoundsAnswer·left a old → a ≡ own → BoundsAnswer·Is own r old bounds
+answered-as {old = old} number left same = record {
+  refusal = number ∙ ap BoundsAnswer·refusal same;
+  left = left ∙ ap (λ (x : BoundsAnswer). BoundsAnswer·left x old) same;
+}
+
 pub moves-cover-clauses : (rows : List Rows) (b : List Float) (d r : ℕ) (bounds old : List Float)
     → r ≡ BoundsAnswer·refusal (Moves·coverOf rows b d) → bounds ≡ BoundsAnswer·left (Moves·coverOf rows b d) old
     → (r ≡ BoundsAnswer·refusal (Moves·coverOf rows b d)) × ((bounds ≡ BoundsAnswer·left (Moves·coverOf rows b d) old)
+    × (KeptCover rows b d r old bounds
     × ((r ≡ 0 → KeptChainContainsMotion rows (Bounds3f·ofList b) (Bounds3f·ofList bounds))
-    × (r ≡ 0 → KeptChainFiner rows (Bounds3f·ofList b) d (Bounds3f·ofList bounds))))
-moves-cover-clauses rows b d r bounds old number left = (number, (left, (contains, finer)))
+    × (r ≡ 0 → KeptChainFiner rows (Bounds3f·ofList b) d (Bounds3f·ofList bounds)))))
+moves-cover-clauses rows b d r bounds old number left =
+    (number, (left, (λ c e. answered-as number left (kept-cover rows c (Bounds3f·ofList b) d e), (contains, finer))))
   where
     box-left : r ≡ 0 → bounds ≡ Bounds3f·list (BoundsAnswer·bounds (Moves·coverOf rows b d))
     box-left none = left ∙ ap (λ (c : BoundsAnswer). BoundsAnswer·left c old) (chain.cover-answered rows (Bounds3f·ofList b) d (sym number ∙ none))
@@ -132,9 +142,11 @@ pub moves-window-clauses : (rows : List Rows) (b : List Float) (d : ℕ) (w : Wi
     → bounds ≡ BoundsAnswer·left (Moves·windowCover rows (Bounds3f·ofList b) d w) old
     → (r ≡ BoundsAnswer·refusal (Moves·windowCover rows (Bounds3f·ofList b) d w))
     × ((bounds ≡ BoundsAnswer·left (Moves·windowCover rows (Bounds3f·ofList b) d w) old)
+    × (KeptWindowCover rows b d w r old bounds
     × ((r ≡ 0 → KeptWindowContainsMotion rows (Bounds3f·ofList b) w (Bounds3f·ofList bounds))
-    × (r ≡ 0 → KeptWindowFiner rows (Bounds3f·ofList b) d w (Bounds3f·ofList bounds))))
-moves-window-clauses rows b d w r bounds old number left = (number, (left, (contains, finer)))
+    × (r ≡ 0 → KeptWindowFiner rows (Bounds3f·ofList b) d w (Bounds3f·ofList bounds)))))
+moves-window-clauses rows b d w r bounds old number left =
+    (number, (left, (λ c e. answered-as number left (kept-window rows c (Bounds3f·ofList b) d w e), (contains, finer))))
   where
     box-left : r ≡ 0 → bounds ≡ Bounds3f·list (BoundsAnswer·bounds (Moves·windowCover rows (Bounds3f·ofList b) d w))
     box-left none = left ∙ ap (λ (c : BoundsAnswer). BoundsAnswer·left c old) (kept-window-numbered rows (Bounds3f·ofList b) d w .none (sym number ∙ none))

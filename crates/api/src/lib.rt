@@ -50,13 +50,13 @@ ghost use Rattle.run_schedule.specs.Theorem.{DayKeeps};
 ghost use Rattle.run_starts.specs.Booms.{Booms·ofLists, startsLeft};
 ghost use Rattle.api.specs.Files.{MoveFile·boundsLeft, Moves·written};
 ghost use Rattle.window_meetings.specs.Windows.{WindowsAnswer·refusal, WindowsAnswer·windows, WindowsAnswer·left};
-ghost use Rattle.window_pairs.specs.Kept.{KeptWindowsApart, KeptWindowsFiner};
+ghost use Rattle.window_pairs.specs.Kept.{KeptWindows, KeptWindowsApart, KeptWindowsFiner};
 ghost use Rattle.window_cover.specs.Kept.{KeptWindowContainsMotion, KeptWindowFiner};
 ghost use Rattle.api.specs.Chains.{layoutNumber, versionNumber, Moves·point, Moves·points};
 ghost use Rattle.api.specs.Chains.{Moves·coverOf, Moves·tryOf, Moves·windowCoverOf, Moves·windowsOf};
 ghost use Rattle.api.specs.Answers.{Rows·new, Rows·point, Rows·interpolate, Rows·boundPointMotion, Rows·motionBounds, Rows·cover};
 ghost use Rattle.api.specs.Examined.{MotionBoundsAnswer·left, MotionBoundsAnswer·examinedLeft};
-ghost use Rattle.api.specs.Kept.{KeptCoverContainsMotion, KeptCoverFiner};
+ghost use Rattle.api.specs.Kept.{KeptCoverContainsMotion, KeptCoverFiner, KeptCover, KeptWindowCover};
 
 // Puts a motion box and its counts into two lent arrays, or after a refusal nothing, and gives the refusal's number, 0 for none.
 fn put_motion_bounds(
@@ -339,6 +339,7 @@ pub extern "C" fn jellyplain_moves_cover(
 ) -> u8
     ensures refusal { λ r. ⌜ r ≡ BoundsAnswer·refusal (Moves·coverOf (now (moves .entry)) (now (b .entry)) depth) ⌝ }
     ensures left { λ _. ⌜ now (bounds .exit) ≡ BoundsAnswer·left (Moves·coverOf (now (moves .entry)) (now (b .entry)) depth) (now (bounds .entry)) ⌝ }
+    ensures kept { λ r. ⌜ KeptCover (now (moves .entry)) (now (b .entry)) depth r (now (bounds .entry)) (now (bounds .exit)) ⌝ }
     ensures contains_motion { λ r. ⌜ (r ≡ 0 → KeptChainContainsMotion (now (moves .entry))
         (Bounds3f·ofList (now (b .entry))) (Bounds3f·ofList (now (bounds .exit)))) ⌝ }
     ensures finer { λ r. ⌜ (r ≡ 0 → KeptChainFiner (now (moves .entry)) (Bounds3f·ofList (now (b .entry))) depth (Bounds3f·ofList (now (bounds .exit)))) ⌝ }
@@ -457,6 +458,8 @@ pub extern "C" fn jellyplain_moves_window_cover(
     ensures refusal { λ r. ⌜ r ≡ BoundsAnswer·refusal (Moves·windowCoverOf (now (moves .entry)) (now (b .entry)) depth earlier later) ⌝ }
     ensures left { λ _. ⌜ now (bounds .exit)
         ≡ BoundsAnswer·left (Moves·windowCoverOf (now (moves .entry)) (now (b .entry)) depth earlier later) (now (bounds .entry)) ⌝ }
+    ensures kept { λ r. ⌜ KeptWindowCover (now (moves .entry)) (now (b .entry)) depth (record { earlier = earlier; later = later })
+        r (now (bounds .entry)) (now (bounds .exit)) ⌝ }
     ensures contains_motion { λ r. ⌜ (r ≡ 0 → KeptWindowContainsMotion (now (moves .entry)) (Bounds3f·ofList (now (b .entry)))
         (record { earlier = earlier; later = later }) (Bounds3f·ofList (now (bounds .exit)))) ⌝ }
     ensures finer { λ r. ⌜ (r ≡ 0 → KeptWindowFiner (now (moves .entry)) (Bounds3f·ofList (now (b .entry))) depth
@@ -487,6 +490,8 @@ pub extern "C" fn jellyplain_moves_windows(
         (Moves·windowsOf (now (moves .entry)) (now (others .entry)) (now (b .entry)) (now (other .entry)) depth (now (ticks .entry)))) ⌝ }
     ensures left { λ _. ⌜ now (places .exit) ≡ WindowsAnswer·left
         (Moves·windowsOf (now (moves .entry)) (now (others .entry)) (now (b .entry)) (now (other .entry)) depth (now (ticks .entry))) (now (places .entry)) ⌝ }
+    ensures kept { λ r. ⌜ KeptWindows (now (moves .entry)) (now (others .entry)) (Bounds3f·ofList (now (b .entry))) (Bounds3f·ofList (now (other .entry)))
+        depth (now (ticks .entry)) (r .refusal) (r .count) (now (places .entry)) (now (places .exit)) ⌝ }
     ensures apart { λ r. ⌜ (r .refusal ≡ 0 → KeptWindowsApart (now (moves .entry)) (now (others .entry)) (Bounds3f·ofList (now (b .entry)))
         (Bounds3f·ofList (now (other .entry))) (now (ticks .entry)) (take (r .count) (now (places .exit)))) ⌝ }
     ensures finer { λ r. ⌜ (r .refusal ≡ 0 → KeptWindowsFiner (now (moves .entry)) (now (others .entry)) (Bounds3f·ofList (now (b .entry)))

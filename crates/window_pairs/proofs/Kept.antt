@@ -36,7 +36,7 @@ use Rattle.window_meetings.proofs.Apart.{windows-apart}
 use Rattle.window_meetings.proofs.Finer.{windows-finer}
 use Rattle.window_pairs.specs.declared.Found.{Found}
 use Rattle.window_pairs.specs.means.Found.{Found·Is}
-use Rattle.window_pairs.specs.Kept.{Moves·windows, Moves·reached, Moves·Apart, KeptWindowsApart, KeptWindowsFiner}
+use Rattle.window_pairs.specs.Kept.{Moves·windows, WindowsAnswer·Is, KeptWindows, Moves·reached, Moves·Apart, KeptWindowsApart, KeptWindowsFiner}
 
 -- ---- the numbers
 module _ (b b' : Bounds3f) (d : ℕ) (ticks : List Float) where
@@ -174,8 +174,9 @@ pub windows-clauses : (rows rows' : List Rows) (b b' : Bounds3f) (d : ℕ) (tick
     → (n ≡ WindowsAnswer·refusal (Moves·windows rows rows' b b' d ticks))
     × ((k ≡ length (WindowsAnswer·windows (Moves·windows rows rows' b b' d ticks)))
     × ((new ≡ WindowsAnswer·left (Moves·windows rows rows' b b' d ticks) old)
+    × (KeptWindows rows rows' b b' d ticks n k old new
     × ((n ≡ 0 → KeptWindowsApart rows rows' b b' ticks (take k new))
-    × (n ≡ 0 → KeptWindowsFiner rows rows' b b' d ticks (take k new)))))
+    × (n ≡ 0 → KeptWindowsFiner rows rows' b b' d ticks (take k new))))))
 windows-clauses rows rows' b b' d ticks a old new {n} {k} e en ek el =
     let own = Moves·windows rows rows' b b' d ticks in
     let places : take k new ≡ WindowsAnswer·windows a = rw (ek, el) (front a old) in
@@ -187,9 +188,19 @@ windows-clauses rows rows' b b' d ticks a old new {n} {k} e en ek el =
         (
           rw e el,
           (
-            λ z. subst (KeptWindowsApart rows rows' b b' ticks) same (kept-apart rows rows' b b' d ticks (none z)),
-            λ z. subst (KeptWindowsFiner rows rows' b b' d ticks) same (kept-finer rows rows' b b' d ticks (none z)),
+            λ c c' h h'. answered (sym e ∙ kept-windows rows rows' c c' b b' d ticks h h'),
+            (
+              λ z. subst (KeptWindowsApart rows rows' b b' ticks) same (kept-apart rows rows' b b' d ticks (none z)),
+              λ z. subst (KeptWindowsFiner rows rows' b b' d ticks) same (kept-finer rows rows' b b' d ticks (none z)),
+            ),
           ),
         ),
       ),
     )
+  where
+    answered : {x : WindowsAnswer} → a ≡ x → WindowsAnswer·Is x n k old new
+    answered s = record {
+      refusal = en ∙ ap WindowsAnswer·refusal s;
+      count = ek ∙ ap (λ (y : WindowsAnswer). length (WindowsAnswer·windows y)) s;
+      left = el ∙ ap (λ (y : WindowsAnswer). WindowsAnswer·left y old) s;
+    }

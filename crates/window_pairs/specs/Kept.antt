@@ -1,5 +1,5 @@
--- The windows in which the covers of two chains meet, as their callers keep the chains, `Moves·windows`; in their words that in any other no points coincide,
--- `KeptWindowsApart`, and that no greater depth adds one, `KeptWindowsFiner`. Definitions only.
+-- The windows in which the covers of two chains meet, as their callers keep the chains, `Moves·windows`; in their words that the answer is the chains' own,
+-- `KeptWindows`, that in any other window no points coincide, `KeptWindowsApart`, and that no greater depth adds one, `KeptWindowsFiner`. Definitions only.
 use Prim.Native.Nat.{ℕ, _+_, _≤_, _<_}
 use mathlib.Core.Path.{_≡_}
 use mathlib.Core.Bool.{_||_, cond}
@@ -14,16 +14,29 @@ use Rattle.bounds3.specs.Inside.{Inside}
 use Rattle.transform.specs.Answer.{OneOf, PointAnswer·refusal}
 use Rattle.bounds_query.specs.Query.{maxDepth}
 use Rattle.motion_chain.specs.Chain.{Chain}
-use Rattle.chain_rows.specs.Kept.{Moves·chain, Moves·transformPoint, Moves·padAt}
+use Rattle.chain_rows.specs.Kept.{Chain·toRows, Moves·chain, Moves·transformPoint, Moves·padAt}
 use Rattle.chain_rows.specs.Theorem.{Moves·Holds}
 use Rattle.chain_window.specs.Theorem.{InWindow}
-use Rattle.window_meetings.specs.Windows.{WindowsAnswer, refused, Chain·windows}
+use Rattle.window_meetings.specs.Windows.{WindowsAnswer, refused, WindowsAnswer·refusal, WindowsAnswer·windows, Chain·windows, WindowsAnswer·left}
 use Rattle.window_meetings.specs.Theorem.{padded, tickWindow, NoneAdded}
 
 -- as `Chain·windows`; no moves are no chain: 12
 unfoldable pub Moves·windows : List Rows → List Rows → Bounds3f → Bounds3f → ℕ → List Float → WindowsAnswer
 Moves·windows rows rows' b b' depth ticks =
     cond (eqb (length rows) 0 || eqb (length rows') 0) (refused 12) (Chain·windows (Moves·chain rows) (Moves·chain rows') b b' depth ticks)
+
+-- The number, how many windows are listed, and what stands in the places that had `old` are those of an answer.
+pub record WindowsAnswer·Is (a : WindowsAnswer) (number listed : ℕ) (old new : List ℕ) : Type 0 where
+  pub refusal : number ≡ WindowsAnswer·refusal a
+  pub count : listed ≡ length (WindowsAnswer·windows a)
+  pub left : new ≡ WindowsAnswer·left a old
+
+-- Where the rows are those of two chains, the answer is that of the chains.
+abbrev pub KeptWindows : List Rows → List Rows → Bounds3f → Bounds3f → ℕ → List Float → ℕ → ℕ → List ℕ → List ℕ → Type 0
+KeptWindows rows rows' b b' depth ticks number listed old new =
+    (c c' : Chain)
+    → rows ≡ Chain·toRows c → rows' ≡ Chain·toRows c'
+    → WindowsAnswer·Is (Chain·windows c c' b b' depth ticks) number listed old new
 
 -- as `reached`: the points at which the boom's point p may be at a time, asked of the rows
 abbrev pub Moves·reached : List Rows → Float → Point3f → Bounds3f

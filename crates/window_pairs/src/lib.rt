@@ -11,7 +11,7 @@ ghost use Rattle.window_cover.specs.Kept.{Moves·windowCover};
 ghost use Rattle.window_meetings.specs.Windows.{windowsOf, windowsRefusal, WindowsAnswer·refusal};
 ghost use Rattle.window_meetings.specs.Windows.{WindowsAnswer·windows, windowsFrom, placeCount, WindowsAnswer·left};
 ghost use Rattle.window_pairs.specs.means.Found.{windowAt, Found·none, Found·add, Found·Is};
-ghost use Rattle.window_pairs.specs.Kept.{Moves·windows, KeptWindowsApart, KeptWindowsFiner};
+ghost use Rattle.window_pairs.specs.Kept.{Moves·windows, KeptWindows, KeptWindowsApart, KeptWindowsFiner};
 
 // How many windows are listed, and a refusal's number, 0 for none.
 #[repr(C)]
@@ -144,6 +144,8 @@ pub fn list_windows(
         (WindowsAnswer·windows (Moves·windows (now (moves .entry)) (now (others .entry)) b other depth (now (ticks .entry)))) ⌝ }
     ensures left { λ _. ⌜ now (places .exit)
         ≡ WindowsAnswer·left (Moves·windows (now (moves .entry)) (now (others .entry)) b other depth (now (ticks .entry))) (now (places .entry)) ⌝ }
+    ensures kept { λ r. ⌜ KeptWindows (now (moves .entry)) (now (others .entry)) b other depth (now (ticks .entry))
+        (r .refusal) (r .count) (now (places .entry)) (now (places .exit)) ⌝ }
     ensures apart { λ r. ⌜ (r .refusal ≡ 0
         → KeptWindowsApart (now (moves .entry)) (now (others .entry)) b other (now (ticks .entry)) (take (r .count) (now (places .exit)))) ⌝ }
     ensures finer { λ r. ⌜ (r .refusal ≡ 0
