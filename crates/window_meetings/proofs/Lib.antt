@@ -3,3 +3,4 @@ pub mod Listed
 pub mod Numbers
 pub mod Apart
 pub mod Finer
+pub mod Cases
