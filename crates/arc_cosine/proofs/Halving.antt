@@ -17,7 +17,7 @@ use Rattle.arc_cosine.specs.Acos.{leastAngle, inDomain, floorUnits}
 use Rattle.trig.specs.Biased.{biased}
 use Rattle.arc_cosine.specs.Search.{Bracket·Carries, Bracket·Inside, Bracket·first, Bracket·middle}
 use Rattle.arc_cosine.specs.Search.{Bracket·upper, Bracket·lower, Bracket·half, Bracket·halve}
-use Rattle.arc_cosine.specs.Search.{Bracket·isOpen, Bracket·search, searchCosines, acosCosines}
+use Rattle.arc_cosine.specs.Search.{Bracket·isOpen, Bracket·halvings, searchCosines, acosCosines}
 use Rattle.trig.proofs.Units.{cos-half-turn}
 use Rattle.arc_cosine.proofs.Least.{leastAngle-unique}
 
@@ -61,9 +61,6 @@ halve-picks P n b upper lower = let c = biased (cosUnits (Bracket·middle b)) in
     go true above below = upper (above refl)
     go false above below = lower (below refl)
 
-halve-cosines : (n : ℕ) (b : Bracket) → Bracket·halve n b .cosines ≡ b .cosines + 1
-halve-cosines n b = halve-picks (λ (r : Bracket). r .cosines ≡ b .cosines + 1) n b (λ h. refl) (λ h. refl)
-
 module _ {n k : ℕ} {b : Bracket} (i : Halving n (suc k) b) (apart : 1 < b .high - b .low) where
   reached : (d : ℕ) → d ≤ (b .high - b .low + 1) / 2 → d ≤ 2 ^ k
   reached d h = let p = pow-succ' 2 k in omega (arith, i .reach, p)
@@ -105,14 +102,14 @@ is-open n b h = go (ltb n (b .«cos_low»)) (ltb 1 (b .high - b .low)) h (ltb-tr
     go true false h apart = absurd (true≢false (sym h))
     go false q h apart = absurd (true≢false (sym h))
 
-search-halves : (n k : ℕ) (b : Bracket) → Bracket·isOpen n b ≡ true → Bracket·search n (suc k) b ≡ Bracket·search n k (Bracket·halve n b)
-unfolding Bracket·search
-search-halves n k b h = ap (λ (t : Bool). cond t (Bracket·search n k (Bracket·halve n b)) b) h
+halvings-open : (n k : ℕ) (b : Bracket) → Bracket·isOpen n b ≡ true → Bracket·halvings n (suc k) b ≡ 1 + Bracket·halvings n k (Bracket·halve n b)
+unfolding Bracket·halvings
+halvings-open n k b h = ap (λ (t : Bool). cond t (1 + Bracket·halvings n k (Bracket·halve n b)) 0) h
 
-search-ends : (n k : ℕ) (b : Bracket) → Bracket·isOpen n b ≡ false → Bracket·search n k b ≡ b
-unfolding Bracket·search
-search-ends n zero b h = refl
-search-ends n (suc k) b h = ap (λ (t : Bool). cond t (Bracket·search n k (Bracket·halve n b)) b) h
+halvings-closed : (n k : ℕ) (b : Bracket) → Bracket·isOpen n b ≡ false → Bracket·halvings n k b ≡ 0
+unfolding Bracket·halvings
+halvings-closed n zero b h = refl
+halvings-closed n (suc k) b h = ap (λ (t : Bool). cond t (1 + Bracket·halvings n k (Bracket·halve n b)) 0) h
 
 pub halving-ends : {n k : ℕ} {b : Bracket} → Halving n k b → n < b .«cos_low» → Bracket·isOpen n b ≡ false → b .low + 1 ≡ leastAngle (minus n (2 ^ 30))
 halving-ends {n} {k} {b} i above closed =
@@ -132,63 +129,70 @@ halving-zero {n} {k} {b} i h = elim (i .above) [
 
 -- ---- the loop, with as many halvings left as cosines to 31
 
-abbrev pub Searching : ℕ → Bracket → Type 0
-Searching n b = Halving n (31 - b .cosines) b × (Bracket·search n (31 - b .cosines) b ≡ Bracket·search n 30 Bracket·first)
+-- After c cosines: those and the halvings that are left make the whole count.
+pub record Searching (n c : ℕ) (b : Bracket) : Type 0 where
+  pub halving : Halving n (31 - c) b
+  pub count : c + Bracket·halvings n (31 - c) b ≡ searchCosines n
 
-pub searching-starts : (n c : ℕ) → c ≡ biased (cosUnits 0) → Searching n (record { low = 0; high = 2 * quarterTurn; «cos_low» = c; cosines = 1 })
-searching-starts n c e =
-    subst (λ (x : ℕ). Searching n (record { low = 0; high = 2 * quarterTurn; «cos_low» = x; cosines = 1 })) (sym e) (halving-starts n, refl)
+pub searching-starts : (n : ℕ) {c u : ℕ} → c ≡ 1 → u ≡ biased (cosUnits 0) → Searching n c (record { low = 0; high = 2 * quarterTurn; «cos_low» = u })
+searching-starts n e f = rw (e, f) (record { halving = halving-starts n; count = refl })
 
 -- What an open bracket has left to be halved.
-record Left (n : ℕ) (b : Bracket) : Type 0 where
+record Left (n c : ℕ) (b : Bracket) : Type 0 where
   k : ℕ
-  is : suc k ≡ 31 - b .cosines
+  is : suc k ≡ 31 - c
   halving : Halving n (suc k) b
-  search : Bracket·search n (suc k) b ≡ Bracket·search n 30 Bracket·first
+  count : c + Bracket·halvings n (suc k) b ≡ searchCosines n
 
-left : {n : ℕ} {b : Bracket} → Searching n b → 1 < b .high - b .low → Left n b
-left {n} {b} s apart = go (31 - b .cosines) refl (s .0) (s .1)
+left : {n c : ℕ} {b : Bracket} → Searching n c b → 1 < b .high - b .low → Left n c b
+left {n} {c} {b} s apart = go (31 - c) refl (s .halving) (s .count)
   where
-    go : (k : ℕ) → k ≡ 31 - b .cosines → Halving n k b → Bracket·search n k b ≡ Bracket·search n 30 Bracket·first → Left n b
+    go : (k : ℕ) → k ≡ 31 - c → Halving n k b → c + Bracket·halvings n k b ≡ searchCosines n → Left n c b
     go zero e i g = absurd (omega (arith, i .reach, apart))
-    go (suc k) e i g = record { k = k; is = e; halving = i; search = g }
+    go (suc k) e i g = record { k = k; is = e; halving = i; count = g }
 
-module _ {n : ℕ} {b : Bracket} (s : Searching n b) (opened : Bracket·isOpen n b ≡ true) where
+module _ {n c : ℕ} {b : Bracket} (s : Searching n c b) (opened : Bracket·isOpen n b ≡ true) where
   pub searching-inside : Bracket·Inside b
-  searching-inside =
-      let l = left s (is-open n b opened) .is in
-      record { low = omega (arith, s .0 .order, s .0 .inside); high = s .0 .inside; cosines = omega (arith, l) }
+  searching-inside = record { low = omega (arith, s .halving .order, s .halving .inside); high = s .halving .inside }
 
-  pub searching-again : {r : Bracket} → r ≡ Bracket·halve n b → Searching n r
-  searching-again e =
+  pub searching-counts : c < 31
+  searching-counts = let l = left s (is-open n b opened) .is in omega (arith, l)
+
+  pub searching-again : {r : Bracket} {d : ℕ} → r ≡ Bracket·halve n b → d ≡ c + 1 → Searching n d r
+  searching-again {r} {d} e f =
       let l = left s (is-open n b opened) in
-      let more = halve-cosines n b in
-      let fewer : l .k ≡ 31 - Bracket·halve n b .cosines = omega (arith, more, l .is) in
-      subst (Searching n) (sym e) (rw (← fewer) (halving-halves (l .halving) (is-open n b opened), sym (search-halves n (l .k) b opened) ∙ l .search))
+      let fewer : l .k ≡ 31 - d = omega (arith, f, l .is) in
+      let opens = halvings-open n (l .k) b opened in
+      let counts = l .count in
+      let count : d + Bracket·halvings n (l .k) (Bracket·halve n b) ≡ searchCosines n = omega (arith, f, opens, counts) in
+      let halved = halving-halves (l .halving) (is-open n b opened) in
+      subst (Searching n d) (sym e) (record {
+        halving = subst (λ (k : ℕ). Halving n k (Bracket·halve n b)) fewer halved;
+        count = subst (λ (k : ℕ). d + Bracket·halvings n k (Bracket·halve n b) ≡ searchCosines n) fewer count;
+      })
 
   pub searching-closer : {r : Bracket} → r ≡ Bracket·halve n b → r .high - r .low < b .high - b .low
   searching-closer e =
       let apart = is-open n b opened in
       subst (λ (x : Bracket). x .high - x .low < b .high - b .low) (sym e) (halving-closer (left s apart .halving) apart)
 
-pub searching-counted : {n : ℕ} {b : Bracket} → Searching n b → Bracket·isOpen n b ≡ false → b .cosines ≡ searchCosines n
-searching-counted {n} {b} s h = ap (λ (x : Bracket). x .cosines) (sym (search-ends n (31 - b .cosines) b h) ∙ s .1)
+pub searching-counted : {n c : ℕ} {b : Bracket} → Searching n c b → Bracket·isOpen n b ≡ false → c ≡ searchCosines n
+searching-counted {n} {c} {b} s h = let e = halvings-closed n (31 - c) b h in let g = s .count in omega (arith, e, g)
 
 -- ---- how many cosines are worked out
 
-search-cosines-le : (n k : ℕ) (b : Bracket) → Bracket·search n k b .cosines ≤ b .cosines + k
-unfolding Bracket·search
-search-cosines-le n zero b = omega arith
-search-cosines-le n (suc k) b = go (Bracket·isOpen n b) (search-cosines-le n k (Bracket·halve n b)) (halve-cosines n b)
+halvings-le : (n k : ℕ) (b : Bracket) → Bracket·halvings n k b ≤ k
+unfolding Bracket·halvings
+halvings-le n zero b = omega arith
+halvings-le n (suc k) b = go (Bracket·isOpen n b) (halvings-le n k (Bracket·halve n b))
   where
-    go : (t : Bool) → Bracket·search n k (Bracket·halve n b) .cosines ≤ Bracket·halve n b .cosines + k → Bracket·halve n b .cosines ≡ b .cosines + 1
-        → cond t (Bracket·search n k (Bracket·halve n b)) b .cosines ≤ b .cosines + suc k
-    go true l e = omega (arith, l, e)
-    go false l e = omega arith
+    go : (t : Bool) → Bracket·halvings n k (Bracket·halve n b) ≤ k → cond t (1 + Bracket·halvings n k (Bracket·halve n b)) 0 ≤ suc k
+    go true l = omega (arith, l)
+    go false l = omega arith
 
 pub acos-cosines-le : (c : Float) → acosCosines c ≤ 31
 unfolding acosCosines
-acos-cosines-le c = go (inDomain c) (search-cosines-le (biased (floorUnits c)) 30 Bracket·first)
+acos-cosines-le c = let n = biased (floorUnits c) in let l = halvings-le n 30 Bracket·first in go (inDomain c) (omega (arith, l))
   where
     go : (t : Bool) → searchCosines (biased (floorUnits c)) ≤ 31 → cond t (searchCosines (biased (floorUnits c))) 0 ≤ 31
     go true l = l

@@ -2,7 +2,7 @@
 // in units of 2^-30, which are carried 2^30 more than they are.
 ghost use mathlib.Core.Path.{_≡_};
 ghost use mathlib.Core.Bool.{true};
-ghost use Prim.Native.Nat.{_*_, _/_, _^_, _≤_, _<_};
+ghost use Prim.Native.Nat.{_+_, _*_, _/_, _^_, _≤_, _<_};
 ghost use lib.Ieee.{minus};
 ghost use Rattle.sine_table.specs.Table.{quarterTurn, sineTable};
 ghost use Rattle.trig.specs.Units.{cosUnits};
@@ -30,19 +30,20 @@ struct LeastAngle {
 }
 
 // The search for it: the angle lies above `low` and is at most `high`, unless `low` passes itself.
-// The cosine of `low`, biased, is carried along; `cosines` were worked out so far.
+// The cosine of `low`, biased, is carried along.
 struct Bracket {
     low: u64,
     high: u64,
     cos_low: u64,
-    cosines: u32,
 }
 
-// The cosine of u, biased.
-fn biased_cos(table: &[u32; 2049], u: u64) -> u64
-    requires { ⌜ now table ≡ sineTable ⌝ ∗ ⌜ u ≤ 2 * quarterTurn ⌝ }
+// The cosine of u, biased. Cosines are worked out here alone, and each raises the count that is lent for them.
+fn counted_cos(table: &[u32; 2049], u: u64, cosines: &mut u32) -> u64
+    requires { ⌜ now table ≡ sineTable ⌝ ∗ ⌜ u ≤ 2 * quarterTurn ⌝ ∗ ⌜ now cosines < 31 ⌝ }
     ensures value { λ r. ⌜ r ≡ biased (cosUnits u) ⌝ }
+    ensures counted { λ _. ⌜ now (cosines .exit) ≡ now (cosines .entry) + 1 ⌝ }
 {
+    *cosines = *cosines + 1;
     if u < QUARTER_TURN {
         return ONE + sine_table::quarter_sine_in(table, QUARTER_TURN - u);
     }
@@ -50,27 +51,25 @@ fn biased_cos(table: &[u32; 2049], u: u64) -> u64
 }
 
 // The half of a bracket in which the least angle lies, by the cosine in the middle.
-fn halve(table: &[u32; 2049], w: u64, b: Bracket) -> Bracket
-    requires { ⌜ now table ≡ sineTable ⌝ ∗ ⌜ Bracket·Inside b ⌝ ∗ ⌜ Bracket·Carries b ⌝ }
+fn halve(table: &[u32; 2049], w: u64, b: Bracket, cosines: &mut u32) -> Bracket
+    requires { ⌜ now table ≡ sineTable ⌝ ∗ ⌜ Bracket·Inside b ⌝ ∗ ⌜ Bracket·Carries b ⌝ ∗ ⌜ now cosines < 31 ⌝ }
     ensures value { λ r. ⌜ r ≡ Bracket·halve w b ⌝ }
     ensures carried { λ r. ⌜ Bracket·Carries r ⌝ }
+    ensures counted { λ _. ⌜ now (cosines .exit) ≡ now (cosines .entry) + 1 ⌝ }
 {
     let middle = (b.low + b.high) / 2;
-    let cosine = biased_cos(table, middle);
-    let cosines = b.cosines + 1;
+    let cosine = counted_cos(table, middle, cosines);
     if cosine > w {
         return Bracket {
             low: middle,
             high: b.high,
             cos_low: cosine,
-            cosines,
         };
     }
     Bracket {
         low: b.low,
         high: middle,
         cos_low: b.cos_low,
-        cosines,
     }
 }
 
@@ -80,26 +79,26 @@ fn least_angle(table: &[u32; 2049], w: u64) -> LeastAngle
     ensures angle { λ r. ⌜ r .angle ≡ leastAngle (minus w (2 ^ 30)) ⌝ }
     ensures cosines { λ r. ⌜ r .cosines ≡ searchCosines w ⌝ }
 {
+    let mut cosines = 0;
     // The cosine of a half turn, -1, is at most w whatever w is.
     let mut b = Bracket {
         low: 0,
         high: HALF_TURN,
-        cos_low: biased_cos(table, 0),
-        cosines: 1,
+        cos_low: counted_cos(table, 0, &mut cosines),
     };
     while (b.cos_low > w) & (b.high - b.low > 1) {
-        let half = halve(table, w, b);
+        let half = halve(table, w, b, &mut cosines);
         b = half;
     }
     if b.cos_low > w {
         return LeastAngle {
             angle: b.low + 1,
-            cosines: b.cosines,
+            cosines,
         };
     }
     LeastAngle {
         angle: b.low,
-        cosines: b.cosines,
+        cosines,
     }
 }
 
@@ -147,9 +146,10 @@ pub fn acos_counted(c: f32) -> ArcCosine
     }
 }
 
-// The arc cosine. Accuracy: heuristic, likewise.
+// The arc cosine: the angle of `acos_counted`, for which as many cosines are worked out. Accuracy: heuristic, likewise.
 pub fn acos(c: f32) -> f32
     ensures value { λ r. ⌜ r ≡ acos c ⌝ }
+    ensures most { λ _. ⌜ acosCosines c ≤ 31 ⌝ }
 {
     acos_counted(c).angle
 }
