@@ -1,5 +1,5 @@
--- The poses beside a place of kept moves, written out: `beside-first`, `beside-last`, `beside-inner`; how many moves they have:
--- `beside-count`. What building leaves of poses that equal them: `beside-clauses`.
+-- The poses beside a place of kept moves, written out: `beside-first`, `beside-last`, `beside-inner`; of what is built from them the new moves are the first
+-- blocks: `beside-taken`. What building leaves of poses that equal them: `beside-clauses`.
 use Prim.Native.Nat.{ℕ, zero, suc, _-_, _≤_, _<_}
 use mathlib.Core.Path.{_≡_, refl, sym, subst, _∙_}
 use mathlib.Core.Bool.{Bool, true, false}
@@ -17,7 +17,7 @@ use Rattle.motion_chain.specs.Chain.{Chain·moves, ChainAnswer·refusal, Chain�
 use Rattle.built_poses.specs.Poses.{AnimatedTransform·startPose, AnimatedTransform·endPose, Chain·isRigid}
 use Rattle.chain_rows.specs.Kept.{Moves·chain}
 use Rattle.changed_chain.specs.Beside.{Chain·beside}
-use Rattle.trial_blocks.specs.Place.{besideCount}
+use Rattle.trial_blocks.specs.Blocks.{besideBlocks}
 use Rattle.chain_trial.specs.means.Blocks.{NewMoves}
 
 last-taken : {A : Type 0} (l : List A) (i : ℕ) (d : A) → 0 < i → i ≤ length l → drop (i - 1) (take i l) ≡ getD l (i - 1) d ∷ []
@@ -28,6 +28,15 @@ last-taken l (suc j) d z h =
 
 first-dropped : {A : Type 0} (l : List A) (i : ℕ) (d : A) → i < length l → take 1 (drop i l) ≡ getD l i d ∷ []
 first-dropped l i d h = rw (drop-cons l i d h)
+
+take-one : (l : List Rows) → 1 ≤ length l → take 1 l ≡ getD l 0 [] ∷ []
+take-one [] h = absurd (omega (arith, h))
+take-one (x ∷ l) h = refl
+
+take-two : (l : List Rows) → 2 ≤ length l → take 2 l ≡ getD l 0 [] ∷ getD l 1 [] ∷ []
+take-two [] h = absurd (omega (arith, h))
+take-two (x ∷ []) h = absurd (omega (arith, h))
+take-two (x ∷ y ∷ l) h = refl
 
 chain-moves : (rows : List Rows) → 0 < length rows → Chain·moves (Moves·chain rows) ≡ map AnimatedTransform·fromRows rows
 unfolding Moves·chain
@@ -75,15 +84,20 @@ module _ (rows : List Rows) (p : Pose) (some : 0 < length rows) where
   unfolding Chain·beside
   beside-inner place l h = rw (chain-moves rows some, start-at place l (omega (arith, h)), end-at place h)
 
-  pub beside-count : (place : ℕ) → place ≤ length rows → length (Chain·beside (Moves·chain rows) place p) - 1 ≡ besideCount (length rows) place
-  beside-count zero h = rw beside-first
-  beside-count (suc j) h = go (ltb (suc j) (length rows)) refl
+  -- one new move fewer than poses beside the place: the first of the new blocks
+  pub beside-taken : (place : ℕ) → place ≤ length rows → (new : List Rows) → length new ≡ 31
+      → besideBlocks (length rows) place new ≡ take (length (Chain·beside (Moves·chain rows) place p) - 1) new
+  beside-taken zero h new n = rw beside-first (sym (take-one new (omega (arith, n))))
+  beside-taken (suc j) h new n = go (ltb (suc j) (length rows)) refl
     where
-      go : (b : Bool) → ltb (suc j) (length rows) ≡ b → length (Chain·beside (Moves·chain rows) (suc j) p) - 1 ≡ besideCount (length rows) (suc j)
-      go true e = rw (lt-ltb 0 (suc j) (omega arith), e, beside-inner (suc j) (omega arith) (ltb-true (suc j) (length rows) e))
+      go : (b : Bool) → ltb (suc j) (length rows) ≡ b
+          → besideBlocks (length rows) (suc j) new ≡ take (length (Chain·beside (Moves·chain rows) (suc j) p) - 1) new
+      go true e =
+          rw (lt-ltb 0 (suc j) (omega arith), e, beside-inner (suc j) (omega arith) (ltb-true (suc j) (length rows) e))
+          (sym (take-two new (omega (arith, n))))
       go false e =
           let l = ltb-false (suc j) (length rows) e in
-          rw (lt-ltb 0 (suc j) (omega arith), e, beside-last (suc j) (omega arith) (omega (arith, l, h)))
+          rw (lt-ltb 0 (suc j) (omega arith), e, beside-last (suc j) (omega arith) (omega (arith, l, h))) (sym (take-one new (omega (arith, n))))
 
   -- the same, of poses that equal those of the moves
   pub first-same : (place : ℕ) {e : Pose} → place ≡ 0 → e ≡ AnimatedTransform·endPose (moveAt 0) → p ∷ e ∷ [] ≡ Chain·beside (Moves·chain rows) place p

@@ -7,7 +7,7 @@ use mathlib.Core.List.{List, [], _∷_, map}
 use native.Mathlib.Omega.{arith}
 use borrow.Author.Tests.{eq-eqb, ne-eqb, eqb-true, eqb-false, ltb-false, leb-false}
 use lib.Dec.{eqb, ltb, leb}
-use lib.ListN.{length, take}
+use lib.ListN.{length}
 use lib.Seq.{sets, length-sets}
 use Rattle.matrix4x4.specs.Rows.{Rows}
 use Rattle.bounds3.specs.declared.Bounds3f.{Bounds3f}
@@ -25,10 +25,11 @@ use Rattle.chain_rows.specs.Kept.{Chain·toRows, Moves·chain, Moves·cover}
 use Rattle.chain_rows.proofs.Contains.{cover-answered}
 use Rattle.changed_chain.specs.Beside.{Chain·beside}
 use Rattle.changed_chain.proofs.Changed.{new-none}
-use Rattle.trial_blocks.specs.Place.{placeRefusal, besideCount}
+use Rattle.trial_blocks.specs.Place.{placeRefusal}
+use Rattle.trial_blocks.specs.Blocks.{besideBlocks, changedMoves}
 use Rattle.chain_trial.specs.Try.{posesIn, Moves·coverBeside, Moves·try, Moves·changeRefusal}
 use Rattle.chain_trial.specs.means.Blocks.{NewMoves}
-use Rattle.chain_trial.proofs.Beside.{beside-count}
+use Rattle.chain_trial.proofs.Beside.{beside-taken}
 
 -- ---- the place
 pub record PlacePassed (rows : List Rows) (place : ℕ) : Type 0 where
@@ -148,12 +149,12 @@ module _ (rows : List Rows) (place : ℕ) (p : Pose) where
         go false t e = sym e ∙ z
 
     pub cover-try : {cover : BoundsAnswer} {blocks : List Rows} → Moves·changeRefusal rows place p ≡ 0 → NewMoves rigid poses blocks
-        → cover ≡ Moves·cover (sets rows (place - 1) (take (besideCount (length rows) place) blocks)) b depth → cover ≡ Moves·try rows place p b depth
-    cover-try {cover} {blocks} z new e =
+        → length blocks ≡ 31 → cover ≡ Moves·cover (changedMoves rows place blocks) b depth → cover ≡ Moves·try rows place p b depth
+    cover-try {cover} {blocks} z new size e =
         let none = change-place z in
         let passed = place-passed rows place none in
-        let same : take (besideCount (length rows) place) blocks ≡ Chain·toRows (new .chain) =
-        rw (← beside-count rows p (passed .some) place (passed .inside)) (new .rows) in
+        let same : besideBlocks (length rows) place blocks ≡ Chain·toRows (new .chain) =
+        beside-taken rows p (passed .some) place (passed .inside) blocks size ∙ new .rows in
         e ∙ (ap (λ (l : List Rows). Moves·cover (sets rows (place - 1) l) b depth) same
         ∙ (sym (ap (Moves·coverBeside rows place b depth) (new .accepted)) ∙ sym (place-cover none)))
 

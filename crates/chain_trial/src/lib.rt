@@ -2,11 +2,10 @@
 // they are kept. The chain is lent and not changed.
 use bounds3::Bounds3f;
 use transform::BoundsAnswer;
-ghost use Prim.Native.Nat.{_-_, _<_, _≤_};
+ghost use Prim.Native.Nat.{_<_, _≤_};
 ghost use mathlib.Core.Path.{_≡_};
 ghost use mathlib.Core.List.{[], _∷_};
-ghost use lib.ListN.{length, take};
-ghost use lib.Seq.{sets};
+ghost use lib.ListN.{length};
 ghost use Rattle.transform.specs.Answer.{BoundsAnswer·refusal, BoundsAnswer·bounds};
 ghost use Rattle.lent_arrays.specs.Arrays.{Pose·ofList};
 ghost use Rattle.motion_chain.specs.Chain.{Chain, ChainAnswer·refusal, Chain·new};
@@ -15,7 +14,7 @@ ghost use Rattle.built_poses.specs.Poses.{Chain·isRigid};
 ghost use Rattle.changed_chain.specs.Beside.{Chain·beside, Chain·newBeside};
 ghost use Rattle.chain_rows.specs.Kept.{Moves·chain, Moves·cover};
 ghost use Rattle.chain_rows.specs.Theorem.{Moves·Holds};
-ghost use Rattle.trial_blocks.specs.Place.{besideCount};
+ghost use Rattle.trial_blocks.specs.Blocks.{changedMoves};
 ghost use Rattle.chain_trial.specs.Try.{posesIn, Moves·changeRefusal, Moves·try};
 ghost use Rattle.chain_trial.specs.Theorem.{TrialContainsMotion};
 ghost use Rattle.chain_trial.specs.means.Blocks.{NewMoves};
@@ -121,9 +120,7 @@ fn changed_cover(
     requires { ⌜ 0 < length (now moves) ⌝ }
     requires { ⌜ length (now moves) ≤ 31 ⌝ }
     requires { ⌜ place ≤ length (now moves) ⌝ }
-    requires { ⌜ length (now beside) ≡ 31 ⌝ }
-    ensures value { λ r. ⌜ r ≡ Moves·cover
-        (sets (now (moves .entry)) (place - 1) (take (besideCount (length (now (moves .entry))) place) (now (beside .entry)))) b depth ⌝ }
+    ensures value { λ r. ⌜ r ≡ Moves·cover (changedMoves (now (moves .entry)) place (now (beside .entry))) b depth ⌝ }
 {
     let mut blocks = [[[0.0f32; 4]; 45]; 31];
     trial_blocks::put_changed(moves, place, beside, &mut blocks);

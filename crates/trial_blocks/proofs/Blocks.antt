@@ -1,19 +1,16 @@
--- Blocks of rows: the kept moves copied block by block, `copy-next`; one new move put among them, `put-one`, or two, `put-two`,
--- and that only the front blocks change: `changed-front`. What a test tells of a place: `between`, `test-passed`, `test-failed`.
-use Prim.Native.Nat.{ℕ, suc, _+_, _-_, _≤_, _<_}
+-- Blocks put over others: one more of the kept moves, `copy-next`; one new move among them, `put-one`, or two, `put-two`. New moves put over the copied
+-- ones are the changed moves put from the first block on: `changed-left`; of 31 blocks the first are the changed moves: `changed-front`.
+-- What a test tells of a place: `between`, `test-passed`.
+use Prim.Native.Nat.{ℕ, zero, suc, _+_, _-_, _≤_, _<_}
 use mathlib.Core.Path.{_≡_, refl, sym, ap, _∙_}
 use mathlib.Core.Bool.{Bool, true, false, _&&_, _||_, cond, false≢true}
-use mathlib.Core.List.{List, [], _∷_}
+use mathlib.Core.List.{List, [], _∷_, _++_}
 use native.Mathlib.Omega.{arith}
 use borrow.Author.Tests.{ltb-true, ltb-false, eqb-false, ne-eqb, le-ltb}
 use lib.Dec.{eqb, ltb}
-use lib.ListN.{length, getD, take, set}
-use lib.Seq.{sets, length-sets, length-take-le, take-suc, take-suc-set, take-set-lt}
-use lib.Ieee.{Float}
-use Rattle.trial_blocks.specs.Place.{besideCount}
-
-abbrev Rows : Type 0
-Rows = List (List Float)
+use lib.ListN.{length, getD, take, drop, set, length-set}
+use lib.Seq.{sets, sets-eq, length-sets, set-set, set-comm, take-suc, length-take-le, take-at}
+use Rattle.trial_blocks.specs.Blocks.{Block, besideBlocks, changedMoves, changedLeft}
 
 -- ---- a place with a move before it and one behind it
 pub between : (place n : ℕ) → (ltb 0 place && ltb place n) ≡ true → (0 < place) × (place < n)
@@ -40,69 +37,84 @@ test-passed n place = go (eqb n 0) (eqb-false n 0) (ltb 31 n) (ltb-false 31 n) (
     go false f false g true h e = absurd (false≢true (sym e))
     go false f false g false h e = let z = f refl in record { some = omega (arith, z); few = g refl; inside = h refl }
 
-pub test-failed : (n place : ℕ) → (eqb n 0 || ltb 31 n || ltb n place) ≡ true → 0 < n → n ≤ 31 → place ≤ n → ⊥
-test-failed n place e some few inside =
-    false≢true (sym (rw (ne-eqb n 0 (λ z. absurd (omega (arith, some, z))), le-ltb 31 n few, le-ltb n place inside)) ∙ e)
-
 -- ---- copying
-pub copy-next : (rows blocks : List Rows) (i : ℕ) → i < length rows → i < length blocks → take i blocks ≡ take i rows
-    → take (i + 1) (set blocks i (getD rows i [])) ≡ take (i + 1) rows
-copy-next rows blocks i h k e =
+sets-snoc : (xs l : List Block) (k : ℕ) (x : Block) → sets l k (xs ++ (x ∷ [])) ≡ set (sets l k xs) (k + length xs) x
+sets-snoc [] l k x = let e : k + 0 ≡ k = omega arith in rw e
+sets-snoc (y ∷ xs) l k x = let e : k + suc (length xs) ≡ suc k + length xs = omega arith in rw e (sets-snoc xs (set l k y) (suc k) x)
+
+pub copy-next : (moves old : List Block) (i : ℕ) → i < length moves
+    → set (sets old 0 (take i moves)) i (getD moves i []) ≡ sets old 0 (take (i + 1) moves)
+copy-next moves old i h =
     let n : i + 1 ≡ suc i = omega arith in
-    rw (n, take-suc-set blocks i (getD rows i []) k, take-suc rows i [] h, e)
+    let size = length-take-le i moves (omega (arith, h)) in
+    let k : 0 + length (take i moves) ≡ i = omega (arith, size) in
+    rw (n, take-suc moves i [] h, sets-snoc (take i moves) old 0 (getD moves i []), k)
 
 -- ---- putting
-take-two : (l : List Rows) → 2 ≤ length l → take 2 l ≡ getD l 0 [] ∷ getD l 1 [] ∷ []
-take-two [] h = absurd (omega (arith, h))
-take-two (x ∷ []) h = absurd (omega (arith, h))
-take-two (x ∷ y ∷ l) h = refl
-
-take-one : (l : List Rows) → 1 ≤ length l → take 1 l ≡ getD l 0 [] ∷ []
-take-one [] h = absurd (omega (arith, h))
-take-one (x ∷ l) h = refl
-
-module _ (blocks beside : List Rows) (n place : ℕ) (h : length beside ≡ 31) where
+module _ (blocks beside : List Block) (n place : ℕ) where
   pub put-two : (ltb 0 place && ltb place n) ≡ true → 0 < place
-      → set (set blocks (place - 1) (getD beside 0 [])) place (getD beside 1 []) ≡ sets blocks (place - 1) (take (besideCount n place) beside)
-  put-two t l =
-      let e : suc (place - 1) ≡ place = omega (arith, l) in
-      rw (t, take-two beside (omega (arith, h)), e)
+      → set (set blocks (place - 1) (getD beside 0 [])) place (getD beside 1 []) ≡ sets blocks (place - 1) (besideBlocks n place beside)
+  put-two t l = let e : suc (place - 1) ≡ place = omega (arith, l) in rw (t, e)
 
-  pub put-one : (ltb 0 place && ltb place n) ≡ false → set blocks (place - 1) (getD beside 0 []) ≡ sets blocks (place - 1) (take (besideCount n place) beside)
-  put-one t = rw (t, take-one beside (omega (arith, h)))
+  pub put-one : (ltb 0 place && ltb place n) ≡ false → set blocks (place - 1) (getD beside 0 []) ≡ sets blocks (place - 1) (besideBlocks n place beside)
+  put-one t = rw t
 
--- ---- the front
-take-sets : (n : ℕ) (l : List Rows) (i : ℕ) (xs : List Rows) → i + length xs ≤ n → take n (sets l i xs) ≡ sets (take n l) i xs
-take-sets n l i [] h = refl
-take-sets n l i (x ∷ xs) h =
-    take-sets n (set l i x) (suc i) xs (omega (arith, h)) ∙ ap (λ (k : List Rows). sets k (suc i) xs) (take-set-lt n l i x (omega (arith, h)))
+-- ---- blocks put over blocks that were put
+sets-before : (xs l : List Block) (k j : ℕ) (y : Block) → j < k → set (sets l k xs) j y ≡ sets (set l j y) k xs
+sets-before [] l k j y h = refl
+sets-before (x ∷ xs) l k j y h =
+    sets-before xs (set l k x) (suc k) j y (omega (arith, h))
+    ∙ ap (λ (r : List Block). sets r (suc k) xs) (set-comm l k j x y (λ e. absurd (omega (arith, h, e))))
+
+sets-set : (xs l : List Block) (k i : ℕ) (y : Block) → i < length xs → set (sets l k xs) (k + i) y ≡ sets l k (set xs i y)
+sets-set [] l k i y h = absurd (omega (arith, h))
+sets-set (x ∷ xs) l k zero y h =
+    let e : k + 0 ≡ k = omega arith in
+    rw e (sets-before xs (set l k x) (suc k) k y (omega arith) ∙ ap (λ (r : List Block). sets r (suc k) xs) (set-set l k x y))
+sets-set (x ∷ xs) l k (suc i) y h = let e : k + suc i ≡ suc k + i = omega arith in rw e (sets-set xs (set l k x) (suc k) i y (omega (arith, h)))
+
+sets-sets : (ys xs l : List Block) (i : ℕ) → i + length ys ≤ length xs → sets (sets l 0 xs) i ys ≡ sets l 0 (sets xs i ys)
+sets-sets [] xs l i h = refl
+sets-sets (y ∷ ys) xs l i h =
+    let n = length-set xs i y in
+    let e : 0 + i ≡ i = omega arith in
+    ap (λ (r : List Block). sets r (suc i) ys) (rw e at (sets-set xs l 0 i y (omega (arith, h)))) ∙ sets-sets ys (set xs i y) l (suc i) (omega (arith, h, n))
 
 -- the new moves end no later than the old ones
-beside-fits : (n place : ℕ) → 0 < n → place ≤ n → (place - 1) + besideCount n place ≤ n
-beside-fits n place some h = go (ltb 0 place) (ltb-true 0 place) (ltb place n) (ltb-true place n)
+beside-fits : (n place : ℕ) (new : List Block) → 0 < n → place ≤ n → (place - 1) + length (besideBlocks n place new) ≤ n
+beside-fits n place new some h = go (ltb 0 place && ltb place n) (between place n)
   where
-    go : (s : Bool) → (s ≡ true → 0 < place) → (t : Bool) → (t ≡ true → place < n) → (place - 1) + cond {A = ℕ} (s && t) 2 1 ≤ n
-    go true f true g = let l = f refl in let k = g refl in omega (arith, l, k)
-    go true f false g = omega (arith, some, h)
-    go false f t g = omega (arith, some, h)
+    go : (s : Bool) → (s ≡ true → (0 < place) × (place < n))
+        → (place - 1) + length (cond {A = List Block} s (getD new 0 [] ∷ getD new 1 [] ∷ []) (getD new 0 [] ∷ [])) ≤ n
+    go true f = let (l, k) = f refl in omega (arith, l, k)
+    go false f = omega (arith, some, h)
 
-pub changed-front : (rows copied beside : List Rows) (place : ℕ) {left : List Rows}
-    → 0 < length rows → place ≤ length rows → length beside ≡ 31 → length copied ≡ 31
-    → take (length rows) copied ≡ rows
-    → left ≡ sets copied (place - 1) (take (besideCount (length rows) place) beside)
-    → (take (length rows) left ≡ sets rows (place - 1) (take (besideCount (length rows) place) beside)) × (length left ≡ 31)
-changed-front rows copied beside place some h l k front e =
-    let n = length rows in
-    let xs = take (besideCount n place) beside in
-    let size = length-take-le (besideCount n place) beside (fewer n place) in
-    let room = beside-fits n place some h in (
-      rw e (take-sets n copied (place - 1) xs (rw size room) ∙ ap (λ (r : List Rows). sets r (place - 1) xs) front),
-      rw e (length-sets copied (place - 1) xs ∙ k),
-    )
-  where
-    fewer : (n place : ℕ) → besideCount n place ≤ length beside
-    fewer n place = go (ltb 0 place && ltb place n)
-      where
-        go : (s : Bool) → cond {A = ℕ} s 2 1 ≤ length beside
-        go true = omega (arith, l)
-        go false = omega (arith, l)
+module _ (moves : List Block) (place : ℕ) (new old : List Block) where
+  abbrev outside : Bool
+  outside = eqb (length moves) 0 || ltb 31 (length moves) || ltb (length moves) place
+
+  pub changed-none : outside ≡ true → old ≡ changedLeft moves place new old
+  unfolding changedLeft
+  changed-none t = rw t
+
+  pub changed-left : outside ≡ false
+      → sets (sets old 0 moves) (place - 1) (besideBlocks (length moves) place new) ≡ changedLeft moves place new old
+  unfolding changedLeft
+  changed-left t =
+      let passed = test-passed (length moves) place t in
+      let room = beside-fits (length moves) place new (passed .some) (passed .inside) in
+      rw t (sets-sets (besideBlocks (length moves) place new) moves old (place - 1) room)
+
+  pub changed-front : {left : List Block} → 0 < length moves → length moves ≤ 31 → place ≤ length moves → length old ≡ 31
+      → left ≡ changedLeft moves place new old
+      → (take (length moves) left ≡ changedMoves moves place new) × (length left ≡ 31)
+  unfolding changedLeft
+  changed-front {left} some few inside k e =
+      let n = length moves in
+      let changed = changedMoves moves place new in
+      let none : outside ≡ false = rw (ne-eqb n 0 (λ z. absurd (omega (arith, some, z))), le-ltb 31 n few, le-ltb n place inside) in
+      let size = length-sets moves (place - 1) (besideBlocks n place new) in
+      let same : left ≡ sets old 0 changed = rw none at e in (
+        ap (take n) (same ∙ sets-eq changed old 0 (omega (arith, few, k, size))) ∙ take-at changed (drop (0 + length changed) old) n size,
+        ap length same ∙ (length-sets old 0 changed ∙ k),
+      )

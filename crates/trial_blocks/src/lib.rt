@@ -4,9 +4,10 @@ ghost use Prim.Native.Nat.{_-_, _<_, _≤_};
 ghost use mathlib.Core.Path.{_≡_};
 ghost use mathlib.Core.Bool.{cond};
 ghost use lib.Dec.{eqb};
-ghost use lib.ListN.{length, take};
+ghost use lib.ListN.{length};
 ghost use lib.Seq.{sets};
-ghost use Rattle.trial_blocks.specs.Place.{placeRefusal, besideCount};
+ghost use Rattle.trial_blocks.specs.Place.{placeRefusal};
+ghost use Rattle.trial_blocks.specs.Blocks.{besideBlocks, changedLeft};
 
 // 19 for a place that is not below the number of poses, then 12 for more poses than a chain has, 0 for neither. Accuracy: exact.
 pub fn place_refusal(poses: usize, place: usize) -> u8
@@ -31,8 +32,7 @@ pub fn trial_refusal(changed: u8, asked: u8) -> u8
 // The kept moves, copied into the front of the blocks.
 fn copy_moves(moves: &[[[f32; 4]; 45]], blocks: &mut [[[f32; 4]; 45]; 31])
     requires { ⌜ length (now moves) ≤ 31 ⌝ }
-    ensures front { λ _. ⌜ (length (now (blocks .entry)) ≡ 31
-        → (length (now (blocks .exit)) ≡ 31) × (take (length (now (moves .entry))) (now (blocks .exit)) ≡ now (moves .entry))) ⌝ }
+    ensures left { λ _. ⌜ now (blocks .exit) ≡ sets (now (blocks .entry)) 0 (now (moves .entry)) ⌝ }
 {
     let n = moves.len();
     let mut i = 0;
@@ -59,8 +59,7 @@ fn put_beside(
     requires { ⌜ 0 < n ⌝ }
     requires { ⌜ n ≤ 31 ⌝ }
     requires { ⌜ place ≤ n ⌝ }
-    ensures left { λ _. ⌜ (length (now (beside .entry)) ≡ 31
-        → now (blocks .exit) ≡ sets (now (blocks .entry)) (place - 1) (take (besideCount n place) (now (beside .entry)))) ⌝ }
+    ensures left { λ _. ⌜ now (blocks .exit) ≡ sets (now (blocks .entry)) (place - 1) (besideBlocks n place (now (beside .entry))) ⌝ }
 {
     let first = first_beside(place);
     blocks[first] = beside[0];
@@ -69,17 +68,15 @@ fn put_beside(
     }
 }
 
-// The kept moves in the front of the blocks, with the new ones in place of those beside the pose's place.
-// Nothing is put where the moves are none or more than 31, or have no such place. Accuracy: exact.
+// The kept moves in the front of the blocks, with the new ones in place of those beside the pose's place; behind them the blocks stay as they came.
+// So do all where the moves are none or more than 31, or have no such place. Accuracy: exact.
 pub fn put_changed(
     moves: &[[[f32; 4]; 45]],
     place: usize,
     beside: &[[[f32; 4]; 45]; 31],
     blocks: &mut [[[f32; 4]; 45]; 31],
 )
-    ensures changed { λ _. ⌜ (length (now (blocks .entry)) ≡ 31 → length (now (beside .entry)) ≡ 31 → 0 < length (now (moves .entry)) → length
-        (now (moves .entry)) ≤ 31 → place ≤ length (now (moves .entry)) → (take (length (now (moves .entry))) (now (blocks .exit)) ≡ sets (now (moves .entry))
-        (place - 1) (take (besideCount (length (now (moves .entry))) place) (now (beside .entry)))) × (length (now (blocks .exit)) ≡ 31)) ⌝ }
+    ensures left { λ _. ⌜ now (blocks .exit) ≡ changedLeft (now (moves .entry)) place (now (beside .entry)) (now (blocks .entry)) ⌝ }
 {
     let n = moves.len();
     if (n == 0) | (n > 31) | (place > n) {

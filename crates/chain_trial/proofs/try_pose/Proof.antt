@@ -35,7 +35,7 @@ changed-cover-requires c κs =
     let made = change .change-refusal .ensures in
     let none = none-refused (a .moves .now) (a .place) p (a .b) (a .depth) _ _ (c2 .trial-refusal .ensures) (c1 .if1 .left) in
     let passed = place-passed (a .moves .now) (a .place) (change-place (a .moves .now) (a .place) p (sym (made .0) ∙ none)) in
-    (passed .some, (passed .few, (passed .inside, made .1 .1)))
+    (passed .some, (passed .few, passed .inside))
 
 returns-2 : tie.Need-returns-2
 returns-2 c =
@@ -46,7 +46,7 @@ returns-2 c =
     let made = change .change-refusal .ensures in
     let none = none-refused (a .moves .now) (a .place) p (a .b) (a .depth) _ _ (c3 .trial-refusal .ensures) (c2 .if1 .left) in
     let zero = sym (made .0) ∙ none in
-    let value = cover-try (a .moves .now) (a .place) p (a .b) (a .depth) zero (made .1 .0 none) (c .changed-cover .ensures) in
+    let value = cover-try (a .moves .now) (a .place) p (a .b) (a .depth) zero (made .1 .0 none) (made .1 .1) (c .changed-cover .ensures) in
     trial-clauses (a .moves .now) (a .place) p (a .b) (a .depth) value
     (λ accepted k holds. kept-trial-contains (a .moves .now) k holds (a .place) p (a .b) (a .depth) zero (made .1 .0 none) value accepted)
 

@@ -1,22 +1,24 @@
--- `copy_moves` meets its contract. Its loop keeps that the first i blocks are those of the moves.
+-- `copy_moves` meets its contract. Its loop keeps that the first i moves are put over the blocks.
 use Prim.Native.Nat.{_-_, _≤_}
-use mathlib.Core.Path.{_≡_, refl, _∙_}
+use mathlib.Core.Path.{_≡_, refl, ap, _∙_}
+use mathlib.Core.List.{List, []}
 use native.Mathlib.Omega.{arith}
 use borrow.Author.Needs.{needs}
-use lib.ListN.{length, take, length-set}
-use lib.Seq.{take-all}
+use lib.ListN.{length, getD, take, set}
+use lib.Seq.{sets, take-all}
+use Rattle.trial_blocks.specs.Blocks.{Block}
 use Rattle.trial_blocks.proofs.Blocks.{copy-next}
 use Rattle.trial_blocks.proofs.copy_moves.Statement.{statement}
 use Rattle.trial_blocks.proofs.copy_moves.Tie as tie
 
 abbrev Inv-loop : tie.InvT-loop
-Inv-loop moves blocks₀ n i₀ blocks i = (n ≡ length moves) × ((i ≤ n) × (length blocks₀ ≡ 31 → (length blocks ≡ 31) × (take i blocks ≡ take i moves)))
+Inv-loop moves blocks₀ n i₀ blocks i = (n ≡ length moves) × ((i ≤ n) × (blocks ≡ sets blocks₀ 0 (take i moves)))
 
 abbrev μ-loop : tie.MeasureT-loop
 μ-loop moves blocks₀ n i₀ blocks i = n - i
 
 loop-holds : tie.Need-loop-holds Inv-loop μ-loop
-loop-holds c = (refl, (search needs, λ h. (h, refl)))
+loop-holds c = (refl, (search needs, refl))
 
 mul-blocks : tie.Need-mul-blocks Inv-loop μ-loop
 mul-blocks c = search needs
@@ -41,14 +43,12 @@ loop-again c =
     let c1 = c .before in let c2 = c1 .before in let c3 = c2 .before in
     let l = c2 .loop in
     let a = c3 .args in
-    let t = c1 .loop-test .taken in
-    let few = c3 .pre in (
+    let t = c1 .loop-test .taken in (
       refl,
       (
         omega (arith, t),
-        λ h.
-            let (n, e) = l .inv .1 .1 h in
-            (length-set (l .blocks) (l .i) _ ∙ n, copy-next (a .moves .now) (l .blocks) (l .i) (omega (arith, t)) (omega (arith, t, few, n)) e),
+        ap (λ (b : List Block). set b (l .i) (getD (a .moves .now) (l .i) [])) (l .inv .1 .1)
+            ∙ copy-next (a .moves .now) (a .blocks .now) (l .i) (omega (arith, t)),
       ),
     )
 
@@ -57,7 +57,7 @@ returns c =
     let l = c .before .loop in
     let a = c .before .before .args in
     let whole : l .i ≡ length (a .moves .now) = omega (arith, c .loop-test .left) in
-    λ h. let (n, e) = l .inv .1 .1 h in (n, rw (← whole) (e ∙ take-all (l .i) (a .moves .now) (omega (arith, whole))))
+    l .inv .1 .1 ∙ ap (sets (a .blocks .now) 0) (take-all (l .i) (a .moves .now) (omega (arith, whole)))
 
 pub copy-moves-spec : {M : Type 1} → statement M
 copy-moves-spec =

@@ -34,15 +34,14 @@ returns c =
     let c1 = c .before in let c2 = c1 .before in let c3 = c2 .before in let c4 = c3 .before in
     let a = c4 .args in
     let t = c1 .if1 .taken in
-    λ h.
     rw (c3 .first-beside .ensures)
-    (put-two (a .blocks .now) (a .beside .now) (a .n) (a .place) h t (between (a .place) (a .n) t .0))
+    (put-two (a .blocks .now) (a .beside .now) (a .n) (a .place) t (between (a .place) (a .n) t .0))
 
 returns-2 : tie.Need-returns-2
 returns-2 c =
     let c1 = c .before in let c2 = c1 .before in let c3 = c2 .before in
     let a = c3 .args in
-    λ h. rw (c2 .first-beside .ensures) (put-one (a .blocks .now) (a .beside .now) (a .n) (a .place) h (c .if1 .left))
+    rw (c2 .first-beside .ensures) (put-one (a .blocks .now) (a .beside .now) (a .n) (a .place) (c .if1 .left))
 
 pub put-beside-spec : {M : Type 1} → statement M
 put-beside-spec =
