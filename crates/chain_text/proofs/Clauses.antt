@@ -2,7 +2,7 @@
 use Prim.Native.Nat.{ℕ, _+_, _*_, _<_, _≤_}
 use native.Mathlib.Omega.{arith}
 use mathlib.Core.Path.{_≡_, refl, sym, _∙_}
-use mathlib.Core.List.{List}
+use mathlib.Core.List.{List, map}
 use mathlib.Core.Bool.{Bool, true, false, cond}
 use borrow.Author.Tests.{eq-eqb, ne-eqb, eqb-false, le-leb, leb-true}
 use lib.Dec.{eqb, leb}
@@ -12,10 +12,16 @@ use Rattle.refusal.proofs.First.{first-zero}
 use Rattle.refusal.specs.First.{firstRefusal}
 use Rattle.matrix4x4.specs.Rows.{Rows}
 use Rattle.bounds3.specs.declared.Bounds3f.{Bounds3f}
+use Rattle.bounds3.specs.List.{Bounds3f·list}
 use Rattle.bounds_query.specs.Query.{Bounds3f·refusal}
+use Rattle.motion_chain.specs.Built.{Each}
+use Rattle.chain_rows.specs.Kept.{Moves·chain}
+use Rattle.built_poses.specs.Poses.{Chain·poses}
+use Rattle.file_text.specs.Text.{poseColumns}
+use Rattle.file_text.specs.RoundTrip.{Floats}
 use Rattle.motion_text.specs.Answer.{textLeft}
 use Rattle.chain_text.specs.Write.{written, refused, TextAnswer·refusal, TextAnswer·length, TextAnswer·left}
-use Rattle.chain_text.specs.Write.{roomRefusal, Moves·text, Moves·writeRefusal, Moves·write}
+use Rattle.chain_text.specs.Write.{Pose·values, roomRefusal, Moves·text, Moves·writeRefusal, Moves·write}
 use Rattle.chain_text.specs.Theorem.{WrittenBack}
 use Rattle.chain_text.proofs.Pieces.{text-length}
 use Rattle.chain_text.proofs.Kept.{written-back}
@@ -74,13 +80,14 @@ module _ (rows : List Rows) (b : Bounds3f) (old : List ℕ) {number : ℕ} (e : 
       answer = unfold Moves·write in rw (← e, ne-eqb number 0 n)
 
   pub all-written : number ≡ 0 → {size : ℕ} → size ≡ 255 + 126 * length rows → (after : List ℕ) → after ≡ textLeft (Moves·text rows b) old
+      → Each (Floats poseColumns) (map Pose·values (Chain·poses (Moves·chain rows))) → Floats 6 (Bounds3f·list b)
       → Clauses rows b 0 size old after
-  all-written z {size} es after ea =
+  all-written z {size} es after ea floats box =
       let text = Moves·text rows b in
       let (some, fit) = accepted rows b (length old) (sym e ∙ z) in
       let own : size ≡ length text = es ∙ sym (text-length rows b some) in
       let taken : take size after ≡ text = rw (own, ea) (front-taken text old (omega (arith, fit, es, own))) in
-      rw answer (refl, (own, (ea, λ _. rw taken (written-back rows b))))
+      rw answer (refl, (own, (ea, λ _. rw taken (written-back rows b floats box))))
     where
       answer : Moves·write rows b (length old) ≡ written (Moves·text rows b)
       answer = unfold Moves·write in rw (← e, eq-eqb number 0 z)

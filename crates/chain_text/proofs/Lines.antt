@@ -29,7 +29,7 @@ names-length = refl
 pub bounds-length : (b : Bounds3f) → length (boundsText (Bounds3f·list b)) ≡ 72
 bounds-length b = length-bounds (Bounds3f·list b) refl
 
-ends-map : (rows : List Rows) → map Pose·values (map AnimatedTransform·endPose (map AnimatedTransform·fromRows rows)) ≡ map Rows·endValues rows
+pub ends-map : (rows : List Rows) → map Pose·values (map AnimatedTransform·endPose (map AnimatedTransform·fromRows rows)) ≡ map Rows·endValues rows
 ends-map [] = refl
 ends-map (m ∷ rows) = ap (λ (l : List (List Float)). Rows·endValues m ∷ l) (ends-map rows)
 

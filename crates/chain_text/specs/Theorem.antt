@@ -8,12 +8,9 @@ use Rattle.matrix4x4.specs.Rows.{Rows}
 use Rattle.bounds3.specs.declared.Bounds3f.{Bounds3f}
 use Rattle.bounds3.specs.List.{Bounds3f·list}
 use Rattle.motion_chain.specs.Chain.{Chain, built, Chain·new}
-use Rattle.motion_chain.specs.Built.{Each}
 use Rattle.chain_poses.specs.Poses.{Poses·ofLists}
 use Rattle.chain_rows.specs.Kept.{Chain·toRows}
-use Rattle.built_poses.specs.Poses.{placesPerPose}
 use Rattle.file_text.specs.Text.{Chain·text}
-use Rattle.file_text.specs.RoundTrip.{Floats}
 use Rattle.file_text.specs.Theorem.{ReadsAs}
 
 -- Where the rows are those of the chain of either kind that was built from these poses, 18 floats each:
@@ -22,4 +19,4 @@ pub record WrittenBack (rows : List Rows) (b : Bounds3f) (text : List ℕ) : Typ
   pub own-text : (rigid : Bool) (poses : List (List Float)) (c : Chain) → Chain·new rigid (Poses·ofLists poses) ≡ built c → rows ≡ Chain·toRows c
       → text ≡ Chain·text c b
   pub reads-back : (rigid : Bool) (poses : List (List Float)) (c : Chain) → Chain·new rigid (Poses·ofLists poses) ≡ built c → rows ≡ Chain·toRows c
-      → Each (Floats placesPerPose) poses → Floats 6 (Bounds3f·list b) → ReadsAs text poses (Bounds3f·list b)
+      → ReadsAs text poses (Bounds3f·list b)

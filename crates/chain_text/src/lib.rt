@@ -8,8 +8,12 @@ ghost use lib.ListN.{length, take};
 ghost use lib.Seq.{paste};
 ghost use Rattle.bounds3.specs.List.{Bounds3f·list};
 ghost use Rattle.lent_arrays.specs.Arrays.{Pose·ofList};
+ghost use Rattle.motion_chain.specs.Built.{Each};
+ghost use Rattle.built_poses.specs.Poses.{Chain·poses, placesPerPose};
+ghost use Rattle.chain_rows.specs.Kept.{Moves·chain};
 ghost use Rattle.motion_text.specs.Answer.{boundsText, textLeft};
-ghost use Rattle.file_text.specs.Text.{valuesText, linesText};
+ghost use Rattle.file_text.specs.Text.{poseColumns, valuesText, linesText};
+ghost use Rattle.file_text.specs.RoundTrip.{Floats};
 ghost use Rattle.chain_text.specs.means.Lines.{Rows·endValues};
 ghost use Rattle.chain_text.specs.Write.{Pose·values, Moves·text, roomRefusal, Moves·writeRefusal, Moves·write};
 ghost use Rattle.chain_text.specs.Write.{TextAnswer·refusal, TextAnswer·length, TextAnswer·left};
@@ -54,7 +58,8 @@ fn line_values(pose: [f32; 18]) -> [f32; 14]
 // Puts a pose's line into `out` from `at` on.
 fn put_pose(pose: [f32; 18], out: &mut [u8], at: usize)
     requires { ⌜ at + 126 ≤ length (now out) ⌝ }
-    ensures { λ _. ⌜ now (out .exit) ≡ paste (now (out .entry)) at (valuesText (Pose·values (Pose·ofList pose))) 126 ⌝ }
+    ensures left { λ _. ⌜ now (out .exit) ≡ paste (now (out .entry)) at (valuesText (Pose·values (Pose·ofList pose))) 126 ⌝ }
+    ensures floats { λ _. ⌜ Floats placesPerPose pose ⌝ }
 {
     motion_text::write_values(&line_values(pose), &mut out[at..]);
 }
@@ -70,8 +75,9 @@ fn put_bounds(b: Bounds3f, out: &mut [u8], at: usize)
 // Puts the lines of the moves' ends into `out`, behind those of the names and the first pose.
 fn put_ends(moves: &[[[f32; 4]; 45]], out: &mut [u8])
     requires { ⌜ 183 + 126 * length (now moves) ≤ length (now out) ⌝ }
-    ensures { λ _. ⌜ now (out .exit)
+    ensures left { λ _. ⌜ now (out .exit)
         ≡ paste (now (out .entry)) 183 (linesText (map Rows·endValues (now (moves .entry)))) (126 * length (now (moves .entry))) ⌝ }
+    ensures floats { λ _. ⌜ Each (Floats poseColumns) (map Rows·endValues (now (moves .entry))) ⌝ }
 {
     let mut i = 0;
     while i < moves.len() {
@@ -88,7 +94,8 @@ fn put_ends(moves: &[[[f32; 4]; 45]], out: &mut [u8])
 fn put(moves: &[[[f32; 4]; 45]], b: Bounds3f, out: &mut [u8])
     requires { ⌜ 0 < length (now moves) ⌝ }
     requires { ⌜ 255 + 126 * length (now moves) ≤ length (now out) ⌝ }
-    ensures { λ _. ⌜ now (out .exit) ≡ textLeft (Moves·text (now (moves .entry)) b) (now (out .entry)) ⌝ }
+    ensures left { λ _. ⌜ now (out .exit) ≡ textLeft (Moves·text (now (moves .entry)) b) (now (out .entry)) ⌝ }
+    ensures floats { λ _. ⌜ Each (Floats poseColumns) (map Pose·values (Chain·poses (Moves·chain (now (moves .entry))))) ⌝ }
 {
     motion_text::write_text(
         b"time m00 m01 m02 m03 m10 m11 m12 m13 m20 m21 m22 m23 pad\n",

@@ -1,8 +1,9 @@
--- `put` puts the text in four pieces: the names, the first pose, the moves' ends and the box (`put-all`).
+-- `put` puts the text in four pieces: the names, the first pose, the moves' ends and the box (`put-all`); their values are 32-bit floats (`lines-floats`).
 use mathlib.Core.Path.{_∙_}
 use borrow.Author.Needs.{needs}
 use Rattle.motion_file.specs.Text.{ascii}
 use Rattle.chain_text.proofs.Pieces.{put-all}
+use Rattle.chain_text.proofs.Floats.{lines-floats}
 use Rattle.chain_text.proofs.put.Statement.{statement}
 use Rattle.chain_text.proofs.put.Tie as tie
 
@@ -52,9 +53,11 @@ returns c =
     let start = pose .before .before in
     let names = c16 in
     let entry = c20 in
-    let a = entry .args in
-    put-all (a .moves .now) (a .b) (entry .pre .0) (a .out .now) (entry .pre .1) (start .start-pose .ensures) _ _ _ _ (names .write-text .ensures .1)
-    (pose .put-pose .ensures) (ends .put-ends .ensures) (bounds .put-bounds .ensures)
+    let a = entry .args in (
+      put-all (a .moves .now) (a .b) (entry .pre .0) (a .out .now) (entry .pre .1) (start .start-pose .ensures) _ _ _ _ (names .write-text .ensures .1)
+          (pose .put-pose .ensures .0) (ends .put-ends .ensures .0) (bounds .put-bounds .ensures),
+      lines-floats (a .moves .now) _ (entry .pre .0) (start .start-pose .ensures) (pose .put-pose .ensures .1) (ends .put-ends .ensures .1),
+    )
 
 pub put-spec : {M : Type 1} → statement M
 put-spec =

@@ -1,4 +1,4 @@
--- `put_pose` writes a line into the part of the buffer from `at` on (`part-front`).
+-- `put_pose` writes a line into the part of the buffer from `at` on (`part-front`). The pose, by value, is 18 floats (`array-floats`).
 use native.Mathlib.Omega.{arith}
 use borrow.Author.Needs.{needs}
 use Rattle.lent_arrays.specs.Arrays.{Pose·ofList}
@@ -6,6 +6,7 @@ use Rattle.motion_text.proofs.Written.{length-values}
 use Rattle.file_text.specs.Text.{valuesText}
 use Rattle.chain_text.specs.Write.{Pose·values}
 use Rattle.chain_text.proofs.Parts.{part-front}
+use Rattle.chain_text.proofs.Floats.{array-floats}
 use Rattle.chain_text.proofs.put_pose.Statement.{statement}
 use Rattle.chain_text.proofs.put_pose.Tie as tie
 
@@ -36,8 +37,11 @@ returns c =
     let c5 = c4 .before in let c6 = c5 .before in let c7 = c6 .before in
     let a = c7 .args in
     let values = Pose·values (Pose·ofList (a .pose)) in
-    rw (c2 .write-values .ensures .1, c5 .line-values .ensures)
-    (part-front (valuesText values) (a .out .now) (a .at) 126 (omega (arith, length-values values)) (c7 .pre))
+    let (words, (shape, each)) = c7 .good .0 in (
+      rw (c2 .write-values .ensures .1, c5 .line-values .ensures)
+          (part-front (valuesText values) (a .out .now) (a .at) 126 (omega (arith, length-values values)) (c7 .pre)),
+      array-floats (a .pose) words 18 (shape .1) each,
+    )
 
 pub put-pose-spec : {M : Type 1} → statement M
 put-pose-spec =

@@ -1,6 +1,7 @@
 -- `write` meets its contract, in the two ways that it ends (proofs/Clauses.antt).
 use mathlib.Core.Path.{sym, _∙_}
 use borrow.Author.Needs.{needs}
+use Rattle.chain_text.proofs.Floats.{box-floats}
 use Rattle.chain_text.proofs.Clauses.{accepted, all-refused, all-written}
 use Rattle.chain_text.proofs.write.Statement.{statement}
 use Rattle.chain_text.proofs.write.Tie as tie
@@ -35,7 +36,12 @@ returns-2 c =
     let test = c5 in
     let number = c6 in
     let a = c8 .args in
-    all-written (a .moves .now) (a .b) (a .out .now) (number .write-refusal .ensures) (test .if1 .left) (c .text-length .ensures) _ (put .put .ensures)
+    let corners = c8 .good .1 .0 .1 .1 in
+    let least = corners .0 .1 .1 in
+    let greatest = corners .1 .0 .1 .1 in
+    let box = box-floats (a .b) (least .0 .1) (least .1 .0 .1) (least .1 .1 .0 .1) (greatest .0 .1) (greatest .1 .0 .1) (greatest .1 .1 .0 .1) in
+    all-written (a .moves .now) (a .b) (a .out .now) (number .write-refusal .ensures) (test .if1 .left) (c .text-length .ensures) _ (put .put .ensures .0)
+    (put .put .ensures .1) box
 
 pub write-spec : {M : Type 1} → statement M
 write-spec =
