@@ -1,5 +1,6 @@
 -- Chains built and asked by computing: the identity at 0, the identity with m03 = 1 at 1, the identity at 2. Its inner time belongs
--- to the earlier move, and it meets the guarantee's hypotheses (`hypotheses-met`). Lists of times asked of it, answered and refused.
+-- to the earlier move, and it meets the guarantee's hypotheses (`hypotheses-met`), as a rigid chain does (`rigid-hypotheses-met`). Lists of times asked of it,
+-- answered and refused.
 -- The counts, the times and the order of the checks: 12 after 1 and before 3, and 3 before anything is worked.
 use Prim.Native.Nat.{ℕ, zero, suc, _*_, _^_}
 use mathlib.Core.Path.{_≡_, refl, subst}
@@ -267,3 +268,54 @@ mirroring-pose-first = refl
 infinite-duration-before-scaling : Chain·new true (identityAt farBelow ∷ pose far (fraction 2 1) o ∷ []) ≡ refused 3
 unfolding computing
 infinite-duration-before-scaling = refl
+
+-- ---- the guarantee's hypotheses can be met by a rigid chain: there and back again, with a slight scale, which 17 leaves, at the inner pose
+abbrev slightPose : Pose
+slightPose = pose one (fraction 4097 4096) one
+
+abbrev slightPoses : List Pose
+slightPoses = identityAt o ∷ slightPose ∷ identityAt (fraction 2 1) ∷ []
+
+abbrev rigidChain : Chain
+rigidChain =
+    record {
+      first = AnimatedTransform·new true (identityAt o) slightPose .value;
+      rest = AnimatedTransform·new true slightPose (identityAt (fraction 2 1)) .value ∷ [];
+    }
+
+-- Of the point (1, 0, 0): between the poses nothing scales, so that x goes from 1 to 2, and at its own time the inner pose scales. The plain chain's cover is
+-- x from 0.5 to 2.5 and more.
+abbrev rigidCover : Bounds3f
+rigidCover = segment one (fraction 8193 4096)
+
+pub record RigidHypothesesMet : Type 0 where
+  pub built : BuiltChain rigidChain
+  pub kind : built .rigid ≡ true
+  pub accepted : BoundsAnswer·refusal (Chain·cover rigidChain (segment one one) 1) ≡ 0
+  pub box : BoundsAnswer·bounds (Chain·cover rigidChain (segment one one) 1) ≡ rigidCover
+
+pub rigid-hypotheses-met : RigidHypothesesMet
+unfolding fits computing
+rigid-hypotheses-met =
+    record { built = record { rigid = true; poses = slightPoses; poses-binary32 = tt; accepted = refl }; kind = refl; accepted = refl; box = refl }
+
+one-refl : one ≼ one
+unfolding computing
+one-refl = record { holds = tt }
+
+pub rigid-way-covered : MovedInside rigidCover (Chain·padAt rigidChain (fraction 1 2)) (Chain·transformPoint rigidChain (fraction 1 2) (onX one))
+unfolding computing
+rigid-way-covered =
+    subst (λ (box : Bounds3f). MovedInside box (Chain·padAt rigidChain (fraction 1 2)) (Chain·transformPoint rigidChain (fraction 1 2) (onX one)))
+    (rigid-hypotheses-met .box)
+    (chain-contains rigidChain (segment one one) 1 (fraction 1 2) (onX one) (rigid-hypotheses-met .built) (rigid-hypotheses-met .accepted) tt
+    (record { x = (one-refl, one-refl); y = (zero-refl, zero-refl); z = (zero-refl, zero-refl) }))
+
+-- the point on its way, unscaled; at the inner pose's own time, scaled
+rigid-point-unscaled : Chain·transformPoint rigidChain (fraction 1 2) (onX one) ≡ point.Moved (onX (fraction 3 2))
+unfolding computing
+rigid-point-unscaled = refl
+
+rigid-pose-as-set : Chain·transformPoint rigidChain one (onX one) ≡ point.Moved (onX (fraction 8193 4096))
+unfolding computing
+rigid-pose-as-set = refl
