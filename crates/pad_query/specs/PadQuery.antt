@@ -5,7 +5,7 @@ use mathlib.Core.Bool.{cond}
 use mathlib.Core.List.{List, [], _∷_}
 use lib.Ieee.{Float, isNan}
 use lib.Ieee.Scale.{finite}
-use Rattle.matrix4x4.specs.Rows.{Rows}
+use Rattle.matrix4x4.specs.Rows.{Rows, positiveZero}
 use Rattle.animated_transform.specs.declared.AnimatedTransform.{AnimatedTransform}
 use Rattle.motion_rows.specs.Rows.{AnimatedTransform·fromRows}
 use Rattle.motion_point.specs.PadAt.{AnimatedTransform·padAt}
@@ -21,10 +21,14 @@ AnimatedTransform·pad m time = cond (isNan time) (Refused 6) (PadAnswer·judged
 unfoldable pub Rows·pad : Rows → Float → PadAnswer
 Rows·pad rows time = AnimatedTransform·pad (AnimatedTransform·fromRows rows) time
 
--- document 01's number of each case: 0 where nothing is refused
+-- document 01's number and value of each case: 0 where nothing is refused, and +0 where something is
 abbrev pub PadAnswer·refusal : PadAnswer → ℕ
 PadAnswer·refusal (Pad x) = 0
 PadAnswer·refusal (Refused n) = n
+
+abbrev pub PadAnswer·pad : PadAnswer → Float
+PadAnswer·pad (Pad x) = x
+PadAnswer·pad (Refused n) = positiveZero
 
 -- a lent array after an answer: `old` is what stood in it, and stands in it after a refusal
 abbrev pub PadAnswer·left : PadAnswer → List Float → List Float

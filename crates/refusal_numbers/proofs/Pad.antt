@@ -25,7 +25,7 @@ judged-numbered : (pad : Float) → PadAnswer·Numbered (0 ∷ 5 ∷ 6 ∷ []) (
 unfolding PadAnswer·judged
 judged-numbered pad =
     cond-keeps (PadAnswer·Numbered (0 ∷ 5 ∷ 6 ∷ [])) (finite pad) (Pad pad) (Refused 5)
-    (record { number = inl refl; none = λ _. (pad, refl) })
+    (record { number = inl refl; none = λ _. refl })
     (record { number = inr (inl refl); none = λ e. absurd (omega (arith, e)) })
 
 pub pad-numbered : (m : AnimatedTransform) (time : Float) → PadAnswer·Numbered (0 ∷ 5 ∷ 6 ∷ []) (AnimatedTransform·pad m time)

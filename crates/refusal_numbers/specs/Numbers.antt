@@ -23,7 +23,7 @@ use Rattle.motion_point.specs.Answer.{PointAnswer·Numbered}
 use Rattle.motion_rows.specs.TransformPoint.{Rows·transformPoint}
 use Rattle.pad_query.specs.declared.PadAnswer.{PadAnswer}
 use Rattle.pad_query.specs.declared.PadAnswer.the-variants.{Pad}
-use Rattle.pad_query.specs.PadQuery.{PadAnswer·refusal, AnimatedTransform·pad, Rows·pad}
+use Rattle.pad_query.specs.PadQuery.{PadAnswer·refusal, PadAnswer·pad, AnimatedTransform·pad, Rows·pad}
 use Rattle.interpolation.specs.Interpolate.{AnimatedTransform·interpolate}
 use Rattle.motion_bounds.specs.declared.MotionBoundsAnswer.{MotionBoundsAnswer}
 use Rattle.motion_bounds.specs.declared.MotionBoundsAnswer.the-variants.{Bounds}
@@ -36,10 +36,10 @@ use Rattle.motion_answer.specs.Answer.{MoveFile·cover}
 -- ---- an answer and its number
 -- Of a point it is `PointAnswer·Numbered` of motion_point, of a box `BoundsAnswer·Numbered` of motion_cover: the number is one of those listed, and an answer
 -- whose number is 0 is a moved point, or a box.
--- Of a pad: its number is one of those listed, and where it is 0 there is a pad.
+-- Of a pad likewise: its number is one of those listed, and an answer whose number is 0 is a pad. (After a refusal the pad is +0, by `PadAnswer·pad`.)
 pub record PadAnswer·Numbered (numbers : List ℕ) (a : PadAnswer) : Type 0 where
   pub number : OneOf (PadAnswer·refusal a) numbers
-  pub none : PadAnswer·refusal a ≡ 0 → (pad : Float) × (a ≡ Pad pad)
+  pub none : PadAnswer·refusal a ≡ 0 → a ≡ Pad (PadAnswer·pad a)
 
 -- Of a motion box likewise: its number is one of those listed, and where it is 0 there is a box with its counts. (After
 -- a refusal the box is +0 and the counts are 0, by `MotionBoundsAnswer·bounds` and `MotionBoundsAnswer·examined`.)
