@@ -5,6 +5,7 @@ ghost use Prim.Native.Nat.{_<_};
 ghost use lib.ListN.{length};
 ghost use Rattle.motion_file.specs.Layout.{names, values, fits, valuesOf};
 ghost use Rattle.motion_file.specs.means.Place.{NextByte};
+ghost use Rattle.file_lines.specs.Values.{valuesLeft};
 use hexadecimal::Word;
 
 // Whether a line, every run of spaces read as one space, is the names `text`. Accuracy: exact.
@@ -26,28 +27,39 @@ pub fn is_names(line: &[u8], text: &[u8]) -> bool
     at == line.len()
 }
 
-// Whether a line is as many values as `out` has places, which `out` then holds; no line has no value. Accuracy: exact; every pattern of a NaN gives NaN.
+// Whether a line is as many values as `out` has places, which `out` then holds; any other line leaves `out` as it is, and no line has no value.
+// Accuracy: exact; every pattern of a NaN gives NaN.
 pub fn read_values(line: &[u8], out: &mut [f32]) -> bool
     ensures value { λ r. ⌜ r ≡ fits (values (length (now (out .entry)))) (now (line .entry)) ⌝ }
-    ensures held { λ r. ⌜ (r ≡ true → now (out .exit) ≡ valuesOf (now (line .entry))) ⌝ }
+    ensures left { λ _. ⌜ now (out .exit) ≡ valuesLeft (now (line .entry)) (now (out .entry)) ⌝ }
 {
-    if out.len() == 0 {
+    // The whole line is judged before anything is put into the lent places.
+    let kept = are_values(line, out.len());
+    if kept {
+        put_values(line, out);
+    }
+    kept
+}
+
+// Whether a line is `count` values; no line has none.
+fn are_values(line: &[u8], count: usize) -> bool
+    ensures { λ r. ⌜ r ≡ fits (values count) (now (line .entry)) ⌝ }
+{
+    if count == 0 {
         return false;
     }
     let mut at = 0;
-    let mut k = 0;
+    let mut left = count;
     loop {
         match hexadecimal::read_word(line, at) {
-            Word::Bits(bits) => {
-                out[k] = hexadecimal::float_of_bits(bits);
-            }
+            Word::Bits(_) => {}
             Word::Malformed => {
                 return false;
             }
         }
         at += 8;
-        k += 1;
-        if k == out.len() {
+        left -= 1;
+        if left == 0 {
             return at == line.len();
         }
         if line.len() <= at {
@@ -58,6 +70,30 @@ pub fn read_values(line: &[u8], out: &mut [f32]) -> bool
             return false;
         }
         at = next_byte(line, at);
+    }
+}
+
+// Puts the values of a line into `out`, which has a place for each.
+fn put_values(line: &[u8], out: &mut [f32])
+    requires { ⌜ fits (values (length (now out))) (now line) ≡ true ⌝ }
+    ensures { λ _. ⌜ now (out .exit) ≡ valuesOf (now (line .entry)) ⌝ }
+{
+    let mut at = 0;
+    let mut k = 0;
+    loop {
+        match hexadecimal::read_word(line, at) {
+            Word::Bits(bits) => {
+                out[k] = hexadecimal::float_of_bits(bits);
+            }
+            Word::Malformed => {
+                return;
+            }
+        }
+        k += 1;
+        if k == out.len() {
+            return;
+        }
+        at = next_byte(line, at + 8);
     }
 }
 

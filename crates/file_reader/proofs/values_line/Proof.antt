@@ -4,6 +4,7 @@ use mathlib.Core.Path.{sym, _∙_, ap}
 use lib.ListN.{length}
 use borrow.Author.Needs.{needs}
 use Rattle.motion_file.specs.Layout.{values, valuesOf}
+use Rattle.file_lines.specs.Values.{valuesLeft}
 use Rattle.motion_file.proofs.Lines.{line-slice, after-fits, after-unfit, after-unended}
 use Rattle.file_reader.proofs.values_line.Statement.{statement}
 use Rattle.file_reader.proofs.values_line.Tie as tie
@@ -30,15 +31,16 @@ same-length : tie.Need-same-length
 same-length c = search needs
 
 returns : tie.Need-returns
+unfolding valuesLeft
 returns c =
     let c1 = c .before in let c2 = c1 .before in let c3 = c2 .before in let c4 = c3 .before in let c5 = c4 .before in let c6 = c5 .before in
     let c7 = c6 .before in let c8 = c7 .before in let c9 = c8 .before in let c10 = c9 .before in let c11 = c10 .before in
     let a = c11 .args in
     let end = c8 .line-end in
-    let read = c4 .read-values in (
-      c .after-line-feed .ensures
-          ∙ after-fits (values (length (a .out .now))) (a .s .now) (a .at) (end .result) (end .ensures) (sym (read .ensures .0) ∙ c1 .if2 .taken),
-      λ h. read .ensures .1 (c1 .if2 .taken) ∙ ap valuesOf (line-slice (a .s .now) (a .at) (end .result) (end .ensures)),
+    let read = c4 .read-values in
+    let kept = sym (read .ensures .0) ∙ c1 .if2 .taken in (
+      c .after-line-feed .ensures ∙ after-fits (values (length (a .out .now))) (a .s .now) (a .at) (end .result) (end .ensures) kept,
+      λ h. rw kept at (read .ensures .1) ∙ ap valuesOf (line-slice (a .s .now) (a .at) (end .result) (end .ensures)),
     )
 
 same-length-2 : tie.Need-same-length-2
