@@ -1,7 +1,7 @@
 // The program `day`: reads a day file from standard input to its end, and prints the tick in which each boom starts, or the refusal.
 // A day file is a line of names, then a line for each boom: its cover, least corner and greatest corner as six words of eight hexadecimal digits, a float's
 // bits, and its run length in ticks, a decimal number. One space stands between words, none before the first or after the last; every line ends in a line feed;
-// a file has at most 65,536 bytes. Whatever departs from that is refused with 11.
+// a file has at most 65,536 bytes. Whatever departs from that is refused with 11. A word of digits is a length, however long: one that no u32 holds is 22.
 use answer_lines::put_text;
 use hexadecimal::Word;
 use question_lines::Decimal;
@@ -120,7 +120,7 @@ fn put_boom(line: &[u8], place: usize, boxes: &mut [[f32; 6]; 8], lengths: &mut 
     if !read_box(line, &mut b) {
         return false;
     }
-    match question_lines::read_decimal(part(line, 54, line.len())) {
+    match question_lines::read_saturated(part(line, 54, line.len())) {
         Decimal::Value(ticks) => {
             if place < 8 {
                 boxes[place] = b;

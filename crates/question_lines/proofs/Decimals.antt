@@ -30,11 +30,11 @@ module _ (n b : ℕ) where
   unfolding Decimal·append
   append-fits h g l = rw (le-leb 48 b h, le-leb b 57 g, lt-ltb (appended n b) 18446744073709551616 (omega arith))
 
-abbrev valueOf : Decimal → ℕ
+abbrev pub valueOf : Decimal → ℕ
 valueOf (Value n) = n
 valueOf Malformed = 0
 
-abbrev isValue : Decimal → Bool
+abbrev pub isValue : Decimal → Bool
 isValue (Value n) = true
 isValue Malformed = false
 

@@ -1,4 +1,5 @@
 pub mod Kept
 pub mod Decimals
+pub mod HeldNumbers
 pub mod Floats
 pub mod Positions

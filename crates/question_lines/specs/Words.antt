@@ -1,5 +1,6 @@
 -- Words of a question line: `part`, what stands between two places; `Words·position`, a word's place in a list; `Decimal·read`, a whole number below 2^64;
--- `Floats·read` and `Floats·stored`, floats with a space before each. Rests on the texts of `motion_file` and the words of `hexadecimal`.
+-- `Decimal·readSaturated`, one of any size as 32 bits hold it; `Floats·read` and `Floats·stored`, floats with a space before each. Rests on the texts of
+-- `motion_file` and the words of `hexadecimal`.
 use Prim.Native.Nat.{ℕ, zero, suc, _+_, _-_, _*_, _^_}
 use mathlib.Core.Bool.{Bool, true, false, cond, _&&_}
 use mathlib.Core.List.{List, [], _∷_}
@@ -44,6 +45,23 @@ appendAll n (b ∷ bs) = cond (canAppend n b) (appendAll (appended n b) bs) Malf
 -- a word of at least one digit, with any zeros in front
 unfoldable pub Decimal·read : List ℕ → Decimal
 Decimal·read word = cond (eqb (length word) 0) Malformed (appendAll 0 word)
+
+-- a number as 32 bits hold it: itself, or the greatest that they hold
+abbrev pub Decimal·saturated : ℕ → ℕ
+Decimal·saturated n = cond (ltb n (2 ^ 32)) n (2 ^ 32 - 1)
+
+unfoldable pub areDigits : List ℕ → Bool
+areDigits [] = true
+areDigits (b ∷ bs) = leb 48 b && leb b 57 && areDigits bs
+
+-- the number n with all these digits behind it
+unfoldable pub numberFrom : ℕ → List ℕ → ℕ
+numberFrom n [] = n
+numberFrom n (b ∷ bs) = numberFrom (appended n b) bs
+
+-- a word of at least one digit, with any zeros in front, as 32 bits hold its number
+unfoldable pub Decimal·readSaturated : List ℕ → Decimal
+Decimal·readSaturated word = cond (ltb 0 (length word) && areDigits word) (Value (Decimal·saturated (numberFrom 0 word))) Malformed
 
 -- a space and a float's eight digits at a place
 unfoldable pub Float·read : List ℕ → ℕ → Word

@@ -2,11 +2,12 @@
 use hexadecimal::Word;
 ghost use mathlib.Core.Path.{_≡_};
 ghost use mathlib.Core.Bool.{cond};
-ghost use Prim.Native.Nat.{_-_, _^_, _≤_, _<_, max};
+ghost use Prim.Native.Nat.{_≤_, _<_, max};
 ghost use lib.Dec.{ltb};
 ghost use lib.ListN.{length, take};
 ghost use Rattle.motion_text.specs.Answer.{textLeft};
-ghost use Rattle.question_lines.specs.Words.{part as Words·part, Words·position, Decimal·append, Decimal·read, Float·read, Floats·read, Floats·stored};
+ghost use Rattle.question_lines.specs.Words.{part as Words·part, Words·position, Decimal·append, Decimal·read, Decimal·saturated};
+ghost use Rattle.question_lines.specs.Words.{Decimal·readSaturated, Float·read, Floats·read, Floats·stored};
 
 // What a word says.
 pub enum Decimal {
@@ -43,6 +44,25 @@ pub fn read_decimal(word: &[u8]) -> Decimal
     while i < word.len() {
         match append_digit(value, word[i]) {
             Decimal::Value(n) => value = n,
+            Decimal::Malformed => return Decimal::Malformed,
+        }
+        i += 1;
+    }
+    Decimal::Value(value)
+}
+
+// A whole number of any number of digits, as 32 bits hold it (`saturated`), with any zeros in front. Accuracy: exact.
+pub fn read_saturated(word: &[u8]) -> Decimal
+    ensures value { λ r. ⌜ r ≡ Decimal·readSaturated (now (word .entry)) ⌝ }
+{
+    if word.len() == 0 {
+        return Decimal::Malformed;
+    }
+    let mut value = 0;
+    let mut i = 0;
+    while i < word.len() {
+        match append_digit(value, word[i]) {
+            Decimal::Value(n) => value = saturated(n) as u64,
             Decimal::Malformed => return Decimal::Malformed,
         }
         i += 1;
@@ -105,7 +125,7 @@ fn read_float(text: &[u8], at: usize) -> Word
 
 // A number as 32 bits hold it: itself, or the greatest that they hold. Accuracy: exact.
 pub fn saturated(n: u64) -> u32
-    ensures value { λ r. ⌜ r ≡ cond (ltb n (2 ^ 32)) n (2 ^ 32 - 1) ⌝ }
+    ensures value { λ r. ⌜ r ≡ Decimal·saturated n ⌝ }
 {
     if n < 4294967296 { n as u32 } else { u32::MAX }
 }
