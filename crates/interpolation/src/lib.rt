@@ -1,6 +1,6 @@
 // pbrt's `AnimatedTransform::interpolate`: the transform of a move at a time, both halves, judged.
-// At and outside the end times, and where the two poses are equal, it is a stored transform, refused with 5 where it isn't finite, as in rows that nobody built;
-// between them it is computed, and refused with 4 or 5, whichever is met first.
+// At and outside the end times, and where the two poses are equal, it is a stored transform, refused with 5 where it isn't finite, as in rows that nobody
+// built; between them it is computed, and refused with 4 or 5, whichever is met first.
 use animated_transform::AnimatedTransform;
 use matrix4x4::Matrix4x4;
 use quaternion::Quaternion;
@@ -74,8 +74,8 @@ fn pose_at(m: AnimatedTransform, dt: f32) -> TransformAnswer
     composed(trans, rotate, scale)
 }
 
-// pbrt's `interpolate`: the transform at a time; refused with 6 for a NaN time, with 5 for a stored transform that isn't finite, and between the two poses with 4
-// or 5; pbrt goes on where this refuses.
+// pbrt's `interpolate`: the transform at a time; refused with 6 for a NaN time, with 5 for a stored transform that isn't finite, and between the two poses
+// with 4 or 5; pbrt goes on where this refuses.
 // Accuracy: each operation but sine, cosine and arc cosine is correctly rounded.
 pub fn interpolate(m: AnimatedTransform, time: f32) -> TransformAnswer
     ensures value { λ r. ⌜ r ≡ AnimatedTransform·interpolate m time ⌝ }

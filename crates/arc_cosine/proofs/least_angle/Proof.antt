@@ -3,8 +3,8 @@
 use Prim.Native.Nat.{_-_}
 use native.Mathlib.Omega.{arith}
 use borrow.Author.Needs.{needs}
-use Rattle.arc_cosine.proofs.Halving.{Searching, searching-starts, searching-inside, searching-counts, searching-again, searching-closer, searching-counted}
-use Rattle.arc_cosine.proofs.Halving.{halving-ends, halving-zero}
+use Rattle.arc_cosine.proofs.Halving.{Searching, searching-starts, searching-inside, searching-counts, searching-again}
+use Rattle.arc_cosine.proofs.Halving.{searching-closer, searching-counted, halving-ends, halving-zero}
 use Rattle.arc_cosine.proofs.least_angle.Statement.{statement}
 use Rattle.arc_cosine.proofs.least_angle.Tie as tie
 
