@@ -77,9 +77,10 @@ fn answer_line(
         return written;
     }
     let at = make_room(out, written);
+    let mut wholes = [0u64; 4];
     let mut x = [0.0f32; 34];
-    let q = question::parse(line, &mut x);
-    answer::put_answer(q, &x, out, at, motion)
+    let q = question::parse(line, &mut wholes, &mut x);
+    answer::put_answer(q, wholes[0], &x, out, at, motion)
 }
 
 // Half of the output is free after this, which is more than the longest answer has.

@@ -1,24 +1,32 @@
 // Questions about matrices and quaternions: rotation Q, normalize Q, quat M, slerp T Q Q, inverse M, mul M M, bounds M BOX, decompose M (t, r and S),
 // zeros C1 C2 C3 C4 C5 THETA (how many, then eight places).
 // A matrix is 16 floats by rows, a quaternion x y z w, a box x0 y0 z0 x1 y1 z1; `bounds` is what `transform_bounds` makes of the box.
-use hexadecimal::float_of_bits;
+use answer_lines::put_floats;
+use answer_lines::put_refused;
+use answer_lines::put_text;
 use quaternion::Quaternion;
+use question_values::row_at;
 use transform::Transform;
 use vector3::Vector3f;
 
-// The answer to a question about matrices, quaternions, points and boxes, by its kind.
-pub fn answer(kind: usize, x: &[f32; 34], rows: &mut [[f32; 4]; 9]) -> u8 {
+// Answers a question about matrices, quaternions, points and boxes, by its kind.
+pub(crate) fn put_answer(kind: usize, x: &[f32; 34], out: &mut [u8; 16384], at: usize) -> usize {
     match kind {
         11 => {
             let t = rotation::transform_from_quaternion(quaternion_at(x, 0));
-            put_matrix(t.m.to_rows(), 0, rows)
+            put_matrix(0, t.m.to_rows(), out, at)
         }
-        15 => inverse(x, rows),
-        16 => put_matrix(matrix4x4::mul(matrix_at(x, 0), matrix_at(x, 16)), 0, rows),
-        17 => bounds(x, rows),
-        18 => decompose(x, rows),
-        19 => zeros(x, rows),
-        _ => put_quaternion(quaternion_value(kind, x), 0, rows),
+        15 => inverse(x, out, at),
+        16 => put_matrix(
+            0,
+            matrix4x4::mul(matrix_at(x, 0), matrix_at(x, 16)),
+            out,
+            at,
+        ),
+        17 => bounds(x, out, at),
+        18 => decompose(x, out, at),
+        19 => zeros(x, out, at),
+        _ => put_quaternion(quaternion_value(kind, x), out, at),
     }
 }
 
@@ -30,78 +38,72 @@ fn quaternion_value(kind: usize, x: &[f32; 34]) -> Quaternion {
     }
 }
 
-fn inverse(x: &[f32; 34], rows: &mut [[f32; 4]; 9]) -> u8 {
+fn inverse(x: &[f32; 34], out: &mut [u8; 16384], at: usize) -> usize {
     let r = matrix_inverse::inverse(matrix_at(x, 0));
-    put_matrix(r.matrix(), 0, rows);
-    r.refusal
+    put_matrix(r.refusal, r.matrix(), out, at)
 }
 
-fn bounds(x: &[f32; 34], rows: &mut [[f32; 4]; 9]) -> u8 {
+fn bounds(x: &[f32; 34], out: &mut [u8; 16384], at: usize) -> usize {
     let m = matrix_at(x, 0);
-    let b = bounds_at(x, 16);
+    let b = question_values::bounds_at(x, 16);
     let moved = Transform::from_matrices(m, m).transform_bounds(lent_arrays::bounds(&b));
     let mut values = [0.0f32; 6];
     let refusal = lent_arrays::put_bounds(moved, &mut values);
-    put_bounds(values, rows);
-    refusal
+    answer_values::put_bounds(refusal, &values, out, at)
 }
 
-fn decompose(x: &[f32; 34], rows: &mut [[f32; 4]; 9]) -> u8 {
+fn decompose(x: &[f32; 34], out: &mut [u8; 16384], at: usize) -> usize {
     let d = decomposition::decompose(false, matrix_at(x, 0));
+    if d.refusal != 0 {
+        return put_refused(d.refusal, out, at);
+    }
     let t = d.t;
-    rows[0] = [t.x, t.y, t.z, 0.0];
-    put_quaternion(d.r, 1, rows);
-    put_matrix(d.s.to_rows(), 2, rows);
-    d.refusal
+    let ok = put_text(b"ok", out, at);
+    let translation = put_floats(&[t.x, t.y, t.z], 3, out, ok);
+    let rotation = put_parts(d.r, out, translation);
+    let end = put_rows(d.s.to_rows(), out, rotation);
+    put_text(b"\n", out, end)
 }
 
-fn zeros(x: &[f32; 34], rows: &mut [[f32; 4]; 9]) -> u8 {
+fn zeros(x: &[f32; 34], out: &mut [u8; 16384], at: usize) -> usize {
     let z = zero_search::interval_find_zeros(x[0], x[1], x[2], x[3], x[4], x[5]).zeros;
+    if z.refusal != 0 {
+        return put_refused(z.refusal, out, at);
+    }
     let places = z.zeros;
-    put_zeros(places, rows);
-    rows[8] = [float_of_bits((z.count % 10) as u32), 0.0, 0.0, 0.0];
-    z.refusal
+    let ok = put_text(b"ok", out, at);
+    let count = answer_lines::put_decimal(z.count as u64, out, ok);
+    let end = put_floats(&places, 8, out, count);
+    put_text(b"\n", out, end)
 }
 
-fn put_zeros(z: [f32; 8], rows: &mut [[f32; 4]; 9]) {
-    rows[0] = [z[0], z[1], z[2], z[3]];
-    rows[1] = [z[4], z[5], z[6], z[7]];
+fn put_quaternion(q: Quaternion, out: &mut [u8; 16384], at: usize) -> usize {
+    let ok = put_text(b"ok", out, at);
+    let end = put_parts(q, out, ok);
+    put_text(b"\n", out, end)
 }
 
-// Puts a box into the first two rows.
-pub fn put_bounds(b: [f32; 6], rows: &mut [[f32; 4]; 9]) {
-    rows[0] = [b[0], b[1], b[2], b[3]];
-    rows[1] = [b[4], b[5], 0.0, 0.0];
-}
-
-fn put_quaternion(q: Quaternion, i: usize, rows: &mut [[f32; 4]; 9]) -> u8 {
+// The four floats of a quaternion.
+fn put_parts(q: Quaternion, out: &mut [u8; 16384], at: usize) -> usize {
     let v = q.v;
-    if i < 9 {
-        rows[i] = [v.x, v.y, v.z, q.w];
-    }
-    0
+    put_floats(&[v.x, v.y, v.z, q.w], 4, out, at)
 }
 
-fn put_matrix(m: [[f32; 4]; 4], i: usize, rows: &mut [[f32; 4]; 9]) -> u8 {
-    if i < 6 {
-        rows[i] = m[0];
-        rows[i + 1] = m[1];
-        rows[i + 2] = m[2];
-        rows[i + 3] = m[3];
+fn put_matrix(refusal: u8, m: [[f32; 4]; 4], out: &mut [u8; 16384], at: usize) -> usize {
+    if refusal != 0 {
+        return put_refused(refusal, out, at);
     }
-    0
+    let ok = put_text(b"ok", out, at);
+    let end = put_rows(m, out, ok);
+    put_text(b"\n", out, end)
 }
 
-// The four floats from place i on.
-pub fn row_at(x: &[f32; 34], i: usize) -> [f32; 4] {
-    if i < 31 {
-        return [x[i], x[i + 1], x[i + 2], x[i + 3]];
-    }
-    [0.0; 4]
+fn put_rows(m: [[f32; 4]; 4], out: &mut [u8; 16384], at: usize) -> usize {
+    answer_values::put_rows(&m, out, at)
 }
 
-// The sixteen floats from place i on, row by row.
-pub fn matrix_at(x: &[f32; 34], i: usize) -> [[f32; 4]; 4] {
+// The matrix in the sixteen floats from place i on, row by row.
+fn matrix_at(x: &[f32; 34], i: usize) -> [[f32; 4]; 4] {
     if i < 19 {
         return [
             row_at(x, i),
@@ -114,7 +116,7 @@ pub fn matrix_at(x: &[f32; 34], i: usize) -> [[f32; 4]; 4] {
 }
 
 // The quaternion in the four floats from place i on.
-pub fn quaternion_at(x: &[f32; 34], i: usize) -> Quaternion {
+pub(crate) fn quaternion_at(x: &[f32; 34], i: usize) -> Quaternion {
     let r = row_at(x, i);
     let v = Vector3f {
         x: r[0],
@@ -122,18 +124,4 @@ pub fn quaternion_at(x: &[f32; 34], i: usize) -> Quaternion {
         z: r[2],
     };
     Quaternion { v, w: r[3] }
-}
-
-// The point in the three floats from place i on.
-pub fn point_at(x: &[f32; 34], i: usize) -> [f32; 3] {
-    let r = row_at(x, i);
-    [r[0], r[1], r[2]]
-}
-
-// The box in the six floats from place i on.
-pub fn bounds_at(x: &[f32; 34], i: usize) -> [f32; 6] {
-    if i < 29 {
-        return [x[i], x[i + 1], x[i + 2], x[i + 3], x[i + 4], x[i + 5]];
-    }
-    [0.0; 6]
 }

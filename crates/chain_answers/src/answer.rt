@@ -2,12 +2,13 @@
 // that keeps nothing of which it may be asked.
 use crate::chains;
 use crate::files;
-use crate::question::Question;
+use crate::question;
 use crate::rows;
-use answer_lines::put_text;
+use answer_values::put_error;
+use question_reader::Question;
 
 // Answers a question.
-pub fn put_answer(
+pub(crate) fn put_answer(
     q: Question,
     wholes: &[u64; 4],
     x: &[f32; 900],
@@ -27,10 +28,7 @@ pub fn put_answer(
     if kind == 18 {
         return rows::reached(floats / 6, x, out, at);
     }
-    if 3 < wholes[0] {
-        return put_error(out, at);
-    }
-    let slot = wholes[0] as usize;
+    let slot = wholes[0];
     match kind {
         0 => chains::build_chain(q.rigid, slot, floats / 18, x, out, at, kept, poses),
         1 => chains::build_lone(q.rigid, slot, x, out, at, kept, poses),
@@ -41,7 +39,7 @@ pub fn put_answer(
             wholes,
             floats,
             x,
-            chains::kept_moves(kept, slot, poses[slot], q.poses),
+            chain_slots::kept_moves(kept, poses, slot, question::poses_of(kind)),
             out,
             at,
         ),
@@ -51,10 +49,7 @@ pub fn put_answer(
 // Answers acosn C: the arc cosine, and how many cosines were worked out for it.
 fn put_arc_cosine(c: f32, out: &mut [u8; 32768], at: usize) -> usize {
     let arc = arc_cosine::acos_counted(c);
-    let ok = put_text(b"ok", out, at);
-    let angle = answer_lines::put_floats(&[arc.angle], 1, out, ok);
-    let end = answer_lines::put_decimal(arc.cosines as u64, out, angle);
-    put_text(b"\n", out, end)
+    answer_values::put_counted(0, &[arc.angle], &[arc.cosines], out, at)
 }
 
 // Answers a question about a kept chain.
@@ -76,7 +71,7 @@ fn put_asked(
         3 => chains::points(moves, n, floats, x, out, at),
         4 => chains::cover(moves, n, x, out, at),
         9 => chains::covers(moves, n, floats / 6, x, out, at),
-        11 => files::write(moves, n, &chains::bounds_at(x, 0), out, at),
+        11 => files::write(moves, n, &question_values::bounds_at(x, 0), out, at),
         12 => chains::pad(moves, x, out, at),
         13 => chains::try_pose(moves, n, wholes[2], x, out, at),
         17 => chains::window_cover(moves, n, x, out, at),
@@ -104,35 +99,4 @@ fn put_asked_move(
         8 => chains::bound_point_motion(&moves[i], x, out, at),
         _ => put_error(out, at),
     }
-}
-
-// Puts the answer to a line that is no question.
-pub fn put_error(out: &mut [u8; 32768], at: usize) -> usize {
-    put_text(b"error\n", out, at)
-}
-
-// The first floats of `values`, or the number of a refusal.
-pub fn put_values(
-    refusal: u8,
-    values: &[f32],
-    count: usize,
-    out: &mut [u8; 32768],
-    at: usize,
-) -> usize {
-    if refusal != 0 {
-        return answer_lines::put_refused(refusal, out, at);
-    }
-    let ok = put_text(b"ok", out, at);
-    let end = answer_lines::put_floats(values, count, out, ok);
-    put_text(b"\n", out, end)
-}
-
-// How many poses were built and kept, or the number of a refusal.
-pub fn put_count(refusal: u8, count: usize, out: &mut [u8; 32768], at: usize) -> usize {
-    if refusal != 0 {
-        return answer_lines::put_refused(refusal, out, at);
-    }
-    let ok = put_text(b"ok", out, at);
-    let end = answer_lines::put_decimal(count as u64, out, ok);
-    put_text(b"\n", out, end)
 }

@@ -1,34 +1,16 @@
 // A day of booms, `day [BOX LENGTH]*`: a question about no slot, whose words are six floats and a whole number for each boom, with one space before each.
-use crate::answer::put_error;
 use answer_lines::put_text;
+use answer_values::put_error;
 use question_lines::Decimal;
 use question_lines::part;
-use question_lines::position;
 ghost use Prim.Native.Nat.{_<_};
 ghost use lib.ListN.{length};
 
-// Where the words of the booms begin, and one that no line has where it asks for no day.
-pub fn words_start(line: &[u8]) -> usize {
-    if position(part(line, 0, 3), b"day") != 0 {
-        return usize::MAX;
-    }
-    if line.len() == 3 {
-        return 3;
-    }
-    if line.len() < 3 {
-        return usize::MAX;
-    }
-    if line[3] == b' ' { 3 } else { usize::MAX }
-}
-
-// Answers a line of which the words of the booms begin at `start`.
-pub fn put_day(line: &[u8], start: usize, out: &mut [u8; 32768], at: usize) -> usize {
-    if 8000 < line.len() {
-        return put_error(out, at);
-    }
+// Answers a line of which the words of the booms begin behind the name.
+pub(crate) fn put_day(line: &[u8], out: &mut [u8; 32768], at: usize) -> usize {
     let mut boxes = [[0.0f32; 6]; 8];
     let mut lengths = [0u32; 8];
-    let count = read_booms(line, start, &mut boxes, &mut lengths);
+    let count = read_booms(line, 3, &mut boxes, &mut lengths);
     if count == usize::MAX {
         return put_error(out, at);
     }
@@ -111,21 +93,6 @@ fn put_starts(
         return answer_lines::put_refused(refusal, out, at);
     }
     let ok = put_text(b"ok", out, at);
-    let a = put_start(starts[0], 0 < count, out, ok);
-    let b = put_start(starts[1], 1 < count, out, a);
-    let c = put_start(starts[2], 2 < count, out, b);
-    let d = put_start(starts[3], 3 < count, out, c);
-    let e = put_start(starts[4], 4 < count, out, d);
-    let f = put_start(starts[5], 5 < count, out, e);
-    let g = put_start(starts[6], 6 < count, out, f);
-    let h = put_start(starts[7], 7 < count, out, g);
-    put_text(b"\n", out, h)
-}
-
-// A starting tick, where there is a boom.
-fn put_start(start: u32, is_boom: bool, out: &mut [u8; 32768], at: usize) -> usize {
-    if is_boom {
-        return answer_lines::put_decimal(start as u64, out, at);
-    }
-    at
+    let end = answer_values::put_decimals(starts, count, out, ok);
+    put_text(b"\n", out, end)
 }

@@ -1,6 +1,6 @@
 // Move files in questions and answers, two hexadecimal digits a byte.
-use crate::answer::put_error;
 use answer_lines::put_text;
+use answer_values::put_error;
 use hexadecimal::Word;
 use question_lines::part;
 ghost use Prim.Native.Nat.{_≤_};
@@ -25,7 +25,7 @@ const DIGITS: [u8; 16] = [
 ];
 
 // The chain and the box b as a move file, in as many bytes as the question says, or more than a chain's text has.
-pub fn write(
+pub(crate) fn write(
     moves: &[[[f32; 4]; 45]],
     room: u64,
     b: &[f32; 6],
@@ -84,7 +84,7 @@ fn put_byte(byte: u8, out: &mut [u8; 32768], at: usize) -> usize {
 }
 
 // The poses and the box that a file holds: the line's second word, or no byte where it has none.
-pub fn read(line: &[u8], out: &mut [u8; 32768], at: usize) -> usize {
+pub(crate) fn read(line: &[u8], out: &mut [u8; 32768], at: usize) -> usize {
     let word = part(line, 5, line.len());
     let mut bytes = [0u8; 4000];
     let size = word.len() / 2;

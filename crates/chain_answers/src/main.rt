@@ -7,7 +7,9 @@ mod files;
 mod question;
 mod rows;
 
+use answer_values::put_error;
 use question_lines::part;
+use question_reader::is_named;
 
 fn main() {
     let mut input = [0u8; 16384];
@@ -88,12 +90,14 @@ fn answer_line(
         return written;
     }
     let at = make_room(out, written);
-    if question::is_read(line) {
+    if 8000 < line.len() {
+        return put_error(out, at);
+    }
+    if is_named(line, b"read") {
         return files::read(line, out, at);
     }
-    let booms = day::words_start(line);
-    if booms != usize::MAX {
-        return day::put_day(line, booms, out, at);
+    if is_named(line, b"day") {
+        return day::put_day(line, out, at);
     }
     let mut wholes = [0u64; 4];
     let mut x = [0.0f32; 900];
