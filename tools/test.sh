@@ -1,6 +1,6 @@
 #!/usr/bin/env bash
 # The test command of README.md: `rt ci`, and before its verdict what refused each must-fail edit, what `cover` prints for the examples, the library's tests in C, C++ and Rust where compilers are at
-# hand, and, where python3 is at hand, whether the list of definitions in docs/GUARANTEE.md and every text made from docs/REFUSALS.md are up to date, the tests of tools/plan, and the stamp from which
+# hand, and, where python3 is at hand, whether the list of definitions in docs/GUARANTEE.md and every text made from docs/REFUSALS.md are up to date, the tests of tools/plan and of the Python package, and the stamp from which
 # tools/certificate tells commit, toolchain, programs and library.
 # An edit that is refused only because a proof file no longer fits the code fails the run, and so does an example whose box is not the expected one.
 set -u
@@ -28,9 +28,10 @@ if command -v python3 >/dev/null; then
     tools/trusted --check || fail "tools/trusted --check: docs/GUARANTEE.md and the definitions differ"
     tools/numbers --check || fail "tools/numbers --check: a text and the table of refusal numbers differ"
     python3 tools/plan_test.py 2>&1 || fail "tools/plan_test.py: a test of tools/plan above fails"
+    python3 python/tests 2>&1 || fail "python/tests: a test of the Python package above fails"
     tools/certificate --stamp
 else
-    echo "tools/trusted --check, tools/numbers --check, tools/plan_test.py and tools/certificate --stamp: skipped, there is no python3 here"
+    echo "tools/trusted --check, tools/numbers --check, tools/plan_test.py, python/tests and tools/certificate --stamp: skipped, there is no python3 here"
 fi
 echo "$verdict"
 exit "$status"
