@@ -488,11 +488,23 @@ class WrongPlans(unittest.TestCase):
 
     def test_days_that_are_refused(self):
         nine = plan_of(*[boom_of(name="b%d" % i) for i in range(9)])
-        for plan in (nine, plan_of(boom_of(run_ticks=0)), plan_of(boom_of(run_ticks=1001)), plan_of(boom_of(), tick_seconds=0.001)):
+        for plan in (nine, plan_of(boom_of(run_ticks=1001)), plan_of(boom_of(), tick_seconds=0.001)):
             status, _, said = ask(plan, "day")
             self.assertEqual((status, len(said)), (1, 1))
             self.assertIn("refused 22: ", said[0])
         self.assertEqual(ask(nine)[0], 0)
+
+    def test_a_run_shorter_than_its_swing(self):
+        plan = example()
+        plan["booms"][0]["run_ticks"] = 1
+        for question in ("day", "page"):
+            status, text, said = ask(plan, question)
+            self.assertEqual((status, text, len(said)), (1, "", 1))
+            self.assertIn("boom 'north-west': its run is shorter than its swing: run_ticks is 1, the swing takes 40 s and a tick 10 s, so it needs 4 ticks", said[0])
+        for ticks, tick, status in ((4, "10", 0), (4, "9.99", 1), (3, "10", 1), (0, "10", 1), (5, "9.99", 0)):
+            plan["booms"][0]["run_ticks"] = ticks
+            self.assertEqual(ask(plan, "day", "--tick", tick)[0], status, (ticks, tick))
+        self.assertEqual(ask(plan_of(boom_of(run_ticks=1)))[0], 0)
 
 
 class WrongFolders(unittest.TestCase):

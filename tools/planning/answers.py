@@ -207,8 +207,14 @@ class Answers:
     # ---- the day
 
     def run_ticks(self, boom):
-        """As given, or the boom's seconds in ticks, rounded up."""
-        return boom.run_ticks if boom.run_ticks is not None else max(1, int(-(-boom.duration() // self.plan.tick_seconds)))
+        """As given, where the swing ends in so many ticks, or the boom's seconds in ticks, rounded up."""
+        needed = int(-(-boom.duration() // self.plan.tick_seconds))
+        if boom.run_ticks is None:
+            return max(1, needed)
+        if boom.run_ticks < needed:
+            raise refused("boom '%s': its run is shorter than its swing: run_ticks is %d, the swing takes %s s and a tick %s s, so it needs %d ticks"
+                          % (boom.name, boom.run_ticks, shown(boom.duration()), shown(self.plan.tick_seconds), needed))
+        return boom.run_ticks
 
     @cached_property
     def day(self):
