@@ -4,36 +4,51 @@ import struct
 from fractions import Fraction
 
 LARGEST = Fraction(2 ** 24 - 1) * 2 ** 104
+LARGEST_UNITS = (2 ** 24 - 1) << (104 + 149)        # in units of the least float
 
 
 def rounded(exact, whole):
-    """The binary32 that a rounding of fractions to whole numbers gives, in units of the last place; OverflowError beyond the floats."""
-    if exact == 0:
+    """The binary32 that a rounding of quotients to whole numbers gives, in units of the last place; OverflowError beyond the floats."""
+    over, under = exact.numerator, exact.denominator
+    if over == 0:
         return 0.0
-    size = abs(exact)
-    exponent = size.numerator.bit_length() - size.denominator.bit_length()
-    if size < Fraction(2) ** exponent:
+    exponent = abs(over).bit_length() - under.bit_length()
+    if abs(over) << max(-exponent, 0) < under << max(exponent, 0):
         exponent -= 1
     place = max(exponent - 23, -149)
-    units = whole(exact / Fraction(2) ** place)
-    if abs(units * Fraction(2) ** place) > LARGEST:
+    units = whole(over << max(-place, 0), under << max(place, 0))
+    if place > 104 or abs(units) << (place + 149) > LARGEST_UNITS:
         raise OverflowError("beyond the floats")
-    return math.ldexp(units, place) + 0.0
+    return math.ldexp(units, place)
+
+
+def floor(over, under):
+    return over // under
+
+
+def ceiling(over, under):
+    return -(-over // under)
+
+
+def half_even(over, under):
+    """The nearest whole number, of two as near the even one."""
+    whole, rest = divmod(over, under)
+    return whole + (2 * rest > under or (2 * rest == under and whole % 2))
 
 
 def nearest(exact):
     """Half to even; a zero is +0."""
-    return rounded(Fraction(exact), round)
+    return rounded(Fraction(exact), half_even)
 
 
 def down(exact):
     """The greatest float that is not above."""
-    return rounded(Fraction(exact), math.floor)
+    return rounded(Fraction(exact), floor)
 
 
 def up(exact):
     """The least float that is not below."""
-    return rounded(Fraction(exact), math.ceil)
+    return rounded(Fraction(exact), ceiling)
 
 
 def bits(value):
