@@ -26,10 +26,11 @@ sys.dont_write_bytecode = True
 import binary32
 import move_files
 import pages
-from planning import answers, chains, command, files, library, numbers, reading, scene
+from planning import answers, chains, command, files, groups, library, numbers, progress, reading, rows, scene
 
 PLAN = os.path.join(pages.ROOT, "examples", "plan", "orchard.json")
 FOLDER = os.path.join(pages.ROOT, "examples", "plan", "orchard")
+HUNDRED = os.path.join(pages.ROOT, "examples", "plan", "hundred.py")
 QUESTIONS = ["covers", "nets", "rows", "windows", "day", "draw", "page"]
 SCRATCH = tempfile.mkdtemp()
 
@@ -226,7 +227,7 @@ class Reach(unittest.TestCase):
         answer = answers.Answers(library.Library(os.environ["JELLYPLAIN_LIBRARY"]), plan).booms[0]
         row = plan.rows[0]
         exact_row = [row.area[0], row.area[1], row.heights[0], row.area[2], row.area[3], row.heights[1]]
-        for exact, floats in ((plan.booms[0].boxes[0], answer.boxes[0]), ([v - Fraction(3, 10) for v in exact_row], answer.local_rows[0])):
+        for exact, floats in ((plan.booms[0].boxes[0], answer.boxes[0]), ([v - Fraction(3, 10) for v in exact_row], rows.local_box(row, answer.origin))):
             self.assertTrue(all(Fraction(floats[i]) < exact[i] for i in range(3)) and all(Fraction(floats[i]) > exact[i] for i in range(3, 6)))
         for pose in plan.booms[0].poses:
             self.assertGreater(Fraction(chains.pose_floats(pose, (0, 0, 0), 0, True)[2]), pose.pad)
@@ -299,6 +300,72 @@ class Reach(unittest.TestCase):
         text = ask(plan, "page")[1]
         self.assertEqual(text.count("</script>"), 2)
         self.assertNotIn("<b>&", text)
+
+
+class Hundred(unittest.TestCase):
+    """Groups of booms, bundles of rows, and a plan of 100 booms and 5,000 blocks."""
+
+    @classmethod
+    def setUpClass(cls):
+        cls.path = written(subprocess.run([sys.executable, HUNDRED], stdout=subprocess.PIPE, check=True).stdout, "hundred.json")
+        cls.found = answered(cls.path)
+
+    def test_groups(self):
+        self.assertEqual(groups.groups(6, {(0, 3), (3, 5), (1, 2)}), [[0, 3, 5], [1, 2], [4]])
+        self.assertEqual(groups.groups(3, set()), [[0], [1], [2]])
+        self.assertEqual(self.found.groups, [list(range(k, k + 4)) for k in range(0, 100, 4)])
+
+    def test_day(self):
+        status, text, said = run("day", self.path, "--format", "json")
+        day = json.loads(text)["day"]
+        self.assertEqual((status, len(day), len(said)), (0, 100, 1), said)
+        self.assertIn("100 booms in 25 groups, a day for each: no box of one group meets a box of another", said[0])
+        for i, j in self.found.meeting:
+            self.assertTrue(day[i]["end_tick"] <= day[j]["start_tick"] or day[j]["end_tick"] <= day[i]["start_tick"])
+        self.assertEqual([line["group"] for line in day], [k // 4 + 1 for k in range(100)])
+
+    def test_rows_are_those_of_asking_for_each(self):
+        for answer in self.found.booms[::17]:
+            boxes = [rows.local_box(row, answer.origin) for row in self.found.plan.rows]
+            self.assertEqual(answer.rows, sorted({place for cover in answer.spray_covers for place in self.found.library.reached_rows(cover, boxes)}))
+            self.assertTrue(answer.rows)
+
+    def test_windows(self):
+        """Only pairs whose boxes meet are asked, and those that aren't would have none."""
+        self.assertEqual(len(self.found.windows), 4950)
+        self.assertEqual({pair for pair, found in self.found.windows.items() if found} - self.found.meeting, set())
+        for j in (4, 5, 40, 99):
+            self.assertEqual(self.found.windows_of(self.found.booms[0], self.found.booms[j]), [])
+
+    def test_groups_have_the_ticks_of_one_day(self):
+        """Eight booms and fewer: the library's day of all is that of the groups."""
+        rng = random.Random(12)
+        for _ in range(30):
+            booms = [boom_of(name="b%d" % k, mast=[rng.uniform(0, 80), rng.uniform(0, 80), 0], run_ticks=rng.randrange(10, 30)) for k in range(rng.randrange(2, 9))]
+            found = answered(written(json.dumps(plan_of(*booms))))
+            self.assertEqual([run.start for run in found.day], found.library.day(found.whole_boxes, [run.end - run.start for run in found.day]))
+
+    def test_a_group_of_nine(self):
+        near = [boom_of(name="b%d" % k, mast=[8 * k, 0, 0]) for k in range(9)]
+        status, _, said = ask(plan_of(*near, boom_of(name="far", mast=[500, 0, 0])), "day")
+        self.assertEqual((status, len(said)), (1, 1))
+        self.assertIn("a group of 9 booms whose boxes meet, directly or through others, 'b0', 'b1', 'b2', 'b3', 'b4', 'b5', 'b6', 'b7', 'b8', run lengths of 10 to 10 ticks of 1 s: refused 22: ", said[0])
+        apart = [boom_of(name="b%d" % k, mast=[30 * k, 0, 0]) for k in range(9)]
+        self.assertEqual(ask(plan_of(*apart), "day")[0], 0)
+
+    def test_progress_is_for_terminals(self):
+        class Terminal(io.StringIO):
+            def isatty(self):
+                return True
+        for stream, shows in ((Terminal(), True), (io.StringIO(), False)):
+            shown = progress.Progress(stream)
+            self.assertEqual(list(shown.counted("at once", [1, 2])), [1, 2])
+            self.assertEqual(stream.getvalue(), "")
+            shown.next = 0
+            self.assertEqual(list(shown.counted("covers", "ab")), ["a", "b"])
+            self.assertEqual("\rcovers: 1 of 2" in stream.getvalue(), shows)
+            shown.clear()
+            self.assertEqual(stream.getvalue().endswith("\r" + " " * 14 + "\r"), shows)
 
 
 class RealNumbers(unittest.TestCase):

@@ -6,19 +6,17 @@ from typing import NamedTuple, Optional
 
 import binary32
 from planning import chains
+from planning.chains import shifted
 from planning.ending import numbered, refused
-from planning.library import TICKS, Refused
+from planning.groups import groups
+from planning.library import BOOMS, TICKS, Refused
 from planning.numbers import shown
+from planning.progress import SILENT
 from planning.reading import at
+from planning.rows import LocalRows, Rows
 
 MOST_WINDOWS = 1000
 DEFAULT_WINDOWS = 20
-LARGEST = float(binary32.LARGEST)
-
-
-def shifted(box, offset, sign=1):
-    """A box of six numbers moved by an offset, exactly."""
-    return [Fraction(v) + sign * offset[i % 3] for i, v in enumerate(box)]
 
 
 def touching(a, b):
@@ -43,31 +41,30 @@ def line_touches(line, area):
 class BoomAnswer:
     """A boom in a frame of its own: its chains with pads and without, their covers as floats of that frame, and the rows that it reaches."""
 
-    def __init__(self, library, boom, plan):
-        self.boom, self.own, self.origin = boom, boom.poses[0].time, boom.origin()
+    def __init__(self, library, boom, depth, rows):
+        self.library, self.boom, self.own, self.origin = library, boom, boom.poses[0].time, boom.origin()
         self.boxes = [chains.outward(box) for box in boom.boxes]
+        self.local_rows = LocalRows(rows, self.origin)
         self.sprays = any(pose.pad for pose in boom.poses)
         self.bare = chains.build(library, boom, self.origin, self.own, False)
         self.spray = chains.build(library, boom, self.origin, self.own, True) if self.sprays else self.bare
         try:
-            self.bare_covers, self.bare_union = self.bare.covers(self.boxes, plan.depth)
-            self.spray_covers, self.spray_union = self.spray.covers(self.boxes, plan.depth) if self.sprays else (self.bare_covers, self.bare_union)
-            self.local_rows = [self.local_row(row) for row in plan.rows]
-            # The one answer from which the map, the table of rows and the schedule name rows.
-            self.rows = self.reached(library, self.spray_covers)
+            self.bare_covers, self.bare_union = self.bare.covers(self.boxes, depth)
+            self.spray_covers, self.spray_union = self.spray.covers(self.boxes, depth) if self.sprays else (self.bare_covers, self.bare_union)
         except Refused as refusal:
             raise numbered(refusal.number)
 
-    def local_row(self, row):
-        """A row in the boom's frame, exactly, and then outward to floats; without heights it goes from the least float to the greatest."""
-        x0, y0, x1, y1 = row.area
-        z0, z1 = row.heights or (self.origin[2],) * 2
-        box = chains.outward(shifted((x0, y0, z0, x1, y1, z1), self.origin, -1))
-        return box if row.heights else [*box[:2], -LARGEST, *box[3:5], LARGEST]
+    @cached_property
+    def rows(self):
+        """The one answer from which the map, the table of rows and the schedule name rows."""
+        try:
+            return self.reached(self.library, self.spray_covers)
+        except Refused as refusal:
+            raise numbered(refusal.number, "boom '%s': " % self.boom.name)
 
     def reached(self, library, covers):
         """The places of the plan's rows that any of the covers meets, as the library says."""
-        return sorted({place for cover in covers for place in library.reached_rows(cover, self.local_rows)}) if self.local_rows else []
+        return sorted({place for cover in covers for place in self.local_rows.reached(library, cover)})
 
     def in_plan(self, cover):
         """A cover of the boom's frame in the plan's, exactly."""
@@ -98,13 +95,40 @@ class RunAnswer(NamedTuple):
 class Answers:
     """All answers to a plan; what isn't asked for isn't worked out."""
 
-    def __init__(self, library, plan, with_pads=True, warn=lambda text: None):
-        self.library, self.plan, self.with_pads, self.warn = library, plan, with_pads, warn
-        self.booms = []
-        for boom in plan.booms:
+    def __init__(self, library, plan, with_pads=True, warn=lambda text: None, progress=SILENT):
+        self.library, self.plan, self.with_pads, self.warn, self.progress = library, plan, with_pads, warn, progress
+        self.booms, rows = [], Rows(plan.rows)
+        for boom in progress.counted("covers of booms", plan.booms):
             with at("boom '%s'" % boom.name):
                 chains.look_at_times(boom, plan.start(), warn)
-                self.booms.append(BoomAnswer(library, boom, plan))
+                self.booms.append(BoomAnswer(library, boom, plan.depth, rows))
+
+    # ---- which booms can meet at all
+
+    @cached_property
+    def frame(self):
+        """One frame for all booms."""
+        return chains.middle(self.plan.booms)
+
+    def in_frame(self, box):
+        """A box of the plan in the frame of all, outward."""
+        return chains.outward(shifted(box, self.frame, -1))
+
+    @cached_property
+    def whole_boxes(self):
+        """Of each boom the box round all its covers, in the frame of all."""
+        return [self.in_frame(answer.union_in_plan(self.with_pads)) for answer in self.booms]
+
+    @cached_property
+    def meeting(self):
+        """The pairs of booms, by their places, whose boxes meet, touching included, as the library says."""
+        boxes = self.whole_boxes
+        return {(i, i + 1 + k) for i, box in enumerate(boxes[:-1]) for k in self.library.reached_rows(box, boxes[i + 1:])}
+
+    @cached_property
+    def groups(self):
+        """The booms, by their places, in groups whose boxes meet, directly or through others."""
+        return groups(len(self.booms), self.meeting)
 
     # ---- rows
 
@@ -167,10 +191,14 @@ class Answers:
 
     @cached_property
     def windows(self):
-        """For each two booms, by their places, the windows in which they may meet; both stand in one frame, between their origins, and on the plan's clock."""
-        return {(i, j): self.windows_of(self.booms[i], self.booms[j]) for i, j in itertools.combinations(range(len(self.booms)), 2)}
+        """For each two booms, by their places, the windows in which they may meet: none where their whole boxes don't meet."""
+        found = {pair: [] for pair in itertools.combinations(range(len(self.booms)), 2)}
+        for i, j in self.progress.counted("windows of pairs", sorted(self.meeting)):
+            found[i, j] = self.windows_of(self.booms[i], self.booms[j])
+        return found
 
     def windows_of(self, one, other):
+        """Both stand in one frame, between their origins, and on the plan's clock."""
         frame = chains.middle([one.boom, other.boom])
         with at("booms '%s' and '%s'" % (one.boom.name, other.boom.name)):
             for answer in (one, other):
@@ -218,12 +246,20 @@ class Answers:
 
     @cached_property
     def day(self):
-        """From which tick to which each boom runs: the covers go to one frame, outward, and the library finds the ticks."""
-        frame = chains.middle(self.plan.booms)
-        boxes = [chains.outward(shifted(answer.union_in_plan(self.with_pads), frame, -1)) for answer in self.booms]
+        """From which tick to which each boom runs: each group has a day of its own, since no box of one meets a box of another."""
         lengths = [min(self.run_ticks(answer.boom), 2 ** 32 - 1) for answer in self.booms]
+        starts = {}
+        for group in self.groups:
+            starts.update(zip(group, self.group_day(group, [lengths[i] for i in group])))
+        return [RunAnswer(starts[i], starts[i] + length) for i, length in enumerate(lengths)]
+
+    def group_day(self, group, lengths):
+        """The tick in which each boom of a group starts, as the library says."""
         try:
-            starts = self.library.day(boxes, lengths)
+            return self.library.day([self.whole_boxes[i] for i in group], lengths)
         except Refused as refusal:
-            raise numbered(refusal.number, "%d booms with run lengths of %d to %d ticks of %s s: " % (len(boxes), min(lengths), max(lengths), shown(self.plan.tick_seconds)))
-        return [RunAnswer(start, start + length) for start, length in zip(starts, lengths)]
+            raise numbered(refusal.number, "%s, run lengths of %d to %d ticks of %s s: " % (self.group_text(group), min(lengths), max(lengths), shown(self.plan.tick_seconds)))
+
+    def group_text(self, group):
+        names = ["'%s'" % self.booms[i].boom.name for i in group[:BOOMS + 1]] + [".."] * (len(group) > BOOMS + 1)
+        return "a group of %d booms whose boxes meet, directly or through others, %s" % (len(group), ", ".join(names)) if len(group) > 1 else "boom " + names[0]

@@ -76,6 +76,11 @@ def look_at_times(boom, start, warn):
 
 # ---- numbers in their direction
 
+def shifted(box, offset, sign=1):
+    """A box of six numbers moved by an offset, exactly."""
+    return [Fraction(v) + sign * offset[i % 3] for i, v in enumerate(box)]
+
+
 def outward(box):
     """Least corners down, greatest up."""
     half = len(box) // 2

@@ -7,7 +7,8 @@ from dataclasses import replace
 from planning import chains, drawing, files, geojson, moves, numbers, output, page, reading
 from planning.answers import Answers
 from planning.ending import Ending, bad, numbered, one_line
-from planning.library import DEFAULT, Library
+from planning.library import BOOMS, DEFAULT, Library
+from planning.progress import Progress
 
 ABOUT = """\
 Answers a plan of booms in metres and seconds, through the proved library.
@@ -23,7 +24,7 @@ QUESTIONS = {
     "nets": "whether each boom's cover stays below each net that it stands under, and by how much",
     "rows": "which booms reach each row",
     "windows": "for each two booms, when they may meet",
-    "day": "from which tick to which each boom runs so that no two that run ever meet, and the rows that it reaches",
+    "day": "from which tick to which each boom runs so that no two that run ever meet, and the rows that it reaches; in groups of at most 8 booms whose boxes meet",
     "moves": "each boom's chain as a move file in the folder of -o, with the frame and the clock that it stands in",
     "draw": "the plan from above and from the side, as SVG",
     "page": "one HTML page with a time slider, which needs nothing else",
@@ -128,36 +129,50 @@ def warn_of_nets(answers, warn):
             warn("boom '%s': its cover is not below net '%s'" % (answers.booms[b].boom.name, answers.plan.nets[n].name))
 
 
-def answered(options, warn):
+def tell_groups(answers, note):
+    """Of more booms than a day of the library has, why it is answered all the same."""
+    if len(answers.booms) > BOOMS:
+        note("%d booms in %d groups, a day for each: no box of one group meets a box of another, so no boom of one is ever where one of another is, and neither has to know of the other"
+             % (len(answers.booms), len(answers.groups)))
+
+
+def answered(options, warn, note, progress):
     library = Library(options.library or os.environ.get("JELLYPLAIN_LIBRARY") or DEFAULT)
     with reading.at(one_line(options.plan)):
         plan = with_options(files.read_plan(options.plan), options)
         options.used_depth = plan.depth
         try:
-            answers = Answers(library, with_short_turns(plan, options.split, warn), not options.without_pads, warn)
+            answers = Answers(library, with_short_turns(plan, options.split, warn), not options.without_pads, warn, progress)
             text = text_of(answers, options)
         except OverflowError:
             raise numbered(5)
         if options.question in ("nets", "draw", "page"):
             warn_of_nets(answers, warn)
+        if options.question == "day":
+            tell_groups(answers, note)
     files.write_text(getattr(options, "out", None), text)
 
 
 def main(arguments):
-    """The exit status; warnings are printed only with an answer, so that what is wrong is one line."""
-    warnings = []
+    """The exit status; warnings and notes are printed only with an answer, so that what is wrong is one line."""
+    said, progress = [], Progress(sys.stderr)
     try:
         options = parser().parse_args(arguments)
-        answered(options, warnings.append)
+        answered(options, lambda text: said.append("warning: " + text), said.append, progress)
     except Ending as ending:
-        print("tools/plan: " + one_line(ending.text, 1000), file=sys.stderr)
-        return ending.status
+        return ended(progress, ending.text, ending.status)
     except (KeyboardInterrupt, MemoryError) as problem:
-        print("tools/plan: %s" % ("interrupted" if isinstance(problem, KeyboardInterrupt) else "out of memory"), file=sys.stderr)
-        return 2
+        return ended(progress, "interrupted" if isinstance(problem, KeyboardInterrupt) else "out of memory")
     except Exception as problem:        # not to be reached: whoever uses it is still told in one line
-        print("tools/plan: a fault of its own: %s: %s" % (type(problem).__name__, one_line(str(problem))), file=sys.stderr)
-        return 2
-    for text in dict.fromkeys(warnings):
-        print("tools/plan: %s: warning: %s" % (one_line(options.plan), one_line(text, 1000)), file=sys.stderr)
+        return ended(progress, "a fault of its own: %s: %s" % (type(problem).__name__, one_line(str(problem))))
+    progress.clear()
+    for text in dict.fromkeys(said):
+        print("tools/plan: %s: %s" % (one_line(options.plan), one_line(text, 1000)), file=sys.stderr)
     return 0
+
+
+def ended(progress, text, status=2):
+    """Says why there is no answer."""
+    progress.clear()
+    print("tools/plan: " + one_line(text, 1000), file=sys.stderr)
+    return status

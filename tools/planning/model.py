@@ -3,6 +3,7 @@ import math
 from dataclasses import dataclass
 from decimal import Decimal
 from fractions import Fraction
+from functools import cached_property
 from typing import NamedTuple, Optional
 
 import turns
@@ -139,8 +140,14 @@ class Plan:
     tick_seconds: Fraction
     window_seconds: Optional[Fraction]
 
+    @cached_property
+    def span(self):
+        """Its first time and its last."""
+        times = [pose.time for boom in self.booms for pose in boom.poses]
+        return min(times), max(times)
+
     def start(self):
-        return min(pose.time for boom in self.booms for pose in boom.poses)
+        return self.span[0]
 
     def end(self):
-        return max(pose.time for boom in self.booms for pose in boom.poses)
+        return self.span[1]

@@ -77,8 +77,9 @@ def window_records(answers):
 
 def day_records(answers):
     seconds = answers.plan.tick_seconds
+    group_of = {i: k + 1 for k, group in enumerate(answers.groups) for i in group}
     for i, (answer, run) in enumerate(zip(answers.booms, answers.day)):
-        yield {"boom": answer.boom.name, "start_tick": run.start, "end_tick": run.end, "from": below(run.start * seconds), "to": above(run.end * seconds), "rows": answers.rows_of(i)}
+        yield {"boom": answer.boom.name, "group": group_of[i], "start_tick": run.start, "end_tick": run.end, "from": below(run.start * seconds), "to": above(run.end * seconds), "rows": answers.rows_of(i)}
 
 
 class Plain(str):
