@@ -26,10 +26,11 @@ sys.dont_write_bytecode = True
 import binary32
 import move_files
 import pages
-from planning import answers, chains, command, files, groups, library, numbers, progress, reading, rows, scene
+from planning import answers, chains, command, files, groups, library, numbers, parked, progress, reading, rows, scene
 
 PLAN = os.path.join(pages.ROOT, "examples", "plan", "orchard.json")
 FOLDER = os.path.join(pages.ROOT, "examples", "plan", "orchard")
+PARKED = os.path.join(pages.ROOT, "examples", "plan", "parked.json")
 HUNDRED = os.path.join(pages.ROOT, "examples", "plan", "hundred.py")
 QUESTIONS = ["covers", "nets", "rows", "windows", "day", "draw", "page"]
 SCRATCH = tempfile.mkdtemp()
@@ -243,7 +244,7 @@ class Reach(unittest.TestCase):
 
     def test_spray_keeps_booms_apart(self):
         wet = [boom_of(name=name, mast=[x, 0, 0], poses=[{"time": 0, "pad": 3}, {"time": 10, "heading": 10, "pad": 3}]) for name, x in (("a", 0), ("b", 13))]
-        starts = [[line["start_tick"] for line in json.loads(ask(plan_of(*wet), "day", "--format", "json", *options)[1])["day"]] for options in ([], ["--without-pads"])]
+        starts = [[line["start_tick"] for line in json.loads(ask(plan_of(*wet), "day", "--parked-elsewhere", "--format", "json", *options)[1])["day"]] for options in ([], ["--without-pads"])]
         self.assertEqual(starts, [[0, 10], [0, 0]])
         said = [json.loads(ask(plan_of(*wet), "windows", "--format", "json", *options)[1])["windows"][0]["answer"] for options in ([], ["--without-pads"])]
         self.assertEqual(said, ["may meet", "never meet"])
@@ -261,10 +262,10 @@ class Reach(unittest.TestCase):
             self.assertEqual(answers.line_touches([Fraction(v) for v in line], area), expected, line)
 
     def test_windows(self):
-        self.assertEqual({k for pair, windows in self.found.windows.items() if pair == (0, 2) for k in windows}, {0, 1})
+        self.assertEqual({k for pair, windows in self.found.windows.items() if pair == (0, 2) for k in windows}, {1})
         self.assertEqual([pair for pair, windows in self.found.windows.items() if windows], [(0, 2)])
         whole = run("windows", PLAN, "--every", "1", "--format", "csv")[1]
-        self.assertIn("north-west,south-west,may meet,0.000,", whole)
+        self.assertIn("north-west,south-west,may meet,8.000,", whole)
 
     def test_more_than_63_windows(self):
         found = json.loads(ask(plan_of(boom_of(), boom_of(name="b")), "windows", "--every", "0.075", "--format", "json")[1])["windows"]
@@ -300,6 +301,83 @@ class Reach(unittest.TestCase):
         text = ask(plan, "page")[1]
         self.assertEqual(text.count("</script>"), 2)
         self.assertNotIn("<b>&", text)
+
+
+class Parked(unittest.TestCase):
+    """Booms that wait or are done beside those that run."""
+
+    def facing(self, one, other, **changes):
+        """Two booms whose covers meet, the second in the middle of the first's way east, each with the headings that are given."""
+        boxes = {"box": [0, -0.2, 2, 12, 0.2, 2.3], "kind": "rigid", **changes}
+        return plan_of(boom_of(name="a", mast=[0, 0, 0], poses=poses(*one), **boxes), boom_of(name="b", mast=[20, 0, 0], poses=poses(*other), **boxes))
+
+    def test_done_in_the_sweep_of_another(self):
+        status, text, said = run("day", PARKED)
+        self.assertEqual((status, text, len(said)), (1, "", 1))
+        self.assertIn("boom 'west' is done and stands at its last pose in a box of boom 'east', which runs: ticks 4 to 8, 40 s to 80 s; change that pose, or park", said[0])
+        for form in ("csv", "json", "geojson"):
+            self.assertEqual(run("day", PARKED, "--format", form)[:2], (1, ""))
+        status, text, said = run("day", PARKED, "--parked-elsewhere", "--format", "csv")
+        self.assertEqual((status, text.splitlines()[1:]), (0, ["west,1,0,4,0.000,40.000,", "east,1,4,8,40.000,80.000,"]))
+        self.assertEqual(len(said), 1)
+        self.assertIn("warning: boom 'west' is done and stands at its last pose in a box of boom 'east'", said[0])
+        status, _, said = run("page", PARKED)
+        self.assertEqual((status, len(said)), (0, 1))
+        self.assertIn("warning: boom 'west' is done", said[0])
+
+    def test_waiting_in_the_sweep_of_another(self):
+        status, _, said = ask(self.facing((90, 10, 90), (179, 90)), "day")
+        self.assertEqual((status, len(said)), (1, 1))
+        self.assertIn("boom 'b' waits at its first pose in a box of boom 'a', which runs: ticks 0 to 20, 0 s to 20 s; change", said[0])
+
+    def test_out_of_the_way(self):
+        self.assertEqual(ask(self.facing((180, 90, 1, 90, 180), (0, 90, 179, 90, 0)), "day")[0::2], (0, []))
+
+    def test_two_that_stand_in_each_other(self):
+        """First with first, last with last, last with first: one of the two runs while the other stands there."""
+        for one, other in (((0, 90), (179, 90)), ((90, 0), (90, 179)), ((90, 0), (179, 90))):
+            self.assertEqual(ask(self.facing(one, other), "day")[0], 1, (one, other))
+
+    def test_touching_counts(self):
+        """One that is done ends where the way of another begins, and one float before that."""
+        for x, status in ((4, 1), (4 + 2 ** -19, 0)):
+            way = [{"time": 10 * k, "at": [x, y, 0]} for k, y in enumerate((9, 2, 9))]
+            still = boom_of(box=[0, 0, 0, 4, 4, 4], poses=[{"time": 0}, {"time": 10}])
+            self.assertEqual(ask(plan_of(still, boom_of(name="b", box=[0, 0, 0, 4, 1, 1], poses=way)), "day")[0], status, x)
+
+    def test_spray_counts_unless_it_is_left_aside(self):
+        """Both go to and fro on x; the second waits 1.5 m beyond the first's way."""
+        ways = [[{"time": 10 * k, "at": [x, 0, 0], "pad": 1} for k, x in enumerate(way)] for way in ((-5, 0, -5), (5.5, 3, 5.5))]
+        plan = plan_of(*[boom_of(name=name, box=[0, 0, 0, size, 1, 1], poses=way) for name, size, way in zip("ab", (4, 1), ways)])
+        self.assertEqual([ask(plan, "day", *options)[0] for options in ([], ["--without-pads"])], [1, 0])
+
+    def test_by_each_box_and_not_by_the_box_round_all(self):
+        """A boom of two boxes far apart, and one that stands between them."""
+        still = [{"time": 0}, {"time": 10}]
+        between = [{"time": 0, "at": [5, 5, 0]}, {"time": 10, "at": [5, 5, 0]}]
+        plan = plan_of({"name": "a", "mast": [0, 0, 0], "boxes": [[0, 0, 0, 1, 1, 1], [9, 9, 0, 10, 10, 1]], "poses": still}, boom_of(name="b", box=[0, 0, 0, 1, 1, 1], poses=between))
+        status, text, _ = ask(plan, "day", "--format", "json")
+        self.assertEqual((status, [line["start_tick"] for line in json.loads(text)["day"]]), (0, [0, 10]))
+
+    def test_real_numbers(self):
+        """Whatever a day accepts, no boom that stands is where one that runs is, by sines and cosines of the machine."""
+        rng, seen = random.Random(11), {0: 0, 1: 0}
+        real = RealNumbers()
+        for _ in range(40):
+            booms = []
+            for name, x in (("a", 0), ("b", 22), ("c", 44)):
+                first = rng.uniform(-180, 180)
+                booms.append(boom_of(name=name, mast=[x, 0, 0], kind="rigid", box=[0, -0.4, 1.75, 18, 0.4, 2.25],
+                                     poses=[{"time": 0, "heading": round(first, 2), "at": [x, 0, 0]}, {"time": 10, "heading": round(first + rng.uniform(-90, 90), 2), "at": [x, 0, 0]}]))
+            status, text, _ = ask(plan_of(*booms), "day", "--format", "json")
+            seen[status] += 1
+            for tick in range(0, 31 if status == 0 else 0):
+                runs = json.loads(text)["day"]
+                moved = [list(real.points(boom, tick - run["start_tick"])) for boom, run in zip(booms, runs)]
+                for i, j in ((0, 1), (0, 2), (1, 2)):
+                    if any(run["start_tick"] <= tick < run["end_tick"] for run in (runs[i], runs[j])):
+                        self.assertGreater(min(math.dist(p, q) for p in moved[i] for q in moved[j]), 0.01)
+        self.assertGreater(min(seen.values()), 5, seen)
 
 
 class Hundred(unittest.TestCase):

@@ -4,9 +4,9 @@ import os
 import sys
 from dataclasses import replace
 
-from planning import chains, drawing, files, geojson, moves, numbers, output, page, reading
+from planning import chains, drawing, files, geojson, moves, numbers, output, page, parked, reading
 from planning.answers import Answers
-from planning.ending import Ending, bad, numbered, one_line
+from planning.ending import Ending, bad, numbered, one_line, refused
 from planning.library import BOOMS, DEFAULT, Library
 from planning.progress import Progress
 
@@ -71,6 +71,8 @@ def parser():
             one.add_argument("--every", metavar="SECONDS", help="the length of a window (default: the plan's window_seconds, or a twentieth of the plan's time)")
         if name in ("day", "page"):
             one.add_argument("--tick", metavar="SECONDS", help="the length of a tick (default: the plan's tick_seconds, or 1)")
+        if name == "day":
+            one.add_argument("--parked-elsewhere", action="store_true", help="accept a day in which a boom that waits at its first pose, or is done at its last, stands in a box of one that runs")
         if name == "draw":
             one.add_argument("--view", choices=["both", "above", "side"], default="both", help="default: both")
             one.add_argument("--end-box", action="store_true", help="with a dashed box round each boom's end poses, which the boom may leave on the way")
@@ -129,6 +131,15 @@ def warn_of_nets(answers, warn):
             warn("boom '%s': its cover is not below net '%s'" % (answers.booms[b].boom.name, answers.plan.nets[n].name))
 
 
+def look_at_parked(answers, options, warn):
+    """A boom that stands in a box of one that runs: the day is refused, unless it is parked elsewhere; of a page it is a warning."""
+    found = parked.meetings(answers)
+    if found and options.question == "day" and not options.parked_elsewhere:
+        raise refused(parked.refusal_text(answers, found))
+    for meeting in found:
+        warn("%s; park it elsewhere" % parked.meeting_text(answers, meeting))
+
+
 def tell_groups(answers, note):
     """Of more booms than a day of the library has, why it is answered all the same."""
     if len(answers.booms) > BOOMS:
@@ -144,6 +155,8 @@ def answered(options, warn, note, progress):
         try:
             answers = Answers(library, with_short_turns(plan, options.split, warn), not options.without_pads, warn, progress)
             text = text_of(answers, options)
+            if options.question in ("day", "page"):
+                look_at_parked(answers, options, warn)
         except OverflowError:
             raise numbered(5)
         if options.question in ("nets", "draw", "page"):
