@@ -492,6 +492,55 @@ class RealNumbers(unittest.TestCase):
         self.assertGreater(met, 0)
 
 
+class Slips(unittest.TestCase):
+    """Numbers that are likely wrong get a warning with the answer, and no plan is refused for them."""
+
+    def said(self, plan, question="covers"):
+        status, text, said = ask(plan, question)
+        self.assertEqual(status, 0, said)
+        self.assertTrue(text)
+        return [line.split(": warning: ", 1)[1] for line in said]
+
+    def test_none_in_the_examples(self):
+        for question in QUESTIONS:
+            self.assertFalse([line for line in run(question, PLAN)[2] if "power line" not in line])
+
+    def test_a_boom_far_away(self):
+        near = [boom_of(name=name, mast=[x, 0, 0]) for name, x in (("a", 0), ("b", 70))]
+        self.assertEqual(self.said(plan_of(*near, boom_of(name="c", mast=[7000, 0, 0]))), [])
+        self.assertEqual(self.said(plan_of(*near, boom_of(name="c", mast=[12154, 0, 0]))),
+                         ["boom 'c': it stands 12119 m from the others, more than 100 times the 70 m that these stand apart or reach; is a decimal point missing?"])
+        self.assertEqual(len(self.said(plan_of(near[0], boom_of(name="b", mast=[0, 1100, 0])))), 1)
+        self.assertEqual(self.said(plan_of(near[0], boom_of(name="b", mast=[0, 900, 0]))), [])
+
+    def test_a_fast_tip(self):
+        """A boom of 10 m by 60 degrees goes 10.5 m."""
+        def turned(seconds):
+            return plan_of(boom_of(poses=[{"time": 0, "heading": 0}, {"time": 30, "heading": 0}, {"time": 30 + seconds, "heading": 60}]))
+        self.assertEqual(self.said(turned(2.2)), [])
+        found = self.said(turned(2))
+        self.assertEqual(len(found), 1)
+        self.assertRegex(found[0], r"^boom 'a': poses 2 and 3: its far end moves at 5\.2\d* m/s, faster than 5 m/s; is a time or a turn wrong\?$")
+        slid = plan_of(boom_of(poses=[{"time": 0, "at": [0, 0, 0]}, {"time": 10, "at": [60, 0, 0]}]))
+        self.assertIn("its far end moves at 6 m/s", self.said(slid)[0])
+
+    def test_a_swing_of_no_time(self):
+        self.assertEqual(self.said(plan_of(boom_of(poses=[{"time": 5}, {"time": 5.25, "heading": 1}]))), ["boom 'a': its swing takes 0.25 s, from its first pose to its last; are its times in seconds?"])
+
+    def test_rows_below_the_spray(self):
+        beds = [{"name": "bed", "box": [0, 0, 0, 5, 5, 0.25]}, {"name": "crown", "box": [0, 0, 0, 5, 5, 1.5]}, {"name": "any", "box": [0, 0, 5, 5]}, {"name": "beside", "box": [50, 0, 0, 55, 5, 0.25]},
+                {"name": "above", "box": [0, 0, 7, 5, 5, 8]}]
+        wet = boom_of(poses=[{"time": 0, "pad": 0.5}, {"time": 10, "heading": 60, "pad": 0.5}])
+        for question in ("rows", "day", "draw", "page"):
+            found = self.said(plan_of(wet, rows=beds), question)
+            self.assertEqual(len(found), 1, found)
+            self.assertIn("boom 'a': it passes over row 'bed', not reached by heights: 'bed' ends at 0.25 m, and above it the boom and its spray begin at 0.499 m; water falls", found[0])
+        self.assertEqual(self.said(plan_of(wet, rows=beds)), [])
+        many = self.said(plan_of(wet, rows=[{**beds[0], "name": "bed %d" % k} for k in range(9)]), "rows")
+        self.assertIn("it passes over rows 'bed 0', 'bed 1', 'bed 2' and 6 more, not reached", many[0])
+        self.assertEqual(self.said(plan_of(wet, rows=beds[1:]), "rows"), [])
+
+
 class Turns(unittest.TestCase):
     def test_half_turn_is_refused_and_split(self):
         for heading in (180, 200, -180, 360, 720, 179.95):
@@ -529,10 +578,10 @@ class Turns(unittest.TestCase):
 class Times(unittest.TestCase):
     def test_times_that_collapse(self):
         late = [{"time": 100000.001, "heading": 0}, {"time": 100000.002, "heading": 10}]
-        self.assertEqual(ask(plan_of(boom_of(poses=late)))[0::2], (0, []))
+        self.assertEqual([ask(plan_of(boom_of(poses=late)))[0], "one float" in str(ask(plan_of(boom_of(poses=late)))[2])], [0, False])
         both = plan_of(boom_of(), boom_of(name="b", poses=late))
         status, _, said = ask(both)
-        self.assertEqual((status, len(said)), (0, 1))
+        self.assertEqual((status, sum("one float" in line for line in said)), (0, 1))
         self.assertIn("warning: boom 'b': poses 1 and 2: the times 100000.001 and 100000.002 are one float, 100000, on a clock that starts at 0", said[0])
         status, _, said = ask(both, "windows")
         self.assertEqual((status, len(said)), (1, 1))

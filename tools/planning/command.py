@@ -4,7 +4,7 @@ import os
 import sys
 from dataclasses import replace
 
-from planning import chains, drawing, files, geojson, moves, numbers, output, page, parked, reading
+from planning import chains, drawing, files, geojson, moves, numbers, output, page, parked, reading, slips
 from planning.answers import Answers
 from planning.ending import Ending, bad, numbered, one_line, refused
 from planning.library import BOOMS, DEFAULT, Library
@@ -131,6 +131,13 @@ def warn_of_nets(answers, warn):
             warn("boom '%s': its cover is not below net '%s'" % (answers.booms[b].boom.name, answers.plan.nets[n].name))
 
 
+def warn_of_slips(answers, options, warn):
+    """Numbers that are likely slips; those of rows where rows are named."""
+    named = options.question in ("rows", "day", "draw", "page") or getattr(options, "format", None) == "geojson"
+    for text in [*slips.of_booms(answers), *(slips.of_rows(answers) if named else [])]:
+        warn(text)
+
+
 def look_at_parked(answers, options, warn):
     """A boom that stands in a box of one that runs: the day is refused, unless it is parked elsewhere; of a page it is a warning."""
     found = parked.meetings(answers)
@@ -161,6 +168,7 @@ def answered(options, warn, note, progress):
             raise numbered(5)
         if options.question in ("nets", "draw", "page"):
             warn_of_nets(answers, warn)
+        warn_of_slips(answers, options, warn)
         if options.question == "day":
             tell_groups(answers, note)
     files.write_text(getattr(options, "out", None), text)
