@@ -18,6 +18,7 @@ import subprocess
 import sys
 import tempfile
 import unittest
+import unittest.mock
 from fractions import Fraction
 
 sys.path.insert(0, os.path.dirname(os.path.abspath(__file__)))
@@ -26,7 +27,7 @@ sys.dont_write_bytecode = True
 import binary32
 import move_files
 import pages
-from planning import answers, chains, command, files, groups, library, numbers, parked, progress, reading, rows, scene
+from planning import answers, chains, command, files, groups, library, numbers, parked, progress, reading, rows, scene, source
 
 PLAN = os.path.join(pages.ROOT, "examples", "plan", "orchard.json")
 FOLDER = os.path.join(pages.ROOT, "examples", "plan", "orchard")
@@ -774,6 +775,63 @@ class WrongUsage(unittest.TestCase):
         with open("/dev/full", "w") as full:
             ended = subprocess.run([program, "covers", PLAN], stdout=full, stderr=subprocess.PIPE, text=True)
         self.assertEqual((ended.returncode, ended.stderr.count("\n")), (2, 1), ended.stderr)
+
+
+class Pipes(unittest.TestCase):
+    """Whatever is named as a plan, reading it comes to an end."""
+
+    def pipe(self):
+        path = os.path.join(SCRATCH, "pipe")
+        if os.path.exists(path):
+            os.remove(path)
+        os.mkfifo(path)
+        return path
+
+    def waited(self, seconds, *arguments):
+        with unittest.mock.patch.object(source, "MOST_SECONDS", seconds):
+            return run(*arguments)
+
+    def test_a_pipe_without_a_writer(self):
+        path = self.pipe()
+        self.assertEqual(self.waited(0.2, "covers", path), (2, "", ["tools/plan: %s: nothing came in 0.2 s: it is a pipe, and nobody writes to it" % path]))
+        folder = os.path.join(SCRATCH, "piped")
+        shutil.copytree(FOLDER, folder)
+        os.replace(path, os.path.join(folder, "poses.csv"))
+        status, _, said = self.waited(0.2, "covers", folder)
+        self.assertEqual((status, said), (2, ["tools/plan: %s: poses.csv: nothing came in 0.2 s: it is a pipe, and nobody writes to it" % folder]))
+        self.assertIn("can't be loaded", run("covers", PLAN, "--library", self.pipe())[2][0])
+
+    def test_a_pipe_that_is_written_to(self):
+        path = self.pipe()
+        writer = subprocess.Popen(["sh", "-c", 'sleep 0.2; cat "$1" > "$2"', "sh", PLAN, path])
+        self.assertEqual(self.waited(20, "covers", path), run("covers", PLAN))
+        self.assertEqual(writer.wait(), 0)
+
+    def test_a_pipe_without_an_end(self):
+        path = self.pipe()
+        kept = os.open(path, os.O_RDWR)
+        try:
+            os.write(kept, b"{}")
+            self.assertEqual(self.waited(0.2, "covers", path)[2], ["tools/plan: %s: its end didn't come in 0.2 s, 2 bytes did" % path])
+        finally:
+            os.close(kept)
+        self.assertEqual(run("covers", "/dev/zero")[2], ["tools/plan: /dev/zero: it has more than 16777216 bytes"])
+
+    def test_a_file_that_grows(self):
+        """By a little before each part that is read, or once, when it has been read."""
+        read = os.read
+        for least in (0, 1):
+            path, done = written(bytes_of(PLAN), "growing.json"), []
+
+            def grows(handle, size):
+                part = read(handle, size)
+                done.append(part)
+                if len(done) > least:
+                    with open(path, "ab") as file:
+                        file.write(b" " * 10)
+                return part
+            with unittest.mock.patch.object(source.os, "read", grows):
+                self.assertEqual(run("covers", path), (2, "", ["tools/plan: %s: it was written to while it was read; ask again when it is whole" % path]))
 
 
 class Docs(unittest.TestCase):

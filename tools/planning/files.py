@@ -5,11 +5,10 @@ import json
 import os
 import sys
 
-from planning import reading
+from planning import reading, source
 from planning.ending import bad, one_line
 from planning.numbers import Number
 
-MOST_BYTES = 16 << 20
 # What each CSV file of a folder is for, and its columns; those that must be there come first.
 COLUMNS = {
     "booms.csv": (["boom", "x0", "y0", "z0", "x1", "y1", "z1"], ["kind", "run_ticks"]),
@@ -22,18 +21,7 @@ COLUMNS = {
 
 def text_of(path):
     """A file's text in UTF-8; a byte order mark is passed over."""
-    try:
-        if path == "-" and sys.stdin is None:
-            raise bad("standard input is closed")
-        if path == "-":
-            data = sys.stdin.buffer.read(MOST_BYTES + 1)
-        else:
-            with open(path, "rb") as file:
-                data = file.read(MOST_BYTES + 1)
-    except (OSError, ValueError) as problem:
-        raise bad(getattr(problem, "strerror", None) or "it can't be read")
-    if len(data) > MOST_BYTES:
-        raise bad("it has more than %d bytes" % MOST_BYTES)
+    data = source.bytes_of(path)
     try:
         return data.decode("utf-8-sig")
     except UnicodeDecodeError as problem:

@@ -72,8 +72,11 @@ class Library:
         if not os.path.exists(path):
             raise bad("the library %s is not there: run `make` first, or name it by --library or JELLYPLAIN_LIBRARY" % one_line(path))
         try:
-            loaded = ctypes.CDLL(os.path.abspath(path))
+            # What isn't a file, as a pipe that nobody writes to, would be waited for without end.
+            loaded = ctypes.CDLL(os.path.abspath(path)) if os.path.isfile(path) else None
         except OSError:
+            loaded = None
+        if loaded is None:
             raise bad("%s can't be loaded as a shared library; run `make` again" % one_line(path))
         self.functions = {}
         for name, (result, arguments) in FUNCTIONS.items():
