@@ -140,7 +140,7 @@ class Answers:
     def booms_of_rows(self):
         """For each row the names of the booms that reach it."""
         found = [[] for _ in self.plan.rows]
-        for answer in self.booms:
+        for answer in self.progress.counted("rows of booms", self.booms):
             for place in answer.rows:
                 found[place].append(answer.boom.name)
         return found

@@ -78,7 +78,7 @@ def window_records(answers):
 def day_records(answers):
     seconds = answers.plan.tick_seconds
     group_of = {i: k + 1 for k, group in enumerate(answers.groups) for i in group}
-    for i, (answer, run) in enumerate(zip(answers.booms, answers.day)):
+    for i, (answer, run) in enumerate(answers.progress.counted("rows of booms", zip(answers.booms, answers.day))):
         yield {"boom": answer.boom.name, "group": group_of[i], "start_tick": run.start, "end_tick": run.end, "from": below(run.start * seconds), "to": above(run.end * seconds), "rows": answers.rows_of(i)}
 
 
