@@ -140,7 +140,12 @@ def warn_of_slips(answers, options, warn):
 
 def look_at_parked(answers, options, warn):
     """A boom that stands in a box of one that runs: the day is refused, unless it is parked elsewhere; of a page it is a warning."""
-    found = parked.meetings(answers)
+    try:
+        found = parked.meetings(answers)
+    except Ending:
+        if options.question == "page":
+            return              # what the page has is written, and it has no day
+        raise
     if found and options.question == "day" and not options.parked_elsewhere:
         raise refused(parked.refusal_text(answers, found))
     for meeting in found:
