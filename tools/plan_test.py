@@ -27,7 +27,7 @@ sys.dont_write_bytecode = True
 import binary32
 import move_files
 import pages
-from planning import answers, chains, command, files, groups, library, numbers, parked, progress, reading, rows, scene, source
+from planning import answers, chains, command, files, groups, library, numbers, progress, reading, rows, scene, source
 
 PLAN = os.path.join(pages.ROOT, "examples", "plan", "orchard.json")
 FOLDER = os.path.join(pages.ROOT, "examples", "plan", "orchard")
