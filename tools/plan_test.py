@@ -27,7 +27,7 @@ sys.dont_write_bytecode = True
 import binary32
 import move_files
 import pages
-from planning import answers, chains, command, files, groups, library, numbers, progress, reading, rows, scene, source
+from planning import answers, chains, command, files, groups, library, meetings, numbers, progress, reading, rows, scene, source
 
 PLAN = os.path.join(pages.ROOT, "examples", "plan", "orchard.json")
 FOLDER = os.path.join(pages.ROOT, "examples", "plan", "orchard")
@@ -928,6 +928,55 @@ class DamagedPlans(unittest.TestCase):
             question = rng.choice(QUESTIONS)
             status, _, said = run(question, folder, "--depth", "3")
             self.hold(status, said, (i, question, chosen))
+
+
+# ---- windows, the page, the map and CSV as people have it
+
+class LowDepthsFirst(unittest.TestCase):
+    """Windows that are asked at low depths first are those that the plan's depth lists, with its refusals."""
+
+    def asked(self, found, i, j, depth, ticks):
+        """By low depths first, and each box of one with each of the other at the depth itself."""
+        booms, asked = [found.booms[i], found.booms[j]], []
+        frame = chains.middle([answer.boom for answer in booms])
+        pair = [chains.build(found.library, answer.boom, frame, found.plan.start(), True) for answer in booms]
+        boxes = [answer.boxes for answer in booms]
+        plainly = lambda: sorted({k for a in boxes[0] for b in boxes[1] for k in found.library.windows(*pair, a, b, depth, ticks)})
+        for ask_them in (lambda: meetings.meeting_windows(found.library, pair, boxes, depth, ticks), plainly):
+            try:
+                asked.append(ask_them())
+            except library.Refused as refusal:
+                asked.append(refusal.number)
+        return asked
+
+    def test_every_depth(self):
+        found, seen = answered(), set()
+        for depth in (0, 1, 2, 4, 5, 8, 12, 13):
+            for ticks in (found.float_ticks, [0.0, 40.0, 120.0], [0.0, 0.5, 0.5]):
+                for i, j in ((0, 2), (2, 3), (0, 1)):
+                    first, plain = self.asked(found, i, j, depth, ticks)
+                    self.assertEqual(first, plain, (depth, i, j))
+                    seen.add(plain if isinstance(plain, int) else bool(plain))
+        self.assertTrue({True, False, 8, 21} <= seen, seen)
+
+    def test_a_low_depth_that_is_refused(self):
+        class Refusing:
+            """Two boxes, of which the second is refused below a depth, and windows that a lower depth doesn't rule out."""
+
+            def __init__(self, least):
+                self.least = least
+
+            def windows(self, chain, other, box, other_box, depth, ticks):
+                if other_box == 1 and depth < self.least:
+                    raise library.Refused(10)
+                return [k for k, tick in enumerate(ticks[:-1]) if tick % 7 == 3 or depth < 3]
+        ticks = [float(k) for k in range(150)]
+        for least, depth, expected in ((0, 10, None), (2, 10, None), (6, 10, None), (6, 4, 10), (11, 10, 10)):
+            try:
+                found = meetings.meeting_windows(Refusing(least), (0, 0), [[0], [0, 1]], depth, ticks)
+            except library.Refused as refusal:
+                found = refusal.number
+            self.assertEqual(found, expected or [k for k in range(149) if k % 7 == 3], (least, depth))
 
 
 if __name__ == "__main__":

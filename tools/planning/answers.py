@@ -5,11 +5,11 @@ from functools import cached_property
 from typing import NamedTuple, Optional
 
 import binary32
-from planning import chains
+from planning import chains, meetings
 from planning.chains import shifted
 from planning.ending import numbered, refused
 from planning.groups import groups
-from planning.library import BOOMS, TICKS, Refused
+from planning.library import BOOMS, Refused
 from planning.numbers import shown
 from planning.progress import SILENT
 from planning.reading import at
@@ -205,7 +205,7 @@ class Answers:
                 self.look_at_plan_clock(answer.boom)
             built = [chains.build(self.library, answer.boom, frame, self.plan.start(), self.with_pads) for answer in (one, other)]
             try:
-                return sorted({k for a, b in itertools.product(one.boxes, other.boxes) for k in self.asked_in_parts(*built, a, b)})
+                return meetings.meeting_windows(self.library, built, [one.boxes, other.boxes], self.plan.depth, self.float_ticks)
             except Refused as refusal:
                 raise numbered(refusal.number)
 
@@ -213,12 +213,6 @@ class Answers:
         found = chains.collapsed([pose.time for pose in boom.poses], self.plan.start())
         if found:
             raise numbered(12, "boom '%s': %s: %s; set its swing nearer to the plan's start; " % (boom.name, chains.places(found[0]), chains.collapse_text(found, self.plan.start())))
-
-    def asked_in_parts(self, chain, other, box, other_box):
-        """The library takes 64 ticks at a time; parts share a tick."""
-        for first in range(0, len(self.float_ticks) - 1, TICKS - 1):
-            part = self.float_ticks[first:first + TICKS]
-            yield from (first + k for k in self.library.windows(chain, other, box, other_box, self.plan.depth, part))
 
     def window_rows(self, i):
         """For each window the places of the rows that a boom may reach in it, by covers of that window alone."""

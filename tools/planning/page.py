@@ -33,9 +33,8 @@ def sample_times(plan):
     return [start + k * step for k in range(-(-(end - start) // step))] + [end]
 
 
-def windows_at(answers, time):
+def windows_at(ticks, time):
     """The windows in which a time lies: two where it is a tick."""
-    ticks = [Fraction(tick) + answers.plan.start() for tick in answers.float_ticks]
     found = [k for k, (a, b) in enumerate(zip(ticks, ticks[1:])) if a <= time <= b]
     return found or [0 if time < ticks[0] else len(ticks) - 2]
 
@@ -54,10 +53,11 @@ def boom_data(answers, found, i, times):
 
 def page_data(answers, found, times):
     """All that the slider shows."""
-    last = len(answers.ticks) - 1
+    last, start = len(answers.ticks) - 1, answers.plan.start()
+    ticks = [Fraction(tick) + start for tick in answers.float_ticks]
     return {
         "times": [shown(round(time, 3)) for time in times],
-        "windowsAt": [windows_at(answers, time) for time in times],
+        "windowsAt": [windows_at(ticks, time) for time in times],
         "windows": [[answers.tick_text(k, False), answers.tick_text(k + 1, True)] for k in range(last)],
         "rows": [row.name for row in answers.plan.rows],
         "booms": [boom_data(answers, found, i, times) for i in range(len(answers.booms))],
