@@ -707,20 +707,20 @@ class WrongFolders(unittest.TestCase):
         ("booms.csv", None, "there is no booms.csv"),
         ("poses.csv", None, "there is no poses.csv"),
         ("poses.csv", "", "poses.csv: it is empty"),
-        ("poses.csv", "boom;time;x;y;z;heading\n", "separated by commas"),
+        ("poses.csv", "boom:time:x:y:z:heading\n", "the column 'boom' is missing"),
         ("poses.csv", "boom,time,x,y,z\n", "the column 'heading' is missing"),
-        ("poses.csv", "boom,time,x,y,z,heading,heading\n", "is there twice"),
+        ("poses.csv", "boom,time,x,y,z,heading,heading\n", "poses.csv: line 1, column 6: 'heading' is there twice"),
         ("poses.csv", "boom,time,x,y,z,heading\n", "there is no pose"),
         ("poses.csv", "boom,time,x,y,z,heading\nnorth-west,0,0,0\n", "poses.csv: line 2: the cell of 'z' is empty"),
         ("poses.csv", "boom,time,x,y,z,heading\nnorth-west,0,0,0,0,0,0,0\n", "line 2: 8 cells for 6 columns"),
-        ("poses.csv", "boom,time,x,y,z,heading\nnobody,0,0,0,0,0\n", "line 2: there is no boom 'nobody'"),
-        ("poses.csv", "boom,time,x,y,z,heading\nnorth-west,zero,0,0,0,0\n", "boom 'north-west': pose 1: time: 'zero' is not a decimal number"),
+        ("poses.csv", "boom,time,x,y,z,heading\nnobody,0,0,0,0,0\n", "line 2, column 1 (boom): there is no boom 'nobody'"),
+        ("poses.csv", "boom,time,x,y,z,heading\nnorth-west,zero,0,0,0,0\n", "folder: poses.csv: line 2, column 2 (time): 'zero' is not a decimal number"),
         ("poses.csv", 'boom,time,x,y,z,heading\n"north-west,0,0,0,0,0\n', "it is not CSV"),
         ("poses.csv", "boom,time,x,y,z,heading\n\0\n", "poses.csv: "),
         ("poses.csv", b"boom,\xff", "it is not UTF-8"),
         ("booms.csv", "boom,x0,y0,z0,x1,y1,z1\n", "there is no boom"), ("rows.csv", "row,x0,y0,x1,y1,z0,z1\na,0,0,1,1,5,\n", "rows.csv: line 2: z0 and z1"),
         ("nets.csv", "net,height,x0\na,3,1\n", "nets.csv: line 2: x0, y0, x1 and y1 are all given"),
-        ("settings.csv", "setting,value\ndeph,3\n", "settings.csv: line 2: 'deph' is no setting"),
+        ("settings.csv", "setting,value\ndeph,3\n", "settings.csv: line 2, column 1 (setting): 'deph' is no setting"),
     ]
 
     def test_each(self):
@@ -977,6 +977,84 @@ class LowDepthsFirst(unittest.TestCase):
             except library.Refused as refusal:
                 found = refusal.number
             self.assertEqual(found, expected or [k for k in range(149) if k % 7 == 3], (least, depth))
+
+
+def folder_of(**files_of):
+    """The example's folder with other texts for some files; a file whose text is None is left out."""
+    folder = os.path.join(SCRATCH, "folder")
+    shutil.rmtree(folder, ignore_errors=True)
+    shutil.copytree(FOLDER, folder)
+    for name, text in files_of.items():
+        os.remove(os.path.join(folder, name + ".csv"))
+        if text is not None:
+            written(text, os.path.join("folder", name + ".csv"))
+    return folder
+
+
+def of_folder(name, change=lambda text: text):
+    return change(bytes_of(os.path.join(FOLDER, name + ".csv")).decode())
+
+
+NAMES = ["booms", "poses", "rows", "nets", "settings"]
+
+
+class CsvAsPeopleHaveIt(unittest.TestCase):
+    """Semicolons and decimal commas, capitals, more columns, a byte order mark; and what is wrong said with its file, line and column."""
+
+    def same(self, change):
+        """The example's answers, from its files changed in one way."""
+        folder = folder_of(**{name: of_folder(name, change) for name in NAMES})
+        for question in ("covers", "nets", "rows", "day"):
+            status, text, said = run(question, folder)
+            self.assertEqual((status, text), run(question, FOLDER)[:2], said)
+        return said
+
+    def test_other_spellings(self):
+        def commas(text):
+            return text.replace(",", ";").replace(".", ",")
+        self.assertEqual(self.same(commas), [])
+        self.assertEqual(self.same(lambda text: text.replace(",", ";")), [])
+        self.assertEqual(self.same(lambda text: text.replace(",", "\t")), [])
+        self.assertEqual(self.same(lambda text: "\ufeff" + commas(text).replace("\n", ";;\r\n")), [])
+        self.assertEqual(self.same(lambda text: text.split("\n")[0].upper().replace("_", " ") + "\n" + "\n".join(text.split("\n")[1:])), [])
+        self.assertEqual(self.same(lambda text: text.replace("rigid", "Rigid").replace("region", "REGION").replace("depth", "Depth")), [])
+
+    def test_other_columns_are_named(self):
+        said = self.same(lambda text: "\n".join("%s,%s,%s" % (("Field", line, "") if i == 0 else ("a;b", line, "x")) for i, line in enumerate(text.splitlines())) + "\n")
+        self.assertEqual(len(said), 5)
+        self.assertTrue(said[0].endswith("warning: settings.csv: not read: the column 'Field'"), said)
+
+    CASES = [
+        ("poses", "boom,time,x,y,z,heading,tlit\n", 2, "poses.csv: line 1, column 7: 'tlit' is no column; is 'tilt' meant?"),
+        ("poses", "boom,time,x,y,z,heading,Pads\n", 2, "poses.csv: line 1, column 7: 'Pads' is no column; is 'pad' meant?"),
+        ("poses", "boom;time;x;y;z;heading\nnorth-west;0;1,5;0;0;0\nnorth-west;9;1.500;0;0;0\n", 2, "poses.csv: line 3, column 3 (x): '1.500' has a point, and line 2 a decimal comma"),
+        ("poses", 'boom,time,x,y,z,heading\nnorth-west,0,"1,5",0,0,0\n', 2, "poses.csv: line 2, column 3 (x): '1,5': a decimal comma goes with semicolons"),
+        ("poses", "boom;time;x;y;z;heading\nnorth-west;0;1.234,5;0;0;0\n", 2, "poses.csv: line 2, column 3 (x): '1.234,5' is not a decimal number"),
+        ("poses", "boom,time,x,y,z,heading\nnorth-west,0,0,0,0,0\n\nnorth-west,0,0,0,0,0\n", 1, "poses.csv: line 4, column 2 (time): the time 0 is not after 0 in line 2; refused 12: "),
+        ("poses", "boom,time,x,y,z,heading,pad\nnorth-west,0,0,0,0,0,-1\n", 1, "poses.csv: line 2, column 7 (pad): refused 16: "),
+        ("booms", "boom,kind,x0,y0,z0,x1,y1,z1\na,,0,0,0,1,1,1\nb,stiff,0,0,0,1,1,1\n", 2, "booms.csv: line 3, column 2 (kind): plain or rigid is wanted here, not 'stiff'"),
+        ("booms", "boom,kind,x0,y0,z0,x1,y1,z1\na,plain,0,0,0,1,1,1\na,rigid,0,0,0,1,1,1\n", 2, "booms.csv: line 3, column 2 (kind): boom 'a' has another kind above"),
+        ("booms", "boom,run_ticks,x0,y0,z0,x1,y1,z1\na,2.5,0,0,0,1,1,1\n", 2, "booms.csv: line 2, column 2 (run_ticks): 2.5 is not a whole number"),
+        ("booms", "boom,x0,y0,z0,x1,y1,z1\na,0,0,5,1,1,1\n", 1, "booms.csv: line 2: on z: refused 7: "),
+        ("rows", "row,x0,y0,x1,y1\na,0,0,1,1\nb,0,0,1,1\na,0,0,1,1\n", 2, "rows.csv: line 4, column 1 (row): the name 'a' is in line 2 too"),
+        ("rows", "row,x0,y0,x1,y1\na,0,x,1,1\n", 2, "rows.csv: line 2, column 3 (y0): 'x' is not a decimal number"),
+        ("nets", "net,height,shape,x0,y0,x1,y1\na,3,round,0,0,1,1\n", 2, "nets.csv: line 2, column 3 (shape): region or line is wanted here, not 'round'"),
+        ("settings", "setting,value\ndepth,ten\n", 2, "settings.csv: line 2, column 2 (value): 'ten' is not a decimal number"),
+        ("settings", "setting,value\ntick_seconds,0\n", 2, "settings.csv: line 2, column 2 (value): a number above 0"),
+        ("poses", 'boom,time,x,y,z,heading\n"north-west,0,0,0,0,0\n', 2, "poses.csv: line 2: it is not CSV"),
+    ]
+
+    def test_what_is_wrong_and_where(self):
+        for name, text, status, part in self.CASES:
+            found, _, said = run("covers", folder_of(**{name: text}))
+            self.assertEqual((found, len(said)), (status, 1), (part, said))
+            self.assertIn("folder: " + part, said[0])
+
+    def test_written_for_spreadsheets(self):
+        plain, dressed = [run("nets", PLAN, "--format", "csv", *options)[1] for options in ([], ["--semicolons", "--byte-order-mark"])]
+        self.assertTrue(dressed.startswith("\ufeffnet;boom;height;"))
+        self.assertIn("power line;south-east;2,500;2,553;-0,053;NOT BELOW\n", dressed)
+        self.assertEqual(dressed[1:].replace(",", ".").replace(";", ","), plain)
 
 
 if __name__ == "__main__":

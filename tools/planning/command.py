@@ -67,6 +67,8 @@ def parser():
         one.add_argument("--without-pads", action="store_true", help="leave the spray aside in the covers, windows and the day (nets leave it aside anyway, rows never)")
         if name in FORMATS:
             one.add_argument("--format", choices=FORMATS[name], default="table", help="default: table")
+            one.add_argument("--semicolons", action="store_true", help="in CSV: semicolons between the cells and decimal commas")
+            one.add_argument("--byte-order-mark", action="store_true", help="in CSV: a byte order mark in front, by which some spreadsheets know UTF-8")
         if name in ("windows", "page"):
             one.add_argument("--every", metavar="SECONDS", help="the length of a window (default: the plan's window_seconds, or a twentieth of the plan's time)")
         if name in ("day", "page"):
@@ -122,7 +124,7 @@ def formatted(options, name, records, empty):
         return output.json_text({"plan": name, "depth": options.used_depth, options.question: records}) + "\n"
     if options.question == "rows":
         records = [{"row": record["row"], "boom": boom} for record in records for boom in record["booms"] or [None]]
-    return output.csv_text(records)
+    return output.csv_text(records, options.semicolons, options.byte_order_mark)
 
 
 def warn_of_nets(answers, warn):
@@ -162,7 +164,7 @@ def tell_groups(answers, note):
 def answered(options, warn, note, progress):
     library = Library(options.library or os.environ.get("JELLYPLAIN_LIBRARY") or DEFAULT)
     with reading.at(one_line(options.plan)):
-        plan = with_options(files.read_plan(options.plan), options)
+        plan = with_options(files.read_plan(options.plan, warn), options)
         options.used_depth = plan.depth
         try:
             answers = Answers(library, with_short_turns(plan, options.split, warn), not options.without_pads, warn, progress)

@@ -108,13 +108,16 @@ def table_text(records, empty):
     return "\n".join(lines) + "\n"
 
 
-def csv_text(records):
+def csv_text(records, semicolons=False, mark=False):
+    """Commas between the cells and points in the numbers, or semicolons and decimal commas; with a byte order mark or without."""
+    def written(value):
+        return cell(value).replace(".", ",") if semicolons and isinstance(value, (Thousandths, Plain)) else cell(value)
     columns = list(records[0]) if records else []
     out = io.StringIO()
-    writer = csv.writer(out, lineterminator="\n")
+    writer = csv.writer(out, lineterminator="\n", delimiter=";" if semicolons else ",")
     writer.writerow(columns)
-    writer.writerows([cell(record[column]) for column in columns] for record in records)
-    return out.getvalue()
+    writer.writerows([written(record[column]) for column in columns] for record in records)
+    return "\ufeff" * mark + out.getvalue()
 
 
 def json_text(value, depth=0):

@@ -92,11 +92,19 @@ def ordered(box, axes=model.AXES):
     return box
 
 
-def positive(value):
-    seconds = number(value)
-    if seconds <= 0:
+def above_zero(text):
+    value = exact(text)
+    if value <= 0:
         raise bad("a number above 0 is wanted here")
-    return seconds
+    return value
+
+
+def positive(value):
+    return above_zero(wanted(value, Number, "a number"))
+
+
+def ticks(text):
+    return whole(text, 0, 10 ** 9)
 
 
 def listed(value, what, read):
@@ -166,7 +174,7 @@ def boxes(value):
 
 def kind(value):
     if value not in ("plain", "rigid") or type(value) is not str:
-        raise bad("plain or rigid is wanted here")
+        raise bad("plain or rigid is wanted here, not %s" % ("'%s'" % one_line(value, MOST_NAME) if type(value) is str else kind_of(value)))
     return value
 
 
@@ -179,7 +187,7 @@ def boom(value):
     if "poses" not in keys:
         raise bad("the key 'poses' is missing")
     found = poses(keys.values["poses"], mast)
-    return model.Boom(name, rigid, mast or found[0].at, filled, found, keys.get("run_ticks", lambda v: whole(wanted(v, Number, "a number"), 0, 10 ** 9), None))
+    return model.Boom(name, rigid, mast or found[0].at, filled, found, keys.get("run_ticks", lambda v: ticks(wanted(v, Number, "a number")), None))
 
 
 # ---- rows, nets, the plan
