@@ -160,9 +160,9 @@ class Reach(unittest.TestCase):
         schedule = {line["boom"]: line["rows"] for line in json.loads(run("day", PLAN, "--format", "json")[1])["day"]}
         table = {line["row"]: line["booms"] for line in json.loads(run("rows", PLAN, "--format", "json")[1])["rows"]}
         features = json.loads(run("day", PLAN, "--format", "geojson")[1])["features"]
-        on_map = {f["properties"]["name"]: f["properties"]["rows"] for f in features if f["properties"]["what"] == "cover"}
-        rows_on_map = {f["properties"]["name"]: f["properties"]["booms"] for f in features if f["properties"]["what"] == "row"}
-        self.assertEqual(schedule, on_map)
+        on_map = {boom: {row for f in features if f["properties"]["what"] == "cover" and f["properties"]["name"] == boom for row in f["properties"]["rows"].split("; ") if row} for boom in schedule}
+        rows_on_map = {f["properties"]["name"]: f["properties"]["booms"].split("; ") if f["properties"]["booms"] else [] for f in features if f["properties"]["what"] == "row"}
+        self.assertEqual({boom: set(rows) for boom, rows in schedule.items()}, on_map)
         self.assertEqual(table, rows_on_map)
         self.assertEqual(table, {row: [boom for boom in schedule if row in schedule[boom]] for row in table})
         drawn = re.findall('data-row="([0-9]+)" fill="#d9ecc4"', run("draw", PLAN)[1])
@@ -179,8 +179,8 @@ class Reach(unittest.TestCase):
         met = [line for line in json.loads(run("windows", PLAN, "--format", "json")[1])["windows"] if line["answer"] == "may meet"]
         self.assertTrue(met)
         for name, properties in windows.items():
-            self.assertEqual(sorted((m["boom"], m["from"], m["to"]) for m in properties["may_meet"]),
-                             sorted((line["other"] if line["boom"] == name else line["boom"], line["from"], line["to"]) for line in met if name in (line["boom"], line["other"])))
+            self.assertEqual(properties["may_meet"], "; ".join("%s from %.3f to %.3f s" % (line["other"] if line["boom"] == name else line["boom"], line["from"], line["to"])
+                                                               for line in met if name in (line["boom"], line["other"])))
         self.assertNotIn("may_meet", day["north-west"])
 
     def test_rows_that_touch_a_cover_are_never_missed(self):
@@ -1055,6 +1055,47 @@ class CsvAsPeopleHaveIt(unittest.TestCase):
         self.assertTrue(dressed.startswith("\ufeffnet;boom;height;"))
         self.assertIn("power line;south-east;2,500;2,553;-0,053;NOT BELOW\n", dressed)
         self.assertEqual(dressed[1:].replace(",", ".").replace(";", ","), plain)
+
+
+class Maps(unittest.TestCase):
+    """GeoJSON that other programs take as it is."""
+
+    def features(self, question, *options, plan=PLAN, what="cover"):
+        return [f["properties"] for f in json.loads(run(question, plan, "--format", "geojson", *options)[1])["features"] if f["properties"]["what"] == what]
+
+    def test_every_property_is_a_number_or_a_text(self):
+        for question in ("covers", "nets", "rows", "windows", "day"):
+            for feature in json.loads(run(question, PLAN, "--format", "geojson")[1])["features"]:
+                for key, value in feature["properties"].items():
+                    self.assertLessEqual(len(key), 10)
+                    self.assertIsInstance(value, (int, float, str, type(None)), (question, key))
+
+    def test_a_cover_has_the_rows_that_it_meets_itself(self):
+        exact = {row.name: row.area for row in read().rows}
+        for f in json.loads(run("rows", PLAN, "--format", "geojson")[1])["features"]:
+            if f["properties"]["what"] == "cover":
+                (x0, y0), _, (x1, y1) = f["geometry"]["coordinates"][0][:3]
+                self.assertEqual(f["properties"]["rows"], "; ".join(name for name, area in exact.items() if answers.touching(area, [x0, y0, x1, y1])))
+        rows = {(f["name"], f["of"], f["box"]): f["rows"] for f in self.features("rows")}
+        self.assertEqual(rows["south-west", "boom", 2], "row 2; row 3; row 4")
+        self.assertEqual(rows["south-west", "boom and spray", 2], "row 2; row 3; row 4; row 5")
+
+    def test_nets(self):
+        nets = {f["name"]: (f["clearance"], f["answer"], f["not_below"]) for f in self.features("nets", what="net")}
+        self.assertEqual(nets, {"hail net": (0.647, "below", ""), "power line": (-0.053, "NOT BELOW", "south-east")})
+        booms = {f["name"]: (f["clearance"], f["answer"], f["not_below"]) for f in self.features("nets")}
+        self.assertEqual(booms["south-east"], (-0.053, "NOT BELOW", "power line"))
+        self.assertEqual(booms["north-west"], (0.950, "below", ""))
+        far = written(json.dumps(plan_of(nets=[{"name": "far", "height": 1, "region": [50, 50, 60, 60]}])))
+        self.assertEqual([(f["clearance"], f["answer"]) for f in self.features("nets", plan=far, what="net")], [(None, "not under it")])
+        self.assertNotIn("answer", self.features("covers", what="net")[0])
+
+    def test_frame(self):
+        plain, named = [json.loads(run("covers", PLAN, "--format", "geojson", *options)[1]) for options in ([], ["--frame", "epsg:2056"])]
+        self.assertEqual(plain["frame"], "x and y of the plan, in metres; not longitude and latitude")
+        self.assertIn('UNIT["metre",1]', plain["crs"]["properties"]["name"])
+        self.assertEqual(named["crs"]["properties"]["name"], "urn:ogc:def:crs:EPSG::2056")
+        self.assertEqual(run("covers", PLAN, "--format", "geojson", "--frame", "LV95")[0], 2)
 
 
 if __name__ == "__main__":

@@ -69,6 +69,8 @@ def parser():
             one.add_argument("--format", choices=FORMATS[name], default="table", help="default: table")
             one.add_argument("--semicolons", action="store_true", help="in CSV: semicolons between the cells and decimal commas")
             one.add_argument("--byte-order-mark", action="store_true", help="in CSV: a byte order mark in front, by which some spreadsheets know UTF-8")
+        if "geojson" in FORMATS.get(name, []):
+            one.add_argument("--frame", metavar="EPSG:NUMBER", help="in GeoJSON: the frame of the plan's x and y (default: one of its own, in metres)")
         if name in ("windows", "page"):
             one.add_argument("--every", metavar="SECONDS", help="the length of a window (default: the plan's window_seconds, or a twentieth of the plan's time)")
         if name in ("day", "page"):
@@ -105,7 +107,7 @@ def text_of(answers, options):
     if options.question == "page":
         return page.page(answers)
     if options.format == "geojson":
-        return geojson.geojson_text(answers, options.question)
+        return geojson.geojson_text(answers, options.question, options.frame)
     records, empty = {
         "covers": (lambda: output.cover_records(answers, answers.with_pads), ""),
         "nets": (lambda: output.net_records(answers), "the plan has no nets"),

@@ -1,7 +1,13 @@
-"""The map: rows, nets, masts and covers as GeoJSON features, in metres of the plan's frame."""
+"""The map: rows, nets, masts and covers as GeoJSON features, in metres of the plan's frame. A property is a number or a text, names in it with '; ' between, and its name has at most ten letters:
+GeoPackage and Shapefile take no other."""
+import re
 from fractions import Fraction
 
-from planning.output import above, below, day_records, json_text, outward, window_records
+from planning.ending import bad, one_line
+from planning.output import above, below, cell, day_records, json_text, net_answer, outward, window_records
+
+FRAME = "x and y of the plan, in metres; not longitude and latitude"
+OWN = 'LOCAL_CS["the plan\'s own frame",UNIT["metre",1],AXIS["x",EAST],AXIS["y",NORTH]]'
 
 
 def rectangle(area):
@@ -10,39 +16,78 @@ def rectangle(area):
 
 
 def feature(geometry, **properties):
-    return {"type": "Feature", "geometry": geometry, "properties": properties}
+    return {"type": "Feature", "geometry": geometry, "properties": {key: cell(value) if isinstance(value, list) else value for key, value in properties.items()}}
 
 
 def area_of(box):
     return [box[0], box[1], box[3], box[4]]
 
 
-def told(answers, question):
-    """What the answer to the question says of each boom, by its name, beside what every map has."""
-    if question == "day":
-        return {record["boom"]: {key: record[key] for key in ("start_tick", "end_tick", "from", "to")} for record in day_records(answers)}
-    if question != "windows":
-        return {answer.boom.name: {} for answer in answers.booms}
-    found = {answer.boom.name: {"may_meet": []} for answer in answers.booms}
+# ---- what the answer to a question says beside what every map has
+
+def told_of_day(answers):
+    return [{key: record[key] for key in ("start_tick", "end_tick", "from", "to")} for record in day_records(answers)]
+
+
+def told_of_windows(answers):
+    found = {answer.boom.name: [] for answer in answers.booms}
     for record in window_records(answers):
         if record["answer"] == "may meet":
             for one, other in ((record["boom"], record["other"]), (record["other"], record["boom"])):
-                found[one]["may_meet"].append({"boom": other, "from": record["from"], "to": record["to"]})
-    return found
+                found[one].append("%s from %s to %s s" % (other, record["from"], record["to"]))
+    return [{"may_meet": met} for met in found.values()]
 
 
-def features(answers, question):
-    more = told(answers, question)
+def told_of_net(found, names):
+    """The least clearance of some answers of net and boom, whether all are below, and the names of those that aren't."""
+    under = [one for one in found if one.top is not None]
+    least = min(under, key=lambda one: one.clearance) if under else found[0]
+    return {"clearance": below(least.clearance) if under else None, "answer": net_answer(least), "not_below": [name for one, name in zip(found, names) if not one.below()]}
+
+
+def told(answers, question):
+    """Of each boom, in their order."""
+    if question == "day":
+        return told_of_day(answers)
+    if question == "windows":
+        return told_of_windows(answers)
+    if question == "nets" and answers.plan.nets:
+        names = [net.name for net in answers.plan.nets]
+        return [told_of_net([answers.nets[n, b] for n in range(len(names))], names) for b in range(len(answers.booms))]
+    return [{} for _ in answers.booms]
+
+
+# ---- features
+
+def row_features(answers):
     for place, row in enumerate(answers.plan.rows):
         yield feature(rectangle(row.area), what="row", name=row.name, booms=answers.reached_by(place))
-    for net in answers.plan.nets:
-        yield feature(net_geometry(net), what="net", name=net.name, height=below(net.height))
-    for i, answer in enumerate(answers.booms):
-        name, rows = answer.boom.name, answers.rows_of(i)
-        yield feature({"type": "Point", "coordinates": [below(v + Fraction(1, 2000)) for v in answer.boom.mast[:2]]}, what="mast", name=name)
+
+
+def net_features(answers, question):
+    names = [answer.boom.name for answer in answers.booms]
+    for n, net in enumerate(answers.plan.nets):
+        more = told_of_net([answers.nets[n, b] for b in range(len(names))], names) if question == "nets" else {}
+        yield feature(net_geometry(net), what="net", name=net.name, height=below(net.height), **more)
+
+
+def cover_features(answers, question):
+    """Of each box of a boom, without spray and with it, the cover and the rows that this cover meets; what the question says is of the boom."""
+    for answer, more in zip(answers.booms, told(answers, question)):
         for sprays in [False] + [True] * answer.sprays:
-            for cover in answer.covers_in_plan(sprays):
-                yield feature(rectangle(area_of(cover)), what="cover", name=name, of="boom and spray" if sprays else "boom", z0=below(cover[2]), z1=above(cover[5]), rows=rows, **more[name])
+            for k, (own, cover) in enumerate(zip(answer.spray_covers if sprays else answer.bare_covers, answer.covers_in_plan(sprays))):
+                rows = [answers.plan.rows[place].name for place in answer.reached(answers.library, [own])]
+                yield feature(rectangle(area_of(cover)), what="cover", name=answer.boom.name, of="boom and spray" if sprays else "boom", box=k + 1,
+                              z0=below(cover[2]), z1=above(cover[5]), rows=rows, **more)
+
+
+def mast_features(answers):
+    for answer in answers.booms:
+        yield feature({"type": "Point", "coordinates": [nearest(v) for v in answer.boom.mast[:2]]}, what="mast", name=answer.boom.name)
+
+
+def nearest(value):
+    return below(value + Fraction(1, 2000))
 
 
 def net_geometry(net):
@@ -50,10 +95,21 @@ def net_geometry(net):
     if net.region:
         return rectangle(net.region)
     if net.line:
-        x0, y0, x1, y1 = [below(v + Fraction(1, 2000)) for v in net.line]
+        x0, y0, x1, y1 = [nearest(v) for v in net.line]
         return {"type": "LineString", "coordinates": [[x0, y0], [x1, y1]]}
     return None
 
 
-def geojson_text(answers, question):
-    return json_text({"type": "FeatureCollection", "name": answers.plan.name, "units": "metres of the plan's frame", "features": list(features(answers, question))}) + "\n"
+def frame_of(name):
+    """The members that say the frame, one for map programs, which would take degrees of longitude without it, and one for people: the plan's own, or one of the EPSG register."""
+    if name is None:
+        return {"crs": {"type": "name", "properties": {"name": OWN}}, "frame": FRAME}
+    found = re.fullmatch("EPSG:([0-9]{1,6})", name.upper(), re.ASCII)
+    if not found:
+        raise bad("--frame: '%s' is no frame; a number of the EPSG register is wanted, as EPSG:2056" % one_line(name, 60))
+    return {"crs": {"type": "name", "properties": {"name": "urn:ogc:def:crs:EPSG::%s" % found[1]}}, "frame": "x and y of EPSG:%s, in metres" % found[1]}
+
+
+def geojson_text(answers, question, frame=None):
+    found = [*row_features(answers), *net_features(answers, question), *mast_features(answers), *cover_features(answers, question)]
+    return json_text({"type": "FeatureCollection", "name": answers.plan.name, **frame_of(frame), "features": found}) + "\n"

@@ -41,12 +41,16 @@ def cover_records(answers, with_pads=True):
                 yield {"boom": answer.boom.name, "of": "boom and spray" if sprays else "boom", "box": box, **dict(zip(CORNERS, outward(cover)))}
 
 
+def net_answer(found):
+    return "not under it" if found.top is None else "below" if found.below() else "NOT BELOW"
+
+
 def net_records(answers):
     for (n, b), found in answers.nets.items():
         net, boom = answers.plan.nets[n], answers.booms[b].boom
         under = found.top is not None
         yield {"net": net.name, "boom": boom.name, "height": below(net.height), "top": above(found.top) if under else None,
-               "clearance": below(found.clearance) if under else None, "answer": ("below" if found.below() else "NOT BELOW") if under else "not under it"}
+               "clearance": below(found.clearance) if under else None, "answer": net_answer(found)}
 
 
 def row_records(answers):
