@@ -1,4 +1,5 @@
 """Where booms stand at some times, by the library, and two views of them: from above and from the side."""
+import math
 from fractions import Fraction
 
 import binary32
@@ -14,6 +15,7 @@ ROOM = 0.03                             # of the width round all that is drawn
 COLOURS = ["#2166ac", "#c62828", "#b8860b", "#00838f", "#8d5524", "#d81b7a", "#1b7837", "#555555"]
 NET, REACHED, DRY = "#6a3d9a", "#d9ecc4", "#efefef"
 FRAME = 'fill="none" stroke="#000000" stroke-width="0.8"'
+LONGEST, CHARACTER = 5, 6.3             # the most characters of a label on an axis, and the pixels of one
 
 
 def colour(i):
@@ -47,6 +49,16 @@ def box_round(moved):
     return [pick(p[i] for p in points) for pick in (min, max) for i in range(3)]
 
 
+def axis_marks(low, high, step):
+    """The marks of an axis with their labels, and where they count from: in full from 0, or, where those would be too long, from a round number below all, which is named."""
+    marks = list(svg.ticks(low, high, step))
+    if low <= 0 <= high or max((len(label) for _, label in marks), default=0) <= LONGEST and max(abs(low), abs(high)) < 10 ** LONGEST:
+        return marks, ""
+    unit = 10 ** max(0, math.ceil(math.log10(high - low)))
+    origin = math.floor(low / unit) * unit
+    return [(origin + value, label) for value, label in svg.ticks(low - origin, high - origin, step)], " from %s" % str(origin).replace("-", "−") if origin else ""
+
+
 class View:
     """x to the right and one other axis up, in a rectangle of the picture."""
 
@@ -73,17 +85,20 @@ class View:
         return svg.convex_hull([self.place(p[0], p[self.axis]) for p in eight])
 
     def axes(self, name):
-        for value, label in svg.ticks(*self.ranges[0], svg.round_step(70 / self.scales[0])):
+        across, from_x = axis_marks(*self.ranges[0], svg.round_step(70 / self.scales[0]))
+        for value, label in across:
             x, _ = self.place(value, self.ranges[1][0])
             yield svg.line(x, self.bottom, x, self.top, 'stroke="#e4e4e4"')
             yield svg.text(x, self.bottom + 16, label, 11, "middle")
-        for value, label in svg.ticks(*self.ranges[1], svg.round_step(34 / self.scales[1])):
+        up, from_value = axis_marks(*self.ranges[1], svg.round_step(34 / self.scales[1]))
+        for value, label in up:
             _, y = self.place(self.ranges[0][0], value)
             yield svg.line(LEFT, y, self.right, y, 'stroke="#e4e4e4"')
             yield svg.text(LEFT - 6, y + 4, label, 11, "end")
-        yield svg.text((LEFT + self.right) / 2, self.bottom + 34, "x (metres)", 12, "middle")
-        x, y = LEFT - 48, (self.bottom + self.top) / 2
-        yield svg.text(x, y, "xyz"[self.axis] + " (metres)", 12, "middle", ' transform="rotate(-90 %s %s)"' % (svg.coordinate(x), svg.coordinate(y)))
+        yield svg.text((LEFT + self.right) / 2, self.bottom + 34, "x (metres%s)" % from_x, 12, "middle")
+        # Left of the longest label.
+        x, y = min(LEFT - 48, max(10, LEFT - 18 - CHARACTER * max(len(label) for _, label in up))), (self.bottom + self.top) / 2
+        yield svg.text(x, y, "%s (metres%s)" % ("xyz"[self.axis], from_value), 12, "middle", ' transform="rotate(-90 %s %s)"' % (svg.coordinate(x), svg.coordinate(y)))
         yield svg.text(LEFT, self.top - 10, name, 13, more=' font-weight="bold"')
 
     def frame(self):
