@@ -196,7 +196,7 @@ def legend(found, y):
     if any(answer.sprays for answer in booms):
         entries.append((f'fill="none" {grey} stroke-width="1.2" stroke-dasharray="3 3"', "the reserved box of the boom and its spray"))
     if plan.rows and "above" in found.shown:
-        entries += [(f'fill="{REACHED}" stroke="#9aa58c"', "row that a boom reaches"), (f'fill="{DRY}" stroke="#9aa58c"', "row that none reaches")]
+        entries += [(f'fill="{REACHED}" stroke="#9aa58c"', "row that a boom may reach"), (f'fill="{DRY}" stroke="#9aa58c"', "row that none reaches")]
     if plan.nets:
         entries.append((f'fill="none" stroke="{NET}" stroke-width="1.8"', "net"))
     for k, (style, words) in enumerate(entries):
