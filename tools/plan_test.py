@@ -27,7 +27,7 @@ sys.dont_write_bytecode = True
 import binary32
 import move_files
 import pages
-from planning import answers, chains, command, files, groups, library, meetings, numbers, progress, reading, rows, scene, source
+from planning import answers, chains, command, files, groups, library, meetings, numbers, page, progress, reading, rows, scene, source
 
 PLAN = os.path.join(pages.ROOT, "examples", "plan", "orchard.json")
 FOLDER = os.path.join(pages.ROOT, "examples", "plan", "orchard")
@@ -838,8 +838,8 @@ class Docs(unittest.TestCase):
     """What docs/for-planners.md shows is what is printed, and its pictures are those that are drawn."""
 
     def test_commands(self):
-        page = bytes_of(os.path.join(pages.ROOT, "docs", "for-planners.md")).decode()
-        shown = re.findall(r"^    \$ tools/plan (.*)\n((?:    (?!\$ ).*\n)*)", page, re.M)
+        guide = bytes_of(os.path.join(pages.ROOT, "docs", "for-planners.md")).decode()
+        shown = re.findall(r"^    \$ tools/plan (.*)\n((?:    (?!\$ ).*\n)*)", guide, re.M)
         self.assertGreater(len(shown), 9)
         here = os.getcwd()
         os.chdir(pages.ROOT)
@@ -1096,6 +1096,73 @@ class Maps(unittest.TestCase):
         self.assertIn('UNIT["metre",1]', plain["crs"]["properties"]["name"])
         self.assertEqual(named["crs"]["properties"]["name"], "urn:ogc:def:crs:EPSG::2056")
         self.assertEqual(run("covers", PLAN, "--format", "geojson", "--frame", "LV95")[0], 2)
+
+
+def page_of(plan, *options):
+    """The page of a plan as Python values, its data, and what was said."""
+    status, text, said = ask(plan, "page", *options)
+    return text, json.loads(re.search('id="data">(.*?)</script>', text, re.S)[1]) if status == 0 else status, said
+
+
+class Pages(unittest.TestCase):
+    """The page on both clocks, without the day, with a legend, and with axes that can be read."""
+
+    def test_day_clock(self):
+        plan = example()
+        _, data, _ = page_of(plan)
+        poses_clock, day = data["clocks"]["poses"], data["clocks"]["day"]
+        runs = json.loads(ask(plan, "day", "--format", "json")[1])["day"]
+        for i, run_of in enumerate(runs):
+            own, swung = day["booms"][i], poses_clock["booms"][i]
+            seconds = [float(time) for time in day["times"]]
+            self.assertEqual(own["states"], [0 if time < run_of["from"] else 1 if time < run_of["to"] else 2 for time in seconds])
+            start = seconds.index(run_of["from"])
+            self.assertEqual([own["above"][0], own["above"][start]], [swung["above"][0]] * 2)
+            self.assertEqual(own["above"][-1], swung["above"][-1])
+            later = plan["booms"][i]["poses"][-1]["time"] / 2
+            self.assertEqual(own["side"][seconds.index(run_of["from"] + later)], swung["side"][poses_clock["times"].index("%g" % later)])
+            self.assertEqual(own["windows"][seconds.index(run_of["from"] + later)], swung["windows"][poses_clock["times"].index("%g" % later)])
+
+    def test_a_time_lies_in_its_windows(self):
+        ticks = [Fraction(k) for k in (0, 5, 10, 12)]
+        for time, expected in ((0, [0]), (3, [0]), (5, [0, 1]), (10, [1, 2]), (12, [2]), (11, [2]), (-1, [0]), (13, [2])):
+            self.assertEqual(page.windows_at(ticks, Fraction(time)), expected, time)
+
+    def test_more_booms_than_a_day_has(self):
+        text, data, said = page_of(plan_of(*[boom_of(name="b%d" % i) for i in range(9)]))
+        self.assertEqual(list(data["clocks"]), ["poses"])
+        self.assertEqual(len(data["booms"]), 9)
+        self.assertEqual(len(said), 1)
+        self.assertIn("warning: the page has no day: ", said[0])
+        self.assertIn("<p>No day: ", text)
+        self.assertEqual(page_of(plan_of(boom_of(run_ticks=1001)))[1], 1)
+
+    def test_legend_and_what_is_not_below(self):
+        text, _, _ = page_of(example())
+        for words in ("solid: the reserved box of a boom", "dashed: the reserved box of a boom and its spray", "<li><svg", 'net; one that is a line', '<p class="warn">NOT BELOW: south-east under power line, clearance -0.053 m</p>'):
+            self.assertIn(words, text)
+        self.assertNotIn("a boom reaches", text)
+        dry, _, _ = page_of(plan_of(boom_of()))
+        for words in ("dashed:", "net;", "NOT BELOW:", "may reach at another time"):
+            self.assertNotIn(words, dry)
+
+    def test_each_cell_has_its_column(self):
+        text, _, _ = page_of(example())
+        self.assertEqual(len(re.findall("<td ", text)), len(re.findall('<td class="[a-z]*" data-column="', text)))
+        self.assertIn('<td class="warn" data-column="answer">NOT BELOW</td>', text)
+
+    def test_labels_of_axes(self):
+        for low, high in ((0, 100), (1190, 1310), (2582994.5, 2583126.25), (-7654321.7, -7654319.9), (4999999.5, 5000000.5), (-3, 8e6), (0, 0.001), (1234.5, 1234.75), (99990, 100020)):
+            step = scene.svg.round_step((high - low) / 7)
+            marks, origin = scene.axis_marks(low, high, step)
+            labels = [label for _, label in marks]
+            self.assertEqual(len(set(labels)), len(labels), labels)
+            start = int(origin.replace(" from ", "").replace("−", "-") or 0)
+            for value, label in marks:
+                self.assertTrue(low - step / 1000 <= value <= high + step / 1000)
+                self.assertAlmostEqual(start + float(label.replace("−", "-")), value, delta=step / 1000)
+        self.assertEqual(scene.axis_marks(2582994.5, 2583126.25, 50)[1], " from 2582000")
+        self.assertEqual(scene.axis_marks(1190, 1310, 10)[1], "")
 
 
 if __name__ == "__main__":

@@ -1,18 +1,26 @@
-"""One HTML page of a plan with a time slider: every answer is worked out here, and the page only shows it."""
+"""One HTML page of a plan with a time slider, on the clock of the poses and on the day's: every answer is worked out here, and the page only shows it."""
+import bisect
 import html
 import json
 import os
+import re
 from fractions import Fraction
 
 import svg
 from planning import drawing, output
+from planning.ending import Ending
+from planning.library import BOOMS
 from planning.numbers import shown
 from planning.reading import at
-from planning.scene import Scene, colour, places
+from planning.scene import DRY, NET, REACHED, Scene, colour, places
 
 SAMPLES = 120
+NOW = "#a9d57f"                         # a row that a boom may reach at the slider's time
+WAITS, RUNS, DONE = 0, 1, 2
 TEMPLATE = os.path.join(os.path.dirname(os.path.abspath(__file__)), "page.html")
 
+
+# ---- times
 
 def round_step(least):
     """The least of 1, 2 and 5 times a power of ten that isn't below a number of seconds, exactly."""
@@ -24,9 +32,8 @@ def round_step(least):
     return next(m * power for m in (1, 2, 5, 10) if m * power >= least)
 
 
-def sample_times(plan):
-    """From the plan's start to its end in round steps, about 120 of them; the end itself is one."""
-    start, end = plan.start(), plan.end()
+def sample_times(start, end):
+    """From a start to an end in round steps, about 120 of them; the end itself is one."""
     if start == end:
         return [start]
     step = round_step((end - start) / SAMPLES)
@@ -35,35 +42,65 @@ def sample_times(plan):
 
 def windows_at(ticks, time):
     """The windows in which a time lies: two where it is a tick."""
-    found = [k for k, (a, b) in enumerate(zip(ticks, ticks[1:])) if a <= time <= b]
-    return found or [0 if time < ticks[0] else len(ticks) - 2]
+    before, up_to = bisect.bisect_left(ticks, time), bisect.bisect_right(ticks, time)
+    return [k for k in range(before - 1, up_to) if 0 <= k < len(ticks) - 1] or [0 if time < ticks[0] else len(ticks) - 2]
 
+
+# ---- what the slider shows
 
 def points(view, eight):
     return " ".join("%s,%s" % (svg.coordinate(x), svg.coordinate(y)) for x, y in view.outline(eight))
 
 
-def boom_data(answers, found, i, times):
-    answer = answers.booms[i]
-    moved = places(answer, times)
-    with at("boom '%s'" % answer.boom.name):
-        rows = answers.window_rows(i)
-    return {"name": answer.boom.name, "rows": rows, "above": [[points(found.above, box) for box in boxes] for boxes in moved], "side": [[points(found.side, box) for box in boxes] for boxes in moved]}
+def outlines(answers, found, i, times):
+    """A boom in both views at some times of its own."""
+    moved = places(answers.booms[i], times)
+    return {"above": [[points(found.above, box) for box in boxes] for boxes in moved], "side": [[points(found.side, box) for box in boxes] for boxes in moved]}
 
 
-def page_data(answers, found, times):
+def pose_clock(answers, found, ticks):
+    """Each boom goes by the times of its poses."""
+    times = sample_times(answers.plan.start(), answers.plan.end())
+    windows = [windows_at(ticks, time) for time in times]
+    return {"times": [shown(round(time, 3)) for time in times], "booms": [{**outlines(answers, found, i, times), "windows": windows} for i in range(len(answers.booms))]}
+
+
+def day_clock(answers, found, ticks):
+    """Each boom's swing starts with its run; it waits at its first pose, and is done at its last."""
+    seconds = answers.plan.tick_seconds
+    runs = [(run.start * seconds, run.end * seconds) for run in answers.day]
+    times = sorted({*sample_times(Fraction(0), max(end for _, end in runs)), *(time for run in runs for time in run)})
+    return {"times": [shown(round(time, 3)) for time in times], "ticks": [int(time // seconds) for time in times],
+            "booms": [day_of_boom(answers, found, ticks, i, times, run) for i, run in enumerate(runs)]}
+
+
+def day_of_boom(answers, found, ticks, i, times, run):
+    poses, (start, end) = answers.booms[i].boom.poses, run
+    own = [min(poses[0].time + max(time - start, 0), poses[-1].time) for time in times]
+    states = [WAITS if time < start else RUNS if time < end else DONE for time in times]
+    return {**outlines(answers, found, i, own), "windows": [windows_at(ticks, time) for time in own], "states": states}
+
+
+def boom_data(answers, i):
+    boom = answers.booms[i].boom
+    with at("boom '%s'" % boom.name):
+        return {"name": boom.name, "rows": answers.window_rows(i)}
+
+
+def page_data(answers, found, with_day):
     """All that the slider shows."""
     last, start = len(answers.ticks) - 1, answers.plan.start()
     ticks = [Fraction(tick) + start for tick in answers.float_ticks]
     return {
-        "times": [shown(round(time, 3)) for time in times],
-        "windowsAt": [windows_at(ticks, time) for time in times],
+        "clocks": {"poses": pose_clock(answers, found, ticks), **({"day": day_clock(answers, found, ticks)} if with_day else {})},
         "windows": [[answers.tick_text(k, False), answers.tick_text(k + 1, True)] for k in range(last)],
         "rows": [row.name for row in answers.plan.rows],
-        "booms": [boom_data(answers, found, i, times) for i in range(len(answers.booms))],
-        "pairs": [{"boom": answers.booms[i].boom.name, "other": answers.booms[j].boom.name, "windows": windows} for (i, j), windows in answers.windows.items()],
+        "booms": [boom_data(answers, i) for i in range(len(answers.booms))],
+        "pairs": [{"boom": answers.booms[i].boom.name, "other": answers.booms[j].boom.name, "windows": windows} for (i, j), windows in answers.windows.items() if windows],
     }
 
+
+# ---- parts of the page
 
 def picture(answers, found):
     """Both views without booms, and an empty outline for each box of each boom in each view."""
@@ -76,28 +113,58 @@ def picture(answers, found):
             + "\n".join(parts) + "</svg>")
 
 
+def legend(answers):
+    """What is drawn, for those things that are there: a swatch and its words each."""
+    grey = 'stroke="#444444"'
+    entries = [(f'fill="#444444" fill-opacity="0.55" {grey}', "boom at the slider's time"), (f'fill="none" {grey} stroke-width="1.8"', "solid: the reserved box of a boom, which holds it at every time")]
+    if any(answer.sprays for answer in answers.booms):
+        entries.append((f'fill="none" {grey} stroke-width="1.2" stroke-dasharray="3 3"', "dashed: the reserved box of a boom and its spray"))
+    if answers.plan.nets:
+        entries.append((f'fill="none" stroke="{NET}" stroke-width="1.8" stroke-dasharray="10 3 2 3"', "net; one that is a line is drawn through"))
+    if answers.plan.rows:
+        edge = 'stroke="#9aa58c"'
+        entries += [(f'fill="{NOW}" {edge}', "row that a boom may reach now"), (f'fill="{REACHED}" {edge}', "row that a boom may reach at another time"), (f'fill="{DRY}" {edge}', "row that none reaches")]
+    return "".join('<li><svg width="30" height="14" aria-hidden="true"><rect x="1" y="1" width="28" height="12" %s/></svg>%s</li>' % (style, html.escape(words)) for style, words in entries)
+
+
+def alarm(records):
+    """Above all else, what isn't below its net."""
+    high = [record for record in records if record["answer"] == "NOT BELOW"]
+    return "".join('<p class="warn">NOT BELOW: %s under %s, clearance %s m</p>' % (html.escape(record["boom"]), html.escape(record["net"]), output.cell(record["clearance"])) for record in high)
+
+
 def table(records, empty=""):
-    """Records as an HTML table; numbers to the right, and what isn't below its net in red."""
+    """Records as an HTML table; numbers to the right, and what isn't below its net in red. Each cell has its column's name, for where the table is folded."""
     if not records:
-        return "<p>%s</p>" % empty
+        return "<p>%s</p>" % html.escape(empty)
     def kind(value):
         return "number" if isinstance(value, (int, output.Plain)) else "list" if isinstance(value, list) else "warn" if value == "NOT BELOW" else ""
     columns = list(records[0])
+    names = {column: html.escape(column.replace("_", " ")) for column in columns}
     kinds = {column: "number" if any(kind(record[column]) == "number" for record in records) else "" for column in columns}
-    head = "".join('<th class="%s">%s</th>' % (kinds[column], html.escape(column.replace("_", " "))) for column in columns)
-    lines = ["".join('<td class="%s">%s</td>' % (kind(value), html.escape(output.cell(value))) for value in record.values()) for record in records]
-    return "<table><thead><tr>%s</tr></thead><tbody>%s</tbody></table>" % (head, "".join("<tr>%s</tr>" % line for line in lines))
+    head = "".join('<th class="%s">%s</th>' % (kinds[column], names[column]) for column in columns)
+    lines = ["".join('<td class="%s" data-column="%s">%s</td>' % (kind(value), names[column], html.escape(output.cell(value))) for column, value in record.items()) for record in records]
+    return '<table class="folds"><thead><tr>%s</tr></thead><tbody>%s</tbody></table>' % (head, "".join("<tr>%s</tr>" % line for line in lines))
+
+
+def day_records(answers):
+    """The day, or none and why: with more booms than a day has, the page goes without it."""
+    try:
+        return list(output.day_records(answers)), ""
+    except Ending as ending:
+        if len(answers.booms) <= BOOMS:
+            raise
+        answers.warn("the page has no day: %s" % ending.text)
+        return [], "No day: " + ending.text
 
 
 def page(answers):
     found = Scene(answers, 1)
-    times = sample_times(answers.plan)
+    nets, (day, no_day) = list(output.net_records(answers)), day_records(answers)
     with open(TEMPLATE, encoding="utf-8") as file:
         template = file.read()
     # No part of the data can end the script element that holds it.
-    data = json.dumps(page_data(answers, found, times), separators=(",", ":")).replace("<", "\\u003c")
-    parts = {"TITLE": html.escape(answers.plan.name), "LAST": str(len(times) - 1), "PICTURE": picture(answers, found), "TICK": shown(answers.plan.tick_seconds),
-             "NETS": table(list(output.net_records(answers)), "The plan has no nets."), "COVERS": table(list(output.cover_records(answers, answers.with_pads))),
-             "DAY": table(list(output.day_records(answers))), "DATA": data}
-    pieces = template.split("@")
-    return "".join(parts[piece] if k % 2 and piece in parts else piece for k, piece in enumerate(pieces))
+    data = json.dumps(page_data(answers, found, bool(day)), separators=(",", ":")).replace("<", "\\u003c")
+    parts = {"TITLE": html.escape(answers.plan.name), "PICTURE": picture(answers, found), "LEGEND": legend(answers), "ALARM": alarm(nets), "TICK": shown(answers.plan.tick_seconds),
+             "NETS": table(nets, "The plan has no nets."), "COVERS": table(list(output.cover_records(answers, answers.with_pads))), "DAY": table(day, no_day), "DATA": data}
+    return re.sub("@([A-Z]+)@", lambda found: parts[found[1]], template)
