@@ -1050,6 +1050,13 @@ class CsvAsPeopleHaveIt(unittest.TestCase):
             self.assertEqual((found, len(said)), (status, 1), (part, said))
             self.assertIn("folder: " + part, said[0])
 
+    def test_points_that_may_mark_thousands(self):
+        poses_of = "boom;time;x;y;z;heading\nnorth-west;0;1.215;0;0;0\nnorth-west;9;1.215;0;0;%s\n"
+        one = "boom,x0,y0,z0,x1,y1,z1\nnorth-west,0,0,0,1,1,1\n"
+        said = [run("covers", folder_of(booms=one, poses=poses_of % heading))[2] for heading in ("20", "20.5")]
+        self.assertEqual([len(lines) for lines in said], [1, 0])
+        self.assertIn("warning: poses.csv: line 2, column 3 (x): '1.215' and the like are read with a decimal point, not as thousands", said[0][0])
+
     def test_written_for_spreadsheets(self):
         plain, dressed = [run("nets", PLAN, "--format", "csv", *options)[1] for options in ([], ["--semicolons", "--byte-order-mark"])]
         self.assertTrue(dressed.startswith("\ufeffnet;boom;height;"))

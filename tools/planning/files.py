@@ -20,7 +20,9 @@ COLUMNS = {
     "settings.csv": (["setting", "value"], []),
 }
 WORDS = ("boom", "row", "net", "setting", "kind", "shape")     # columns without numbers
+# Numbers with a decimal comma, with a point, and with a point that may mark thousands.
 COMMA, POINT = r"[+-]?\d*,\d*([eE][+-]?\d+)?", r"[+-]?\d*\.\d*([eE][+-]?\d+)?"
+THOUSANDS = r"[+-]?[1-9]\d{0,2}\.\d{3}"
 
 
 def text_of(path):
@@ -73,9 +75,12 @@ class Line:
     def __contains__(self, column):
         return column in self.cells
 
+    def where(self, column=None):
+        return "%s: line %d%s" % (self.file, self.place, ", column %d (%s)" % (self.places[column], column) if column else "")
+
     def at(self, column=None):
         """Says what is wrong of this line, or of one cell of it."""
-        return reading.at("%s: line %d%s" % (self.file, self.place, ", column %d (%s)" % (self.places[column], column) if column else ""))
+        return reading.at(self.where(column))
 
     def read(self, column, read):
         with self.at(column):
@@ -140,24 +145,27 @@ def columns_of(header, needed, more, warn):
     return columns
 
 
-def first_like(pattern, lines):
-    """The first number that is written so: its line and its column."""
-    return next(((line, column) for line in lines for column, cell in line.cells.items() if column not in WORDS and re.fullmatch(pattern, cell, re.ASCII)), None)
+def numbers_like(pattern, lines):
+    """The cells with numbers that are written so: the line and the column of each."""
+    return [(line, column) for line in lines for column, cell in line.cells.items() if column not in WORDS and re.fullmatch(pattern, cell, re.ASCII)]
 
 
-def with_points(lines, between):
+def with_points(lines, between, warn):
     """Decimal commas as points, where commas don't stand between the cells; a file has the one or the other, since beside a decimal comma a point may mark thousands."""
-    comma, point = first_like(COMMA, lines), first_like(POINT, lines)
-    if comma and between == ",":
-        line, column = comma
+    commas, points = numbers_like(COMMA, lines), numbers_like(POINT, lines)
+    if commas and between == ",":
+        line, column = commas[0]
         with line.at(column):
             raise bad("'%s': a decimal comma goes with semicolons between the cells" % one_line(line.cells[column]))
-    if comma and point:
-        line, column = point
+    if commas and points:
+        line, column = points[0]
         with line.at(column):
-            raise bad("'%s' has a point, and line %d a decimal comma: a file has the one or the other" % (one_line(line.cells[column]), comma[0].place))
-    for line in lines if comma else []:
-        line.cells.update((column, cell.replace(",", ".")) for column, cell in line.cells.items() if column not in WORDS and re.fullmatch(COMMA, cell, re.ASCII))
+            raise bad("'%s' has a point, and line %d a decimal comma: a file has the one or the other" % (one_line(line.cells[column]), commas[0][0].place))
+    if points and between != "," and points == numbers_like(THOUSANDS, lines):
+        line, column = points[0]
+        warn("%s: '%s' and the like are read with a decimal point, not as thousands" % (line.where(column), line.cells[column]))
+    for line, column in commas:
+        line.cells[column] = line.cells[column].replace(",", ".")
     return lines
 
 
@@ -171,7 +179,7 @@ def table(folder_path, file, warn):
         if not lines:
             raise bad("it is empty; its first line names the columns: %s" % ",".join(needed + more))
         columns = columns_of(lines[0][1], needed, more, lambda said: warn("%s: %s" % (file, said)))
-    return with_points([filled(file, number, columns, cells, needed, more) for number, cells in lines[1:]], between)
+    return with_points([filled(file, number, columns, cells, needed, more) for number, cells in lines[1:]], between, warn)
 
 
 def filled(file, number, columns, cells, needed, more):
