@@ -1146,7 +1146,7 @@ class Pages(unittest.TestCase):
 
     def test_legend_and_what_is_not_below(self):
         text, _, _ = page_of(example())
-        for words in ("solid: the reserved box of a boom", "dashed: the reserved box of a boom and its spray", "<li><svg", 'net; one that is a line', '<p class="warn">NOT BELOW: south-east under power line, clearance -0.053 m</p>'):
+        for words in ("solid: the reserved box of a boom", "dashed: the reserved box of a boom and its spray", "<li><svg", 'net; along a line it is solid', '<p class="warn">NOT BELOW: south-east under power line, clearance -0.053 m</p>'):
             self.assertIn(words, text)
         self.assertNotIn("a boom reaches", text)
         dry, _, _ = page_of(plan_of(boom_of()))

@@ -120,7 +120,7 @@ def legend(answers):
     if any(answer.sprays for answer in answers.booms):
         entries.append((f'fill="none" {grey} stroke-width="1.2" stroke-dasharray="3 3"', "dashed: the reserved box of a boom and its spray"))
     if answers.plan.nets:
-        entries.append((f'fill="none" stroke="{NET}" stroke-width="1.8" stroke-dasharray="10 3 2 3"', "net; one that is a line is drawn through"))
+        entries.append((f'fill="none" stroke="{NET}" stroke-width="1.8" stroke-dasharray="10 3 2 3"', "net; along a line it is solid"))
     if answers.plan.rows:
         edge = 'stroke="#9aa58c"'
         entries += [(f'fill="{NOW}" {edge}', "row that a boom may reach now"), (f'fill="{REACHED}" {edge}', "row that a boom may reach at another time"), (f'fill="{DRY}" {edge}', "row that none reaches")]
