@@ -7,6 +7,7 @@ from planning.scene import DRY, LEFT, NET, REACHED, WIDTH, Scene, box_round, col
 
 BETWEEN = 3
 MOST_ROW_NAMES = 100                    # more of them would not be read
+MOST_LARGE_NAMES = 24                   # of booms; more of them are written smaller
 LINE = 20
 END_BOX = 'fill="none" stroke="#000000" stroke-width="1.4" stroke-dasharray="6 4"'
 PATH = 'fill="none" stroke="#777777" stroke-width="0.9"'
@@ -116,10 +117,10 @@ def mast_parts(found):
 
 def name_booms(found, labels):
     """Each boom's name at an edge of its reserved box, the one with its spray where it has one."""
-    alone = len(found.answers.booms) == 1
+    alone, size = len(found.answers.booms) == 1, 13 if len(found.answers.booms) <= MOST_LARGE_NAMES else 8
     for i, answer in enumerate(found.answers.booms):
         union = answer.union_in_plan(True)
-        labels.edge("the reserved box: holds the boom at every time" if alone else answer.boom.name, found.above.ends(union), fill=colour(i), weight="bold", size=13)
+        labels.edge("the reserved box: holds the boom at every time" if alone else answer.boom.name, found.above.ends(union), fill=colour(i), weight="bold", size=size)
 
 
 def end_boxes(found, labels):
