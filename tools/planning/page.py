@@ -7,7 +7,7 @@ import re
 from fractions import Fraction
 
 import svg
-from planning import drawing, output
+from planning import drawing, output, parked
 from planning.ending import Ending
 from planning.library import BOOMS
 from planning.numbers import shown
@@ -70,7 +70,8 @@ def day_clock(answers, found, ticks):
     seconds = answers.plan.tick_seconds
     runs = [(run.start * seconds, run.end * seconds) for run in answers.day]
     times = sorted({*sample_times(Fraction(0), max(end for _, end in runs)), *(time for run in runs for time in run)})
-    return {"times": [shown(round(time, 3)) for time in times], "ticks": [int(time // seconds) for time in times],
+    standing = [{"from": float(one.start * seconds), "to": float(one.end * seconds), "text": parked.meeting_text(answers, one)} for one in parked.meetings(answers)]
+    return {"times": [shown(round(time, 3)) for time in times], "ticks": [int(time // seconds) for time in times], "standing": standing,
             "booms": [day_of_boom(answers, found, ticks, i, times, run) for i, run in enumerate(runs)]}
 
 
