@@ -80,8 +80,10 @@ static inline bool jellyplain_compatible(void)
     return jellyplain_version() / 10000 == JELLYPLAIN_VERSION / 10000 && jellyplain_layout() == JELLYPLAIN_LAYOUT;
 }
 
+/* What is refused, by its number and in words. The functions answer the number as a uint8_t; a switch over
+ * (jellyplain_refusal)number that has no default and leaves one out is warned of by -Wswitch, a part of -Wall. */
 /* made by tools/numbers --write */
-enum jellyplain_refusal {
+typedef enum jellyplain_refusal {
     JELLYPLAIN_NONE = 0,
     JELLYPLAIN_POSE_NOT_FINITE = 1, /* a matrix entry, a time or a pad of a pose isn't finite */
     JELLYPLAIN_BOTTOM_ROW = 2,      /* a bottom row of a pose's matrix isn't 0 0 0 1 */
@@ -94,7 +96,8 @@ enum jellyplain_refusal {
     JELLYPLAIN_NINTH_ZERO = 9,      /* a motion box's search finds more than eight zeros on an axis */
     JELLYPLAIN_SQUARED_LENGTH = 10, /* a cover's slices are too wide for the rotation in them */
     JELLYPLAIN_FILE = 11,           /* a file departs from its layout */
-    JELLYPLAIN_CHAIN = 12,          /* a chain has fewer than 2 poses or more than 32, or its times don't rise strictly */
+    JELLYPLAIN_CHAIN = 12,          /* a chain has fewer than 2 poses or more than 32, or its times don't rise
+                                     * strictly */
     JELLYPLAIN_TIME_LIST = 13,      /* a list of times falls, or the answers lent for it aren't three places a time */
     JELLYPLAIN_SET = 14,            /* a set has no box or more than 16, or a list of rows none or more than 256 */
     JELLYPLAIN_ROOM = 15,           /* a buffer is too short for the text of a move file */
@@ -102,10 +105,68 @@ enum jellyplain_refusal {
     JELLYPLAIN_NOT_RIGID = 17,      /* a pose of a rigid move or chain scales or shears */
     JELLYPLAIN_DETERMINANT = 18,    /* a pose of a rigid move or chain mirrors: its determinant isn't above zero */
     JELLYPLAIN_PLACE = 19,          /* a pose is tried at a place beyond the last */
-    JELLYPLAIN_MISMATCH = 20,       /* two chains to be joined differ in a bit of the pose that they share, a zero's sign too, or in their kind */
-    JELLYPLAIN_TICKS = 21,          /* a tick is NaN, there are fewer than 2 or more than 64, or they don't rise strictly */
+    JELLYPLAIN_MISMATCH = 20,       /* two chains to be joined differ in a bit of the pose that they share, a zero's
+                                     * sign too, or in their kind */
+    JELLYPLAIN_TICKS = 21,          /* a tick is NaN, there are fewer than 2 or more than 64, or they don't rise
+                                     * strictly */
     JELLYPLAIN_DAY = 22             /* a day has no boom or more than 8, or a run length outside 1 to 1,000 ticks */
-};
+} jellyplain_refusal;
+
+/* What was refused, in words that last as long as the program; any number may be asked for. */
+static inline const char *jellyplain_refusal_text(uint32_t number)
+{
+    switch (number) {
+    case JELLYPLAIN_NONE:
+        return "nothing is refused";
+    case JELLYPLAIN_POSE_NOT_FINITE:
+        return "a matrix entry, a time or a pad of a pose isn't finite";
+    case JELLYPLAIN_BOTTOM_ROW:
+        return "a bottom row of a pose's matrix isn't 0 0 0 1";
+    case JELLYPLAIN_TIMES:
+        return "the end time is below the start time, or their difference isn't finite";
+    case JELLYPLAIN_ZERO_PIVOT:
+        return "a pose, or a scale on the way, flattens space: it has no inverse";
+    case JELLYPLAIN_NOT_FINITE:
+        return "numbers leave the range of floats on the way";
+    case JELLYPLAIN_QUERY:
+        return "the time asked for is NaN, or a coordinate isn't finite";
+    case JELLYPLAIN_CORNERS:
+        return "a least corner of a box is above its greatest corner on some axis";
+    case JELLYPLAIN_DEPTH:
+        return "the depth is above 12";
+    case JELLYPLAIN_NINTH_ZERO:
+        return "a motion box's search finds more than eight zeros on an axis";
+    case JELLYPLAIN_SQUARED_LENGTH:
+        return "a cover's slices are too wide for the rotation in them";
+    case JELLYPLAIN_FILE:
+        return "a file departs from its layout";
+    case JELLYPLAIN_CHAIN:
+        return "a chain has fewer than 2 poses or more than 32, or its times don't rise strictly";
+    case JELLYPLAIN_TIME_LIST:
+        return "a list of times falls, or the answers lent for it aren't three places a time";
+    case JELLYPLAIN_SET:
+        return "a set has no box or more than 16, or a list of rows none or more than 256";
+    case JELLYPLAIN_ROOM:
+        return "a buffer is too short for the text of a move file";
+    case JELLYPLAIN_PAD:
+        return "a pad is below zero";
+    case JELLYPLAIN_NOT_RIGID:
+        return "a pose of a rigid move or chain scales or shears";
+    case JELLYPLAIN_DETERMINANT:
+        return "a pose of a rigid move or chain mirrors: its determinant isn't above zero";
+    case JELLYPLAIN_PLACE:
+        return "a pose is tried at a place beyond the last";
+    case JELLYPLAIN_MISMATCH:
+        return "two chains to be joined differ in a bit of the pose that they share, a zero's sign too, or in their "
+               "kind";
+    case JELLYPLAIN_TICKS:
+        return "a tick is NaN, there are fewer than 2 or more than 64, or they don't rise strictly";
+    case JELLYPLAIN_DAY:
+        return "a day has no boom or more than 8, or a run length outside 1 to 1,000 ticks";
+    default:
+        return "a number that is not known";
+    }
+}
 /* end of what tools/numbers makes */
 
 /* The move from one pose to another. A boom that neither stretches nor shears may be built as rigid: between the poses a turn and a shift alone, so that its covers are tighter.

@@ -65,14 +65,30 @@ printf '#include "jellyplain.h"\n' >"$made/header.c"
 for standard in c99 c11 c17; do
     quiet "$CC" -std=$standard "${warnings[@]}" -I c -c "$made/header.c" -o "$made/header.o" || fail "c/jellyplain.h does not compile without a warning as $standard"
 done
-checked() { # COMPILER WORDS..: each function of the header but three, which have nothing to refuse, is warned of in c/tests/dropped.c
+checked() { # COMPILER WORDS..: each function of the header but those that have nothing to refuse is warned of in c/tests/dropped.c
     local every warned
-    every=$(sed -n 's/^[A-Za-z_].*[ *]\(jellyplain_[a-z_]*\)(.*/\1/p' c/jellyplain.h | grep -vxE 'jellyplain_(layout|version|compatible)' | sort)
+    every=$(sed -n 's/^[A-Za-z_].*[ *]\(jellyplain_[a-z_]*\)(.*/\1/p' c/jellyplain.h | grep -vxE 'jellyplain_(layout|version|compatible|refusal_text)' | sort)
     warned=$("$@" -I c -c c/tests/dropped.c -o "$made/dropped.o" 2>&1 | sed -n 's/^[^:]*dropped\.c:\([0-9]*\):.*warn_unused_result.*/\1/p' | sort -nu |
         while read -r line; do sed -n "${line}s/^ *\(jellyplain_[a-z_]*\)(.*/\1/p" c/tests/dropped.c; done | sort)
     [ "$warned" = "$every" ] || { fail "$1 warns of other passed over refusals than the header's functions have:"; diff <(echo "$every") <(echo "$warned"); }
 }
 checked "$CC" -std=c99
+
+# ---- refusals by number: their texts are the table's, and a switch that leaves a number out is warned of
+cat >"$made/texts.c" <<'C'
+#include <stdio.h>
+#include "jellyplain.h"
+int main(void)
+{
+    for (uint32_t number = 1; number <= JELLYPLAIN_DAY; number++)
+        printf("%u %s\n", (unsigned)number, jellyplain_refusal_text(number));
+    return 0;
+}
+C
+quiet "$CC" -std=c99 "${warnings[@]}" -I c "$made/texts.c" -o "$made/texts" && diff <(awk -F ' *[|] *' '$2 ~ /^[0-9]+$/ { print $2, $4 }' docs/REFUSALS.md) <("$made/texts") ||
+    fail "jellyplain_refusal_text has other texts than docs/REFUSALS.md"
+printf '#include "jellyplain.h"\nint named(uint8_t n);\nint named(uint8_t n)\n{\n    switch ((jellyplain_refusal)n) {\n    case JELLYPLAIN_NONE:\n        return 0;\n    }\n    return 1;\n}\n' >"$made/switch.c"
+"$CC" -std=c99 -Wall -I c -c "$made/switch.c" -o "$made/switch.o" 2>&1 | grep -q 'Wswitch' || fail "a switch over the refusals that leaves numbers out is not warned of"
 
 # ---- C
 files=(examples/*.txt examples/refused/*.txt examples/days/*.txt)

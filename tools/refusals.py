@@ -5,6 +5,7 @@ from typing import NamedTuple
 import pages
 
 PAGE = "docs/REFUSALS.md"
+UNKNOWN = "a number that is not known"
 ROW = re.compile(r"\| (\d+) \| ([A-Z_]+) \| ([^|]+) \| ([^|]+) \|$", re.M)
 
 
@@ -21,10 +22,10 @@ def table():
 
 def said(number):
     """`refused 12, a chain has ..`"""
-    return "refused %d, %s" % (number, next((row.what for row in table() if row.number == number), "a number that is not known"))
+    return "refused %d, %s" % (number, next((row.what for row in table() if row.number == number), UNKNOWN))
 
 
 def advised(number):
     """`refused 12: a chain has ..; set the times again ..`"""
-    row = next((row for row in table() if row.number == number), Refusal(number, "", "a number that is not known", "see docs/REFUSALS.md"))
+    row = next((row for row in table() if row.number == number), Refusal(number, "", UNKNOWN, "see docs/REFUSALS.md"))
     return "refused %d: %s; %s" % (number, row.what, row.advice)

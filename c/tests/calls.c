@@ -407,6 +407,17 @@ static void days(void)
     REFUSED(6, jellyplain_day(coordinate, lengths, 1, lent.starts));
 }
 
+/* Every number has a text of its own, and one that is none has another. That they are the table's is seen by tools/boundary.sh. */
+static void texts(void)
+{
+    const char *unknown = jellyplain_refusal_text(NUMBERS);
+    EXPECT(strcmp(jellyplain_refusal_text(JELLYPLAIN_PAD), "a pad is below zero") == 0 && strcmp(unknown, "a number that is not known") == 0);
+    EXPECT(strcmp(jellyplain_refusal_text(255), unknown) == 0 && strcmp(jellyplain_refusal_text(UINT32_MAX), unknown) == 0);
+    for (uint32_t number = 0; number < NUMBERS; number++)
+        for (uint32_t other = number + 1; other <= NUMBERS; other++)
+            EXPECT(strcmp(jellyplain_refusal_text(number), jellyplain_refusal_text(other)) != 0);
+}
+
 #ifdef JELLYPLAIN_ROWS
 /* Rows that a cover meets, touching included. */
 static void rows(void)
@@ -540,6 +551,7 @@ int main(int count, char **files)
     moves();
     chains();
     days();
+    texts();
 #ifdef JELLYPLAIN_ROWS
     rows();
 #endif
