@@ -1,21 +1,36 @@
-/* The library jellyplain for C and C++: a move by two poses, or a chain of up to 32 poses, is built once, kept by its caller, and asked many times. `make` proves it and writes
- * target/lib/libjellyplain.a and libjellyplain.so; `pkg-config jellyplain` says how to link it where it is installed. The functions' contracts are proved in crates/api, whose specs/ say what
- * each returns and leaves for all arguments; this header itself is not checked against them, nor are its inline functions, each of which makes one call, jellyplain_compatible two.
+/* The library jellyplain for C and C++: a move by two poses, or a chain of up to 32 poses, is built once, kept by its
+ * caller, and asked many times. `make` proves it and writes target/lib/libjellyplain.a and libjellyplain.so;
+ * `pkg-config jellyplain` says how to link it where it is installed. The functions' contracts are proved in crates/api,
+ * whose specs/ say what each returns and leaves for all arguments; this header itself is not checked against them, nor
+ * are its inline functions, each of which makes one call, jellyplain_compatible two.
  *
- * Each function answers a refusal number, 0 for none (the enum below), some of them in a struct. Where nothing is refused it writes what it is lent for its answer, the
- * arguments that are not const, whole (those of move files the front of an array); after a refusal that is as it was. Any floats may be handed in. Pointers must be valid for the sizes that are written here and aligned for what they point to, and what is
- * written overlaps nothing else.
- * Nothing is kept between calls and nothing is allocated, so that calls from several threads need no lock. The functions need memcpy and memset, which a compiler's own code needs too, and nothing else from
- * anywhere.
+ * Each function answers a refusal number, 0 for none (the enum below), some of them in a struct. Where nothing is
+ * refused it writes what it is lent for its answer, the arguments that are not const, whole (those of move files the
+ * front of an array); after a refusal that is as it was. Any floats may be handed in. `Refused with` names the numbers
+ * of a function in the order in which they are judged, so that of several the first is answered; with `or` between them
+ * they come from the work itself, and the one that is met first is answered.
  *
- * What the guarantee asks of the thread that calls: its floating-point environment is the one that a program starts with. On x86-64 that is SSE's control word, MXCSR: round to nearest even, no
- * flush to zero, no denormals-are-zero, every exception masked; (_mm_getcsr() & 0xffc0) == 0x1f80 says so. Otherwise a point may stand outside the cover that was reserved for it, and nothing
- * refuses it; with the invalid operation unmasked an accepted cover may end the program by SIGFPE: c/tests/thread.c shows each. gcc's -ffast-math and -Ofast, given where a program is linked (before GCC 13 also a
- * shared library), set both bits for zeros at its start, and a thread takes over the bits of the one that started it. The x87 control word plays no part. Calls leave the control bits as they are, and may set
- * MXCSR's flags.
+ * Pointers must be valid for the sizes that are written here and aligned for what they point to; an array that is
+ * declared with its size has to be there whole. Of a list, a pointer with a length, as many have to be there as the
+ * length says; where it is 0, nothing is read or written there, and the pointer may be NULL. What is read of a list
+ * before its length is judged stands at each function. What a function writes overlaps nothing else that it is handed:
+ * in C it is declared `restrict`, and gcc's -Wrestrict, a part of -Wall, warns where one array is handed over twice.
  *
- * The stack that a call takes is at most JELLYPLAIN_STACK bytes. By what is asked, in kB: points, pads and lists of times 10; building a move, its transform, a refused run 12; covers, windows and motion boxes
- * 27; building a chain, joining two 34; reading a file 41; trying a pose 79; the others 2. tools/stack prints it from the library's code, and c/tests/stack.c sees it on a painted stack.
+ * Nothing is kept between calls and nothing is allocated, so that calls from several threads need no lock. The
+ * functions need memcpy and memset, which a compiler's own code needs too, and nothing else from anywhere.
+ *
+ * What the guarantee asks of the thread that calls: its floating-point environment is the one that a program starts
+ * with. On x86-64 that is SSE's control word, MXCSR: round to nearest even, no flush to zero, no denormals-are-zero,
+ * every exception masked; (_mm_getcsr() & 0xffc0) == 0x1f80 says so. Otherwise a point may stand outside the cover that
+ * was reserved for it, and nothing refuses it; with the invalid operation unmasked an accepted cover may end the
+ * program by SIGFPE: c/tests/thread.c shows each. gcc's -ffast-math and -Ofast, given where a program is linked (before
+ * GCC 13 also a shared library), set both bits for zeros at its start, and a thread takes over the bits of the one that
+ * started it. The x87 control word plays no part. Calls leave the control bits as they are, and may set MXCSR's flags.
+ *
+ * The stack that a call takes is at most JELLYPLAIN_STACK bytes. By what is asked, in kB: points, pads and lists of
+ * times 10; building a move, its transform, a refused run 12; covers, windows and motion boxes 27; building a chain,
+ * joining two 34; reading a file 41; trying a pose 79; the others 2. tools/stack prints it from the library's code, and
+ * c/tests/stack.c sees it on a painted stack.
  *
  * With -pedantic, in C before C23, an array of boxes that isn't const is handed over as (const float (*)[6])boxes.
  */
@@ -37,15 +52,22 @@ extern "C" {
 #define JELLYPLAIN_CHECKED
 #endif
 
-/* A matrix of four rows at a time, and a pad of at least zero: how far beyond the boom the spray wets the ground then. */
+/* Stands at what a function writes: it overlaps nothing else. C++ has no such word for an array. */
+#if defined(__cplusplus)
+#define JELLYPLAIN_RESTRICT
+#else
+#define JELLYPLAIN_RESTRICT restrict
+#endif
+
+/* A matrix of four rows at a time, and a pad of at least zero: how far beyond the boom the spray wets the ground. */
 typedef struct {
     float time;
     float matrix[4][4];
     float pad;
 } jellyplain_pose;
 
-/* A built move. Its contents are the library's own business: leave them as jellyplain_build wrote them. Queries on any other contents are answered too, but the guarantee
- * of jellyplain_cover is for built moves. */
+/* A built move. Its contents are the library's own business: leave them as jellyplain_build wrote them. Queries on
+ * any other contents are answered too, but the guarantee of jellyplain_cover is for built moves. */
 typedef struct {
     float rows[45][4];
 } jellyplain_move;
@@ -60,7 +82,8 @@ typedef struct {
 /* The most boxes of a set. */
 #define JELLYPLAIN_BOXES 16
 
-/* A built chain: its first `count` moves, one fewer than its poses. Any of them may be asked by itself. Leave it as jellyplain_build_chain or jellyplain_chain_join wrote it. */
+/* A built chain: its first `count` moves, one fewer than its poses. Any of them may be asked by itself. Leave it as
+ * jellyplain_build_chain or jellyplain_chain_join wrote it. */
 typedef struct {
     size_t count;
     jellyplain_move moves[JELLYPLAIN_MOVES];
@@ -70,11 +93,13 @@ typedef struct {
 #define JELLYPLAIN_LAYOUT 3
 uint32_t jellyplain_layout(void);
 
-/* The version of this header, and of the library that is linked: 10000 * major + 100 * minor + patch. Another major version has another boundary, a greater minor one more functions. */
+/* The version of this header, and of the library that is linked: 10000 * major + 100 * minor + patch. Another major
+ * version has another boundary, a greater minor one more functions. */
 #define JELLYPLAIN_VERSION 10000
 uint32_t jellyplain_version(void);
 
-/* Whether the library that is linked fits this header: the same major version and the same layout. To be asked once, at the program's start. */
+/* Whether the library that is linked fits this header: the same major version and the same layout. To be asked once,
+ * at the program's start. */
 static inline bool jellyplain_compatible(void)
 {
     return jellyplain_version() / 10000 == JELLYPLAIN_VERSION / 10000 && jellyplain_layout() == JELLYPLAIN_LAYOUT;
@@ -169,42 +194,69 @@ static inline const char *jellyplain_refusal_text(uint32_t number)
 }
 /* end of what tools/numbers makes */
 
-/* The move from one pose to another. A boom that neither stretches nor shears may be built as rigid: between the poses a turn and a shift alone, so that its covers are tighter.
- * Numbers 1 to 5 and 16; of a rigid one also 17 and 18, pose by pose, after 3. */
-JELLYPLAIN_CHECKED uint8_t jellyplain_build(bool rigid, const jellyplain_pose *start, const jellyplain_pose *end, jellyplain_move *motion);
+/* The move from one pose to another. A boom that neither stretches nor shears may be built as rigid: between the poses
+ * a turn and a shift alone, so that its covers are tighter.
+ * Refused with 1, 2, 16, 3; a rigid one with 17, 18 of the start, then of the end; 4 or 5. */
+JELLYPLAIN_CHECKED uint8_t jellyplain_build(bool rigid, const jellyplain_pose *start, const jellyplain_pose *end,
+                                            jellyplain_move *JELLYPLAIN_RESTRICT motion);
 
-/* Where the point p stands at a time. Numbers 5 and 6. */
-JELLYPLAIN_CHECKED uint8_t jellyplain_point(const jellyplain_move *motion, float time, const float p[3], float moved[3]);
+/* Where the point p stands at a time.
+ * Refused with 6, 5. */
+JELLYPLAIN_CHECKED uint8_t jellyplain_point(const jellyplain_move *motion, float time, const float p[3],
+                                            float moved[JELLYPLAIN_RESTRICT 3]);
 
-/* The pad at a time: between the times lerp of the two poses' pads, before and after them that pose's own, the larger throughout where the poses are equal. Numbers 5 and 6. */
-JELLYPLAIN_CHECKED uint8_t jellyplain_pad(const jellyplain_move *motion, float time, float pad[1]);
+/* The pad at a time: between the times lerp of the two poses' pads, before and after them that pose's own, the larger
+ * throughout where the poses are equal.
+ * Refused with 6, 5. */
+JELLYPLAIN_CHECKED uint8_t jellyplain_pad(const jellyplain_move *motion, float time, float pad[JELLYPLAIN_RESTRICT 1]);
 
-/* The transform at a time: its matrix, and then its inverse. Numbers 4, 5 and 6. */
-JELLYPLAIN_CHECKED uint8_t jellyplain_interpolate(const jellyplain_move *motion, float time, float transform[2][4][4]);
+/* The transform at a time: its matrix, and then its inverse.
+ * Refused with 6; 4 or 5. */
+JELLYPLAIN_CHECKED uint8_t jellyplain_interpolate(const jellyplain_move *motion, float time,
+                                                  float transform[JELLYPLAIN_RESTRICT 2][4][4]);
 
-/* pbrt's motion box of a point: x0 y0 z0 x1 y1 z1, least corner and greatest corner. It is no cover. What it cost: how many intervals its search examined on x, y and z, at
- * most 511 each, and 0 where the poses are equal. Numbers 5, 6 and 9. */
-JELLYPLAIN_CHECKED uint8_t jellyplain_bound_point_motion(const jellyplain_move *motion, const float p[3], float bounds[6], uint32_t examined[3]);
+/* pbrt's motion box of a point: x0 y0 z0 x1 y1 z1, least corner and greatest corner. It is no cover. What it cost: how
+ * many intervals its search examined on x, y and z, at most 511 each, and 0 where the poses are equal.
+ * Refused with 6; 5 or 9. */
+JELLYPLAIN_CHECKED uint8_t jellyplain_bound_point_motion(const jellyplain_move *motion, const float p[3],
+                                                         float bounds[JELLYPLAIN_RESTRICT 6],
+                                                         uint32_t examined[JELLYPLAIN_RESTRICT 3]);
 
-/* pbrt's motion box of the box b. It is no cover. The counts are the sums over its eight corners, and 0 for a move without rotation, which needs no search.
- * Numbers 5, 6, 7 and 9. */
-JELLYPLAIN_CHECKED uint8_t jellyplain_motion_bounds(const jellyplain_move *motion, const float b[6], float bounds[6], uint32_t examined[3]);
+/* pbrt's motion box of the box b. It is no cover. The counts are the sums over its eight corners, and 0 for a move
+ * without rotation, which needs no search.
+ * Refused with 6, 7; 5 or 9. */
+JELLYPLAIN_CHECKED uint8_t jellyplain_motion_bounds(const jellyplain_move *motion, const float b[6],
+                                                    float bounds[JELLYPLAIN_RESTRICT 6],
+                                                    uint32_t examined[JELLYPLAIN_RESTRICT 3]);
 
-/* A box that holds every point of the box b at every time but NaN, and that point less and plus the pad at that time on each axis, each rounded; from 2^depth slices of the
- * move. A greater depth, up to 12, is not refused where a lesser was accepted, and its box lies in the lesser's. Numbers 6, 7 and 8, in this order, then 5 or 10, whichever is met first. */
-JELLYPLAIN_CHECKED uint8_t jellyplain_cover(const jellyplain_move *motion, const float b[6], uint32_t depth, float bounds[6]);
+/* A box that holds every point of the box b at every time but NaN, and that point less and plus the pad at that time on
+ * each axis, each rounded; from 2^depth slices of the move. A greater depth, up to 12, is not refused where a lesser
+ * was accepted, and its box lies in the lesser's.
+ * Refused with 6, 7, 8; 5 or 10. */
+JELLYPLAIN_CHECKED uint8_t jellyplain_cover(const jellyplain_move *motion, const float b[6], uint32_t depth,
+                                            float bounds[JELLYPLAIN_RESTRICT 6]);
 
-/* ---- chains, by their moves; the inline functions below take the struct */
+/* ---- chains, by their moves; the inline functions below take the struct
+ *
+ * `count` is how many moves there are, 1 to JELLYPLAIN_MOVES. 0 is refused before a move is read. More than
+ * JELLYPLAIN_MOVES are no chain: jellyplain_moves_try refuses them with 12 before it reads one, jellyplain_moves_join
+ * once it has read them; the other functions read as many as `count` says, and answer for them. */
 
-/* The moves of a chain of poses whose times rise strictly, one fewer than poses, into the front of `moves`; those behind them stay. Numbers 1, 2, 16, 12, 3, of a rigid
- * chain 17 and 18, pose by pose, then 4 and 5. */
-JELLYPLAIN_CHECKED uint8_t jellyplain_build_moves(bool rigid, const jellyplain_pose *poses, size_t count, jellyplain_move moves[JELLYPLAIN_MOVES]);
+/* The moves of a chain of poses whose times rise strictly, one fewer than poses, into the front of `moves`; those
+ * behind them stay. All `count` poses are read before their number is judged.
+ * Refused with 1, 2, 16 of any pose; 12, 3; a rigid chain with 17, 18 pose by pose; 4 or 5. */
+JELLYPLAIN_CHECKED uint8_t jellyplain_build_moves(bool rigid, const jellyplain_pose *poses, size_t count,
+                                                  jellyplain_move moves[JELLYPLAIN_RESTRICT JELLYPLAIN_MOVES]);
 
-/* The moves of two chains made one, with the pose that they share once, into the front of `moves`, the first's and then the second's; those behind them stay. It answers as the first
- * up to the shared time, as the second above it, and its cover is the union of theirs. Numbers 20 where the last pose of the first and the first of the second differ in a bit of
- * time, matrix or pad, or one chain is rigid and the other isn't, then 12 for more than 32 poses, or for times that don't rise strictly, as where jellyplain_build wrote a move with
- * equal times; before both 12 where either has no moves. */
-JELLYPLAIN_CHECKED uint8_t jellyplain_moves_join(const jellyplain_move *first, size_t first_count, const jellyplain_move *second, size_t second_count, jellyplain_move moves[JELLYPLAIN_MOVES]);
+/* The moves of two chains made one, with the pose that they share once, into the front of `moves`, the first's and then
+ * the second's; those behind them stay. It answers as the first up to the shared time, as the second above it, and its
+ * cover is the union of theirs. Where neither count is 0, all moves of both are read before their number is judged.
+ * Refused with 12 where either has no moves; 20 where the last pose of the first and the first of the second differ
+ * in a bit of time, matrix or pad, or one chain is rigid and the other isn't; 12 for more than 32 poses, or for
+ * times that don't rise strictly, as where jellyplain_build wrote a move with equal times. */
+JELLYPLAIN_CHECKED uint8_t jellyplain_moves_join(const jellyplain_move *first, size_t first_count,
+                                                 const jellyplain_move *second, size_t second_count,
+                                                 jellyplain_move moves[JELLYPLAIN_RESTRICT JELLYPLAIN_MOVES]);
 
 /* A run's first place and its length and JELLYPLAIN_NONE, or 0, 0 and a refusal. */
 typedef struct {
@@ -213,33 +265,51 @@ typedef struct {
     uint8_t refusal;
 } jellyplain_run;
 
-/* Of poses that are refused as a chain, the shortest run of neighbouring ones that is refused with the same number, the leftmost among equals: one pose, as a move from it to itself, or two.
- * Place and length are 0 where the poses are a chain. Number 12, where they are refused with it. */
+/* Of poses that are refused as a chain, the shortest run of neighbouring ones that is refused with the same number, the
+ * leftmost among equals: one pose, as a move from it to itself, or two. Place and length are 0 where the poses are a
+ * chain. All `count` poses are read, however many there are.
+ * Refused with 12, where the poses are refused with it. */
 JELLYPLAIN_CHECKED jellyplain_run jellyplain_refused_run(bool rigid, const jellyplain_pose *poses, size_t count);
 
-/* Where the point p stands at a time: a time equal to an inner pose's belongs to the earlier move. Numbers 5 and 6, and 12 for no moves. */
-JELLYPLAIN_CHECKED uint8_t jellyplain_moves_point(const jellyplain_move *moves, size_t count, float time, const float p[3], float moved[3]);
+/* Where the point p stands at a time: a time equal to an inner pose's belongs to the earlier move.
+ * Refused with 12 for no moves; 6, 5. */
+JELLYPLAIN_CHECKED uint8_t jellyplain_moves_point(const jellyplain_move *moves, size_t count, float time,
+                                                  const float p[3], float moved[JELLYPLAIN_RESTRICT 3]);
 
-/* The pad at a time, of the move that the time belongs to. Numbers 5 and 6, and 12 for no moves. */
-JELLYPLAIN_CHECKED uint8_t jellyplain_moves_pad(const jellyplain_move *moves, size_t count, float time, float pad[1]);
+/* The pad at a time, of the move that the time belongs to.
+ * Refused with 12 for no moves; 6, 5. */
+JELLYPLAIN_CHECKED uint8_t jellyplain_moves_pad(const jellyplain_move *moves, size_t count, float time,
+                                                float pad[JELLYPLAIN_RESTRICT 1]);
 
-/* Where the point p stands at each time of a list that never falls, three places a time. Numbers 6, 13 and 5, and 12 for no moves; all places stay after a refusal. */
-JELLYPLAIN_CHECKED uint8_t jellyplain_moves_points(const jellyplain_move *moves, size_t count, const float *times, size_t times_count, const float p[3], float *answers, size_t places);
+/* Where the point p stands at each time of a list that never falls, three places a time. All times are read before
+ * `places` is judged, and of `answers` nothing is read; all places stay after a refusal.
+ * Refused with 12 for no moves; 6, 13, 5. */
+JELLYPLAIN_CHECKED uint8_t jellyplain_moves_points(const jellyplain_move *moves, size_t count, const float *times,
+                                                   size_t times_count, const float p[3],
+                                                   float *JELLYPLAIN_RESTRICT answers, size_t places);
 
-/* A box that holds every point of the box b at every time but NaN, less and plus its pad as above, from 2^depth slices of each move; greater depths as above.
- * Numbers 12 for no moves, then 6, 7 and 8, then 5 or 10, whichever is met first. */
-JELLYPLAIN_CHECKED uint8_t jellyplain_moves_cover(const jellyplain_move *moves, size_t count, const float b[6], uint32_t depth, float bounds[6]);
+/* A box that holds every point of the box b at every time but NaN, less and plus its pad as above, from 2^depth slices
+ * of each move; greater depths as above.
+ * Refused with 12 for no moves; 6, 7, 8; 5 or 10. */
+JELLYPLAIN_CHECKED uint8_t jellyplain_moves_cover(const jellyplain_move *moves, size_t count, const float b[6],
+                                                  uint32_t depth, float bounds[JELLYPLAIN_RESTRICT 6]);
 
-/* The cover of the box b if the pose at a place, counted from 0, were this one: what jellyplain_moves_cover answers of a chain that is built with it. Only the moves beside the
- * place are built, and `moves` stays as it is. Numbers 19 for a place beyond the last pose, then 1, 2, 16, 12, 3, of a rigid
- * chain 17 and 18, then 4 or 5 of the changed chain, then 6, 7 and 8, then 5 or 10. No moves have no pose: 19. */
-JELLYPLAIN_CHECKED uint8_t jellyplain_moves_try(const jellyplain_move *moves, size_t count, size_t place, const jellyplain_pose *pose, const float b[6], uint32_t depth, float bounds[6]);
+/* The cover of the box b if the pose at a place, counted from 0, were this one: what jellyplain_moves_cover answers of
+ * a chain that is built with it. Only the moves beside the place are built, and `moves` stays as it is.
+ * Refused with 19 for a place beyond the last pose, any place where there are no moves; 12 for more than
+ * JELLYPLAIN_MOVES; as the changed chain is with 1, 2, 16, 12, 3, a rigid one 17, 18, then 4 or 5; 6, 7, 8; 5 or 10. */
+JELLYPLAIN_CHECKED uint8_t jellyplain_moves_try(const jellyplain_move *moves, size_t count, size_t place,
+                                                const jellyplain_pose *pose, const float b[6], uint32_t depth,
+                                                float bounds[JELLYPLAIN_RESTRICT 6]);
 
-/* A box for each of 1 to 16 boxes that holds every point of it at every time but NaN, as jellyplain_moves_cover does, in order, the places behind them +0; and the union of them.
- * It costs far less than that query for each box. Numbers 12 for no moves, then 14, then those of the first refused box,
- * as for jellyplain_moves_cover; `covers` and `all` stay after a refusal. */
-JELLYPLAIN_CHECKED uint8_t jellyplain_moves_covers(const jellyplain_move *moves, size_t count, const float (*boxes)[6], size_t boxes_count, uint32_t depth, float covers[JELLYPLAIN_BOXES][6],
-                                float all[6]);
+/* A box for each of 1 to 16 boxes that holds every point of it at every time but NaN, as jellyplain_moves_cover does,
+ * in order, the places behind them +0; and the union of them. It costs far less than that query for each box.
+ * `boxes_count` is judged before a box is read; `covers` and `all` stay after a refusal.
+ * Refused with 12 for no moves; 14; as jellyplain_moves_cover is of the first refused box. */
+JELLYPLAIN_CHECKED uint8_t jellyplain_moves_covers(const jellyplain_move *moves, size_t count, const float (*boxes)[6],
+                                                   size_t boxes_count, uint32_t depth,
+                                                   float covers[JELLYPLAIN_RESTRICT JELLYPLAIN_BOXES][6],
+                                                   float all[JELLYPLAIN_RESTRICT 6]);
 
 /* ---- two chains over one bay */
 
@@ -253,15 +323,24 @@ typedef struct {
     uint8_t refusal;
 } jellyplain_windows;
 
-/* A box that holds every point of the box b at every time from one tick to a later one, both included, less and plus its pad as above; each move's share of the window is cut depth
- * times. Greater depths as above. Ticks may be infinite. Numbers 12 for no moves, then 21 where the ticks don't rise, then 6, 7 and 8, then 5 or 10. */
-JELLYPLAIN_CHECKED uint8_t jellyplain_moves_window_cover(const jellyplain_move *moves, size_t count, const float b[6], uint32_t depth, float earlier, float later, float bounds[6]);
+/* A box that holds every point of the box b at every time from one tick to a later one, both included, less and plus
+ * its pad as above; each move's share of the window is cut depth times. Greater depths as above. Ticks may be infinite.
+ * Refused with 12 for no moves; 21 where the ticks don't rise; 6, 7, 8; 5 or 10. */
+JELLYPLAIN_CHECKED uint8_t jellyplain_moves_window_cover(const jellyplain_move *moves, size_t count, const float b[6],
+                                                         uint32_t depth, float earlier, float later,
+                                                         float bounds[JELLYPLAIN_RESTRICT 6]);
 
-/* The windows between neighbouring ticks, counted from 0, in which the boxes of two chains meet, touching included, into the front of `places`, 0 behind them. In any other window, ticks included,
- * no point of b and no point of `other`, each less or plus its pad or anything between, are ever at the same place. A greater depth, up to 12, lists no other. Numbers 21 of the ticks, 6 and 7 of b, 6 and
- * 7 of `other`, 8, then 5 and 10, the earlier window first, then the first chain; 12 before all where a chain has no moves. All places stay after a refusal. */
-JELLYPLAIN_CHECKED jellyplain_windows jellyplain_moves_windows(const jellyplain_move *moves, size_t count, const jellyplain_move *others, size_t others_count, const float b[6], const float other[6],
-                                            uint32_t depth, const float *ticks, size_t ticks_count, uint32_t places[JELLYPLAIN_WINDOWS]);
+/* The windows between neighbouring ticks, counted from 0, in which the boxes of two chains meet, touching included,
+ * into the front of `places`, 0 behind them. In any other window, ticks included, no point of b and no point of
+ * `other`, each less or plus its pad or anything between, are ever at the same place. A greater depth, up to 12, lists
+ * no other. `ticks_count` is judged before a tick is read; all places stay after a refusal.
+ * Refused with 12 where a chain has no moves; 21 of the ticks; 6, 7 of b; 6, 7 of `other`; 8; 5 or 10, the earlier
+ * window first, then the first chain. */
+JELLYPLAIN_CHECKED jellyplain_windows jellyplain_moves_windows(const jellyplain_move *moves, size_t count,
+                                                               const jellyplain_move *others, size_t others_count,
+                                                               const float b[6], const float other[6], uint32_t depth,
+                                                               const float *ticks, size_t ticks_count,
+                                                               uint32_t places[JELLYPLAIN_RESTRICT JELLYPLAIN_WINDOWS]);
 
 /* ---- move files */
 
@@ -281,23 +360,35 @@ typedef struct {
     uint8_t refusal;
 } jellyplain_written;
 
-/* The poses of a move file into the front of `poses`, with pads of +0 where the file has the old thirteen names, and its box; whether they make a chain is asked by
- * jellyplain_build_moves. Number 11; poses and box then stay. */
-JELLYPLAIN_CHECKED jellyplain_file_read jellyplain_read_file(const uint8_t *bytes, size_t size, jellyplain_pose poses[JELLYPLAIN_FILE_POSES], float bounds[6]);
+/* The poses of a move file into the front of `poses`, with pads of +0 where the file has the old thirteen names, and
+ * its box; whether they make a chain is asked by jellyplain_build_moves. More than 65,536 bytes are no move file, which
+ * is judged once the first line is read; poses and box stay after a refusal.
+ * Refused with 11. */
+JELLYPLAIN_CHECKED jellyplain_file_read jellyplain_read_file(
+    const uint8_t *bytes, size_t size, jellyplain_pose poses[JELLYPLAIN_RESTRICT JELLYPLAIN_FILE_POSES],
+    float bounds[JELLYPLAIN_RESTRICT 6]);
 
-/* The poses of a chain and the box b as a move file, in the one way that it is written: fourteen names, lower-case digits, single spaces, line feeds, no space at a line's end. The text goes
- * into the front of `out`, and the bytes behind it stay. Numbers 6 and 7, then 15 where `size` is too small, and 12 for no moves; all bytes then stay. */
-JELLYPLAIN_CHECKED jellyplain_written jellyplain_write_file(const jellyplain_move *moves, size_t count, const float b[6], uint8_t *out, size_t size);
+/* The poses of a chain and the box b as a move file, in the one way that it is written: fourteen names, lower-case
+ * digits, single spaces, line feeds, no space at a line's end. The text goes into the front of `out`, and the bytes
+ * behind it stay; all bytes do after a refusal. `size` is judged before a byte is written, and none is read.
+ * Refused with 12 for no moves; 6, 7; 15 where `size` is too small. */
+JELLYPLAIN_CHECKED jellyplain_written jellyplain_write_file(const jellyplain_move *moves, size_t count,
+                                                            const float b[6], uint8_t *JELLYPLAIN_RESTRICT out,
+                                                            size_t size);
 
 /* ---- a day of booms */
 
 /* The most booms of a day. */
 #define JELLYPLAIN_BOOMS 8
 
-/* The tick in which each of the first `count` booms starts, a cover and a run length of 1 to 1,000 ticks each; all wait from tick 0 and are taken in their order, and one starts where its box meets,
- * even by touching, no running boom's box. No two that run meet, and each starts no later than the sum of the others' run lengths. The places behind them are 0.
- * Numbers 22, then 6 and 7 of the first refused box; `starts` stays after a refusal. */
-JELLYPLAIN_CHECKED uint8_t jellyplain_day(const float boxes[JELLYPLAIN_BOOMS][6], const uint32_t lengths[JELLYPLAIN_BOOMS], size_t count, uint32_t starts[JELLYPLAIN_BOOMS]);
+/* The tick in which each of the first `count` booms starts, a cover and a run length of 1 to 1,000 ticks each; all wait
+ * from tick 0 and are taken in their order, and one starts where its box meets, even by touching, no running boom's
+ * box. No two that run meet, and each starts no later than the sum of the others' run lengths. The places behind them
+ * are 0. `count` is judged before a boom is read; `starts` stays after a refusal.
+ * Refused with 22; 6, 7 of the first refused box. */
+JELLYPLAIN_CHECKED uint8_t jellyplain_day(const float boxes[JELLYPLAIN_BOOMS][6],
+                                          const uint32_t lengths[JELLYPLAIN_BOOMS], size_t count,
+                                          uint32_t starts[JELLYPLAIN_RESTRICT JELLYPLAIN_BOOMS]);
 
 /* ---- the rows that a boom reaches */
 
@@ -310,13 +401,20 @@ typedef struct {
     uint8_t refusal;
 } jellyplain_reached;
 
-/* The places, counted from 0, of those of 1 to 256 rows, each a box, that a cover meets, touching included, into the front of `places`, 0 behind them. A row that is not named holds no
- * point of the boom at any time, less or plus its pad or anything between, where the cover is one that this library gave for the boom's box: jellyplain_cover, jellyplain_moves_cover,
- * of a set the union. A window's cover says so at the times of its window only.
- * Numbers 14 for no rows or more than 256, then 6 and 7 of the cover, then 6 and 7 of the first refused row; all places stay after a refusal. */
-JELLYPLAIN_CHECKED jellyplain_reached jellyplain_reached_rows(const float cover[6], const float (*rows)[6], size_t rows_count, uint32_t places[JELLYPLAIN_ROWS]);
+/* The places, counted from 0, of those of 1 to 256 rows, each a box, that a cover meets, touching included, into the
+ * front of `places`, 0 behind them. A row that is not named holds no point of the boom at any time, less or plus its
+ * pad or anything between, where the cover is one that this library gave for the boom's box: jellyplain_cover,
+ * jellyplain_moves_cover, of a set the union. A window's cover says so at the times of its window only. `rows_count` is
+ * judged before a row is read; all places stay after a refusal.
+ * Refused with 14 for no rows or more than 256; 6, 7 of the cover; 6, 7 of the first refused row. */
+JELLYPLAIN_CHECKED jellyplain_reached jellyplain_reached_rows(const float cover[6], const float (*rows)[6],
+                                                              size_t rows_count,
+                                                              uint32_t places[JELLYPLAIN_RESTRICT JELLYPLAIN_ROWS]);
 
-JELLYPLAIN_CHECKED static inline uint8_t jellyplain_build_chain(bool rigid, const jellyplain_pose *poses, size_t count, jellyplain_chain *chain)
+/* ---- chains, by the struct: each is refused as the function is that it calls */
+
+JELLYPLAIN_CHECKED static inline uint8_t jellyplain_build_chain(bool rigid, const jellyplain_pose *poses, size_t count,
+                                                                jellyplain_chain *JELLYPLAIN_RESTRICT chain)
 {
     uint8_t refusal = jellyplain_build_moves(rigid, poses, count, chain->moves);
     if (refusal == JELLYPLAIN_NONE)
@@ -325,7 +423,9 @@ JELLYPLAIN_CHECKED static inline uint8_t jellyplain_build_chain(bool rigid, cons
 }
 
 /* `joined` is neither of the two. */
-JELLYPLAIN_CHECKED static inline uint8_t jellyplain_chain_join(const jellyplain_chain *first, const jellyplain_chain *second, jellyplain_chain *joined)
+JELLYPLAIN_CHECKED static inline uint8_t jellyplain_chain_join(const jellyplain_chain *first,
+                                                               const jellyplain_chain *second,
+                                                               jellyplain_chain *JELLYPLAIN_RESTRICT joined)
 {
     uint8_t refusal = jellyplain_moves_join(first->moves, first->count, second->moves, second->count, joined->moves);
     if (refusal == JELLYPLAIN_NONE)
@@ -333,49 +433,63 @@ JELLYPLAIN_CHECKED static inline uint8_t jellyplain_chain_join(const jellyplain_
     return refusal;
 }
 
-JELLYPLAIN_CHECKED static inline uint8_t jellyplain_chain_point(const jellyplain_chain *chain, float time, const float p[3], float moved[3])
+JELLYPLAIN_CHECKED static inline uint8_t jellyplain_chain_point(const jellyplain_chain *chain, float time,
+                                                                const float p[3], float moved[JELLYPLAIN_RESTRICT 3])
 {
     return jellyplain_moves_point(chain->moves, chain->count, time, p, moved);
 }
 
-JELLYPLAIN_CHECKED static inline uint8_t jellyplain_chain_pad(const jellyplain_chain *chain, float time, float pad[1])
+JELLYPLAIN_CHECKED static inline uint8_t jellyplain_chain_pad(const jellyplain_chain *chain, float time,
+                                                              float pad[JELLYPLAIN_RESTRICT 1])
 {
     return jellyplain_moves_pad(chain->moves, chain->count, time, pad);
 }
 
-JELLYPLAIN_CHECKED static inline uint8_t jellyplain_chain_points(const jellyplain_chain *chain, const float *times, size_t times_count, const float p[3], float *answers, size_t places)
+JELLYPLAIN_CHECKED static inline uint8_t jellyplain_chain_points(const jellyplain_chain *chain, const float *times,
+                                                                 size_t times_count, const float p[3],
+                                                                 float *JELLYPLAIN_RESTRICT answers, size_t places)
 {
     return jellyplain_moves_points(chain->moves, chain->count, times, times_count, p, answers, places);
 }
 
-JELLYPLAIN_CHECKED static inline uint8_t jellyplain_chain_cover(const jellyplain_chain *chain, const float b[6], uint32_t depth, float bounds[6])
+JELLYPLAIN_CHECKED static inline uint8_t jellyplain_chain_cover(const jellyplain_chain *chain, const float b[6],
+                                                                uint32_t depth, float bounds[JELLYPLAIN_RESTRICT 6])
 {
     return jellyplain_moves_cover(chain->moves, chain->count, b, depth, bounds);
 }
 
-JELLYPLAIN_CHECKED static inline uint8_t jellyplain_chain_try(const jellyplain_chain *chain, size_t place, const jellyplain_pose *pose, const float b[6], uint32_t depth, float bounds[6])
+JELLYPLAIN_CHECKED static inline uint8_t jellyplain_chain_try(const jellyplain_chain *chain, size_t place,
+                                                              const jellyplain_pose *pose, const float b[6],
+                                                              uint32_t depth, float bounds[JELLYPLAIN_RESTRICT 6])
 {
     return jellyplain_moves_try(chain->moves, chain->count, place, pose, b, depth, bounds);
 }
 
-JELLYPLAIN_CHECKED static inline uint8_t jellyplain_chain_covers(const jellyplain_chain *chain, const float (*boxes)[6], size_t boxes_count, uint32_t depth, float covers[JELLYPLAIN_BOXES][6],
-                                              float all[6])
+JELLYPLAIN_CHECKED static inline uint8_t jellyplain_chain_covers(const jellyplain_chain *chain, const float (*boxes)[6],
+                                                                 size_t boxes_count, uint32_t depth,
+                                                                 float covers[JELLYPLAIN_RESTRICT JELLYPLAIN_BOXES][6],
+                                                                 float all[JELLYPLAIN_RESTRICT 6])
 {
     return jellyplain_moves_covers(chain->moves, chain->count, boxes, boxes_count, depth, covers, all);
 }
 
-JELLYPLAIN_CHECKED static inline uint8_t jellyplain_chain_window_cover(const jellyplain_chain *chain, const float b[6], uint32_t depth, float earlier, float later, float bounds[6])
+JELLYPLAIN_CHECKED static inline uint8_t jellyplain_chain_window_cover(const jellyplain_chain *chain, const float b[6],
+                                                                       uint32_t depth, float earlier, float later,
+                                                                       float bounds[JELLYPLAIN_RESTRICT 6])
 {
     return jellyplain_moves_window_cover(chain->moves, chain->count, b, depth, earlier, later, bounds);
 }
 
-JELLYPLAIN_CHECKED static inline jellyplain_windows jellyplain_chain_windows(const jellyplain_chain *chain, const jellyplain_chain *others, const float b[6], const float other[6], uint32_t depth,
-                                                          const float *ticks, size_t ticks_count, uint32_t places[JELLYPLAIN_WINDOWS])
+JELLYPLAIN_CHECKED static inline jellyplain_windows jellyplain_chain_windows(
+    const jellyplain_chain *chain, const jellyplain_chain *others, const float b[6], const float other[6],
+    uint32_t depth, const float *ticks, size_t ticks_count, uint32_t places[JELLYPLAIN_RESTRICT JELLYPLAIN_WINDOWS])
 {
-    return jellyplain_moves_windows(chain->moves, chain->count, others->moves, others->count, b, other, depth, ticks, ticks_count, places);
+    return jellyplain_moves_windows(chain->moves, chain->count, others->moves, others->count, b, other, depth, ticks,
+                                    ticks_count, places);
 }
 
-JELLYPLAIN_CHECKED static inline jellyplain_written jellyplain_chain_write(const jellyplain_chain *chain, const float b[6], uint8_t *out, size_t size)
+JELLYPLAIN_CHECKED static inline jellyplain_written jellyplain_chain_write(
+    const jellyplain_chain *chain, const float b[6], uint8_t *JELLYPLAIN_RESTRICT out, size_t size)
 {
     return jellyplain_write_file(chain->moves, chain->count, b, out, size);
 }

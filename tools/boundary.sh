@@ -2,7 +2,8 @@
 # The tests of the library's boundary in C, C++ and Rust: a part of tools/test.sh, and what `make check` runs.
 #   tools/boundary.sh            proves the library and builds target/lib by `make` first
 #   tools/boundary.sh --built    takes target/lib as it stands
-# One version everywhere; the names that the libraries export and need; the header without warnings, and a warning wherever a refusal is passed over; every function, called from C and from C++,
+# One version everywhere; the names that the libraries export and need; the header without warnings, and a warning wherever a refusal is passed over, an array handed over twice or a number left out of a
+# switch; every function, called from C and from C++,
 # with either library (c/tests/calls.c); what is asked of the thread (c/tests/thread.c); the stack (c/tests/stack.c, tools/stack); an installed library, found by pkg-config, and taken away again,
 # with the program of docs/for-engineers.md;
 # the Rust package's tests, and a program without std. What needs a command that isn't here is skipped, and said to be.
@@ -12,7 +13,7 @@ cd "$(dirname "$0")/.." || exit 2
 case "$*" in
 "") built=no ;;
 --built) built=yes ;;
-*) sed -n '2,10s/^# \{0,1\}//p' "$0"; exit 2 ;;
+*) sed -n '2,11s/^# \{0,1\}//p' "$0"; exit 2 ;;
 esac
 here() { command -v "$1" >/dev/null; }
 skipped() { echo "$1: skipped, there is no $2 here"; }
@@ -73,6 +74,14 @@ checked() { # COMPILER WORDS..: each function of the header but those that have 
     [ "$warned" = "$every" ] || { fail "$1 warns of other passed over refusals than the header's functions have:"; diff <(echo "$every") <(echo "$warned"); }
 }
 checked "$CC" -std=c99
+
+# gcc warns where one array is handed over twice, clang has no such warning.
+printf '#include "jellyplain.h"\nuint8_t moved(const jellyplain_move *m, float *p);\nuint8_t moved(const jellyplain_move *m, float *p)\n{\n    return jellyplain_point(m, 0, p, p);\n}\n' >"$made/twice.c"
+if "$CC" -Werror -Wrestrict -c -x c /dev/null -o "$made/header.o" 2>/dev/null; then
+    "$CC" -std=c99 -Wall -I c -c "$made/twice.c" -o "$made/twice.o" 2>&1 | grep -q 'Wrestrict' || fail "an array that is read and written by one call is not warned of"
+fi
+wide=$(awk 'length($0) > 120 { print FNR }' c/jellyplain.h | tr '\n' ' ')
+[ -z "$wide" ] || fail "c/jellyplain.h: wider than 120 are the lines $wide"
 
 # ---- refusals by number: their texts are the table's, and a switch that leaves a number out is warned of
 cat >"$made/texts.c" <<'C'

@@ -52,9 +52,7 @@ static struct {
     uint32_t examined[3], places[JELLYPLAIN_WINDOWS], starts[JELLYPLAIN_BOOMS];
     jellyplain_pose poses[JELLYPLAIN_FILE_POSES];
     uint8_t text[JELLYPLAIN_TEXT];
-#ifdef JELLYPLAIN_ROWS
     uint32_t rows[JELLYPLAIN_ROWS];
-#endif
 } lent;
 
 #define FILLED 0xa5
@@ -407,6 +405,108 @@ static void days(void)
     REFUSED(6, jellyplain_day(coordinate, lengths, 1, lent.starts));
 }
 
+/* Of several wrongs the first of the header's order is answered: they are mended one after the other. */
+static void orders(void)
+{
+    jellyplain_pose start = still(1), end = stretched(0, 0);
+    end.matrix[1][1] = infinite;
+    end.matrix[3][0] = 1;
+    end.pad = -1;
+    REFUSED(1, jellyplain_build(true, &start, &end, &lent.move));
+    end.matrix[1][1] = 1;
+    REFUSED(2, jellyplain_build(true, &start, &end, &lent.move));
+    end.matrix[3][0] = 0;
+    REFUSED(16, jellyplain_build(true, &start, &end, &lent.move));
+    end.pad = 0;
+    REFUSED(3, jellyplain_build(true, &start, &end, &lent.move));
+    end.time = 2;
+    REFUSED(17, jellyplain_build(true, &start, &end, &lent.move));
+    REFUSED(4, jellyplain_build(false, &start, &end, &lent.move));
+    jellyplain_pose mirrored = stretched(0, -1);
+    REFUSED(18, jellyplain_build(true, &mirrored, &end, &lent.move));
+
+    jellyplain_pose poses[3] = {shifted(-3e38f, infinite), stretched(3e38f, 0), still(0)};
+    poses[1].matrix[3][0] = 1;
+    poses[2].pad = -1;
+    REFUSED(1, jellyplain_build_moves(true, poses, 3, lent.chain.moves));
+    poses[0].matrix[0][3] = 0;
+    REFUSED(2, jellyplain_build_moves(true, poses, 3, lent.chain.moves));
+    REFUSED(2, jellyplain_build_moves(true, poses + 1, 1, lent.chain.moves));
+    poses[1].matrix[3][0] = 0;
+    REFUSED(16, jellyplain_build_moves(true, poses, 3, lent.chain.moves));
+    poses[2].pad = 0;
+    REFUSED(12, jellyplain_build_moves(true, poses, 3, lent.chain.moves));
+    REFUSED(3, jellyplain_build_moves(true, poses, 2, lent.chain.moves));
+    poses[0].time = 0;
+    REFUSED(17, jellyplain_build_moves(true, poses, 2, lent.chain.moves));
+    REFUSED(4, jellyplain_build_moves(false, poses, 2, lent.chain.moves));
+
+    jellyplain_pose wrong = shifted(0, infinite);
+    const jellyplain_pose trip[2] = {still(0), shifted(1, 1)};
+    const float times[2] = {1, nan_value}, falling[2] = {1, 0}, ticks[2] = {0, 1};
+    static jellyplain_chain chain;
+    ACCEPTED(jellyplain_build_chain(false, trip, 2, &chain));
+    REFUSED(12, jellyplain_moves_point(chain.moves, 0, nan_value, nan_point, lent.moved));
+    REFUSED(12, jellyplain_moves_pad(chain.moves, 0, nan_value, lent.pad));
+    REFUSED(12, jellyplain_moves_points(chain.moves, 0, times, 2, nan_point, lent.points, 9));
+    REFUSED(6, jellyplain_moves_points(chain.moves, 1, times, 2, origin, lent.points, 9));
+    REFUSED(13, jellyplain_moves_points(chain.moves, 1, falling, 2, origin, lent.points, 9));
+    REFUSED(12, jellyplain_moves_cover(chain.moves, 0, nan_box, 13, lent.bounds));
+    REFUSED(6, jellyplain_moves_cover(chain.moves, 1, nan_box, 13, lent.bounds));
+    REFUSED(7, jellyplain_moves_cover(chain.moves, 1, crossed, 13, lent.bounds));
+    REFUSED(19, jellyplain_moves_try(chain.moves, 1, 2, &wrong, nan_box, 13, lent.bounds));
+    REFUSED(1, jellyplain_moves_try(chain.moves, 1, 1, &wrong, nan_box, 13, lent.bounds));
+    REFUSED(6, jellyplain_moves_try(chain.moves, 1, 1, &trip[1], nan_box, 13, lent.bounds));
+    REFUSED(12, jellyplain_moves_covers(chain.moves, 0, &unit_box, 0, 13, lent.covers, lent.bounds));
+    REFUSED(14, jellyplain_moves_covers(chain.moves, 1, &unit_box, 0, 13, lent.covers, lent.bounds));
+    REFUSED(12, jellyplain_moves_window_cover(chain.moves, 0, nan_box, 13, 1, 0, lent.bounds));
+    REFUSED(21, jellyplain_moves_window_cover(chain.moves, 1, nan_box, 13, 1, 0, lent.bounds));
+    REFUSED(6, jellyplain_moves_window_cover(chain.moves, 1, nan_box, 13, 0, 1, lent.bounds));
+    REFUSED(12, jellyplain_moves_windows(chain.moves, 1, chain.moves, 0, nan_box, nan_box, 13, ticks, 1, lent.places).refusal);
+    REFUSED(8, jellyplain_moves_windows(chain.moves, 1, chain.moves, 1, unit_box, unit_box, 13, ticks, 2, lent.places).refusal);
+    REFUSED(12, jellyplain_write_file(chain.moves, 0, nan_box, lent.text, 0).refusal);
+    const float boxes[JELLYPLAIN_BOOMS][6] = {{nan_value, 0, 0, 0, 0, 0}};
+    const uint32_t lengths[JELLYPLAIN_BOOMS] = {0};
+    REFUSED(22, jellyplain_day(boxes, lengths, 1, lent.starts));
+    REFUSED(14, jellyplain_reached_rows(nan_box, boxes, 0, lent.rows).refusal);
+}
+
+/* Of a list of length 0 nothing is read or written, so that its pointer may be NULL. */
+static void lists(void)
+{
+    const jellyplain_pose trip[2] = {still(0), shifted(1, 1)};
+    static jellyplain_chain chain;
+    ACCEPTED(jellyplain_build_chain(false, trip, 2, &chain));
+    REFUSED(12, jellyplain_build_moves(false, NULL, 0, lent.chain.moves));
+    REFUSED(12, jellyplain_refused_run(false, NULL, 0).refusal);
+    REFUSED(12, jellyplain_moves_join(NULL, 0, chain.moves, 1, lent.chain.moves));
+    REFUSED(12, jellyplain_moves_join(chain.moves, 1, NULL, 0, lent.chain.moves));
+    REFUSED(12, jellyplain_moves_point(NULL, 0, 0, origin, lent.moved));
+    REFUSED(12, jellyplain_moves_pad(NULL, 0, 0, lent.pad));
+    REFUSED(12, jellyplain_moves_points(NULL, 0, NULL, 0, origin, NULL, 0));
+    ACCEPTED(jellyplain_moves_points(chain.moves, 1, NULL, 0, origin, NULL, 0));
+    REFUSED(12, jellyplain_moves_cover(NULL, 0, unit_box, 4, lent.bounds));
+    REFUSED(19, jellyplain_moves_try(NULL, 0, 0, trip, unit_box, 4, lent.bounds));
+    REFUSED(12, jellyplain_moves_covers(NULL, 0, NULL, 0, 4, lent.covers, lent.bounds));
+    REFUSED(14, jellyplain_moves_covers(chain.moves, 1, NULL, 0, 4, lent.covers, lent.bounds));
+    REFUSED(12, jellyplain_moves_window_cover(NULL, 0, unit_box, 4, 0, 1, lent.bounds));
+    REFUSED(12, jellyplain_moves_windows(NULL, 0, NULL, 0, unit_box, unit_box, 4, NULL, 0, lent.places).refusal);
+    REFUSED(21, jellyplain_moves_windows(chain.moves, 1, chain.moves, 1, unit_box, unit_box, 4, NULL, 0, lent.places).refusal);
+    REFUSED(11, jellyplain_read_file(NULL, 0, lent.poses, lent.bounds).refusal);
+    REFUSED(12, jellyplain_write_file(NULL, 0, unit_box, NULL, 0).refusal);
+    REFUSED(15, jellyplain_write_file(chain.moves, 1, unit_box, NULL, 0).refusal);
+    REFUSED(14, jellyplain_reached_rows(unit_box, NULL, 0, lent.rows).refusal);
+
+    /* Lengths that are judged before anything is read or written. */
+    const float times[2] = {0, 1};
+    REFUSED(14, jellyplain_moves_covers(chain.moves, 1, NULL, JELLYPLAIN_BOXES + 1, 4, lent.covers, lent.bounds));
+    REFUSED(21, jellyplain_moves_windows(chain.moves, 1, chain.moves, 1, unit_box, unit_box, 4, NULL, JELLYPLAIN_TICK_COUNT + 1, lent.places).refusal);
+    REFUSED(14, jellyplain_reached_rows(unit_box, NULL, JELLYPLAIN_ROWS + 1, lent.rows).refusal);
+    REFUSED(12, jellyplain_moves_try(NULL, JELLYPLAIN_MOVES + 1, 0, trip, unit_box, 4, lent.bounds));
+    REFUSED(13, jellyplain_moves_points(chain.moves, 1, times, 2, origin, NULL, 5));
+    REFUSED(15, jellyplain_write_file(chain.moves, 1, unit_box, NULL, 129 + 2 * 126 - 1).refusal);
+}
+
 /* Every number has a text of its own, and one that is none has another. That they are the table's is seen by tools/boundary.sh. */
 static void texts(void)
 {
@@ -418,7 +518,6 @@ static void texts(void)
             EXPECT(strcmp(jellyplain_refusal_text(number), jellyplain_refusal_text(other)) != 0);
 }
 
-#ifdef JELLYPLAIN_ROWS
 /* Rows that a cover meets, touching included. */
 static void rows(void)
 {
@@ -430,7 +529,6 @@ static void rows(void)
     REFUSED(6, jellyplain_reached_rows(nan_box, boxes, 3, lent.rows).refusal);
     REFUSED(7, jellyplain_reached_rows(crossed, boxes, 3, lent.rows).refusal);
 }
-#endif
 
 /* ---- the files of examples/ */
 
@@ -551,10 +649,10 @@ int main(int count, char **files)
     moves();
     chains();
     days();
+    orders();
+    lists();
     texts();
-#ifdef JELLYPLAIN_ROWS
     rows();
-#endif
     for (int i = 1; i < count; i++) {
         size_t size = read_whole(files[i], (uint8_t *)bytes, sizeof bytes - 1);
         bytes[size] = 0;
