@@ -34,7 +34,7 @@ int main(void)
 
     uint8_t refusal = jellyplain_build(false, &start, &end, &move);
     if (refusal != JELLYPLAIN_NONE) {
-        printf("refused with %d\n", refusal);
+        printf("refused with %d: %s\n", refusal, jellyplain_refusal_text(refusal));
         return 1;
     }
     if (jellyplain_point(&move, 0.5f, origin, moved) == JELLYPLAIN_NONE)
@@ -66,8 +66,9 @@ int main(void)
                jellyplain_chain_try(&chain, 3, &wide_spray, boom, 10, bounds));
     if (jellyplain_build_chain(false, there_and_back, 2, &there) == JELLYPLAIN_NONE && jellyplain_build_chain(false, there_and_back + 1, 2, &back) == JELLYPLAIN_NONE
         && jellyplain_chain_join(&there, &back, &joined) == JELLYPLAIN_NONE && jellyplain_chain_cover(&joined, boom, 10, bounds) == JELLYPLAIN_NONE)
-        printf("handed over in two files: %zu moves, x from %g to %g; the other way round: refused with %d\n", joined.count, bounds[0], bounds[3],
-               jellyplain_chain_join(&back, &there, &joined));
+        printf("handed over in two files: %zu moves, x from %g to %g", joined.count, bounds[0], bounds[3]);
+    refusal = jellyplain_chain_join(&back, &there, &joined);
+    printf("; the other way round: refused with %d, and %zu moves\n", refusal, joined.count);
     const float ticks[4] = {0, 0.5f, 1.5f, 2};
     const float gate[6] = {0.75f, 0, 0, 3, 2, 0};
     uint32_t places[JELLYPLAIN_WINDOWS];

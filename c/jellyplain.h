@@ -2,13 +2,14 @@
  * caller, and asked many times. `make` proves it and writes target/lib/libjellyplain.a and libjellyplain.so;
  * `pkg-config jellyplain` says how to link it where it is installed. The functions' contracts are proved in crates/api,
  * whose specs/ say what each returns and leaves for all arguments; this header itself is not checked against them, nor
- * are its inline functions, each of which makes one call, jellyplain_compatible two.
+ * are its inline functions, each of which makes at most one call, jellyplain_compatible two.
  *
  * Each function answers a refusal number, 0 for none (the enum below), some of them in a struct. Where nothing is
  * refused it writes what it is lent for its answer, the arguments that are not const, whole (those of move files the
- * front of an array); after a refusal that is as it was. Any floats may be handed in. `Refused with` names the numbers
- * of a function in the order in which they are judged, so that of several the first is answered; with `or` between them
- * they come from the work itself, and the one that is met first is answered.
+ * front of an array); after a refusal that is as it was, but for the `count` of a chain, which a refused build or join
+ * sets to 0. Any floats may be handed in. `Refused with` names the numbers of a function in the order in which they are
+ * judged, so that of several the first is answered; with `or` between them they come from the work itself, and the one
+ * that is met first is answered.
  *
  * Pointers must be valid for the sizes that are written here and aligned for what they point to; an array that is
  * declared with its size has to be there whole. Of a list, a pointer with a length, as many have to be there as the
@@ -88,6 +89,10 @@ typedef struct {
     size_t count;
     jellyplain_move moves[JELLYPLAIN_MOVES];
 } jellyplain_chain;
+
+/* A chain that isn't built yet, as in `jellyplain_chain chain = JELLYPLAIN_CHAIN_INIT;`: it has no moves, and asking it
+ * is refused with 12. A static chain without an initialiser is the same. */
+#define JELLYPLAIN_CHAIN_INIT {0, {{{{0}}}}}
 
 /* The layout of these structs. The library has been built with the same where jellyplain_layout() is this number. */
 #define JELLYPLAIN_LAYOUT 3
@@ -413,56 +418,66 @@ JELLYPLAIN_CHECKED jellyplain_reached jellyplain_reached_rows(const float cover[
 
 /* ---- chains, by the struct: each is refused as the function is that it calls */
 
+/* How many moves a chain has, and 0 where `count` is no chain's, so that asking it is refused with 12. */
+static inline size_t jellyplain_chain_count(const jellyplain_chain *chain)
+{
+    return chain->count <= JELLYPLAIN_MOVES ? chain->count : 0;
+}
+
+/* After a refusal the chain has no moves: `count` is 0, and asking it is refused with 12. */
 JELLYPLAIN_CHECKED static inline uint8_t jellyplain_build_chain(bool rigid, const jellyplain_pose *poses, size_t count,
                                                                 jellyplain_chain *JELLYPLAIN_RESTRICT chain)
 {
     uint8_t refusal = jellyplain_build_moves(rigid, poses, count, chain->moves);
-    if (refusal == JELLYPLAIN_NONE)
-        chain->count = count - 1;
+    chain->count = refusal == JELLYPLAIN_NONE ? count - 1 : 0;
     return refusal;
 }
 
-/* `joined` is neither of the two. */
+/* `joined` is neither of the two. After a refusal it has no moves, as above. */
 JELLYPLAIN_CHECKED static inline uint8_t jellyplain_chain_join(const jellyplain_chain *first,
                                                                const jellyplain_chain *second,
                                                                jellyplain_chain *JELLYPLAIN_RESTRICT joined)
 {
-    uint8_t refusal = jellyplain_moves_join(first->moves, first->count, second->moves, second->count, joined->moves);
-    if (refusal == JELLYPLAIN_NONE)
-        joined->count = first->count + second->count;
+    size_t first_count = jellyplain_chain_count(first), second_count = jellyplain_chain_count(second);
+    uint8_t refusal = jellyplain_moves_join(first->moves, first_count, second->moves, second_count, joined->moves);
+    joined->count = refusal == JELLYPLAIN_NONE ? first_count + second_count : 0;
     return refusal;
 }
 
 JELLYPLAIN_CHECKED static inline uint8_t jellyplain_chain_point(const jellyplain_chain *chain, float time,
                                                                 const float p[3], float moved[JELLYPLAIN_RESTRICT 3])
 {
-    return jellyplain_moves_point(chain->moves, chain->count, time, p, moved);
+    return jellyplain_moves_point(chain->moves, jellyplain_chain_count(chain), time, p, moved);
 }
 
 JELLYPLAIN_CHECKED static inline uint8_t jellyplain_chain_pad(const jellyplain_chain *chain, float time,
                                                               float pad[JELLYPLAIN_RESTRICT 1])
 {
-    return jellyplain_moves_pad(chain->moves, chain->count, time, pad);
+    return jellyplain_moves_pad(chain->moves, jellyplain_chain_count(chain), time, pad);
 }
 
 JELLYPLAIN_CHECKED static inline uint8_t jellyplain_chain_points(const jellyplain_chain *chain, const float *times,
                                                                  size_t times_count, const float p[3],
                                                                  float *JELLYPLAIN_RESTRICT answers, size_t places)
 {
-    return jellyplain_moves_points(chain->moves, chain->count, times, times_count, p, answers, places);
+    return jellyplain_moves_points(chain->moves, jellyplain_chain_count(chain), times, times_count, p, answers, places);
 }
 
 JELLYPLAIN_CHECKED static inline uint8_t jellyplain_chain_cover(const jellyplain_chain *chain, const float b[6],
                                                                 uint32_t depth, float bounds[JELLYPLAIN_RESTRICT 6])
 {
-    return jellyplain_moves_cover(chain->moves, chain->count, b, depth, bounds);
+    return jellyplain_moves_cover(chain->moves, jellyplain_chain_count(chain), b, depth, bounds);
 }
 
+/* Refused with 12 first where the chain has no moves. */
 JELLYPLAIN_CHECKED static inline uint8_t jellyplain_chain_try(const jellyplain_chain *chain, size_t place,
                                                               const jellyplain_pose *pose, const float b[6],
                                                               uint32_t depth, float bounds[JELLYPLAIN_RESTRICT 6])
 {
-    return jellyplain_moves_try(chain->moves, chain->count, place, pose, b, depth, bounds);
+    size_t count = jellyplain_chain_count(chain);
+    if (count == 0)
+        return JELLYPLAIN_CHAIN;
+    return jellyplain_moves_try(chain->moves, count, place, pose, b, depth, bounds);
 }
 
 JELLYPLAIN_CHECKED static inline uint8_t jellyplain_chain_covers(const jellyplain_chain *chain, const float (*boxes)[6],
@@ -470,28 +485,28 @@ JELLYPLAIN_CHECKED static inline uint8_t jellyplain_chain_covers(const jellyplai
                                                                  float covers[JELLYPLAIN_RESTRICT JELLYPLAIN_BOXES][6],
                                                                  float all[JELLYPLAIN_RESTRICT 6])
 {
-    return jellyplain_moves_covers(chain->moves, chain->count, boxes, boxes_count, depth, covers, all);
+    return jellyplain_moves_covers(chain->moves, jellyplain_chain_count(chain), boxes, boxes_count, depth, covers, all);
 }
 
 JELLYPLAIN_CHECKED static inline uint8_t jellyplain_chain_window_cover(const jellyplain_chain *chain, const float b[6],
                                                                        uint32_t depth, float earlier, float later,
                                                                        float bounds[JELLYPLAIN_RESTRICT 6])
 {
-    return jellyplain_moves_window_cover(chain->moves, chain->count, b, depth, earlier, later, bounds);
+    return jellyplain_moves_window_cover(chain->moves, jellyplain_chain_count(chain), b, depth, earlier, later, bounds);
 }
 
 JELLYPLAIN_CHECKED static inline jellyplain_windows jellyplain_chain_windows(
     const jellyplain_chain *chain, const jellyplain_chain *others, const float b[6], const float other[6],
     uint32_t depth, const float *ticks, size_t ticks_count, uint32_t places[JELLYPLAIN_RESTRICT JELLYPLAIN_WINDOWS])
 {
-    return jellyplain_moves_windows(chain->moves, chain->count, others->moves, others->count, b, other, depth, ticks,
-                                    ticks_count, places);
+    return jellyplain_moves_windows(chain->moves, jellyplain_chain_count(chain), others->moves,
+                                    jellyplain_chain_count(others), b, other, depth, ticks, ticks_count, places);
 }
 
 JELLYPLAIN_CHECKED static inline jellyplain_written jellyplain_chain_write(
     const jellyplain_chain *chain, const float b[6], uint8_t *JELLYPLAIN_RESTRICT out, size_t size)
 {
-    return jellyplain_write_file(chain->moves, chain->count, b, out, size);
+    return jellyplain_write_file(chain->moves, jellyplain_chain_count(chain), b, out, size);
 }
 
 #ifdef __cplusplus

@@ -68,7 +68,7 @@ for standard in c99 c11 c17; do
 done
 checked() { # COMPILER WORDS..: each function of the header but those that have nothing to refuse is warned of in c/tests/dropped.c
     local every warned
-    every=$(sed -n 's/^[A-Za-z_].*[ *]\(jellyplain_[a-z_]*\)(.*/\1/p' c/jellyplain.h | grep -vxE 'jellyplain_(layout|version|compatible|refusal_text)' | sort)
+    every=$(sed -n 's/^[A-Za-z_].*[ *]\(jellyplain_[a-z_]*\)(.*/\1/p' c/jellyplain.h | grep -vxE 'jellyplain_(layout|version|compatible|refusal_text|chain_count)' | sort)
     warned=$("$@" -I c -c c/tests/dropped.c -o "$made/dropped.o" 2>&1 | sed -n 's/^[^:]*dropped\.c:\([0-9]*\):.*warn_unused_result.*/\1/p' | sort -nu |
         while read -r line; do sed -n "${line}s/^ *\(jellyplain_[a-z_]*\)(.*/\1/p" c/tests/dropped.c; done | sort)
     [ "$warned" = "$every" ] || { fail "$1 warns of other passed over refusals than the header's functions have:"; diff <(echo "$every") <(echo "$warned"); }

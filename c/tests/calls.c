@@ -81,6 +81,14 @@ static void expect_refused(unsigned number, unsigned answered, const char *call,
     if (answered < NUMBERS)
         given[answered]++;
 }
+/* A build or a join that is refused leaves a chain without moves, and all else as it was. */
+static void expect_not_built(unsigned number, unsigned answered, const char *call, int line)
+{
+    expect(lent.chain.count == 0, "a refused chain has no moves", line);
+    memset(&lent.chain.count, FILLED, sizeof lent.chain.count);
+    expect_refused(number, answered, call, line);
+}
+#define NOT_BUILT(number, call) (fill(), expect_not_built((number), (call), #call, __LINE__))
 #define REFUSED(number, call) (fill(), expect_refused((number), (call), #call, __LINE__))
 #define ACCEPTED(call) (fill(), expect((call) == JELLYPLAIN_NONE, #call, __LINE__))
 
@@ -245,9 +253,9 @@ static void chains(void)
     ACCEPTED(jellyplain_build_chain(false, trip, 3, &lent.chain));
     EXPECT(lent.chain.count == 2 && untouched(&lent.chain.moves[2], sizeof lent.chain.moves - 2 * sizeof lent.chain.moves[0]));
     chain = lent.chain;
-    REFUSED(12, jellyplain_build_chain(false, trip, 0, &lent.chain));
-    REFUSED(12, jellyplain_build_chain(false, trip, 1, &lent.chain));
-    REFUSED(12, jellyplain_build_chain(false, poses, JELLYPLAIN_POSES + 1, &lent.chain));
+    NOT_BUILT(12, jellyplain_build_chain(false, trip, 0, &lent.chain));
+    NOT_BUILT(12, jellyplain_build_chain(false, trip, 1, &lent.chain));
+    NOT_BUILT(12, jellyplain_build_chain(false, poses, JELLYPLAIN_POSES + 1, &lent.chain));
     REFUSED(12, jellyplain_build_moves(true, poses, JELLYPLAIN_POSES + 1, lent.chain.moves));
     ACCEPTED(jellyplain_build_moves(true, poses, JELLYPLAIN_POSES, whole.moves));
     ACCEPTED(jellyplain_build_chain(false, poses, JELLYPLAIN_POSES, &whole));
@@ -326,11 +334,11 @@ static void chains(void)
     EXPECT(lent.chain.count == 2 && memcmp(lent.chain.moves, chain.moves, 2 * sizeof chain.moves[0]) == 0);
     EXPECT(untouched(&lent.chain.moves[2], sizeof lent.chain.moves - 2 * sizeof lent.chain.moves[0]));
     ACCEPTED(jellyplain_moves_join(first.moves, 1, second.moves, 1, lent.chain.moves));
-    REFUSED(20, jellyplain_chain_join(&second, &first, &lent.chain));
+    NOT_BUILT(20, jellyplain_chain_join(&second, &first, &lent.chain));
     REFUSED(12, jellyplain_moves_join(first.moves, 1, second.moves, 0, lent.chain.moves));
     jellyplain_pose later[2] = {poses[JELLYPLAIN_POSES - 1], poses[JELLYPLAIN_POSES]};
     ACCEPTED(jellyplain_build_chain(false, later, 2, &second));
-    REFUSED(12, jellyplain_chain_join(&whole, &second, &lent.chain));
+    NOT_BUILT(12, jellyplain_chain_join(&whole, &second, &lent.chain));
     jellyplain_pose rest = still(0); /* a move by itself may have equal times, which no chain has */
     jellyplain_move lone;
     ACCEPTED(jellyplain_build(false, &rest, &rest, &lone));
@@ -403,6 +411,48 @@ static void days(void)
     const float corners[JELLYPLAIN_BOOMS][6] = {{2, 0, 0, 0, 1, 1}, {nan_value, 0, 0, 4, 1, 1}}, coordinate[JELLYPLAIN_BOOMS][6] = {{nan_value, 0, 0, 4, 1, 1}};
     REFUSED(7, jellyplain_day(corners, lengths, 2, lent.starts));
     REFUSED(6, jellyplain_day(coordinate, lengths, 1, lent.starts));
+}
+
+/* A chain that was never built, one whose build was refused, and one whose count is no chain's are refused with 12 by every query. */
+static void asked_unbuilt(const jellyplain_chain *chain, const jellyplain_chain *built)
+{
+    const jellyplain_pose pose = still(0);
+    const float times[2] = {0, 1};
+    EXPECT(jellyplain_chain_count(chain) == 0);
+    REFUSED(12, jellyplain_chain_point(chain, 0, origin, lent.moved));
+    REFUSED(12, jellyplain_chain_pad(chain, 0, lent.pad));
+    REFUSED(12, jellyplain_chain_points(chain, times, 2, origin, lent.points, 6));
+    REFUSED(12, jellyplain_chain_cover(chain, unit_box, 4, lent.bounds));
+    REFUSED(12, jellyplain_chain_try(chain, 0, &pose, unit_box, 4, lent.bounds));
+    REFUSED(12, jellyplain_chain_covers(chain, &unit_box, 1, 4, lent.covers, lent.bounds));
+    REFUSED(12, jellyplain_chain_window_cover(chain, unit_box, 4, 0, 1, lent.bounds));
+    REFUSED(12, jellyplain_chain_windows(chain, built, unit_box, unit_box, 4, times, 2, lent.places).refusal);
+    REFUSED(12, jellyplain_chain_windows(built, chain, unit_box, unit_box, 4, times, 2, lent.places).refusal);
+    REFUSED(12, jellyplain_chain_write(chain, unit_box, lent.text, sizeof lent.text).refusal);
+    NOT_BUILT(12, jellyplain_chain_join(chain, built, &lent.chain));
+    NOT_BUILT(12, jellyplain_chain_join(built, chain, &lent.chain));
+}
+
+static void unbuilt_chains(void)
+{
+    static jellyplain_chain built, nothing, never = JELLYPLAIN_CHAIN_INIT;
+    const jellyplain_pose trip[2] = {still(0), shifted(1, 1)};
+    jellyplain_chain local = JELLYPLAIN_CHAIN_INIT;
+    ACCEPTED(jellyplain_build_chain(false, trip, 2, &built));
+    EXPECT(jellyplain_chain_count(&built) == 1);
+    asked_unbuilt(&nothing, &built);
+    asked_unbuilt(&never, &built);
+    asked_unbuilt(&local, &built);
+    local = built;
+    EXPECT(jellyplain_build_chain(false, trip, 1, &local) == 12 && local.count == 0 && memcmp(local.moves, built.moves, sizeof built.moves) == 0);
+    asked_unbuilt(&local, &built);
+    local = built;
+    EXPECT(jellyplain_chain_join(&built, &built, &local) == 20 && local.count == 0 && memcmp(local.moves, built.moves, sizeof built.moves) == 0);
+    asked_unbuilt(&local, &built);
+    local.count = JELLYPLAIN_MOVES + 1;
+    asked_unbuilt(&local, &built);
+    local.count = SIZE_MAX;
+    asked_unbuilt(&local, &built);
 }
 
 /* Of several wrongs the first of the header's order is answered: they are mended one after the other. */
@@ -649,6 +699,7 @@ int main(int count, char **files)
     moves();
     chains();
     days();
+    unbuilt_chains();
     orders();
     lists();
     texts();
