@@ -31,7 +31,9 @@ passed() { [ "$failed" -ne 0 ] || echo "$1"; failed=0; }
 quiet() { "$@" >"$made/said" 2>&1 || { local ended=$?; cat "$made/said"; return "$ended"; }; }
 
 if [ "$built" = no ]; then
-    quiet make || { echo "BOUNDARY: make builds no library"; exit 2; }
+    # Anew, whatever the timestamps of a kept target/lib say; after it an idle make finds nothing to do.
+    quiet make -B || { echo "BOUNDARY: make builds no library"; exit 2; }
+    make -q || fail "make builds again what it has just built"
 fi
 [ -f target/lib/libjellyplain.a ] && [ -f target/lib/libjellyplain.so ] || { echo "target/lib/libjellyplain.a and libjellyplain.so are missing: run make first"; exit 2; }
 library=$PWD/target/lib
@@ -130,17 +132,16 @@ else
     skipped "the library's tests in C++" "C++ compiler"
 fi
 
-# ---- installed, found, run with either library and with one of another version, and taken away
-where=$made/prefix
+# ---- installed, found, run with either library and with one of another version, and taken away; the folder's name has spaces and a comma
+where="$made/a folder, for it"
 quiet make install PREFIX="$where" || fail "make install"
+cmp -s NOTICE "$where/share/doc/jellyplain/NOTICE" || fail "make install leaves out NOTICE"
 example() { quiet "$CC" -std=c99 "${warnings[@]}" c/example.c "$@" -o "$made/example" && LD_LIBRARY_PATH=$where/lib "$made/example" >"$made/printed" && diff c/example.expected "$made/printed"; }
 if here pkg-config; then
     asked() { PKG_CONFIG_PATH=$where/lib/pkgconfig pkg-config "$@" jellyplain; }
     [ "$(asked --modversion)" = "$version" ] || fail "pkg-config has another version than $version"
-    # shellcheck disable=SC2046
-    example $(asked --cflags --libs) || fail "c/example.c with the installed shared library"
-    # shellcheck disable=SC2046
-    example $(asked --cflags --libs-only-L) -l:libjellyplain.a || fail "c/example.c with the installed static library"
+    eval "example $(asked --cflags --libs)" || fail "c/example.c with the installed shared library"
+    eval "example $(asked --cflags --libs-only-L) -l:libjellyplain.a" || fail "c/example.c with the installed static library"
 else
     skipped "pkg-config's answers for the installed library" pkg-config
 fi
@@ -157,6 +158,11 @@ LD_PRELOAD=$made/other.so LD_LIBRARY_PATH=$where/lib "$made/example" >"$made/pri
 [ $? -eq 1 ] && grep -q "^the library has version $((number + 10000)) " "$made/printed" || fail "c/example.c runs with a library of another major version"
 quiet make uninstall PREFIX="$where" || fail "make uninstall"
 [ -z "$(find "$where" ! -type d)" ] || { fail "make uninstall leaves files:"; find "$where" ! -type d; }
+# A relative PREFIX is meant from the repository's root, and DESTDIR stands in front of it, in the folders but not in the pkg-config file.
+quiet make install PREFIX=some/where DESTDIR="$made/package" || fail "make install with a relative PREFIX and DESTDIR"
+grep -Fqx "includedir=$PWD/some/where/include" "$made/package$PWD/some/where/lib/pkgconfig/jellyplain.pc" || fail "make install leaves a relative PREFIX relative"
+quiet make uninstall PREFIX=some/where DESTDIR="$made/package" || fail "make uninstall with a relative PREFIX and DESTDIR"
+[ -z "$(find "$made/package" ! -type d)" ] || { fail "make uninstall leaves files:"; find "$made/package" ! -type d; }
 passed "the library installed, linked by c/example.c and taken away again: as expected"
 
 # ---- Rust
