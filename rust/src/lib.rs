@@ -21,11 +21,12 @@
 //! ```
 //!
 //! Any floats may be handed in, NaN and infinities included; what can't be worked with is refused. Some calls panic where the library that is linked is not [`compatible`], and nothing else panics:
-//! those that build, [`Chain::refused_run`] and [`Chain::refused_rigid_run`], [`MoveFile::read`], [`starting_ticks`] and [`reached_rows`].
+//! those that build from poses, [`Chain::refused_run`] and [`Chain::refused_rigid_run`], [`MoveFile::read_from`] and [`MoveFile::read`], [`starting_ticks`] and [`reached_rows`].
 //!
 //! The package needs neither `std` nor an allocator: lists are kept in place ([`List`]), and what has no bound is lent by the caller ([`Chain::points`], [`Chain::write`]). A [`Chain`] takes 22 kB and a
-//! [`MoveFile`] 40 kB, wherever they are put; a call takes at most 96 kB of stack beside (`JELLYPLAIN_STACK` of c/jellyplain.h). That header also says what the guarantee asks of the thread's floating-point
-//! environment: that it is the one which a program starts with, as Rust asks too.
+//! [`MoveFile`] 40 kB, wherever they are put, and both are built where they stand.
+//!
+//! c/jellyplain.h also says what the guarantee asks of the thread's floating-point environment: that it is the one which a program starts with, as Rust asks too.
 
 #![no_std]
 
@@ -36,6 +37,7 @@ mod library;
 mod list;
 mod refusal;
 
+use core::mem::MaybeUninit;
 use core::ops::Range;
 pub use library::{BOOMS, BOXES, FILE_POSES, MOVES, WINDOWS};
 pub use list::List;
@@ -67,14 +69,18 @@ pub fn compatible() -> bool {
 /// Four rows of four numbers.
 pub type Matrix = [[f32; 4]; 4];
 
+/// The matrix that leaves every point where it is.
 pub const IDENTITY: Matrix = [[1.0, 0.0, 0.0, 0.0], [0.0, 1.0, 0.0, 0.0], [0.0, 0.0, 1.0, 0.0], [0.0, 0.0, 0.0, 1.0]];
 
 /// A matrix at a time, and a pad of at least zero: how far beyond the boom the spray wets the ground then. The library reads it as 18 floats.
 #[derive(Clone, Copy, Debug, PartialEq)]
 #[repr(C)]
 pub struct Pose {
+    /// When the boom stands so.
     pub time: f32,
+    /// Where it stands then.
     pub matrix: Matrix,
+    /// How far the spray reaches then.
     pub pad: f32,
 }
 
@@ -82,11 +88,16 @@ pub struct Pose {
 #[derive(Clone, Copy, Debug, PartialEq)]
 #[repr(C)]
 pub struct Bounds {
+    /// The least corner.
     pub p_min: [f32; 3],
+    /// The greatest corner.
     pub p_max: [f32; 3],
 }
 
 impl Bounds {
+    /// pbrt's empty box, its least corner above its greatest: it holds no point, and what is asked with it is refused with [`Refusal::Corners`].
+    pub const EMPTY: Bounds = Bounds { p_min: [f32::MAX; 3], p_max: [f32::MIN; 3] };
+
     /// Whether a point is inside on all three axes, the faces included.
     pub fn contains(&self, p: [f32; 3]) -> bool {
         (0..3).all(|i| self.p_min[i] <= p[i] && p[i] <= self.p_max[i])
@@ -105,14 +116,18 @@ impl Bounds {
 /// A motion box, and how many intervals the zero search examined for it on x, y and z: what it cost. A point has at most 511 on an axis, a box the sum over its corners.
 #[derive(Clone, Copy, Debug, PartialEq)]
 pub struct MotionBounds {
+    /// The box.
     pub bounds: Bounds,
+    /// The counts on x, y and z.
     pub examined: [u32; 3],
 }
 
 /// A matrix and its inverse, the two halves of pbrt's `Transform`.
 #[derive(Clone, Copy, Debug, PartialEq)]
 pub struct Transform {
+    /// The matrix.
     pub matrix: Matrix,
+    /// Its inverse.
     pub inverse: Matrix,
 }
 
@@ -211,44 +226,119 @@ impl Move {
 /// The answer to a set of boxes: a cover for each, in their order, and the union of them.
 #[derive(Clone, Copy, Debug, PartialEq)]
 pub struct Covers {
+    /// The cover of each box.
     pub each: List<Bounds, BOXES>,
+    /// The union of the covers.
     pub union: Bounds,
 }
 
-/// A built chain: the moves between neighbouring poses. It is only made by [`Chain::new`], [`Chain::rigid`] and [`Chain::join`], so that the guarantee of [`Chain::cover`] holds of every value of this type.
-#[derive(Clone, Debug)]
+/// A built chain, the moves between neighbouring poses, or an empty one, which every query refuses with [`Refusal::Chain`] before all else. It is only built by
+/// [`Chain::build`], [`Chain::build_rigid`], [`Chain::build_joined`] and what stands on them, so that the guarantee of [`Chain::cover`] holds of every value of this type.
+///
+/// It takes 22 kB. Those three build it where it stands, so that a `static` or a [`Box`](https://doc.rust-lang.org/std/boxed/struct.Box.html) keeps it off the stack:
+///
+/// ```
+/// use jellyplain::{Chain, Pose, Refusal, IDENTITY};
+/// use std::sync::Mutex;
+///
+/// static CHAIN: Mutex<Chain> = Mutex::new(Chain::EMPTY);
+///
+/// let mut chain = CHAIN.lock().unwrap();
+/// assert_eq!(chain.point(0.5, [0.0; 3]), Err(Refusal::Chain));
+/// chain.build(&[0.0, 1.0].map(|time| Pose { time, matrix: IDENTITY, pad: 0.0 }))?;
+/// assert_eq!(chain.point(0.5, [0.0; 3]), Ok([0.0; 3]));
+///
+/// let mut place = Box::new_uninit();
+/// let copy: &mut Chain = Chain::empty_in(&mut place);
+/// copy.clone_from(&chain);
+/// assert_eq!(copy.moves().len(), 1);
+/// # Ok::<(), Refusal>(())
+/// ```
+#[derive(Debug)]
 pub struct Chain {
     moves: List<library::Rows, MOVES>,
 }
 
+impl Clone for Chain {
+    fn clone(&self) -> Chain {
+        Chain { moves: self.moves }
+    }
+
+    fn clone_from(&mut self, source: &Chain) {
+        self.moves = source.moves;
+    }
+}
+
+impl Default for Chain {
+    fn default() -> Chain {
+        Chain::EMPTY
+    }
+}
+
 impl Chain {
-    /// The chain of 2 to 32 poses whose times rise strictly. Refused with numbers 1, 2, 16, 12, 3, 4 and 5, in this order.
-    pub fn new(poses: &[Pose]) -> Result<Chain, Refusal> {
-        Chain::build(false, poses)
+    /// No moves: what a chain is before it is built and after it is refused.
+    pub const EMPTY: Chain = Chain { moves: List::empty(library::EMPTY) };
+
+    /// An empty chain in a place that was not written yet, such as that of `Box::new_uninit()`: none of it stands on the stack, without optimization too, where a constant does.
+    pub fn empty_in(place: &mut MaybeUninit<Chain>) -> &mut Chain {
+        // SAFETY: a chain is floats and a count, and bytes of zero are `Chain::EMPTY`.
+        unsafe {
+            place.as_mut_ptr().write_bytes(0, 1);
+            place.assume_init_mut()
+        }
     }
 
-    /// The chain of a boom that neither stretches nor shears, each of its moves as [`Move::rigid`] builds it. Refused as [`Chain::new`] and, after 3 and before 4 and 5, pose by
+    /// Builds here the chain of 2 to 32 poses whose times rise strictly; what stood here before is gone. Refused with numbers 1, 2, 16, 12, 3, 4 and 5, in this order; the chain is empty then.
+    pub fn build(&mut self, poses: &[Pose]) -> Result<(), Refusal> {
+        self.build_kind(false, poses)
+    }
+
+    /// Builds here the chain of a boom that neither stretches nor shears, each of its moves as [`Move::rigid`] builds it. Refused as [`Chain::build`] and, after 3 and before 4 and 5, pose by
     /// pose, with [`Refusal::NotRigid`] and [`Refusal::Determinant`]. A file doesn't hold how a chain was built: what [`Chain::write`] writes may be read and built either way.
-    pub fn rigid(poses: &[Pose]) -> Result<Chain, Refusal> {
-        Chain::build(true, poses)
+    pub fn build_rigid(&mut self, poses: &[Pose]) -> Result<(), Refusal> {
+        self.build_kind(true, poses)
     }
 
-    fn build(rigid: bool, poses: &[Pose]) -> Result<Chain, Refusal> {
+    fn build_kind(&mut self, rigid: bool, poses: &[Pose]) -> Result<(), Refusal> {
+        let moves = self.moves.places();
         library::check();
-        let mut moves = List::filled(library::EMPTY);
-        let number = unsafe { library::jellyplain_build_moves(rigid, poses.as_ptr(), poses.len(), moves.places()) };
-        moves.shorten(if number == 0 { poses.len() - 1 } else { 0 });
-        answered(number, Chain { moves })
+        let number = unsafe { library::jellyplain_build_moves(rigid, poses.as_ptr(), poses.len(), moves) };
+        answered(number, ())?;
+        self.moves.set_len(poses.len() - 1);
+        Ok(())
     }
 
-    /// One chain of this one and another, with the pose that they share once: the same as that of all poses. Up to the shared time it answers as this chain, above it as the other,
-    /// and its cover is the union of theirs. Refused with [`Refusal::Mismatch`] where the last pose here and the first there differ in a bit of time, matrix or pad, a zero's
-    /// sign too, or one chain is rigid and the other isn't, then with [`Refusal::Chain`] for more than 32 poses.
+    /// Builds here one chain of two, with the pose that they share once: the same as that of all poses. Up to the shared time it answers as the first, above it as the second,
+    /// and its cover is the union of theirs. Refused with [`Refusal::Chain`] where one is empty, with [`Refusal::Mismatch`] where the last pose of the first and the first of the second differ in a bit of time, matrix or pad, a zero's
+    /// sign too, or one chain is rigid and the other isn't, then with [`Refusal::Chain`] for more than 32 poses; the chain is empty then.
+    pub fn build_joined(&mut self, first: &Chain, second: &Chain) -> Result<(), Refusal> {
+        let moves = self.moves.places();
+        let (first, second) = (first.built()?, second.built()?);
+        let number = unsafe { library::jellyplain_moves_join(first.as_ptr(), first.len(), second.as_ptr(), second.len(), moves) };
+        answered(number, ())?;
+        self.moves.set_len(first.len() + second.len());
+        Ok(())
+    }
+
+    /// The chain that [`Chain::build`] builds, by value: it passes over the stack.
+    pub fn new(poses: &[Pose]) -> Result<Chain, Refusal> {
+        let mut chain = Chain::EMPTY;
+        chain.build(poses)?;
+        Ok(chain)
+    }
+
+    /// The chain that [`Chain::build_rigid`] builds, by value: it passes over the stack.
+    pub fn rigid(poses: &[Pose]) -> Result<Chain, Refusal> {
+        let mut chain = Chain::EMPTY;
+        chain.build_rigid(poses)?;
+        Ok(chain)
+    }
+
+    /// One chain of this one and another, as [`Chain::build_joined`] builds it, by value: it passes over the stack.
     pub fn join(&self, other: &Chain) -> Result<Chain, Refusal> {
-        let (first, second, mut moves) = (&self.moves, &other.moves, List::filled(library::EMPTY));
-        let number = unsafe { library::jellyplain_moves_join(first.as_ptr(), first.len(), second.as_ptr(), second.len(), moves.places()) };
-        moves.shorten(if number == 0 { first.len() + second.len() } else { 0 });
-        answered(number, Chain { moves })
+        let mut chain = Chain::EMPTY;
+        chain.build_joined(self, other)?;
+        Ok(chain)
     }
 
     /// Of poses that [`Chain::new`] refuses, the places of the shortest run of neighbouring ones that is refused in the same way, the leftmost among equals: one pose, as a move from it to
@@ -268,6 +358,15 @@ impl Chain {
         answered(run.refusal, run.place..run.place + run.length)
     }
 
+    /// The moves of a chain that is not empty. About an empty one the library isn't asked: no building has seen yet that it fits.
+    fn built(&self) -> Result<&[library::Rows], Refusal> {
+        if self.moves.is_empty() {
+            Err(Refusal::Chain)
+        } else {
+            Ok(&self.moves)
+        }
+    }
+
     /// The moves, one fewer than the poses: the one at place i goes from pose i to the next.
     pub fn moves(&self) -> impl ExactSizeIterator<Item = Move> + '_ {
         self.moves.iter().map(|rows| Move { rows: *rows })
@@ -276,22 +375,22 @@ impl Chain {
     /// Where a point stands at a time. A time equal to an inner pose's belongs to the earlier move, times outside to the first and the last.
     /// Refused with [`Refusal::Query`] and [`Refusal::NotFinite`].
     pub fn point(&self, time: f32, p: [f32; 3]) -> Result<[f32; 3], Refusal> {
-        let mut moved = [0.0; 3];
-        let number = unsafe { library::jellyplain_moves_point(self.moves.as_ptr(), self.moves.len(), time, &p, &mut moved) };
-        answered(number, moved)
+        let (moves, mut answer) = (self.built()?, [0.0; 3]);
+        let number = unsafe { library::jellyplain_moves_point(moves.as_ptr(), moves.len(), time, &p, &mut answer) };
+        answered(number, answer)
     }
 
     /// The pad at a time, of the move that the time belongs to. Refused as [`Move::pad`].
     pub fn pad(&self, time: f32) -> Result<f32, Refusal> {
-        let mut pad = [0.0];
-        let number = unsafe { library::jellyplain_moves_pad(self.moves.as_ptr(), self.moves.len(), time, &mut pad) };
+        let (moves, mut pad) = (self.built()?, [0.0]);
+        let number = unsafe { library::jellyplain_moves_pad(moves.as_ptr(), moves.len(), time, &mut pad) };
         answered(number, pad[0])
     }
 
     /// Where a point stands at each time of a list that never falls, into as many lent places, which a refusal leaves as they were. Refused with [`Refusal::Query`], [`Refusal::TimeList`], for another
     /// number of places too, and [`Refusal::NotFinite`].
     pub fn points(&self, times: &[f32], p: [f32; 3], points: &mut [[f32; 3]]) -> Result<(), Refusal> {
-        let (moves, answers) = (&self.moves, points.as_flattened_mut());
+        let (moves, answers) = (self.built()?, points.as_flattened_mut());
         let number =
             unsafe { library::jellyplain_moves_points(moves.as_ptr(), moves.len(), times.as_ptr(), times.len(), &p, answers.as_mut_ptr(), answers.len()) };
         answered(number, ())
@@ -300,8 +399,8 @@ impl Chain {
     /// A box that holds every point of `b` at every time but NaN: [`Chain::point`] and [`Chain::points`] answer points inside it, and so they are less and plus [`Chain::pad`]. It
     /// is the union of the moves' covers, each from 2^depth slices. Refused as [`Move::cover`].
     pub fn cover(&self, b: &Bounds, depth: u32) -> Result<Bounds, Refusal> {
-        let mut bounds = [0.0; 6];
-        let number = unsafe { library::jellyplain_moves_cover(self.moves.as_ptr(), self.moves.len(), &b.to_array(), depth, &mut bounds) };
+        let (moves, mut bounds) = (self.built()?, [0.0; 6]);
+        let number = unsafe { library::jellyplain_moves_cover(moves.as_ptr(), moves.len(), &b.to_array(), depth, &mut bounds) };
         answered(number, Bounds::from_array(bounds))
     }
 
@@ -309,15 +408,15 @@ impl Chain {
     /// chain stays as it is. Refused with [`Refusal::Place`] for a place beyond the last pose, then as
     /// [`Chain::new`] or [`Chain::rigid`] of the changed poses, by the chain's kind: 1, 2, 16, 12, 3, of a rigid chain 17 and 18, then 4 or 5; then as [`Chain::cover`].
     pub fn try_pose(&self, place: usize, pose: &Pose, b: &Bounds, depth: u32) -> Result<Bounds, Refusal> {
-        let mut bounds = [0.0; 6];
-        let number = unsafe { library::jellyplain_moves_try(self.moves.as_ptr(), self.moves.len(), place, pose, &b.to_array(), depth, &mut bounds) };
+        let (moves, mut bounds) = (self.built()?, [0.0; 6]);
+        let number = unsafe { library::jellyplain_moves_try(moves.as_ptr(), moves.len(), place, pose, &b.to_array(), depth, &mut bounds) };
         answered(number, Bounds::from_array(bounds))
     }
 
     /// The covers of 1 to 16 boxes, each as [`Chain::cover`] gives it, and their union: no point of a box leaves that box's own cover at any time but NaN. It costs far less than a
     /// cover for each. Refused with [`Refusal::Set`], then as [`Chain::cover`] of the first box in order that is refused.
     pub fn covers(&self, boxes: &[Bounds], depth: u32) -> Result<Covers, Refusal> {
-        let (moves, mut covers, mut union) = (&self.moves, [[0.0; 6]; BOXES], [0.0; 6]);
+        let (moves, mut covers, mut union) = (self.built()?, [[0.0; 6]; BOXES], [0.0; 6]);
         // A box crosses as its six floats.
         let asked = boxes.as_ptr().cast::<[f32; 6]>();
         let number = unsafe { library::jellyplain_moves_covers(moves.as_ptr(), moves.len(), asked, boxes.len(), depth, &mut covers, &mut union) };
@@ -327,9 +426,8 @@ impl Chain {
     /// A box that holds every point of `b` at every time from one tick to a later one, both included, as [`Chain::cover`] does at all times. Ticks may be infinite. Refused with
     /// [`Refusal::Ticks`] where they don't rise, then as [`Chain::cover`].
     pub fn window_cover(&self, b: &Bounds, depth: u32, earlier: f32, later: f32) -> Result<Bounds, Refusal> {
-        let mut bounds = [0.0; 6];
-        let number =
-            unsafe { library::jellyplain_moves_window_cover(self.moves.as_ptr(), self.moves.len(), &b.to_array(), depth, earlier, later, &mut bounds) };
+        let (moves, mut bounds) = (self.built()?, [0.0; 6]);
+        let number = unsafe { library::jellyplain_moves_window_cover(moves.as_ptr(), moves.len(), &b.to_array(), depth, earlier, later, &mut bounds) };
         answered(number, Bounds::from_array(bounds))
     }
 
@@ -337,7 +435,7 @@ impl Chain {
     /// `b` and none of `c`, each less or plus its pad or anything between, are ever at the same place; a greater depth, up to 12, lists no other. Refused with [`Refusal::Ticks`] unless 2 to 64 ticks rise strictly,
     /// with the numbers of `b`, of `c` and of the depth, then with [`Refusal::NotFinite`] or [`Refusal::SquaredLength`] of the first window that is refused.
     pub fn windows(&self, other: &Chain, b: &Bounds, c: &Bounds, depth: u32, ticks: &[f32]) -> Result<List<u32, WINDOWS>, Refusal> {
-        let (first, second, mut places) = (&self.moves, &other.moves, [0; WINDOWS]);
+        let (first, second, mut places) = (self.built()?, other.built()?, [0; WINDOWS]);
         let (b, c) = (b.to_array(), c.to_array());
         let windows = unsafe {
             library::jellyplain_moves_windows(
@@ -370,33 +468,92 @@ impl Chain {
     /// # Ok::<(), Refusal>(())
     /// ```
     pub fn write<'a>(&self, b: &Bounds, text: &'a mut [u8]) -> Result<&'a str, Refusal> {
-        let written = unsafe { library::jellyplain_write_file(self.moves.as_ptr(), self.moves.len(), &b.to_array(), text.as_mut_ptr(), text.len()) };
+        let moves = self.built()?;
+        let written = unsafe { library::jellyplain_write_file(moves.as_ptr(), moves.len(), &b.to_array(), text.as_mut_ptr(), text.len()) };
         answered(written.refusal, &text[..written.length]).map(|text| core::str::from_utf8(text).expect("the text is digits, spaces, names and line feeds"))
     }
 }
 
-/// What a move file holds: any number of poses, and a box. Whether a chain can be built of the poses is asked by [`Chain::new`] and [`Chain::rigid`].
-#[derive(Clone, Debug, PartialEq)]
+/// What a move file holds: any number of poses, and a box. Whether a chain can be built of the poses is asked by [`Chain::build`] and [`Chain::build_rigid`].
+///
+/// It takes 40 kB, and [`MoveFile::read_from`] reads a file to where it stands, a `static` or a place that [`MoveFile::empty_in`] is lent.
+///
+/// ```
+/// # use jellyplain::{Chain, MoveFile, Refusal};
+/// # let bytes = b"";
+/// let (mut file, mut chain) = (Box::new_uninit(), Box::new_uninit());
+/// let (file, chain) = (MoveFile::empty_in(&mut file), Chain::empty_in(&mut chain));
+/// if let Err(refusal) = file.read_from(bytes).and_then(|()| chain.build(&file.poses)) {
+///     assert_eq!(refusal, Refusal::File);
+///     assert_eq!(*file, MoveFile::EMPTY);
+/// }
+/// ```
+#[derive(Debug, PartialEq)]
 pub struct MoveFile {
+    /// The poses, in the file's order.
     pub poses: List<Pose, FILE_POSES>,
+    /// The box.
     pub bounds: Bounds,
 }
 
+impl Clone for MoveFile {
+    fn clone(&self) -> MoveFile {
+        MoveFile { ..*self }
+    }
+
+    fn clone_from(&mut self, source: &MoveFile) {
+        (self.poses, self.bounds) = (source.poses, source.bounds);
+    }
+}
+
+impl Default for MoveFile {
+    fn default() -> MoveFile {
+        MoveFile::EMPTY
+    }
+}
+
 impl MoveFile {
-    /// Reads a file's bytes, whatever its spaces and the case of its digits; with the old thirteen names the pads are +0. Refused with [`Refusal::File`].
-    pub fn read(bytes: &[u8]) -> Result<MoveFile, Refusal> {
+    /// No pose, and pbrt's empty box, [`Bounds::EMPTY`]: what a file is before it is read and after it is refused. No chain is built of it and no query takes its box.
+    pub const EMPTY: MoveFile = MoveFile { poses: List::empty(Pose { time: 0.0, matrix: [[0.0; 4]; 4], pad: 0.0 }), bounds: Bounds::EMPTY };
+
+    /// An empty file in a place that was not written yet, such as that of `Box::new_uninit()`: none of it stands on the stack, without optimization too, where a constant does.
+    pub fn empty_in(place: &mut MaybeUninit<MoveFile>) -> &mut MoveFile {
+        // SAFETY: a file is floats and a count, for which bytes of zero stand, and they are no pose.
+        let file = unsafe {
+            place.as_mut_ptr().write_bytes(0, 1);
+            place.assume_init_mut()
+        };
+        file.bounds = Bounds::EMPTY;
+        file
+    }
+
+    /// Reads a file's bytes to here, whatever its spaces and the case of its digits; with the old thirteen names the pads are +0. What stood here before is gone. Refused with [`Refusal::File`]; there is
+    /// no pose then, and the box is empty.
+    pub fn read_from(&mut self, bytes: &[u8]) -> Result<(), Refusal> {
+        self.bounds = Bounds::EMPTY;
+        let (poses, mut bounds) = (self.poses.places(), [0.0; 6]);
         library::check();
-        let (mut poses, mut bounds) = (List::filled(Pose { time: 0.0, matrix: IDENTITY, pad: 0.0 }), [0.0; 6]);
-        let read = unsafe { library::jellyplain_read_file(bytes.as_ptr(), bytes.len(), poses.places(), &mut bounds) };
-        poses.shorten(read.count);
-        answered(read.refusal, MoveFile { poses, bounds: Bounds::from_array(bounds) })
+        let read = unsafe { library::jellyplain_read_file(bytes.as_ptr(), bytes.len(), poses, &mut bounds) };
+        answered(read.refusal, ())?;
+        self.poses.set_len(read.count);
+        self.bounds = Bounds::from_array(bounds);
+        Ok(())
+    }
+
+    /// The file that [`MoveFile::read_from`] reads, by value: it passes over the stack.
+    pub fn read(bytes: &[u8]) -> Result<MoveFile, Refusal> {
+        let mut file = MoveFile::EMPTY;
+        file.read_from(bytes)?;
+        Ok(file)
     }
 }
 
 /// A boom of a day: its chain's cover, and for how many ticks it runs.
 #[derive(Clone, Copy, Debug, PartialEq)]
 pub struct Boom {
+    /// The box that its chain stays in.
     pub cover: Bounds,
+    /// How many ticks it runs, 1 to 1000.
     pub ticks: u32,
 }
 

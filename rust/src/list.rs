@@ -14,21 +14,22 @@ impl<T, const N: usize> List<T, N> {
         List { items, count: count.min(N) }
     }
 
-    /// N times the same, to be written and then shortened.
-    pub(crate) fn filled(item: T) -> Self
+    /// No item; the places behind are filled with this one.
+    pub(crate) const fn empty(filling: T) -> Self
     where
         T: Copy,
     {
-        List { items: [item; N], count: N }
+        List { items: [filling; N], count: 0 }
     }
 
-    /// All places, those behind the items too.
+    /// All places, to be written; the list has no item until [`List::set_len`] says how many are.
     pub(crate) fn places(&mut self) -> &mut [T; N] {
+        self.count = 0;
         &mut self.items
     }
 
-    pub(crate) fn shorten(&mut self, count: usize) {
-        self.count = self.count.min(count);
+    pub(crate) fn set_len(&mut self, count: usize) {
+        self.count = count.min(N);
     }
 }
 
@@ -85,8 +86,13 @@ mod tests {
         assert!(list == List::front([1, 2, 9, 9], 2) && list == [1, 2] && list != [1, 2, 7]);
         assert_eq!((list.len(), format!("{list:?}")), (2, format!("{:?}", [1, 2])));
         assert_eq!(List::front([1], 5).len(), 1);
-        let mut shorter = List::<u8, 4>::filled(3);
-        shorter.shorten(1);
-        assert_eq!(shorter, [3]);
+        let mut written = List::<u8, 4>::empty(3);
+        assert_eq!(written, []);
+        written.places()[1] = 5;
+        assert_eq!(written, []);
+        written.set_len(2);
+        assert_eq!(written, [3, 5]);
+        written.places();
+        assert_eq!(written, []);
     }
 }
