@@ -39,9 +39,15 @@ mod refusal;
 
 use core::mem::MaybeUninit;
 use core::ops::Range;
-pub use library::{BOOMS, BOXES, FILE_POSES, MOVES, WINDOWS};
+pub use library::{BOOMS, BOXES, FILE_POSES, MOVES, POSES, ROWS, TICKS, WINDOWS};
 pub use list::List;
 pub use refusal::Refusal;
+
+/// The greatest depth of a cover.
+pub const DEPTH: u32 = 12;
+
+/// The most ticks that a boom runs.
+pub const RUN_TICKS: u32 = 1000;
 
 /// The bytes that hold the text of any chain and box.
 pub const TEXT: usize = 4161;
@@ -573,7 +579,7 @@ pub fn starting_ticks(booms: &[Boom]) -> Result<List<u32, BOOMS>, Refusal> {
 /// The rows that a boom reaches, by their places in the list that was asked about.
 #[derive(Clone, Copy, Debug, PartialEq, Eq)]
 pub struct ReachedRows {
-    places: [u32; library::ROWS],
+    places: [u32; ROWS],
     count: usize,
 }
 
@@ -605,11 +611,8 @@ impl ReachedRows {
 /// ```
 pub fn reached_rows(cover: &Bounds, rows: &[Bounds]) -> Result<ReachedRows, Refusal> {
     library::check();
-    // One row more than are taken tells that there are too many.
-    let mut boxes = [[0.0; 6]; library::ROWS + 1];
-    let count = rows.len().min(boxes.len());
-    boxes.iter_mut().zip(rows).for_each(|(values, row)| *values = row.to_array());
-    let mut places = [0; library::ROWS];
-    let reached = unsafe { library::jellyplain_reached_rows(&cover.to_array(), boxes.as_ptr(), count, &mut places) };
+    // A row crosses as its six floats.
+    let (asked, mut places) = (rows.as_ptr().cast::<[f32; 6]>(), [0; ROWS]);
+    let reached = unsafe { library::jellyplain_reached_rows(&cover.to_array(), asked, rows.len(), &mut places) };
     answered(reached.refusal, ReachedRows { places, count: reached.count })
 }

@@ -8,11 +8,17 @@ pub type Rows = [[f32; 4]; 45];
 
 pub const EMPTY: Rows = [[0.0; 4]; 45];
 
+/// The most poses that a chain has.
+pub const POSES: usize = 32;
+
 /// The most moves that a chain has.
 pub const MOVES: usize = 31;
 
 /// The most boxes of a set.
 pub const BOXES: usize = 16;
+
+/// The most ticks that are asked about.
+pub const TICKS: usize = 64;
 
 /// The most windows between ticks.
 pub const WINDOWS: usize = 63;
