@@ -43,6 +43,8 @@ fn empty_chains_are_refused() {
     assert_empty(Chain::empty_in(&mut Box::new_uninit()));
 }
 
+type Build = fn(&mut Chain, &[Pose]) -> Result<(), Refusal>;
+
 /// A chain that is built anew answers as one that was built at once, with fewer moves than before too; after a refusal it is empty.
 #[test]
 fn chains_are_built_anew() {
@@ -56,7 +58,6 @@ fn chains_are_built_anew() {
     }
     let mut stretched = short;
     stretched[1].matrix[0][0] = 2.0;
-    type Build = fn(&mut Chain, &[Pose]) -> Result<(), Refusal>;
     let refused: [(Build, &[Pose], Refusal); 4] = [
         (Chain::build, &[], Refusal::Chain),
         (Chain::build, &[at(0.0, 0.0), at(0.0, 0.0)], Refusal::Chain),
