@@ -1,8 +1,9 @@
 use core::fmt;
 
-/// Why a move or a query is refused. The numbers are those that the library and the program `cover` give.
+/// Why a move or a query is refused. The numbers are those that the library and the program `cover` give; a later version may have more, so that a `match` needs an arm for others.
 // made by tools/numbers --write
 #[derive(Clone, Copy, Debug, PartialEq, Eq, Hash)]
+#[non_exhaustive]
 #[repr(u8)]
 pub enum Refusal {
     /// A matrix entry, a time or a pad of a pose isn't finite. What to do: set that pose again.
@@ -52,35 +53,33 @@ pub enum Refusal {
 }
 
 impl Refusal {
-    const ALL: [Refusal; 22] = {
-        use Refusal::*;
-        [
-            PoseNotFinite,
-            BottomRow,
-            Times,
-            ZeroPivot,
-            NotFinite,
-            Query,
-            Corners,
-            Depth,
-            NinthZero,
-            SquaredLength,
-            File,
-            Chain,
-            TimeList,
-            Set,
-            Room,
-            Pad,
-            NotRigid,
-            Determinant,
-            Place,
-            Mismatch,
-            Ticks,
-            Day,
-        ]
-    };
+    const ALL: [Refusal; 22] = [
+        Refusal::PoseNotFinite,
+        Refusal::BottomRow,
+        Refusal::Times,
+        Refusal::ZeroPivot,
+        Refusal::NotFinite,
+        Refusal::Query,
+        Refusal::Corners,
+        Refusal::Depth,
+        Refusal::NinthZero,
+        Refusal::SquaredLength,
+        Refusal::File,
+        Refusal::Chain,
+        Refusal::TimeList,
+        Refusal::Set,
+        Refusal::Room,
+        Refusal::Pad,
+        Refusal::NotRigid,
+        Refusal::Determinant,
+        Refusal::Place,
+        Refusal::Mismatch,
+        Refusal::Ticks,
+        Refusal::Day,
+    ];
 
     /// What was refused.
+    #[must_use]
     pub fn reason(self) -> &'static str {
         match self {
             Refusal::PoseNotFinite => "a matrix entry, a time or a pad of a pose isn't finite",
@@ -111,11 +110,14 @@ impl Refusal {
 // end of what tools/numbers makes
 
 impl Refusal {
+    /// Its number, as C has it.
+    #[must_use]
     pub fn number(self) -> u8 {
         self as u8
     }
 
     /// The refusal of a number, or none for 0 and for a number that is given nowhere.
+    #[must_use]
     pub fn from_number(number: u8) -> Option<Refusal> {
         Refusal::ALL.into_iter().find(|refusal| refusal.number() == number)
     }
