@@ -171,6 +171,15 @@ if here cargo; then
     (cd rust && cargo test --quiet --offline --locked) >"$made/said" 2>&1 || { cat "$made/said"; fail "cargo test in rust/"; }
     tests=$(awk '$1 == "test" && $2 == "result:" { passed += $4 } END { print passed + 0 }' "$made/said")
     [ "$tests" -gt 0 ] || fail "cargo test in rust/ ran no test"
+    unbuilt() { # WORDS ARGUMENT..: where the package can't be built, it says why
+        local words=$1
+        shift
+        (cd rust && cargo check --quiet --offline --locked "$@") >"$made/said" 2>&1 && fail "rust/ is built, where '$words' is expected"
+        grep -Fq -- "$words" "$made/said" || { cat "$made/said"; fail "rust/build.rs doesn't say '$words'"; }
+    }
+    JELLYPLAIN_STATICLIB=target/lib unbuilt "JELLYPLAIN_STATICLIB is 'target/lib', which is relative"
+    JELLYPLAIN_STATICLIB=$made unbuilt "$made/libjellyplain.a is missing: JELLYPLAIN_STATICLIB has to name a folder that has it"
+    unbuilt "for x86-64 Linux alone" --target aarch64-unknown-linux-gnu
     (cd rust/without_std && quiet cargo build --quiet --release --offline --locked && "$CARGO_TARGET_DIR/release/without_std") || fail "rust/without_std: the package needs std or an allocator, or answers otherwise"
     passed "the library in Rust, $tests tests and a program without std: as expected"
 else
