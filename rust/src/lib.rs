@@ -1,5 +1,5 @@
 //! A move by two poses, or a chain of up to 32: where a point of it stands at a time, and which box holds a box of it at every time. Safe functions over the library jellyplain, whose contracts are proved
-//! (`crates/api`); this package itself is not. It needs `make`, run once in the repository's root, or an installed library that `JELLYPLAIN_STATICLIB` names.
+//! (`crates/api`); this package itself is not. It needs `make`, run once in the repository's root, or an installed library, whose folder `JELLYPLAIN_STATICLIB` names by its whole path; and x86-64 Linux.
 //!
 //! A move is built once and asked many times:
 //!
@@ -47,6 +47,11 @@
 #[cfg(test)]
 extern crate std;
 
+/// The program of README.md, run as a documentation test.
+#[cfg(doctest)]
+#[doc = include_str!("../README.md")]
+struct Readme;
+
 mod library;
 mod list;
 mod refusal;
@@ -77,11 +82,13 @@ const fn part(decimal: &str) -> u32 {
 }
 
 /// The version of the library that is linked.
+#[must_use]
 pub fn version() -> u32 {
     unsafe { library::jellyplain_version() }
 }
 
 /// Whether the library that is linked fits this package: the same major version, and the same layout of poses and moves. To be asked at a program's start where a panic later is not wanted.
+#[must_use]
 pub fn compatible() -> bool {
     library::fits(unsafe { library::jellyplain_layout() }, version())
 }
@@ -119,6 +126,7 @@ impl Bounds {
     pub const EMPTY: Bounds = Bounds { p_min: [f32::MAX; 3], p_max: [f32::MIN; 3] };
 
     /// Whether a point is inside on all three axes, the faces included.
+    #[must_use]
     pub fn contains(&self, p: [f32; 3]) -> bool {
         (0..3).all(|i| self.p_min[i] <= p[i] && p[i] <= self.p_max[i])
     }
@@ -212,10 +220,10 @@ impl Move {
 
     /// The transform at a time. Refused with [`Refusal::Query`], [`Refusal::ZeroPivot`] and [`Refusal::NotFinite`].
     pub fn interpolate(&self, time: f32) -> Result<Transform, Refusal> {
-        let mut halves = [[0.0; 4]; 8];
+        let mut halves = [[[0.0; 4]; 4]; 2];
         let number = unsafe { library::jellyplain_interpolate(&self.rows, time, &mut halves) };
-        let [a, b, c, d, e, f, g, h] = halves;
-        answered(number, Transform { matrix: [a, b, c, d], inverse: [e, f, g, h] })
+        let [matrix, inverse] = halves;
+        answered(number, Transform { matrix, inverse })
     }
 
     /// pbrt's motion box of a point: where the two poses take it, and where it is at the times that the zero search found. It is no cover.
@@ -388,6 +396,7 @@ impl Chain {
     }
 
     /// The moves, one fewer than the poses: the one at place i goes from pose i to the next.
+    #[must_use]
     pub fn moves(&self) -> impl ExactSizeIterator<Item = Move> + '_ {
         self.moves.iter().map(|rows| Move { rows: *rows })
     }
@@ -599,11 +608,13 @@ pub struct ReachedRows {
 
 impl ReachedRows {
     /// The places of the named rows, counted from 0 and rising.
+    #[must_use]
     pub fn places(&self) -> &[u32] {
         &self.places[..self.count]
     }
 
     /// Whether the row at a place is named.
+    #[must_use]
     pub fn contains(&self, place: usize) -> bool {
         u32::try_from(place).is_ok_and(|place| self.places().binary_search(&place).is_ok())
     }

@@ -1,7 +1,7 @@
 //! The functions of the archive libjellyplain.a, as crates/api/src/lib.rt exports them and c/jellyplain.h declares them. A reference to an array crosses as a thin pointer, so that
 //! no length can be wrong, and a slice as a pointer and its length; references to be written are borrowed apart from all others.
 
-use crate::Pose;
+use crate::{Matrix, Pose};
 
 /// A built move as its caller keeps it. What stands in it is the library's own business.
 pub type Rows = [[f32; 4]; 45];
@@ -77,7 +77,7 @@ extern "C" {
     pub fn jellyplain_build(rigid: bool, start: &Pose, end: &Pose, motion: &mut Rows) -> u8;
     pub fn jellyplain_point(motion: &Rows, time: f32, p: &[f32; 3], moved: &mut [f32; 3]) -> u8;
     pub fn jellyplain_pad(motion: &Rows, time: f32, pad: &mut [f32; 1]) -> u8;
-    pub fn jellyplain_interpolate(motion: &Rows, time: f32, transform: &mut [[f32; 4]; 8]) -> u8;
+    pub fn jellyplain_interpolate(motion: &Rows, time: f32, transform: &mut [Matrix; 2]) -> u8;
     pub fn jellyplain_bound_point_motion(motion: &Rows, p: &[f32; 3], out: &mut [f32; 6], examined: &mut [u32; 3]) -> u8;
     pub fn jellyplain_motion_bounds(motion: &Rows, b: &[f32; 6], out: &mut [f32; 6], examined: &mut [u32; 3]) -> u8;
     pub fn jellyplain_cover(motion: &Rows, b: &[f32; 6], depth: u32, out: &mut [f32; 6]) -> u8;
@@ -182,11 +182,11 @@ mod tests {
         assert_eq!(unsafe { jellyplain_build(true, &end, &start, &mut kept) }, 3);
         assert_eq!(kept, rows);
 
-        let (origin, mut three, mut six, mut eight, mut counts) = ([0.0; 3], [7.0; 3], [7.0; 6], [[7.0; 4]; 8], [7; 3]);
+        let (origin, mut three, mut six, mut two, mut counts) = ([0.0; 3], [7.0; 3], [7.0; 6], [[[7.0; 4]; 4]; 2], [7; 3]);
         assert_eq!(unsafe { jellyplain_point(&rows, f32::NAN, &origin, &mut three) }, 6);
         assert_eq!(three, [7.0; 3]);
-        assert_eq!(unsafe { jellyplain_interpolate(&rows, f32::NAN, &mut eight) }, 6);
-        assert_eq!(eight, [[7.0; 4]; 8]);
+        assert_eq!(unsafe { jellyplain_interpolate(&rows, f32::NAN, &mut two) }, 6);
+        assert_eq!(two, [[[7.0; 4]; 4]; 2]);
         assert_eq!(unsafe { jellyplain_bound_point_motion(&rows, &[f32::INFINITY, 0.0, 0.0], &mut six, &mut counts) }, 6);
         assert_eq!(unsafe { jellyplain_motion_bounds(&rows, &[1.0, 0.0, 0.0, 0.0, 0.0, 0.0], &mut six, &mut counts) }, 7);
         assert_eq!(unsafe { jellyplain_cover(&rows, &[0.0; 6], 0, &mut six) }, 10);
@@ -355,7 +355,7 @@ mod tests {
         (two[0], two[1]) = (1, 3);
         assert_eq!(ask(&unit, &[far, unit, far, [1.0, 1.0, 1.0, 2.0, 2.0, 2.0]]), (Reached { count: 2, refusal: 0 }, two));
         assert_eq!(ask(&unit, &[far; 256]), (Reached { count: 0, refusal: 0 }, [0; ROWS]));
-        assert_eq!(ask(&unit, &[unit; 256]), (Reached { count: 256, refusal: 0 }, std::array::from_fn(|i| i as u32)));
+        assert_eq!(ask(&unit, &[unit; 256]), (Reached { count: 256, refusal: 0 }, std::array::from_fn(|i| u32::try_from(i).unwrap())));
         last = [far; 256];
         last[255] = unit;
         let mut one = [0; ROWS];

@@ -12,6 +12,11 @@ fn quarter_turn() -> Matrix {
     [[0.0, -1.0, 0.0, 2.0], [1.0, 0.0, 0.0, -1.0], [0.0, 0.0, 1.0, 0.5], [0.0, 0.0, 0.0, 1.0]]
 }
 
+/// The float above one that is at least zero; `f32::next_up` is younger than the package's `rust-version`.
+fn next_up(x: f32) -> f32 {
+    f32::from_bits(x.to_bits() + 1)
+}
+
 fn at(time: f32, matrix: Matrix) -> Pose {
     Pose { time, matrix, pad: 0.0 }
 }
@@ -27,9 +32,7 @@ fn each_time_belongs_to_its_move() {
     let chain = Chain::new(&poses).unwrap();
     let moves: Vec<Move> = poses.windows(2).map(|pair| Move::new(&pair[0], &pair[1]).unwrap()).collect();
     assert_eq!(chain.moves().len(), 3);
-    for (place, times) in
-        [(0, [f32::NEG_INFINITY, -1.0, 1.25, 2.0]), (1, [2.0f32.next_up(), 2.25, 2.75, 3.0]), (2, [3.0f32.next_up(), 4.0, 5.0, f32::INFINITY])]
-    {
+    for (place, times) in [(0, [f32::NEG_INFINITY, -1.0, 1.25, 2.0]), (1, [next_up(2.0), 2.25, 2.75, 3.0]), (2, [next_up(3.0), 4.0, 5.0, f32::INFINITY])] {
         for time in times {
             assert_eq!(chain.point(time, p), moves[place].point(time, p));
             assert_eq!(chain.moves().nth(place).unwrap().point(time, p), moves[place].point(time, p));
@@ -201,11 +204,11 @@ fn padded_points_are_inside_the_cover() {
 #[test]
 fn a_pad_between_may_exceed_both() {
     let chain = Chain::new(&padded(&[at(0.0, IDENTITY), at(1.0, translation(1.0))], &[0.1, 0.1])).unwrap();
-    assert_eq!(chain.pad(0.2), Ok(0.1f32.next_up()));
+    assert_eq!(chain.pad(0.2), Ok(next_up(0.1)));
     let origin = Bounds { p_min: [0.0; 3], p_max: [0.0; 3] };
     for depth in 1..=12 {
         let [x, y, z] = chain.point(0.2, [0.0; 3]).unwrap();
-        assert!(chain.cover(&origin, depth).unwrap().contains([x, y + 0.1f32.next_up(), z]));
+        assert!(chain.cover(&origin, depth).unwrap().contains([x, y + next_up(0.1), z]));
     }
 }
 
@@ -269,7 +272,7 @@ fn refused_rigid_chains() {
     assert_eq!(refused(&[stretched(-3e38, 2.0), at(3e38, IDENTITY)]), Some(Refusal::Times));
     assert_eq!(refused(&[stretched(0.0, 2.0), at(0.0, IDENTITY)]), Some(Refusal::Chain));
     let sheared = |x: f32| at(1.0, [[1.0, x, 0.0, 0.0], IDENTITY[1], IDENTITY[2], IDENTITY[3]]);
-    assert_eq!((refused(&[at(0.0, IDENTITY), sheared(0.001)]), refused(&[at(0.0, IDENTITY), sheared(0.001f32.next_up())])), (None, Some(Refusal::NotRigid)));
+    assert_eq!((refused(&[at(0.0, IDENTITY), sheared(0.001)]), refused(&[at(0.0, IDENTITY), sheared(next_up(0.001))])), (None, Some(Refusal::NotRigid)));
     assert_eq!(Move::rigid(&stretched(1.0, -1.0), &at(1.0, IDENTITY)).err(), Some(Refusal::Determinant));
 }
 
@@ -318,7 +321,7 @@ fn joins() {
         assert_eq!(joined.moves().len(), last);
         assert_eq!(joined.write(&b, &mut [0; TEXT]), whole.write(&b, &mut [0; TEXT]));
         let shared = place as f32;
-        for time in [f32::NEG_INFINITY, 0.5, shared, shared.next_up(), f32::INFINITY] {
+        for time in [f32::NEG_INFINITY, 0.5, shared, next_up(shared), f32::INFINITY] {
             let own = if time <= shared { &first } else { &second };
             assert_eq!((joined.point(time, [1.0; 3]), joined.pad(time)), (own.point(time, [1.0; 3]), own.pad(time)));
         }
@@ -327,7 +330,7 @@ fn joins() {
     let refused = |first: &Chain, second: &Chain| first.join(second).err();
     let first = chain(&poses[..3]);
     assert_eq!(refused(&first, &first), Some(Refusal::Mismatch));
-    let changes: [fn(&mut Pose); 4] = [|p| p.time = p.time.next_up(), |p| p.pad = p.pad.next_up(), |p| p.matrix[1][0] = -0.0, |p| p.matrix[3][0] = -0.0];
+    let changes: [fn(&mut Pose); 4] = [|p| p.time = next_up(p.time), |p| p.pad = next_up(p.pad), |p| p.matrix[1][0] = -0.0, |p| p.matrix[3][0] = -0.0];
     for change in changes {
         let mut other = poses[2..5].to_vec();
         change(&mut other[0]);
@@ -346,7 +349,9 @@ fn joins() {
 fn refused_runs() {
     let changed = |changes: &[(usize, Pose)]| {
         let mut chain = poses().to_vec();
-        changes.iter().for_each(|(place, pose)| chain[*place] = *pose);
+        for (place, pose) in changes {
+            chain[*place] = *pose;
+        }
         chain
     };
     let stretched = |time: f32, x: f32| at(time, [[x, 0.0, 0.0, 0.0], IDENTITY[1], IDENTITY[2], IDENTITY[3]]);
@@ -391,7 +396,7 @@ fn windows() {
     let mut resting = poses;
     (resting[1].pad, resting[2].pad) = (2.0, 0.5);
     let resting = Chain::new(&resting).unwrap();
-    let (at_end, after) = (resting.window_cover(&b, 3, 3.0, 3.5).unwrap(), resting.window_cover(&b, 3, 3.0f32.next_up(), 3.5).unwrap());
+    let (at_end, after) = (resting.window_cover(&b, 3, 3.0, 3.5).unwrap(), resting.window_cover(&b, 3, next_up(3.0), 3.5).unwrap());
     assert!(at_end.p_min[2] < after.p_min[2]);
     let nan = Bounds { p_min: [f32::NAN; 3], ..b };
     let crossed = Bounds { p_min: [2.0; 3], ..b };

@@ -17,7 +17,7 @@ fn booms_that_meet_wait_for_each_other() {
 /// No two that run meet, and each starts in time.
 #[test]
 fn what_is_promised() {
-    let booms: Vec<Boom> = (0..8).map(|i| boom((i * 3 % 8) as f32, (i * 3 % 8 + 2) as f32, 1 + 7 * i as u32 % 10)).collect();
+    let booms: Vec<Boom> = (0..8u32).map(|i| boom((i * 3 % 8) as f32, (i * 3 % 8 + 2) as f32, 1 + 7 * i % 10)).collect();
     let starts = starting_ticks(&booms).unwrap();
     let all: u32 = booms.iter().map(|b| b.ticks).sum();
     for (b, start) in booms.iter().zip(&starts) {

@@ -12,7 +12,7 @@ const NAN: Bounds = Bounds { p_min: [f32::NAN; 3], p_max: [1.0; 3] };
 #[test]
 fn rows_that_touch_are_named() {
     let cover = row(0.0, 2.0);
-    let rows = [row(-1.0, -0.0), row(2.0f32.next_up(), 3.0), row(0.5, 0.75), row(2.0, 2.0), row(-2.0, -f32::from_bits(1)), row(-1.0, 3.0)];
+    let rows = [row(-1.0, -0.0), row(f32::from_bits(2.0f32.to_bits() + 1), 3.0), row(0.5, 0.75), row(2.0, 2.0), row(-2.0, -f32::from_bits(1)), row(-1.0, 3.0)];
     let reached = reached_rows(&cover, &rows).unwrap();
     assert_eq!(reached.places(), [0, 2, 3, 5]);
     for (place, row) in rows.iter().enumerate() {

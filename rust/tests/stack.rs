@@ -134,7 +134,7 @@ fn depth(call: usize) -> usize {
     let (mut returned, mut overflowed) = (0, STACK / STEP);
     assert!(returns(call, 0));
     while overflowed - returned > 1 {
-        let middle = returned.midpoint(overflowed);
+        let middle = (returned + overflowed) / 2;
         *(if returns(call, middle * STEP) { &mut returned } else { &mut overflowed }) = middle;
     }
     returned

@@ -34,8 +34,9 @@ fn as_expected((file, chain): &mut (MoveFile, Chain)) -> bool {
 
 #[no_mangle]
 pub extern "C" fn main() -> i32 {
+    let places = &raw mut PLACES;
     // SAFETY: this thread is the only one, and the reference the only one to the places.
-    if jellyplain::compatible() && as_expected(unsafe { &mut *(&raw mut PLACES) }) {
+    if jellyplain::compatible() && as_expected(unsafe { &mut *places }) {
         0
     } else {
         1
