@@ -6,7 +6,7 @@
 # switch; every function, called from C and from C++,
 # with either library (c/tests/calls.c); what is asked of the thread (c/tests/thread.c); the stack (c/tests/stack.c, tools/stack); an installed library, found by pkg-config, and taken away again,
 # with the program of docs/for-engineers.md;
-# the Rust package's tests, and a program without std. What needs a command that isn't here is skipped, and said to be.
+# the Rust package's tests, optimized and not, its documentation and clippy, and a program without std. What needs a command that isn't here is skipped, and said to be.
 # Exit status 1 where something is otherwise than it has to be, 2 where the library isn't there or isn't built. Nothing is written but below target/ and to a temporary folder.
 set -u
 cd "$(dirname "$0")/.." || exit 2
@@ -168,9 +168,20 @@ passed "the library installed, linked by c/example.c and taken away again: as ex
 # ---- Rust
 if here cargo; then
     export CARGO_TARGET_DIR=$PWD/target/cargo JELLYPLAIN_STATICLIB=$library
-    (cd rust && cargo test --quiet --offline --locked) >"$made/said" 2>&1 || { cat "$made/said"; fail "cargo test in rust/"; }
-    tests=$(awk '$1 == "test" && $2 == "result:" { passed += $4 } END { print passed + 0 }' "$made/said")
-    [ "$tests" -gt 0 ] || fail "cargo test in rust/ ran no test"
+    tests=0
+    for profile in dev release; do
+        (cd rust && cargo test --quiet --offline --locked --profile $profile) >"$made/said" 2>&1 || { cat "$made/said"; fail "cargo test --profile $profile in rust/"; }
+        ran=$(awk '$1 == "test" && $2 == "result:" { passed += $4 } END { print passed + 0 }' "$made/said")
+        [ "$ran" -gt 0 ] || fail "cargo test --profile $profile in rust/ ran no test"
+        tests=$((tests + ran))
+    done
+    (cd rust && RUSTDOCFLAGS="-D warnings" quiet cargo doc --quiet --offline --locked --no-deps) || fail "cargo doc in rust/"
+    if cargo clippy --version >"$made/said" 2>&1; then
+        (cd rust && quiet cargo clippy --quiet --offline --locked --all-targets -- -D warnings) || fail "cargo clippy in rust/"
+        (cd rust/without_std && quiet cargo clippy --quiet --offline --locked --release -- -D warnings) || fail "cargo clippy in rust/without_std/"
+    else
+        skipped "clippy on the Rust package" "cargo clippy"
+    fi
     unbuilt() { # WORDS ARGUMENT..: where the package can't be built, it says why
         local words=$1
         shift
