@@ -2,3 +2,4 @@
 pub mod Accepted
 pub mod Numbers
 pub mod Union
+pub mod Zeros

@@ -1,3 +1,4 @@
 pub mod Query
+pub mod Zeros
 pub mod Same
 pub mod means

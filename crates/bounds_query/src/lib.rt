@@ -1,8 +1,11 @@
-// Queries about a box: what is asked of the box and of the depth of a cover, and unions of two answers, of which the first refusal stands.
+// Queries about a box: what is asked of the box and of the depth of a cover, unions of two answers, of which the first refusal stands, and the sign of an
+// answer's zeros.
 use bounds3::Bounds3f;
+use bounds3::Point3f;
 use transform::BoundsAnswer;
 ghost use mathlib.Core.Path.{_≡_};
 ghost use Rattle.bounds_query.specs.Query.{Bounds3f·isOrdered, Bounds3f·refusal, coverRefusal, BoundsAnswer·unionBounds};
+ghost use Rattle.bounds_query.specs.Zeros.{Point3f·positiveZeros, BoundsAnswer·positiveZeros};
 
 const MAX_DEPTH: u32 = 12;
 
@@ -53,6 +56,31 @@ pub fn union_bounds(r: BoundsAnswer, s: BoundsAnswer) -> BoundsAnswer
             BoundsAnswer::Bounds(b) => BoundsAnswer::Bounds(a.union_bounds(b)),
             BoundsAnswer::Refused(n) => BoundsAnswer::Refused(n),
         },
+        BoundsAnswer::Refused(n) => BoundsAnswer::Refused(n),
+    }
+}
+
+// A corner with its zeros +0.
+fn corner_zeros(p: Point3f) -> Point3f
+    ensures value { λ r. ⌜ r ≡ Point3f·positiveZeros p ⌝ }
+{
+    Point3f {
+        x: p.x + 0.0,
+        y: p.y + 0.0,
+        z: p.z + 0.0,
+    }
+}
+
+// An answer whose box has its zeros +0; a refusal stands. Accuracy: exact.
+pub fn positive_zeros(a: BoundsAnswer) -> BoundsAnswer
+    ensures value { λ r. ⌜ r ≡ BoundsAnswer·positiveZeros a ⌝ }
+{
+    match a {
+        BoundsAnswer::Bounds(b) => {
+            let p_min = corner_zeros(b.p_min);
+            let p_max = corner_zeros(b.p_max);
+            BoundsAnswer::Bounds(Bounds3f { p_min, p_max })
+        }
         BoundsAnswer::Refused(n) => BoundsAnswer::Refused(n),
     }
 }

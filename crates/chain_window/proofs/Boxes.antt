@@ -1,5 +1,6 @@
--- The boxes of a window. Each has grown by a pad, so that none that is answered has a NaN corner (`boxes-self`); those that
--- are refused are so with 5 or 10 (`boxes-numbered`). A move's share of dt is a part of the unit interval (`move-part`).
+-- The boxes of a window. Each has grown by a pad, so that the corners of those that are answered are finite values of binary32
+-- (`boxes-valued`), and so are their union's (`window-valued`); those that are refused are so with 5 or 10 (`boxes-numbered`).
+-- A move's share of dt is a part of the unit interval (`move-part`).
 use Prim.Native.Nat.{ℕ}
 use mathlib.Core.Logic.{inl, inr}
 use mathlib.Core.Path.{_≡_, refl, sym, subst}
@@ -9,12 +10,10 @@ use native.Mathlib.Omega.{arith}
 use borrow.Author.Tests.{eqb-false}
 use lib.Dec.{T, eqb}
 use lib.Ieee.{Float, lt}
-use lib.Ieee.Scale.{finite}
 use Rattle.rounding.specs.Order.{_≼_}
 use Rattle.float32.specs.MinMax.{maxNum}
 use Rattle.bounds3.specs.declared.Bounds3f.{Bounds3f}
-use Rattle.bounds3.specs.Inside.{Subset}
-use Rattle.bounds3.proofs.Union.{finite-self}
+use Rattle.bounds3.specs.Bounds3f.{Bounds3f·default}
 use Rattle.transform.specs.declared.Transform.{Transform}
 use Rattle.transform.specs.declared.BoundsAnswer.{BoundsAnswer}
 use Rattle.transform.specs.declared.BoundsAnswer.the-variants.{Bounds, Refused}
@@ -33,10 +32,12 @@ use Rattle.motion_point.specs.TransformPoint.{AnimatedTransform·constants}
 use Rattle.motion_pad.specs.Pad.{Pad·enclose, Pad·stored}
 use Rattle.motion_pad.specs.Grow.{BoundsAnswer·grow}
 use Rattle.motion_pad.proofs.Pad.{PadNumber, pad-number as pad-enclose-number}
-use Rattle.motion_pad.proofs.Box.{grow-accepted, grow-cases}
+use Rattle.motion_pad.proofs.Box.{grow-cases}
 use Rattle.motion_cover.specs.Cover.{BoundsAnswer·fromEnclosure, Transform·encloseBounds, Transform·enclosePadded, AnimatedTransform·encloseBounds}
 use Rattle.motion_cover.specs.Answer.{BoundsAnswer·Numbered}
+use Rattle.motion_cover.proofs.Zeros.{Valued, grow-valued, union-valued}
 use Rattle.bounds_answers.specs.UnionAll.{Each}
+use Rattle.bounds_answers.proofs.UnionAll.{union-all-keeps}
 use Rattle.motion_chain.specs.Chain.{Chain, Chain·moves}
 use Rattle.motion_chain.specs.Built.{BuiltChain, Contiguous}
 use Rattle.motion_chain.proofs.Built.{built-moves}
@@ -46,8 +47,9 @@ use Rattle.dt_share.proofs.Pieces.{UnitPart}
 use Rattle.window_times.specs.declared.Window.{Window}
 use Rattle.window_times.specs.Window.{Window·asksFirst, Window·asksEnd}
 use Rattle.chain_window.specs.Cover.{movesIn, shareIn, staysIn, sliceBoxes, firstPoseBoxes, endPoseBoxes, equalPoseBoxes, boxesFrom, windowBoxes}
-use Rattle.chain_window.proofs.Members.{member-only, boxes-each}
-use Rattle.chain_window.proofs.Parts.{Self}
+use Rattle.chain_window.specs.Cover.{Chain·encloseWindow}
+use Rattle.chain_window.proofs.Members.{member-only, each-member, boxes-each}
+use Rattle.chain_window.proofs.Parts.{default-valued}
 
 -- ---- a move of a chain
 pub record Rising (m : AnimatedTransform) : Type 0 where
@@ -127,18 +129,15 @@ module _ (Q : BoundsAnswer → Type 0)
         | inr j ↦ boxes-each Q (equalPoseBoxes b w) equal-each true (Chain·moves c) r j
       ]
 
--- ---- no NaN corner
--- A face that isn't finite is refused.
-grown-self : (pad : Judged) (j : JudgedVector) → PadNumber (pad .refusal)
-    → SliceNumber (j .refusal) → Self (BoundsAnswer·grow pad (BoundsAnswer·fromEnclosure j))
-grown-self pad j i n = record {
-  self = λ box e.
-      let g = grow-accepted pad (BoundsAnswer·fromEnclosure j) box e in
-      subst (λ (x : Bounds3f). Subset x x) (g .grown) (finite-self (g .finite));
-}
+-- ---- finite values of binary32
+pub boxes-valued : (c : Chain) (b : Bounds3f) (d : ℕ) (w : Window) → (r : BoundsAnswer) → List·Memᴰ r (windowBoxes c b d w) → Valued r
+boxes-valued = window-each Valued (λ pad j i n. grow-valued pad (BoundsAnswer·fromEnclosure j))
 
-pub boxes-self : (c : Chain) (b : Bounds3f) (d : ℕ) (w : Window) → (r : BoundsAnswer) → List·Memᴰ r (windowBoxes c b d w) → Self r
-boxes-self = window-each Self grown-self
+pub window-valued : (c : Chain) (b : Bounds3f) (d : ℕ) (w : Window) → Valued (Chain·encloseWindow c b d w)
+unfolding Chain·encloseWindow
+window-valued c b d w =
+    union-all-keeps Valued union-valued (Bounds Bounds3f·default) (windowBoxes c b d w) default-valued
+    (each-member (windowBoxes c b d w) (boxes-valued c b d w))
 
 -- ---- the numbers of a box
 abbrev Numbered : BoundsAnswer → Type 0

@@ -18,15 +18,18 @@ use Rattle.bounds3.specs.declared.Point3f.{Point3f}
 use Rattle.bounds3.specs.declared.Bounds3f.{Bounds3f}
 use Rattle.bounds3.specs.Bounds3f.{Bounds3f·default}
 use Rattle.bounds3.specs.Finite.{Point3f·isFinite, Bounds3f·isFinite}
-use Rattle.bounds3.specs.Inside.{Inside}
+use Rattle.bounds3.specs.Inside.{Inside, Subset}
 use Rattle.bounds3.proofs.Finite.{finite-test}
+use Rattle.bounds3.proofs.Union.{subset-trans}
 use Rattle.transform.specs.declared.PointAnswer.{PointAnswer}
 use Rattle.transform.specs.declared.BoundsAnswer.{BoundsAnswer}
 use Rattle.transform.specs.declared.BoundsAnswer.the-variants.{Bounds, Refused}
 use Rattle.transform.specs.Answer.{BoundsAnswer·bounds}
 use Rattle.bounds_query.specs.Query.{coverRefusal}
+use Rattle.bounds_query.specs.Zeros.{BoundsAnswer·positiveZeros}
 use Rattle.bounds_query.proofs.Accepted.{refusal-accepted}
 use Rattle.bounds_query.proofs.Union.{refused-bounds}
+use Rattle.bounds_query.proofs.Zeros.{zeros-accepted}
 use Rattle.interval.specs.declared.Interval.{Interval}
 use Rattle.unit_interval.specs.Unit.{dt}
 use Rattle.pose_steps.specs.Pose.{Pose·movedPoint}
@@ -43,6 +46,7 @@ use Rattle.motion_pad.specs.Pad.{Pad·at}
 use Rattle.motion_point.proofs.Query.{moved-point-start, moved-point-end, moved-point-between, transform-point-accepted}
 use Rattle.motion_cover.specs.Cover.{AnimatedTransform·encloseBounds}
 use Rattle.motion_cover.proofs.Contains.{Holds, moved-wider, piece-contains, stored-contains, larger-judged, cover-box}
+use Rattle.motion_cover.proofs.Zeros.{zeros-around}
 use Rattle.bounds_answers.specs.UnionAll.{Each}
 use Rattle.motion_chain.specs.Chain.{Chain, Chain·moves, moveFrom, Chain·moveAt, Chain·transformPoint, Chain·padAt}
 use Rattle.motion_chain.specs.Built.{BuiltChain, Contiguous}
@@ -55,8 +59,8 @@ use Rattle.chain_window.specs.Cover.{movesIn, staysIn, sliceBoxes, first
 use Rattle.chain_window.specs.Cover.{endBox, equalBox, boxesFrom, windowBoxes, Chain·encloseWindow, Chain·windowCover}
 use Rattle.chain_window.specs.Theorem.{InWindow, WindowContainsMotion}
 use Rattle.chain_window.proofs.Members.{member-if}
-use Rattle.chain_window.proofs.Parts.{default-self, union-parts}
-use Rattle.chain_window.proofs.Boxes.{Rising, chain-rising, move-part, boxes-self}
+use Rattle.chain_window.proofs.Parts.{default-valued, union-parts}
+use Rattle.chain_window.proofs.Boxes.{Rising, chain-rising, move-part, boxes-valued, window-valued}
 use Rattle.chain_window.proofs.Numbers.{window-numbered}
 
 -- ---- comparisons
@@ -308,10 +312,13 @@ module _ {c : Chain} (built : BuiltChain c) (b : Bounds3f) (fb : T (Bounds3f·is
           }
 
 -- ---- the query
+-- The union as it was worked out lies in its box, whose zeros are +0.
 pub record Accepted (c : Chain) (b : Bounds3f) (d : ℕ) (w : Window) (box : Bounds3f) : Type 0 where
   pub window : Window·refusal w ≡ 0
   pub arguments : coverRefusal b d ≡ 0
-  pub work : Chain·encloseWindow c b d w ≡ Bounds box
+  pub worked : Bounds3f
+  pub work : Chain·encloseWindow c b d w ≡ Bounds worked
+  pub around : Subset worked box
 
 pub window-accepted : (c : Chain) (b : Bounds3f) (d : ℕ) (w : Window) (box : Bounds3f) → Chain·windowCover c b d w ≡ Bounds box → Accepted c b d w box
 unfolding Chain·windowCover
@@ -320,8 +327,12 @@ window-accepted c b d w box = go (eqb n 0) (eqb-true n 0)
     n : ℕ
     n = firstRefusal (Window·refusal w) (coverRefusal b d)
 
-    go : (t : Bool) → (t ≡ true → n ≡ 0) → cond t (Chain·encloseWindow c b d w) (Refused n) ≡ Bounds box → Accepted c b d w box
-    go true f e = let (k, a) = first-zero (Window·refusal w) (coverRefusal b d) (f refl) in record { window = k; arguments = a; work = e }
+    go : (t : Bool) → (t ≡ true → n ≡ 0) → cond t (BoundsAnswer·positiveZeros (Chain·encloseWindow c b d w)) (Refused n) ≡ Bounds box → Accepted c b d w box
+    go true f e =
+        let (k, a) = first-zero (Window·refusal w) (coverRefusal b d) (f refl) in
+        let z = zeros-accepted (Chain·encloseWindow c b d w) box e in
+        let v = window-valued c b d w .values (z .before) (z .worked) in
+        record { window = k; arguments = a; worked = z .before; work = z .worked; around = subst (Subset (z .before)) (z .zeros) (zeros-around v) }
     go false f e = absurd (refused-bounds n box e)
 
 pub window-contains : (c : Chain) (b : Bounds3f) (d : ℕ) (w : Window) → WindowContainsMotion c b w (Chain·windowCover c b d w)
@@ -333,9 +344,9 @@ window-contains c b d w time p built e t i =
     let f = refusal-accepted b B .0 in
     let m = moveFrom (c .first) (c .rest) time in
     let s = some-box built b f d w time t p i in
-    let parts = union-parts (Bounds Bounds3f·default) (windowBoxes c b d w) box default-self (boxes-self c b d w) (a .work) in
+    let parts = union-parts (Bounds Bounds3f·default) (windowBoxes c b d w) (a .worked) default-valued (boxes-valued c b d w) (a .work) in
     let v = parts .1 (s .answer) (s .member) in
     let q = s .holds .holds (v .box) (v .accepted) in
     let finite = finite-test (point-finite (Bounds3f·intervals b) p (inside-encloses b f i)) in
     let same = transform-point-accepted m time p (is-false (isNan time) (number-right (t .from))) (is-true (Point3f·isFinite p) finite) in
-    rw same (moved-wider (v .subset) q)
+    rw same (moved-wider (subset-trans (v .subset) (a .around)) q)

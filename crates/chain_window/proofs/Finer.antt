@@ -2,7 +2,7 @@
 -- and a piece of a deeper cut lies in a piece of the shallower one.
 use Prim.Native.Nat.{ℕ, _+_, _≤_}
 use mathlib.Core.Logic.{inl, inr}
-use mathlib.Core.Path.{_≡_, refl, sym, subst}
+use mathlib.Core.Path.{_≡_, refl, subst, _∙_}
 use mathlib.Core.Bool.{Bool, true, false, cond}
 use mathlib.Core.List.{_++_, map, List·Memᴰ, List·Memᴰ·append-cases, Memᴰ·of-map, Memᴰ·map}
 use lib.Dec.{T}
@@ -12,16 +12,20 @@ use Rattle.rounding.specs.Order.{_≼_}
 use Rattle.rounding.proofs.Order.{lt-≼}
 use Rattle.bounds3.specs.declared.Bounds3f.{Bounds3f}
 use Rattle.bounds3.specs.Bounds3f.{Bounds3f·default}
+use Rattle.bounds3.proofs.Union.{subset-trans}
 use Rattle.transform.specs.declared.BoundsAnswer.{BoundsAnswer}
 use Rattle.transform.specs.declared.BoundsAnswer.the-variants.{Bounds}
 use Rattle.transform.specs.Answer.{BoundsAnswer·bounds}
 use Rattle.bounds_query.specs.Query.{maxDepth, coverRefusal}
+use Rattle.bounds_query.specs.Zeros.{Bounds3f·positiveZeros, BoundsAnswer·positiveZeros}
+use Rattle.bounds_query.proofs.Zeros.{zeros-box}
 use Rattle.interval.specs.declared.Interval.{Interval}
 use Rattle.animated_transform.specs.declared.AnimatedTransform.{AnimatedTransform}
 use Rattle.motion_point.specs.TransformPoint.{AnimatedTransform·constants}
 use Rattle.motion_cover.specs.Cover.{AnimatedTransform·encloseBounds}
 use Rattle.motion_cover.proofs.Contains.{cover-box}
 use Rattle.motion_cover.proofs.Proper.{BoxRefines, box-refines}
+use Rattle.motion_cover.proofs.Zeros.{zeros-within}
 use Rattle.cover_depth.proofs.Finer.{BoxWithin, box-within, piece-isotone, arguments-finer}
 use Rattle.bounds_answers.proofs.UnionAll.{union-all-within}
 use Rattle.motion_chain.specs.Chain.{Chain, Chain·moves}
@@ -34,8 +38,8 @@ use Rattle.chain_window.specs.Cover.{movesIn, shareIn, sliceBoxes, first
 use Rattle.chain_window.specs.Cover.{boxesFrom, windowBoxes, Chain·encloseWindow, Chain·windowCover}
 use Rattle.chain_window.specs.Theorem.{WindowCoverFiner}
 use Rattle.chain_window.proofs.Members.{member-if, member-only, each-member, boxes-along}
-use Rattle.chain_window.proofs.Parts.{default-self, union-parts}
-use Rattle.chain_window.proofs.Boxes.{Rising, chain-rising, move-part, boxes-self}
+use Rattle.chain_window.proofs.Parts.{default-valued, union-parts}
+use Rattle.chain_window.proofs.Boxes.{Rising, chain-rising, move-part, boxes-valued, window-valued}
 use Rattle.chain_window.proofs.Contains.{in-slices, in-first, in-ends, in-equals, window-accepted}
 use Rattle.chain_window.proofs.Numbers.{window-numbered}
 
@@ -82,12 +86,18 @@ window-box-finer {c} built b w d n box rise l e =
     let a = window-accepted c b d w box e in
     let B = cover-box b d (a .arguments) in
     let ok = box-refines b B in
-    let (empty, coarse) = union-parts (Bounds Bounds3f·default) (windowBoxes c b d w) box default-self (boxes-self c b d w) (a .work) in
-    let fine = boxes-finer b ok w rise d n box built coarse in
-    subst (λ (r : BoundsAnswer). BoxWithin r box) (sym (accepted (a .window) (arguments-finer b (d + n) B l)))
-    (union-all-within box (Bounds Bounds3f·default) (windowBoxes c b (d + n) w) empty (each-member (windowBoxes c b (d + n) w) fine))
+    let (empty, coarse) = union-parts (Bounds Bounds3f·default) (windowBoxes c b d w) (a .worked) default-valued (boxes-valued c b d w) (a .work) in
+    let fine = boxes-finer b ok w rise d n (a .worked) built coarse in
+    let f = union-all-within (a .worked) (Bounds Bounds3f·default) (windowBoxes c b (d + n) w) empty (each-member (windowBoxes c b (d + n) w) fine) in
+    let v = window-valued c b (d + n) w .values (f .box) (f .accepted) in
+    record {
+      box = Bounds3f·positiveZeros (f .box);
+      accepted = accepted (a .window) (arguments-finer b (d + n) B l) ∙ zeros-box (f .accepted);
+      subset = subset-trans (zeros-within v) (subset-trans (f .subset) (a .around));
+    }
   where
-    accepted : Window·refusal w ≡ 0 → coverRefusal b (d + n) ≡ 0 → Chain·windowCover c b (d + n) w ≡ Chain·encloseWindow c b (d + n) w
+    accepted : Window·refusal w ≡ 0 → coverRefusal b (d + n) ≡ 0
+        → Chain·windowCover c b (d + n) w ≡ BoundsAnswer·positiveZeros (Chain·encloseWindow c b (d + n) w)
     accepted p q = unfold Chain·windowCover in rw (p, q)
 
 -- Ticks that are not refused rise.

@@ -11,10 +11,12 @@ use Rattle.refusal.specs.First.{firstRefusal}
 use Rattle.refusal.proofs.First.{first-keeps}
 use Rattle.bounds3.specs.declared.Bounds3f.{Bounds3f}
 use Rattle.bounds3.specs.Bounds3f.{Bounds3f·default}
+use Rattle.transform.specs.declared.BoundsAnswer.{BoundsAnswer}
 use Rattle.transform.specs.declared.BoundsAnswer.the-variants.{Bounds, Refused}
 use Rattle.transform.specs.Answer.{OneOf}
 use Rattle.transform.proofs.Answer.{one-of-wider}
 use Rattle.bounds_query.specs.Query.{coverRefusal}
+use Rattle.bounds_query.specs.Zeros.{BoundsAnswer·positiveZeros}
 use Rattle.bounds_query.proofs.Numbers.{arguments-keeps}
 use Rattle.motion_cover.specs.Answer.{BoundsAnswer·Numbered}
 use Rattle.bounds_answers.proofs.UnionAll.{union-all-numbered}
@@ -38,6 +40,11 @@ arguments-number b d w =
     go true = inl refl
     go false = inr (inr (inr (inr (inr (inr (inl refl))))))
 
+zeros-numbered : {ns : List ℕ} (r : BoundsAnswer) → BoundsAnswer·Numbered ns r → BoundsAnswer·Numbered ns (BoundsAnswer·positiveZeros r)
+unfolding BoundsAnswer·positiveZeros
+zeros-numbered (Bounds b) h = record { number = h .number; none = λ _. refl }
+zeros-numbered (Refused n) h = h
+
 pub window-numbered : (c : Chain) (b : Bounds3f) (d : ℕ) (w : Window) → BoundsAnswer·Numbered (0 ∷ 5 ∷ 6 ∷ 7 ∷ 8 ∷ 10 ∷ 21 ∷ []) (Chain·windowCover c b d w)
 unfolding Chain·windowCover
 window-numbered c b d w = go (eqb n 0) (eqb-false n 0)
@@ -45,11 +52,14 @@ window-numbered c b d w = go (eqb n 0) (eqb-false n 0)
     n : ℕ
     n = firstRefusal (Window·refusal w) (coverRefusal b d)
 
-    work : BoundsAnswer·Numbered (0 ∷ 5 ∷ 10 ∷ []) (Chain·encloseWindow c b d w)
-    work =
+    union : BoundsAnswer·Numbered (0 ∷ 5 ∷ 10 ∷ []) (Chain·encloseWindow c b d w)
+    union =
         unfold Chain·encloseWindow in union-all-numbered (Bounds Bounds3f·default) (windowBoxes c b d w) (record { number = inl refl; none = λ _. refl })
         (each-member (windowBoxes c b d w) (boxes-numbered c b d w))
 
-    go : (t : Bool) → (t ≡ false → n ≡ 0 → ⊥) → BoundsAnswer·Numbered numbers (cond t (Chain·encloseWindow c b d w) (Refused n))
+    work : BoundsAnswer·Numbered (0 ∷ 5 ∷ 10 ∷ []) (BoundsAnswer·positiveZeros (Chain·encloseWindow c b d w))
+    work = zeros-numbered (Chain·encloseWindow c b d w) union
+
+    go : (t : Bool) → (t ≡ false → n ≡ 0 → ⊥) → BoundsAnswer·Numbered numbers (cond t (BoundsAnswer·positiveZeros (Chain·encloseWindow c b d w)) (Refused n))
     go true f = record { number = one-of-wider _ (0 ∷ 5 ∷ 10 ∷ []) numbers tt (work .number); none = work .none }
     go false f = record { number = arguments-number b d w; none = λ e. absurd (f refl e) }

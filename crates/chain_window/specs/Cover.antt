@@ -1,6 +1,6 @@
 -- The cover of one window of a chain's times. Definitions only. Quotations are of document 02, "Two booms over one bay", unless another document is named.
 -- The boxes stand in one list in the order in which they are worked: slices of all moves, then poses, then moves with equal poses.
--- The first refusal in it stands.
+-- The first refusal in it stands. The zeros of a window's cover are +0, as a cover's are.
 use Prim.Native.Nat.{ℕ}
 use mathlib.Core.Bool.{Bool, true, false, not, _&&_, cond}
 use mathlib.Core.List.{List, [], _∷_, _++_, map}
@@ -12,6 +12,7 @@ use Rattle.bounds3.specs.Bounds3f.{Bounds3f·default}
 use Rattle.transform.specs.declared.BoundsAnswer.{BoundsAnswer}
 use Rattle.transform.specs.declared.BoundsAnswer.the-variants.{Bounds, Refused}
 use Rattle.bounds_query.specs.Query.{coverRefusal}
+use Rattle.bounds_query.specs.Zeros.{BoundsAnswer·positiveZeros}
 use Rattle.bounds_answers.specs.UnionAll.{BoundsAnswer·unionAll}
 use Rattle.animated_transform.specs.declared.AnimatedTransform.{AnimatedTransform}
 use Rattle.motion_point.specs.TransformPoint.{AnimatedTransform·constants}
@@ -89,8 +90,9 @@ windowBoxes c b d w =
 unfoldable pub Chain·encloseWindow : Chain → Bounds3f → ℕ → Window → BoundsAnswer
 Chain·encloseWindow c b d w = BoundsAnswer·unionAll (Bounds Bounds3f·default) (windowBoxes c b d w)
 
--- "work out a cover of that window alone": 21 of the ticks, 6 and 7 of the box, 8 of the depth, then 5 or 10, whichever is met first
+-- "work out a cover of that window alone": 21 of the ticks, 6 and 7 of the box, 8 of the depth, then 5 or 10, whichever is met first;
+-- document 01: "a box's zero may have either sign", and a window's cover has +0
 unfoldable pub Chain·windowCover : Chain → Bounds3f → ℕ → Window → BoundsAnswer
 Chain·windowCover c b d w =
     let n = firstRefusal (Window·refusal w) (coverRefusal b d) in
-    cond (eqb n 0) (Chain·encloseWindow c b d w) (Refused n)
+    cond (eqb n 0) (BoundsAnswer·positiveZeros (Chain·encloseWindow c b d w)) (Refused n)

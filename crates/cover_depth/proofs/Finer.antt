@@ -2,7 +2,7 @@
 -- whole's (`piece-isotone`), grown by no greater pad; so it is of a slice of a greater depth and the slice that it was cut from (`piece-finer`).
 -- What lies in the coarse cover, part by part, has its union in it.
 use Prim.Native.Nat.{ℕ, zero, suc, _+_, _/_, _^_, _≤_, _<_}
-use mathlib.Core.Path.{_≡_, refl, sym, ap, subst}
+use mathlib.Core.Path.{_≡_, refl, sym, ap, subst, _∙_}
 use mathlib.Core.Bool.{Bool, true, false}
 use native.Mathlib.Omega.{arith}
 use lib.Dec.{eqb}
@@ -15,7 +15,9 @@ use Rattle.transform.specs.declared.BoundsAnswer.{BoundsAnswer}
 use Rattle.transform.specs.declared.BoundsAnswer.the-variants.{Bounds}
 use Rattle.transform.specs.Answer.{BoundsAnswer·refusal, BoundsAnswer·bounds}
 use Rattle.bounds_query.specs.Query.{Bounds3f·refusal, BoundsAnswer·unionBounds, maxDepth, coverRefusal}
+use Rattle.bounds_query.specs.Zeros.{Bounds3f·positiveZeros, BoundsAnswer·positiveZeros}
 use Rattle.bounds_query.proofs.Union.{union-accepted}
+use Rattle.bounds_query.proofs.Zeros.{zeros-box}
 use Rattle.interval.specs.declared.Interval.{Interval}
 use Rattle.interval.specs.Contains as interval
 use Rattle.unit_interval.specs.Unit.{unitInterval, slice}
@@ -38,6 +40,7 @@ use Rattle.motion_cover.specs.Cover.{unionSlices, AnimatedTransform·encloseMot
 use Rattle.motion_cover.specs.Answer.{Proper}
 use Rattle.motion_cover.proofs.Contains.{from-enclosure-accepted, motion-stored, motion-slices, cover-accepted, cover-box}
 use Rattle.motion_cover.proofs.NonZero.{cover-answered}
+use Rattle.motion_cover.proofs.Zeros.{motion-valued, zeros-within}
 use Rattle.motion_cover.proofs.Proper.{box-order, BoxRefines, box-refines, piece-proper, ends-proper, slices-proper, subset-self, motion-proper}
 use Rattle.cover_depth.specs.Finer.{Within, CoverFiner}
 
@@ -179,10 +182,15 @@ pub cover-box-finer : {m : AnimatedTransform} → Built m → (b : Bounds3f) (d 
 cover-box-finer {m} built b d n c l e =
     let a = cover-accepted m b d c e in
     let x = cover-box b d (a .arguments) in
-    subst (λ (r : BoundsAnswer). BoxWithin r c) (sym (accepted-cover (d + n) (arguments-finer b (d + n) x l)))
-    (motion-finer built b (box-refines b x) d n c (a .motion))
+    let w = motion-finer built b (box-refines b x) d n (a .worked) (a .motion) in
+    let v = motion-valued m b (d + n) .values (w .box) (w .accepted) in
+    record {
+      box = Bounds3f·positiveZeros (w .box);
+      accepted = accepted-cover (d + n) (arguments-finer b (d + n) x l) ∙ zeros-box (w .accepted);
+      subset = subset-trans (zeros-within v) (subset-trans (w .subset) (a .around));
+    }
   where
-    accepted-cover : (k : ℕ) → coverRefusal b k ≡ 0 → AnimatedTransform·cover m b k ≡ AnimatedTransform·encloseMotion m b k
+    accepted-cover : (k : ℕ) → coverRefusal b k ≡ 0 → AnimatedTransform·cover m b k ≡ BoundsAnswer·positiveZeros (AnimatedTransform·encloseMotion m b k)
     accepted-cover k z = unfold AnimatedTransform·cover in rw z
 
 pub cover-finer : (m : AnimatedTransform) (b : Bounds3f) → CoverFiner m b

@@ -40,8 +40,8 @@ fn motion_enclosure(m: AnimatedTransform, b: Bounds3f, d: u32) -> BoundsAnswer
     }
 }
 
-// The cover: a box that holds the box b wherever the move takes it. Refused with 6, 7 or 8 before it is computed, and then with 5 or 10, whichever is met
-// first. Accuracy: encloses.
+// The cover: a box that holds the box b wherever the move takes it; its zeros are +0. Refused with 6, 7 or 8 before it is computed, and then with 5 or 10,
+// whichever is met first. Accuracy: encloses.
 pub fn cover(m: AnimatedTransform, b: Bounds3f, depth: u32) -> BoundsAnswer
     ensures value { λ r. ⌜ r ≡ AnimatedTransform·cover m b depth ⌝ }
     ensures contains_motion { λ r. ⌜ CoverContainsMotion m b r ⌝ }
@@ -50,5 +50,5 @@ pub fn cover(m: AnimatedTransform, b: Bounds3f, depth: u32) -> BoundsAnswer
     if n != 0 {
         return BoundsAnswer::Refused(n);
     }
-    motion_enclosure(m, b, depth)
+    bounds_query::positive_zeros(motion_enclosure(m, b, depth))
 }

@@ -34,6 +34,8 @@ use Rattle.transform.specs.TransformPoint.{Transform·transformPoint}
 use Rattle.transform.proofs.Judged.{judged-moved}
 use Rattle.bounds_query.specs.Query.{Bounds3f·refusal, BoundsAnswer·unionBounds, maxDepth, coverRefusal}
 use Rattle.bounds_query.proofs.Accepted.{refusal-accepted}
+use Rattle.bounds_query.specs.Zeros.{Bounds3f·positiveZeros, BoundsAnswer·positiveZeros}
+use Rattle.bounds_query.proofs.Zeros.{zeros-accepted}
 use Rattle.bounds_query.proofs.Union.{refused-bounds, bounds-same, union-accepted}
 use Rattle.unit_interval.specs.Unit.{unitInterval, slice, dt}
 use Rattle.unit_interval.proofs.Slices.{slice-unit, slice-covers}
@@ -66,6 +68,7 @@ use Rattle.motion_pad.specs.Grow.{Point3f·less, Point3f·plus, BoundsAnswer·g
 use Rattle.motion_pad.proofs.Pad.{pad-within}
 use Rattle.motion_pad.proofs.Box.{Binary32, PadWithin, grow-padded, grow-accepted}
 use Rattle.motion_cover.proofs.Values.{pose-values, stored-values}
+use Rattle.motion_cover.proofs.Zeros.{motion-valued, zeros-within, zeros-around}
 use Rattle.motion_cover.proofs.NonZero.{cover-answered}
 
 -- Where the answer r is a box, that box holds the point, by itself and less and plus the pad.
@@ -303,17 +306,32 @@ module _ {m : AnimatedTransform} (built : Built m) (b : Bounds3f) (p : Point3f) 
           (moved-point-between m (AnimatedTransform·constants m) time p (rw (e, f)) g) (during-contains time n f g)
 
 -- ---- the query
+-- The box as it was worked out, and with its zeros +0: each lies in the other.
 pub record Accepted (m : AnimatedTransform) (b : Bounds3f) (d : ℕ) (box : Bounds3f) : Type 0 where
   pub arguments : coverRefusal b d ≡ 0
-  pub motion : AnimatedTransform·encloseMotion m b d ≡ Bounds box
+  pub worked : Bounds3f
+  pub motion : AnimatedTransform·encloseMotion m b d ≡ Bounds worked
+  pub zeros : Bounds3f·positiveZeros worked ≡ box
+  pub within : Subset3 box worked
+  pub around : Subset3 worked box
 
 pub cover-accepted : (m : AnimatedTransform) (b : Bounds3f) (d : ℕ) (box : Bounds3f) → AnimatedTransform·cover m b d ≡ Bounds box → Accepted m b d box
 unfolding AnimatedTransform·cover
 cover-accepted m b d box = go (eqb (coverRefusal b d) 0) (eqb-true (coverRefusal b d) 0)
   where
     go : (c : Bool) → (c ≡ true → coverRefusal b d ≡ 0)
-        → cond c (AnimatedTransform·encloseMotion m b d) (Refused (coverRefusal b d)) ≡ Bounds box → Accepted m b d box
-    go true f e = record { arguments = f refl; motion = e }
+        → cond c (BoundsAnswer·positiveZeros (AnimatedTransform·encloseMotion m b d)) (Refused (coverRefusal b d)) ≡ Bounds box → Accepted m b d box
+    go true f e =
+        let z = zeros-accepted (AnimatedTransform·encloseMotion m b d) box e in
+        let v = motion-valued m b d .values (z .before) (z .worked) in
+        record {
+          arguments = f refl;
+          worked = z .before;
+          motion = z .worked;
+          zeros = z .zeros;
+          within = subst (λ (x : Bounds3f). Subset3 x (z .before)) (z .zeros) (zeros-within v);
+          around = subst (Subset3 (z .before)) (z .zeros) (zeros-around v);
+        }
     go false f e = absurd (refused-bounds (coverRefusal b d) box e)
 
 -- The box of an accepted cover has passed its own tests, and the depth is at most 12.
@@ -349,7 +367,7 @@ cover-contains m b d time p built e n i =
     let a = cover-answered m b d e in
     let c = cover-accepted m b d box a in
     let f = refusal-accepted b (cover-box b d (c .arguments)) .0 in
-    rw (query-accepted m b d box time p a n i) (motion-contains built b p f i d time n .holds box (c .motion))
+    rw (query-accepted m b d box time p a n i) (moved-wider (c .around) (motion-contains built b p f i d time n .holds (c .worked) (c .motion)))
 
 -- Both clauses of the query's contract, from the first.
 pub cover-clauses : {r : BoundsAnswer} (m : AnimatedTransform) (b : Bounds3f) (d : ℕ)

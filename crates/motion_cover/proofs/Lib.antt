@@ -6,3 +6,4 @@ pub mod Proper
 pub mod Stored
 pub mod Slices
 mod Values
+pub mod Zeros

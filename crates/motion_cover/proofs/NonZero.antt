@@ -15,6 +15,7 @@ use Rattle.transform.specs.declared.BoundsAnswer.{BoundsAnswer}
 use Rattle.transform.specs.declared.BoundsAnswer.the-variants.{Bounds, Refused}
 use Rattle.transform.specs.Answer.{OneOf, BoundsAnswer·refusal, BoundsAnswer·bounds}
 use Rattle.bounds_query.specs.Query.{BoundsAnswer·unionBounds, coverRefusal}
+use Rattle.bounds_query.specs.Zeros.{BoundsAnswer·positiveZeros}
 use Rattle.interval.specs.declared.Judged.{Judged}
 use Rattle.unit_interval.specs.Unit.{slice}
 use Rattle.pose_steps.specs.declared.PoseConstants.{PoseConstants}
@@ -55,6 +56,11 @@ union-nonzero (Bounds a) (Bounds b) h k = tt
 union-nonzero (Bounds a) (Refused n) h k = k
 union-nonzero (Refused n) s h k = h
 
+pub zeros-nonzero : (r : BoundsAnswer) → BoundsAnswer·NonZero r → BoundsAnswer·NonZero (BoundsAnswer·positiveZeros r)
+unfolding BoundsAnswer·positiveZeros
+zeros-nonzero (Bounds b) h = tt
+zeros-nonzero (Refused n) h = h
+
 enclosure-nonzero : (j : JudgedVector) → BoundsAnswer·NonZero (BoundsAnswer·fromEnclosure j)
 unfolding BoundsAnswer·fromEnclosure
 enclosure-nonzero j = tested-nonzero (j .refusal) (Bounds (IntervalVector·bounds (j .vector))) tt
@@ -89,7 +95,7 @@ motion-nonzero m b d = go (m .«actually_animated»)
 
 pub cover-nonzero : (m : AnimatedTransform) (b : Bounds3f) (d : ℕ) → BoundsAnswer·NonZero (AnimatedTransform·cover m b d)
 unfolding AnimatedTransform·cover
-cover-nonzero m b d = tested-nonzero (coverRefusal b d) _ (motion-nonzero m b d)
+cover-nonzero m b d = tested-nonzero (coverRefusal b d) _ (zeros-nonzero (AnimatedTransform·encloseMotion m b d) (motion-nonzero m b d))
 
 pub cover-answered : (m : AnimatedTransform) (b : Bounds3f) (d : ℕ) → BoundsAnswer·refusal (AnimatedTransform·cover m b d) ≡ 0
     → AnimatedTransform·cover m b d ≡ Bounds (BoundsAnswer·bounds (AnimatedTransform·cover m b d))

@@ -1,7 +1,7 @@
 -- The numbers that a cover can give are 5, 6, 7, 8 and 10, for all structs and arguments: `cover-number`, `cover-numbered`; those of its work are 5 and 10:
 -- `motion-number`. A union's is one of its parts'.
 use Prim.Native.Nat.{ℕ, zero, suc, _^_}
-use mathlib.Core.Path.{refl}
+use mathlib.Core.Path.{refl, sym, subst}
 use mathlib.Core.Bool.{Bool, true, false, cond}
 use mathlib.Core.Logic.{inl, inr}
 use mathlib.Core.List.{[], _∷_}
@@ -16,8 +16,10 @@ use Rattle.transform.specs.declared.BoundsAnswer.{BoundsAnswer}
 use Rattle.transform.specs.declared.BoundsAnswer.the-variants.{Bounds, Refused}
 use Rattle.transform.specs.Answer.{OneOf, BoundsAnswer·refusal}
 use Rattle.bounds_query.specs.Query.{coverRefusal}
+use Rattle.bounds_query.specs.Zeros.{BoundsAnswer·positiveZeros}
 use Rattle.bounds_query.proofs.Numbers.{arguments-keeps}
 use Rattle.bounds_query.proofs.Union.{union-keeps}
+use Rattle.bounds_query.proofs.Zeros.{zeros-refusal}
 use Rattle.unit_interval.specs.Unit.{slice}
 use Rattle.pose_steps.specs.declared.PoseConstants.{PoseConstants}
 use Rattle.pose_steps.specs.declared.JudgedVector.{JudgedVector}
@@ -91,8 +93,8 @@ pub cover-number : (m : AnimatedTransform) (b : Bounds3f) (d : ℕ) → CoverNum
 unfolding AnimatedTransform·cover
 cover-number m b d = go (eqb (coverRefusal b d) 0)
   where
-    go : (c : Bool) → CoverNumber (BoundsAnswer·refusal (cond c (AnimatedTransform·encloseMotion m b d) (Refused (coverRefusal b d))))
-    go true = inr (inr (inr (motion-number m b d)))
+    go : (c : Bool) → CoverNumber (BoundsAnswer·refusal (cond c (BoundsAnswer·positiveZeros (AnimatedTransform·encloseMotion m b d)) (Refused (coverRefusal b d))))
+    go true = subst CoverNumber (sym (zeros-refusal (AnimatedTransform·encloseMotion m b d))) (inr (inr (inr (motion-number m b d))))
     go false = arguments-keeps CoverNumber b d (inr (inr (inr (inl refl)))) (inl refl) (inr (inl refl)) (inr (inr (inl refl)))
 
 pub cover-numbered : (m : AnimatedTransform) (b : Bounds3f) (d : ℕ) → BoundsAnswer·Numbered (0 ∷ 5 ∷ 6 ∷ 7 ∷ 8 ∷ 10 ∷ []) (AnimatedTransform·cover m b d)

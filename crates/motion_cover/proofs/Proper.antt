@@ -9,7 +9,7 @@ use borrow.Author.Tests.{eqb-true, eqb-false}
 use lib.Ieee.{Float}
 use lib.Ieee.Scale.{finite}
 use Rattle.rounding.specs.Order.{_≼_}
-use Rattle.rounding.proofs.Order.{≼-trans, ≼-refl, number-left, number-right, finite-number}
+use Rattle.rounding.proofs.Order.{≼-trans, ≼-refl, number-left, number-right, finite-number, between-finite}
 use Rattle.interval.specs.declared.Interval.{Interval}
 use Rattle.interval.specs.declared.Judged.{Judged}
 use Rattle.interval.specs.Contains.{Subset, Refines}
@@ -17,13 +17,15 @@ use Rattle.bounds3.specs.declared.Bounds3f.{Bounds3f}
 use Rattle.bounds3.specs.Bounds3f.{Bounds3f·unionBounds}
 use Rattle.bounds3.specs.Finite.{Bounds3f·isFinite}
 use Rattle.bounds3.specs.Inside.{Inside}
-use Rattle.bounds3.proofs.Finite.{low-finite, union-finite}
+use Rattle.bounds3.specs.Inside as bounds3
+use Rattle.bounds3.proofs.Finite.{low-finite, high-finite, box-finite, union-finite}
 use Rattle.bounds3.proofs.Union.{union-inside-left}
 use Rattle.transform.specs.declared.Transform.{Transform}
 use Rattle.transform.specs.declared.BoundsAnswer.{BoundsAnswer}
 use Rattle.transform.specs.declared.BoundsAnswer.the-variants.{Bounds, Refused}
 use Rattle.transform.specs.Answer.{BoundsAnswer·refusal, BoundsAnswer·bounds}
 use Rattle.bounds_query.specs.Query.{Bounds3f·refusal, BoundsAnswer·unionBounds, coverRefusal}
+use Rattle.bounds_query.specs.Zeros.{Bounds3f·positiveZeros, BoundsAnswer·positiveZeros}
 use Rattle.bounds_query.proofs.Accepted.{refusal-accepted}
 use Rattle.unit_interval.specs.Unit.{unitInterval, slice}
 use Rattle.unit_interval.proofs.Slices.{slice-unit}
@@ -48,6 +50,7 @@ use Rattle.motion_cover.specs.Cover.{BoundsAnswer·fromEnclosure, Transf
 use Rattle.motion_cover.specs.Cover.{AnimatedTransform·encloseEnds, unionSlices, AnimatedTransform·encloseMotion, AnimatedTransform·cover}
 use Rattle.motion_cover.specs.Answer.{Proper}
 use Rattle.motion_cover.proofs.Contains.{pad-itself, larger-judged, motion-stored, motion-slices, cover-box}
+use Rattle.motion_cover.proofs.Zeros.{Values, Valued, motion-valued, zeros-within, zeros-around}
 
 -- ---- a box, and a number that was tested
 box-proper : (b : Bounds3f) → T (Bounds3f·isFinite b) → InOrder b → Proper (Bounds b)
@@ -171,6 +174,49 @@ module _ {m : AnimatedTransform} (built : Built m) (b : Bounds3f) (r : BoxRefine
           subst Proper (sym (motion-stored m b d e)) (stored-proper (larger-judged (j .pad0) (j .pad1)) (m .«start_transform») (j .start) b r)
       go true e = subst Proper (sym (motion-slices m b d e)) (slices-proper d (2 ^ d) (omega arith))
 
+-- ---- zeros made +0
+zeros-proper : (r : BoundsAnswer) → Valued r → Proper r → Proper (BoundsAnswer·positiveZeros r)
+unfolding BoundsAnswer·positiveZeros
+zeros-proper (Refused n) v p = p
+zeros-proper (Bounds b) v p = record { finite = λ _. finite; order = λ _. order }
+  where
+    w : Values b
+    w = v .values b refl
+
+    s : bounds3.Subset (Bounds3f·positiveZeros b) b
+    s = zeros-within w
+
+    t : bounds3.Subset b (Bounds3f·positiveZeros b)
+    t = zeros-around w
+
+    o : InOrder b
+    o = p .order refl
+
+    finite : T (Bounds3f·isFinite (Bounds3f·positiveZeros b))
+    finite =
+        let l = low-finite b (w .finite) in
+        let h = high-finite b (w .finite) in
+        box-finite (Bounds3f·positiveZeros b)
+        (record {
+          x = between-finite (l .x) (l .x) (s .x .0) (t .x .0);
+          y = between-finite (l .y) (l .y) (s .y .0) (t .y .0);
+          z = between-finite (l .z) (l .z) (s .z .0) (t .z .0);
+        })
+        (record {
+          x = between-finite (h .x) (h .x) (t .x .1) (s .x .1);
+          y = between-finite (h .y) (h .y) (t .y .1) (s .y .1);
+          z = between-finite (h .z) (h .z) (t .z .1) (s .z .1);
+        })
+
+    order : InOrder (Bounds3f·positiveZeros b)
+    order = record {
+      x = ≼-trans (t .x .0) (≼-trans (o .x) (t .x .1));
+      y = ≼-trans (t .y .0) (≼-trans (o .y) (t .y .1));
+      z = ≼-trans (t .z .0) (≼-trans (o .z) (t .z .1));
+    }
+
 pub cover-proper : {m : AnimatedTransform} → Built m → (b : Bounds3f) (d : ℕ) → Proper (AnimatedTransform·cover m b d)
 unfolding AnimatedTransform·cover
-cover-proper {m} built b d = tested (coverRefusal b d) (AnimatedTransform·encloseMotion m b d) (λ e. motion-proper built b (box-refines b (cover-box b d e)) d)
+cover-proper {m} built b d =
+    tested (coverRefusal b d) (BoundsAnswer·positiveZeros (AnimatedTransform·encloseMotion m b d))
+    (λ e. zeros-proper (AnimatedTransform·encloseMotion m b d) (motion-valued m b d) (motion-proper built b (box-refines b (cover-box b d e)) d))

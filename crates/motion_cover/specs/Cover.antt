@@ -1,6 +1,6 @@
 -- Document 01's 'Cover (added)': an interval enclosure of the motion of a box, from the steps of a pose read in intervals;
 -- document 02, "Pads for the spray": "a box grows on every face as soon as it is worked out". Definitions only.
--- A query is judged first: 6, 7, 8. Then start box, end box and slices are worked in rising order, and the first number met, 5 or 10, stands.
+-- A query is judged first: 6, 7, 8. Then start box, end box and slices are worked in rising order, and the first number met, 5 or 10, stands. A cover's zeros are +0.
 use Prim.Native.Nat.{ℕ, zero, suc, _^_}
 use mathlib.Core.Bool.{cond}
 use lib.Dec.{eqb}
@@ -11,6 +11,7 @@ use Rattle.transform.specs.declared.Transform.{Transform}
 use Rattle.transform.specs.declared.BoundsAnswer.{BoundsAnswer}
 use Rattle.transform.specs.declared.BoundsAnswer.the-variants.{Bounds, Refused}
 use Rattle.bounds_query.specs.Query.{BoundsAnswer·unionBounds, coverRefusal}
+use Rattle.bounds_query.specs.Zeros.{BoundsAnswer·positiveZeros}
 use Rattle.interval.specs.declared.Interval.{Interval}
 use Rattle.unit_interval.specs.Unit.{slice}
 use Rattle.pose_steps.specs.declared.PoseConstants.{PoseConstants}
@@ -57,6 +58,7 @@ AnimatedTransform·encloseMotion m b d =
     (unionSlices m (AnimatedTransform·constants m) b d (AnimatedTransform·encloseEnds m b) (2 ^ d))
     (Transform·enclosePadded (maxNum (m .pad0) (m .pad1)) (m .«start_transform») b)
 
--- The cover query.
+-- The cover query; "a box's zero may have either sign", and a cover's are +0.
 unfoldable pub AnimatedTransform·cover : AnimatedTransform → Bounds3f → ℕ → BoundsAnswer
-AnimatedTransform·cover m b d = let n = coverRefusal b d in cond (eqb n 0) (AnimatedTransform·encloseMotion m b d) (Refused n)
+AnimatedTransform·cover m b d =
+    let n = coverRefusal b d in cond (eqb n 0) (BoundsAnswer·positiveZeros (AnimatedTransform·encloseMotion m b d)) (Refused n)

@@ -35,7 +35,7 @@ abbrev pub joined : Bool → BoundsAnswer → BoundsAnswer → BoundsAnswer
 joined first a s = cond first (BoundsAnswer·after a s) (BoundsAnswer·unionBounds a s)
 
 -- ---- the front of an answer and those behind it
-abbrev next : Front → Front
+abbrev pub next : Front → Front
 next front = record { count = suc (front .count); refusal = front .refusal }
 
 pub count-below : (answers : List BoundsAnswer) → Front·of answers .count ≤ length answers

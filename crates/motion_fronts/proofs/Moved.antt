@@ -1,4 +1,4 @@
--- What is answered of a box once its tests, the start transform, the end transform and the slices are joined is its cover:
+-- What is answered of a box once its tests, the start transform, the end transform and the slices are joined is its cover before its zeros are +0:
 -- `moved-stored`, `moved-slices`. The steps of the code: `none-passed`, where no box passes its tests, `start-covered`, `end-covered`.
 use Prim.Native.Nat.{ℕ, _^_, _≤_}
 use mathlib.Core.Path.{_≡_, refl, sym, ap, subst, _∙_}
@@ -18,7 +18,7 @@ use Rattle.transform.specs.Answer.{BoundsAnswer·bounds}
 use Rattle.bounds_query.specs.Query.{BoundsAnswer·unionBounds, maxDepth, coverRefusal}
 use Rattle.animated_transform.specs.declared.AnimatedTransform.{AnimatedTransform}
 use Rattle.motion_point.specs.TransformPoint.{AnimatedTransform·constants}
-use Rattle.motion_cover.specs.Cover.{AnimatedTransform·encloseEnds, unionSlices, AnimatedTransform·encloseMotion, AnimatedTransform·cover}
+use Rattle.motion_cover.specs.Cover.{AnimatedTransform·encloseEnds, unionSlices, AnimatedTransform·encloseMotion}
 use Rattle.motion_cover.proofs.Contains.{cover-depth, motion-stored, motion-slices}
 use Rattle.motion_cover.proofs.Slices.{refused-first}
 use Rattle.motion_piece.specs.declared.PaddedPose.{PaddedPose}
@@ -28,6 +28,7 @@ use Rattle.motion_pad.specs.Pad.{Pad·start}
 use Rattle.box_front.specs.declared.Front.{Front}
 use Rattle.box_front.specs.means.Front.{placeCount, Boxes·answers, Bounds3f·tested, Front·of, Places·put, PaddedPose·front, PaddedPose·places}
 use Rattle.motion_fronts.specs.means.Covered.{Covered}
+use Rattle.motion_fronts.specs.means.Zeros.{AnimatedTransform·encloseTested}
 use Rattle.motion_fronts.proofs.Front.{joined, take-first, take-next}
 
 -- ---- the tests
@@ -46,12 +47,12 @@ passed-depth (b ∷ boxes) d h = go (eqb (coverRefusal (Bounds3f·ofList b) d) 0
     go false f k = absurd (k (unfold Front·of in refl))
 
 module _ (m : AnimatedTransform) (d : ℕ) where
-  abbrev cover : Bounds3f → BoundsAnswer
-  cover b = AnimatedTransform·cover m b d
+  abbrev enclosed : Bounds3f → BoundsAnswer
+  enclosed b = AnimatedTransform·encloseTested m b d
 
   none-front : (boxes : List (List Float)) → Front·of (Boxes·answers (Bounds3f·tested d) boxes) .count ≡ 0
-      → Front·of (Boxes·answers (Bounds3f·tested d) boxes) ≡ Front·of (Boxes·answers cover boxes)
-  unfolding Front·of AnimatedTransform·cover
+      → Front·of (Boxes·answers (Bounds3f·tested d) boxes) ≡ Front·of (Boxes·answers enclosed boxes)
+  unfolding Front·of AnimatedTransform·encloseTested
   none-front [] h = refl
   none-front (b ∷ boxes) h = go (eqb (coverRefusal (Bounds3f·ofList b) d) 0) h
     where
@@ -60,17 +61,17 @@ module _ (m : AnimatedTransform) (d : ℕ) where
 
       go : (t : Bool) → Front·of (cond t (Bounds (Bounds3f·ofList b)) (Refused number) ∷ Boxes·answers (Bounds3f·tested d) boxes) .count ≡ 0
           → Front·of (cond t (Bounds (Bounds3f·ofList b)) (Refused number) ∷ Boxes·answers (Bounds3f·tested d) boxes)
-          ≡ Front·of (cond t (AnimatedTransform·encloseMotion m (Bounds3f·ofList b) d) (Refused number) ∷ Boxes·answers cover boxes)
+          ≡ Front·of (cond t (AnimatedTransform·encloseMotion m (Bounds3f·ofList b) d) (Refused number) ∷ Boxes·answers enclosed boxes)
       go true k = absurd (unfold Front·of in omega (arith, k))
       go false k = unfold Front·of in refl
 
   pub none-passed : (boxes places : List (List Float)) {front : Front} → front ≡ Front·of (Boxes·answers (Bounds3f·tested d) boxes) → front .count ≡ 0
-      → Covered cover boxes places places front
+      → Covered enclosed boxes places places front
   none-passed boxes places {front} e z =
       let none : Front·of (Boxes·answers (Bounds3f·tested d) boxes) .count ≡ 0 = ap (λ (x : Front). x .count) (sym e) ∙ z in
       record { reached = e ∙ none-front boxes none; places = λ h. nothing boxes (sym h ∙ z) }
     where
-      nothing : (bs : List (List Float)) → length bs ≡ 0 → places ≡ Places·put (λ a _. Bounds3f·list (BoundsAnswer·bounds a)) (Boxes·answers cover bs) places
+      nothing : (bs : List (List Float)) → length bs ≡ 0 → places ≡ Places·put (λ a _. Bounds3f·list (BoundsAnswer·bounds a)) (Boxes·answers enclosed bs) places
       nothing [] k = unfold Places·put in refl
       nothing (b ∷ bs) k = absurd (omega (arith, k))
 
@@ -82,8 +83,8 @@ module _ (m : AnimatedTransform) (d : ℕ) (b : Bounds3f) where
   abbrev end : BoundsAnswer
   end = PaddedPose·encloseBounds (PaddedPose·stored (m .pad1) (m .«end_transform»)) b
 
-  pub moved-stored : m .«actually_animated» ≡ false → joined true (Bounds3f·tested d b) start ≡ AnimatedTransform·cover m b d
-  unfolding AnimatedTransform·cover
+  pub moved-stored : m .«actually_animated» ≡ false → joined true (Bounds3f·tested d b) start ≡ AnimatedTransform·encloseTested m b d
+  unfolding AnimatedTransform·encloseTested
   moved-stored s =
       rw (motion-stored m b d s, stored-composition (maxNum (m .pad0) (m .pad1)) (m .«start_transform») b, ← start-equal) (go (eqb (coverRefusal b d) 0))
     where
@@ -95,8 +96,9 @@ module _ (m : AnimatedTransform) (d : ℕ) (b : Bounds3f) where
       go false = refl
 
   pub moved-slices : m .«actually_animated» ≡ true
-      → unionSlices m (AnimatedTransform·constants m) b d (joined false (joined true (Bounds3f·tested d b) start) end) (2 ^ d) ≡ AnimatedTransform·cover m b d
-  unfolding AnimatedTransform·cover AnimatedTransform·encloseEnds
+      → unionSlices m (AnimatedTransform·constants m) b d (joined false (joined true (Bounds3f·tested d b) start) end) (2 ^ d)
+      ≡ AnimatedTransform·encloseTested m b d
+  unfolding AnimatedTransform·encloseTested AnimatedTransform·encloseEnds
   moved-slices s =
       rw (motion-slices m b d s, stored-composition (m .pad0) (m .«start_transform») b, stored-composition (m .pad1) (m .«end_transform») b, ← start-own)
       (go (eqb (coverRefusal b d) 0))

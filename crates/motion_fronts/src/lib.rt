@@ -11,6 +11,7 @@ ghost use Rattle.motion_point.specs.TransformPoint.{AnimatedTransform·constant
 ghost use Rattle.motion_cover.specs.Cover.{unionSlices, AnimatedTransform·cover};
 ghost use Rattle.box_front.specs.means.Front.{placeCount, Boxes·answers, Front·of};
 ghost use Rattle.motion_fronts.specs.means.Covered.{Boxes·asked, Places·answered, Covered, Continues};
+ghost use Rattle.motion_fronts.specs.means.Zeros.{AnimatedTransform·encloseTested, Place·positiveZeros, Places·positiveZeros};
 
 const PLACE_COUNT: usize = 16;
 
@@ -52,15 +53,15 @@ fn take_slices(
     reached
 }
 
-// The cover of each box, in order, up to the first that is refused: its number is in the front. Accuracy: encloses.
-fn cover_boxes(
+// The enclosure of each box's motion, in order, up to the first that is refused: its number is in the front. Accuracy: encloses.
+fn enclose_motion(
     m: AnimatedTransform,
     boxes: &[[f32; 6]],
     depth: u32,
     places: &mut [[f32; 6]; 16],
 ) -> Front
     requires { ⌜ length (now boxes) ≤ placeCount ⌝ }
-    ensures covered { λ r. ⌜ Covered (λ b. AnimatedTransform·cover m b depth) (now (boxes .entry)) (now (places .entry)) (now (places .exit)) r ⌝ }
+    ensures covered { λ r. ⌜ Covered (λ b. AnimatedTransform·encloseTested m b depth) (now (boxes .entry)) (now (places .entry)) (now (places .exit)) r ⌝ }
 {
     let front = box_front::judged(boxes, depth);
     if front.count == 0 {
@@ -75,6 +76,48 @@ fn cover_boxes(
     let end = motion_piece::stored_enclosure(m.pad1, m.end_transform);
     let ended = box_front::take_pose(false, end, boxes, started, places);
     take_slices(m, boxes, depth, ended, places)
+}
+
+// A place with the zeros of its box +0. Accuracy: exact.
+fn place_zeros(place: &mut [f32; 6])
+    ensures left { λ _. ⌜ now (place .exit) ≡ Place·positiveZeros (now (place .entry)) ⌝ }
+{
+    *place = [
+        place[0] + 0.0,
+        place[1] + 0.0,
+        place[2] + 0.0,
+        place[3] + 0.0,
+        place[4] + 0.0,
+        place[5] + 0.0,
+    ];
+}
+
+// The places of all boxes with their zeros +0. Accuracy: exact.
+fn places_zeros(boxes: &[[f32; 6]], places: &mut [[f32; 6]; 16])
+    requires { ⌜ length (now boxes) ≤ placeCount ⌝ }
+    ensures left { λ _. ⌜ now (places .exit) ≡ Places·positiveZeros (now (boxes .entry)) (now (places .entry)) ⌝ }
+{
+    let n = boxes.len();
+    let mut i = 0;
+    while i < n {
+        place_zeros(&mut places[i]);
+        i = i + 1;
+    }
+}
+
+// The cover of each box, in order, up to the first that is refused: its number is in the front. Accuracy: encloses.
+fn cover_boxes(
+    m: AnimatedTransform,
+    boxes: &[[f32; 6]],
+    depth: u32,
+    places: &mut [[f32; 6]; 16],
+) -> Front
+    requires { ⌜ length (now boxes) ≤ placeCount ⌝ }
+    ensures covered { λ r. ⌜ Covered (λ b. AnimatedTransform·cover m b depth) (now (boxes .entry)) (now (places .entry)) (now (places .exit)) r ⌝ }
+{
+    let front = enclose_motion(m, boxes, depth, places);
+    places_zeros(boxes, places);
+    front
 }
 
 // The cover of each box in a place of its own, the unused places +0. Where a box is refused, or there are more boxes than places, all are +0.

@@ -1,7 +1,7 @@
 -- Boxes grown by a pad from 0 on. A grown box holds each point of the box, and it less and plus a pad that is no greater (`grow-padded`);
 -- it is in order where the box is (`grow-order`), and a box in another, with no greater pad, grows to a box in the other's (`grow-subset`).
 -- An answer that is grown was a box, and its pad was not refused (`grow-accepted`), and a part of it is accepted with it and lies in it
--- (`grow-isotone`). A pad of +0 leaves a box as it was, a zero's sign aside (`grow-zero`).
+-- (`grow-isotone`). A pad of +0 leaves a box as it was, a zero's sign aside (`grow-zero`), and so does making its zeros +0 (`zeros-subset`).
 use Prim.Native.Nat.{ℕ}
 use mathlib.Core.Path.{_≡_, refl, sym, ap, subst, _∙_}
 use mathlib.Core.Bool.{Bool, true, false, cond}
@@ -26,6 +26,7 @@ use Rattle.bounds3.proofs.Finite.{low-finite, high-finite, box-finite}
 use Rattle.transform.specs.declared.BoundsAnswer.{BoundsAnswer}
 use Rattle.transform.specs.declared.BoundsAnswer.the-variants.{Bounds, Refused}
 use Rattle.transform.specs.Answer.{BoundsAnswer·refusal}
+use Rattle.bounds_query.specs.Zeros.{Bounds3f·positiveZeros}
 use Rattle.bounds_query.proofs.Union.{refused-bounds, bounds-same}
 use Rattle.pose_steps.specs.Promise.{InOrder}
 use Rattle.motion_pad.specs.Grow.{Point3f·less, Point3f·plus, Bounds3f·grow, BoundsAnswer·grow, PaddedInside}
@@ -215,5 +216,26 @@ grow-zero {b} f u v =
         x = (sub-zero (p .x) (l .x) (u .x) .to, add-zero (q .x) (h .x) (v .x) .from);
         y = (sub-zero (p .y) (l .y) (u .y) .to, add-zero (q .y) (h .y) (v .y) .from);
         z = (sub-zero (p .z) (l .z) (u .z) .to, add-zero (q .z) (h .z) (v .z) .from);
+      },
+    )
+
+-- ---- zeros made +0
+pub zeros-subset : {b : Bounds3f} → T (Bounds3f·isFinite b) → Binary32 (b .«p_min») → Binary32 (b .«p_max»)
+    → Subset (Bounds3f·positiveZeros b) b × Subset b (Bounds3f·positiveZeros b)
+unfolding Bounds3f·positiveZeros
+zeros-subset {b} f u v =
+    let l = low-finite b f in
+    let h = high-finite b f in
+    let p = b .«p_min» in
+    let q = b .«p_max» in (
+      record {
+        x = (add-zero (p .x) (l .x) (u .x) .from, add-zero (q .x) (h .x) (v .x) .to);
+        y = (add-zero (p .y) (l .y) (u .y) .from, add-zero (q .y) (h .y) (v .y) .to);
+        z = (add-zero (p .z) (l .z) (u .z) .from, add-zero (q .z) (h .z) (v .z) .to);
+      },
+      record {
+        x = (add-zero (p .x) (l .x) (u .x) .to, add-zero (q .x) (h .x) (v .x) .from);
+        y = (add-zero (p .y) (l .y) (u .y) .to, add-zero (q .y) (h .y) (v .y) .from);
+        z = (add-zero (p .z) (l .z) (u .z) .to, add-zero (q .z) (h .z) (v .z) .from);
       },
     )

@@ -1,4 +1,5 @@
 pub mod Pad
 pub mod Box
+pub mod Zeros
 mod Tested
 mod Unjudged

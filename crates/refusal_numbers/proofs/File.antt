@@ -1,7 +1,7 @@
 -- The numbers of the answer to a file: `file-numbered`. 11 is reading's (`read-refusals`); 1, 16, 12, 3, 4 and 5 are building's, which has no 2, since a file's
 -- bottom rows are right (`chain-affine`); depth 10 is below the greatest, so that the cover gives no 8.
 use Prim.Native.Nat.{ℕ}
-use mathlib.Core.Path.{_≡_, refl, ap}
+use mathlib.Core.Path.{_≡_, refl, sym, ap, subst}
 use mathlib.Core.Bool.{Bool, true, false, not, _||_, cond}
 use mathlib.Core.Logic.{_⊎_, inl, inr}
 use mathlib.Core.List.{List, [], _∷_, map}
@@ -19,8 +19,10 @@ use Rattle.transform.specs.declared.BoundsAnswer.{BoundsAnswer}
 use Rattle.transform.specs.declared.BoundsAnswer.the-variants as bounds
 use Rattle.transform.specs.Answer.{OneOf, BoundsAnswer·refusal}
 use Rattle.bounds_query.specs.Query.{BoundsAnswer·unionBounds, maxDepth, coverRefusal}
+use Rattle.bounds_query.specs.Zeros.{BoundsAnswer·positiveZeros}
 use Rattle.bounds_query.proofs.Numbers.{box-keeps}
 use Rattle.bounds_query.proofs.Union.{union-keeps}
+use Rattle.bounds_query.proofs.Zeros.{zeros-refusal}
 use Rattle.pose_steps.specs.Promise.{SliceNumber}
 use Rattle.pose_pair.specs.declared.Pose.{Pose}
 use Rattle.pose_pair.specs.Pose.{Pose·isFinite, Pose·isAffine, Pose·isPadded, timesRefusal}
@@ -163,8 +165,8 @@ slice-number (inr (inr e)) = inr (inr (inr (inr (inr (inr (inr (inl e)))))))
 move-number : (m : AnimatedTransform) (b : Bounds3f) → CoverNumber (AnimatedTransform·cover m b coverDepth)
 unfolding AnimatedTransform·cover
 move-number m b =
-    cond-keeps CoverNumber (eqb (coverRefusal b coverDepth) 0) (AnimatedTransform·encloseMotion m b coverDepth) _
-    (slice-number (motion-number m b coverDepth)) (asked-number b)
+    cond-keeps CoverNumber (eqb (coverRefusal b coverDepth) 0) (BoundsAnswer·positiveZeros (AnimatedTransform·encloseMotion m b coverDepth)) _
+    (subst Number (sym (zeros-refusal (AnimatedTransform·encloseMotion m b coverDepth))) (slice-number (motion-number m b coverDepth))) (asked-number b)
 
 covers-number : (b : Bounds3f) (r : BoundsAnswer) (moves : List AnimatedTransform) → CoverNumber r → CoverNumber (unionCovers b coverDepth r moves)
 unfolding unionCovers

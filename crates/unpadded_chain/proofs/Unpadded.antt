@@ -1,30 +1,19 @@
--- With pads of +0 a chain's cover, a set's and a file's are those without pads, a zero's sign aside:
--- `chain-unpadded`, `set-same`, `file-unpadded`; and points leave pads aside:
--- `points-unpadded`. A built chain's moves have its poses' pads (`moves-unpadded`), and a union of the same boxes is the same (`union-all-same`).
+-- With pads of +0 a chain's cover, a set's and a file's are equal to those without pads: `chain-unpadded`, `chain-set-unpadded`, `move-set-unpadded`,
+-- `file-unpadded`; and points leave pads aside: `points-unpadded`. A built chain's moves have its poses' pads (`moves-unpadded`).
 use Prim.Native.Nat.{ℕ}
-use mathlib.Core.Path.{_≡_, refl, sym, ap, subst, _∙_}
+use mathlib.Core.Path.{_≡_, refl, sym, subst}
 use mathlib.Core.Bool.{Bool, true, false, cond}
 use mathlib.Core.List.{List, [], _∷_, map}
-use lib.Dec.{T, eqb, ltb}
-use lib.ListN.{length}
+use lib.Dec.{T, eqb}
 use lib.Ieee.{Float, le}
 use Rattle.float32.specs.Operators.{positiveZero}
 use Rattle.bounds3.specs.declared.Point3f.{Point3f}
 use Rattle.bounds3.specs.declared.Bounds3f.{Bounds3f}
-use Rattle.bounds3.specs.Bounds3f.{Bounds3f·fromPoint}
-use Rattle.bounds3.specs.Inside.{Subset}
-use Rattle.bounds3.proofs.Union.{finite-self}
-use Rattle.transform.specs.declared.BoundsAnswer.{BoundsAnswer}
-use Rattle.transform.specs.declared.BoundsAnswer.the-variants.{Bounds, Refused}
-use Rattle.transform.specs.Answer.{origin, BoundsAnswer·bounds}
-use Rattle.formula.specs.Promise.{Pairwise}
-use Rattle.bounds_query.specs.Query.{BoundsAnswer·unionBounds}
-use Rattle.bounds_query.specs.Same.{BoundsAnswer·Same, same-box, same-refusal}
-use Rattle.bounds_query.proofs.Union.{union-same}
+use Rattle.transform.specs.declared.BoundsAnswer.the-variants.{Refused}
 use Rattle.bounds_answers.specs.UnionAll.{BoundsAnswer·unionAll, Each}
 use Rattle.bounds_answers.proofs.UnionAll.{each-unmap}
 use Rattle.pose_pair.specs.declared.Pose.{Pose}
-use Rattle.pose_pair.specs.Pose.{Pose·isBinary32, Pose·isPadded}
+use Rattle.pose_pair.specs.Pose.{Pose·isPadded}
 use Rattle.animated_transform.specs.declared.AnimatedTransform.{AnimatedTransform}
 use Rattle.animated_transform.specs.Built.{Built}
 use Rattle.motion_point.specs.TransformPoint.{AnimatedTransform·movedPoint, AnimatedTransform·transformPoint}
@@ -32,31 +21,19 @@ use Rattle.motion_cover.specs.Cover.{AnimatedTransform·cover}
 use Rattle.unpadded_cover.specs.Unpadded.{AnimatedTransform·coverUnpadded}
 use Rattle.unpadded_cover.proofs.Unpadded.{cover-unpadded}
 use Rattle.motion_pad.specs.means.Computing as pad
-use Rattle.motion_chain.specs.Chain.{neighbours, every, firstNumber, stage, Pose·number, Chain, Chain·moves, ChainAnswer, built, refused, Chain·new}
+use Rattle.motion_chain.specs.Chain.{neighbours, firstNumber, Pose·number, Chain, Chain·moves, ChainAnswer, built, refused, Chain·new}
 use Rattle.motion_chain.specs.Chain.{moveFrom, Chain·moveAt, Chain·transformPoint, unionCovers, Chain·cover}
-use Rattle.motion_chain.specs.Built.{BuiltChain}
 use Rattle.motion_chain.proofs.Built.{built-moves}
 use Rattle.built_poses.specs.Poses.{AnimatedTransform·startPose, AnimatedTransform·endPose}
 use Rattle.built_poses.proofs.Built.{built-pairs}
-use Rattle.box_set.specs.Set.{maxBoxes, SetAnswer, SetAnswer·joined, SetAnswer·of, Boxes·covers}
-use Rattle.box_set.specs.Set as set
+use Rattle.box_set.specs.Set.{Boxes·covers}
 use Rattle.chain_poses.specs.Poses.{Poses·ofLists}
-use Rattle.motion_file.specs.declared.MoveFile.{MoveFile}
 use Rattle.motion_file.specs.Layout.{MoveFile·read, MoveFile·box, MoveFile·poses}
 use Rattle.motion_answer.specs.Answer.{coverDepth, ChainAnswer·cover, MoveFile·chain, MoveFile·cover}
 use Rattle.motion_answer.proofs.Built.{poses-binary32}
-use Rattle.unpadded_chain.specs.Unpadded.{Chain·coverUnpadded, ChainAnswer·coverUnpadded, MoveFile·coverUnpadded}
+use Rattle.unpadded_chain.specs.Unpadded.{Chain·coverUnpadded, ChainAnswer·coverUnpadded}
 use Rattle.unpadded_chain.specs.Unpadded.{Unpadded, ZeroAccepted, ChainUnpadded, FileUnpadded}
-use Rattle.unpadded_chain.specs.Unpadded.{SetAnswer·Same, SetSame, AnimatedTransform·withoutPads, Chain·withoutPads, PointsUnpadded}
-
--- ---- a list of answers
-union-all-same : (r r' : BoundsAnswer) (answers answers' : List BoundsAnswer) → BoundsAnswer·Same r r' → Pairwise BoundsAnswer·Same answers answers'
-    → BoundsAnswer·Same (BoundsAnswer·unionAll r answers) (BoundsAnswer·unionAll r' answers')
-union-all-same r r' [] [] e es = e
-union-all-same r r' [] (s' ∷ answers') e es = absurd es
-union-all-same r r' (s ∷ answers) [] e es = absurd es
-union-all-same r r' (s ∷ answers) (s' ∷ answers') e (f, fs) =
-    union-all-same (BoundsAnswer·unionBounds r s) (BoundsAnswer·unionBounds r' s') answers answers' (union-same e f) fs
+use Rattle.unpadded_chain.specs.Unpadded.{ChainSetUnpadded, MoveSetUnpadded, AnimatedTransform·withoutPads, PointsUnpadded}
 
 -- ---- a chain
 -- the pads of a move are those of two poses of the chain
@@ -64,17 +41,14 @@ abbrev MoveUnpadded : AnimatedTransform → Type 0
 MoveUnpadded m = (m .pad0 ≡ positiveZero) × (m .pad1 ≡ positiveZero)
 
 module _ (b : Bounds3f) (d : ℕ) where
-  moves-same : (moves : List AnimatedTransform) → Each Built moves → Each MoveUnpadded moves
-      → Pairwise BoundsAnswer·Same (map (λ m. AnimatedTransform·cover m b d) moves) (map (λ m. AnimatedTransform·coverUnpadded m b d) moves)
-  moves-same [] hs es = tt
-  moves-same (m ∷ moves) (h, hs) ((e, f), es) = (cover-unpadded m b d h e f, moves-same moves hs es)
+  covers-equal : (moves : List AnimatedTransform) → Each Built moves → Each MoveUnpadded moves
+      → map (λ m. AnimatedTransform·cover m b d) moves ≡ map (λ m. AnimatedTransform·coverUnpadded m b d) moves
+  covers-equal [] hs es = refl
+  covers-equal (m ∷ moves) (h, hs) ((e, f), es) = λ i. cover-unpadded m b d h e f i ∷ covers-equal moves hs es i
 
-  chain-same : (c : Chain) → Each Built (Chain·moves c) → Each MoveUnpadded (Chain·moves c) → BoundsAnswer·Same (Chain·cover c b d) (Chain·coverUnpadded c b d)
+  chain-equal : (c : Chain) → Each Built (Chain·moves c) → Each MoveUnpadded (Chain·moves c) → Chain·cover c b d ≡ Chain·coverUnpadded c b d
   unfolding Chain·cover unionCovers
-  chain-same c (h, hs) ((e, f), es) =
-      union-all-same (AnimatedTransform·cover (c .first) b d) (AnimatedTransform·coverUnpadded (c .first) b d)
-      (map (λ m. AnimatedTransform·cover m b d) (c .rest)) (map (λ m. AnimatedTransform·coverUnpadded m b d) (c .rest))
-      (cover-unpadded (c .first) b d h e f) (moves-same (c .rest) hs es)
+  chain-equal c (h, hs) ((e, f), es) = λ i. BoundsAnswer·unionAll (cover-unpadded (c .first) b d h e f i) (covers-equal (c .rest) hs es i)
 
 abbrev PairUnpadded : Pose × Pose → Type 0
 PairUnpadded (p, q) = (p .pad ≡ positiveZero) × (q .pad ≡ positiveZero)
@@ -92,7 +66,7 @@ moves-unpadded rigid poses c h e =
 
 pub chain-unpadded : (rigid : Bool) (poses : List Pose) → ChainUnpadded rigid poses
 chain-unpadded rigid poses c b d f h e =
-    chain-same b d c (built-moves (record { rigid = rigid; poses = poses; poses-binary32 = f; accepted = e }) .each) (moves-unpadded rigid poses c h e)
+    chain-equal b d c (built-moves (record { rigid = rigid; poses = poses; poses-binary32 = f; accepted = e }) .each) (moves-unpadded rigid poses c h e)
 
 -- ---- building
 zero-padded : (p : Pose) → p .pad ≡ positiveZero → Pose·isPadded p ≡ true
@@ -105,70 +79,27 @@ zero-accepted [] h = refl
 zero-accepted (p ∷ poses) (e, h) = rw (zero-padded p e, zero-accepted poses h)
 
 -- ---- sets
-origin-self : Subset (Bounds3f·fromPoint origin) (Bounds3f·fromPoint origin)
-origin-self = finite-self (unfold pad.computing in tt)
+pub chain-set-unpadded : (rigid : Bool) (poses : List Pose) → ChainSetUnpadded rigid poses
+chain-set-unpadded rigid poses c boxes d f h e = λ i. Boxes·covers (λ b. chain-unpadded rigid poses c b d f h e i) boxes
 
-bounds-same : {r r' : BoundsAnswer} → BoundsAnswer·Same r r' → BoundsAnswer·Same (Bounds (BoundsAnswer·bounds r)) (Bounds (BoundsAnswer·bounds r'))
-bounds-same (same-box i o) = same-box i o
-bounds-same (same-refusal n) = same-box origin-self origin-self
-
-all-same : (answers answers' : List BoundsAnswer) → Pairwise BoundsAnswer·Same answers answers'
-    → Pairwise (λ b b'. BoundsAnswer·Same (Bounds b) (Bounds b')) (map BoundsAnswer·bounds answers) (map BoundsAnswer·bounds answers')
-all-same [] [] es = tt
-all-same [] (s' ∷ answers') es = absurd es
-all-same (s ∷ answers) [] es = absurd es
-all-same (s ∷ answers) (s' ∷ answers') (e, es) = (bounds-same e, all-same answers answers' es)
-
-joined-same : (answers answers' : List BoundsAnswer) {u u' : BoundsAnswer} → Pairwise BoundsAnswer·Same answers answers' → BoundsAnswer·Same u u'
-    → SetAnswer·Same (SetAnswer·joined answers u) (SetAnswer·joined answers' u')
-joined-same answers answers' es (same-box i o) = (all-same answers answers' es, same-box i o)
-joined-same answers answers' es (same-refusal n) = refl
-
-boxes-same : (cover unpadded : Bounds3f → BoundsAnswer) → ((b : Bounds3f) → BoundsAnswer·Same (cover b) (unpadded b)) → (boxes : List Bounds3f)
-    → Pairwise BoundsAnswer·Same (map cover boxes) (map unpadded boxes)
-boxes-same cover unpadded same [] = tt
-boxes-same cover unpadded same (b ∷ boxes) = (same b, boxes-same cover unpadded same boxes)
-
-pub set-same : (cover unpadded : Bounds3f → BoundsAnswer) (boxes : List Bounds3f) → SetSame cover unpadded boxes
-unfolding Boxes·covers SetAnswer·of
-set-same cover unpadded [] same = refl
-set-same cover unpadded (b ∷ boxes) same = go (ltb maxBoxes (length (b ∷ boxes)))
-  where
-    answers : List BoundsAnswer
-    answers = map cover boxes
-
-    answers' : List BoundsAnswer
-    answers' = map unpadded boxes
-
-    go : (many : Bool)
-        → SetAnswer·Same (cond many (set.refused 14) (SetAnswer·joined (cover b ∷ answers) (BoundsAnswer·unionAll (cover b) answers)))
-        (cond many (set.refused 14) (SetAnswer·joined (unpadded b ∷ answers') (BoundsAnswer·unionAll (unpadded b) answers')))
-    go true = refl
-    go false =
-        let es = boxes-same cover unpadded same boxes in
-        joined-same (cover b ∷ answers) (unpadded b ∷ answers') (same b, es) (union-all-same (cover b) (unpadded b) answers answers' (same b) es)
+pub move-set-unpadded : (m : AnimatedTransform) (boxes : List Bounds3f) (d : ℕ) → MoveSetUnpadded m boxes d
+move-set-unpadded m boxes d h e f = λ i. Boxes·covers (λ b. cover-unpadded m b d h e f i) boxes
 
 -- ---- files
-answer-same : (a : ChainAnswer) (b : Bounds3f)
-    → ((c : Chain) → a ≡ built c → BoundsAnswer·Same (Chain·cover c b coverDepth) (Chain·coverUnpadded c b coverDepth))
-    → BoundsAnswer·Same (ChainAnswer·cover a b) (ChainAnswer·coverUnpadded a b)
+answer-equal : (a : ChainAnswer) (b : Bounds3f) → ((c : Chain) → a ≡ built c → Chain·cover c b coverDepth ≡ Chain·coverUnpadded c b coverDepth)
+    → ChainAnswer·cover a b ≡ ChainAnswer·coverUnpadded a b
 unfolding ChainAnswer·cover
-answer-same (built c) b h = h c refl
-answer-same (refused n) b h = same-refusal n
+answer-equal (built c) b h = h c refl
+answer-equal (refused n) b h = refl
 
 pub file-unpadded : (bytes : List ℕ) → FileUnpadded bytes
 unfolding MoveFile·cover MoveFile·chain
-file-unpadded bytes h = go (eqb (MoveFile·read bytes .refusal) 0)
-  where
-    poses : List Pose
-    poses = Poses·ofLists (MoveFile·poses bytes)
-
-    go : (read : Bool)
-        → BoundsAnswer·Same (cond read (ChainAnswer·cover (MoveFile·chain bytes) (MoveFile·box bytes)) (Refused (MoveFile·read bytes .refusal)))
-        (cond read (ChainAnswer·coverUnpadded (MoveFile·chain bytes) (MoveFile·box bytes)) (Refused (MoveFile·read bytes .refusal)))
-    go true =
-        answer-same (MoveFile·chain bytes) (MoveFile·box bytes) (λ c e. chain-unpadded false poses c (MoveFile·box bytes) coverDepth (poses-binary32 bytes) h e)
-    go false = same-refusal (MoveFile·read bytes .refusal)
+file-unpadded bytes h =
+    let poses = Poses·ofLists (MoveFile·poses bytes) in
+    let b = MoveFile·box bytes in
+    let n = MoveFile·read bytes .refusal in
+    let same = answer-equal (MoveFile·chain bytes) b (λ c e. chain-unpadded false poses c b coverDepth (poses-binary32 bytes) h e) in
+    λ i. cond (eqb n 0) (same i) (Refused n)
 
 -- ---- points
 move-unpadded : (m : AnimatedTransform) (moves : List AnimatedTransform) (time : Float)

@@ -1,6 +1,6 @@
 -- The cover of a chain and of a file as they were without pads, `Chain·coverUnpadded` and `MoveFile·coverUnpadded`; that where every
--- pose's pad is +0 a chain's cover, a set's and a file's are the same, bit for bit but a zero's sign, and that points leave pads aside.
--- The statements of `chain-unpadded`, `set-same`, `file-unpadded`, `thirteen-unpadded`, `zero-accepted` and `points-unpadded`.
+-- pose's pad is +0 a chain's cover, a set's and a file's are equal to those without pads, and that points leave pads aside.
+-- The statements of `chain-unpadded`, `chain-set-unpadded`, `move-set-unpadded`, `file-unpadded`, `thirteen-unpadded`, `zero-accepted` and `points-unpadded`.
 use Prim.Native.Nat.{ℕ}
 use mathlib.Core.Path.{_≡_}
 use mathlib.Core.Bool.{Bool, not, cond}
@@ -10,19 +10,16 @@ use lib.Ieee.{Float}
 use Rattle.float32.specs.Operators.{positiveZero}
 use Rattle.bounds3.specs.declared.Point3f.{Point3f}
 use Rattle.bounds3.specs.declared.Bounds3f.{Bounds3f}
-use Rattle.bounds3.specs.Inside.{Subset}
 use Rattle.transform.specs.declared.BoundsAnswer.{BoundsAnswer}
-use Rattle.transform.specs.declared.BoundsAnswer.the-variants.{Bounds, Refused}
-use Rattle.formula.specs.Promise.{Pairwise}
+use Rattle.transform.specs.declared.BoundsAnswer.the-variants.{Refused}
 use Rattle.bounds_answers.specs.UnionAll.{BoundsAnswer·unionAll, Each}
 use Rattle.pose_pair.specs.declared.Pose.{Pose}
 use Rattle.pose_pair.specs.Pose.{Pose·isBinary32}
 use Rattle.animated_transform.specs.declared.AnimatedTransform.{AnimatedTransform}
-use Rattle.bounds_query.specs.Same.{BoundsAnswer·Same}
+use Rattle.animated_transform.specs.Built.{Built}
 use Rattle.unpadded_cover.specs.Unpadded.{AnimatedTransform·coverUnpadded}
 use Rattle.motion_chain.specs.Chain.{every, stage, Pose·number, Chain, ChainAnswer, built, refused, Chain·new, Chain·transformPoint, Chain·cover}
-use Rattle.box_set.specs.Set.{SetAnswer, Boxes·covers}
-use Rattle.box_set.specs.Set as set
+use Rattle.box_set.specs.Set.{Boxes·covers, Chain·covers, AnimatedTransform·covers}
 use Rattle.chain_poses.specs.Poses.{Poses·ofLists}
 use Rattle.motion_file.specs.declared.MoveFile.{MoveFile}
 use Rattle.motion_file.specs.Layout.{hasPads, MoveFile·read, MoveFile·box, MoveFile·poses}
@@ -55,11 +52,11 @@ ZeroAccepted poses = Unpadded poses → stage (Pose·number 16) poses ≡ 0
 abbrev pub ChainUnpadded : Bool → List Pose → Type 0
 ChainUnpadded rigid poses =
     (c : Chain) (b : Bounds3f) (d : ℕ) → T (every Pose·isBinary32 poses) → Unpadded poses → Chain·new rigid poses ≡ built c
-    → BoundsAnswer·Same (Chain·cover c b d) (Chain·coverUnpadded c b d)
+    → Chain·cover c b d ≡ Chain·coverUnpadded c b d
 
 -- a file with either names whose pads are +0
 abbrev pub FileUnpadded : List ℕ → Type 0
-FileUnpadded bytes = Unpadded (Poses·ofLists (MoveFile·poses bytes)) → BoundsAnswer·Same (MoveFile·cover bytes) (MoveFile·coverUnpadded bytes)
+FileUnpadded bytes = Unpadded (Poses·ofLists (MoveFile·poses bytes)) → MoveFile·cover bytes ≡ MoveFile·coverUnpadded bytes
 
 -- document 02: "A file with the old thirteen names has pads of +0"
 abbrev pub ThirteenUnpadded : List ℕ → Type 0
@@ -67,18 +64,15 @@ ThirteenUnpadded bytes = T (not (hasPads bytes)) → Unpadded (Poses·ofLists (M
 
 -- ---- sets
 
--- the same number, or as many covers, each the same, and the same union
-abbrev pub SetAnswer·Same : SetAnswer → SetAnswer → Type 0
-SetAnswer·Same (set.covered cs u) (set.covered cs' u') =
-    Pairwise (λ b b'. BoundsAnswer·Same (Bounds b) (Bounds b')) cs cs' × BoundsAnswer·Same (Bounds u) (Bounds u')
-SetAnswer·Same (set.covered cs u) (set.refused n) = ⊥
-SetAnswer·Same (set.refused n) (set.covered cs u) = ⊥
-SetAnswer·Same (set.refused n) (set.refused k) = n ≡ k
+-- of a chain, and of a move by itself
+abbrev pub ChainSetUnpadded : Bool → List Pose → Type 0
+ChainSetUnpadded rigid poses =
+    (c : Chain) (boxes : List Bounds3f) (d : ℕ) → T (every Pose·isBinary32 poses) → Unpadded poses → Chain·new rigid poses ≡ built c
+    → Chain·covers c boxes d ≡ Boxes·covers (λ b. Chain·coverUnpadded c b d) boxes
 
--- of a move's covers as of a chain's: where each box's is the same, so is the set's
-abbrev pub SetSame : (Bounds3f → BoundsAnswer) → (Bounds3f → BoundsAnswer) → List Bounds3f → Type 0
-SetSame cover unpadded boxes = ((b : Bounds3f) → BoundsAnswer·Same (cover b) (unpadded b))
-    → SetAnswer·Same (Boxes·covers cover boxes) (Boxes·covers unpadded boxes)
+abbrev pub MoveSetUnpadded : AnimatedTransform → List Bounds3f → ℕ → Type 0
+MoveSetUnpadded m boxes d = Built m → m .pad0 ≡ positiveZero → m .pad1 ≡ positiveZero
+    → AnimatedTransform·covers m boxes d ≡ Boxes·covers (λ b. AnimatedTransform·coverUnpadded m b d) boxes
 
 -- ---- points
 

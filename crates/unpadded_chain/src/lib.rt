@@ -1,1 +1,1 @@
-// With pads of zero the covers of chains, sets and files are those without pads, a zero's sign aside, and points leave pads aside. Laws in proofs/. No code.
+// With pads of +0 the covers of chains, sets and files are equal to those without pads, and points leave pads aside. Laws in proofs/. No code.

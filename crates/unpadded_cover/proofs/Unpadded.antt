@@ -1,7 +1,7 @@
--- A cover with pads of +0 is document 01's, a zero's sign aside: `cover-unpadded`. The pad interval of every slice is then zero (`pad-zero`),
--- and a box whose corners are values of binary32 grows by zero to itself (`grow-same`).
+-- A cover with pads of +0 is equal to document 01's: `cover-unpadded`. The pad interval of every slice is then zero (`pad-zero`), and a box whose corners
+-- are values of binary32 grows by zero to itself, a zero's sign aside (`grow-same`). Unions of such boxes are equal once their zeros are +0.
 use Prim.Native.Nat.{ℕ, zero, suc, _≤_, _^_}
-use mathlib.Core.Path.{_≡_, refl, sym, ap, subst}
+use mathlib.Core.Path.{_≡_, refl, ap, subst, _∙_}
 use mathlib.Core.Bool.{Bool, true, false, cond}
 use native.Mathlib.Omega.{arith}
 use lib.Dec.{T, eqb}
@@ -28,6 +28,7 @@ use Rattle.transform.specs.declared.BoundsAnswer.{BoundsAnswer}
 use Rattle.transform.specs.declared.BoundsAnswer.the-variants.{Bounds, Refused}
 use Rattle.bounds_query.specs.Query.{BoundsAnswer·unionBounds, coverRefusal}
 use Rattle.bounds_query.specs.Same.{BoundsAnswer·Same, same-box, same-refusal}
+use Rattle.bounds_query.specs.Zeros.{BoundsAnswer·positiveZeros}
 use Rattle.bounds_query.proofs.Union.{union-same}
 use Rattle.unit_interval.specs.Unit.{unitInterval, slice}
 use Rattle.unit_interval.proofs.Slices.{slice-unit}
@@ -51,11 +52,13 @@ use Rattle.motion_pad.specs.Pad.{Pad·enclose, Pad·stored}
 use Rattle.motion_pad.specs.Grow.{Bounds3f·grow, BoundsAnswer·grow}
 use Rattle.motion_pad.specs.means.Computing as pad
 use Rattle.motion_pad.proofs.Pad.{pad-high-within}
-use Rattle.motion_pad.proofs.Box.{Binary32, PadWithin, pad-within-finite, grow-subset, grow-box, grow-refused, grow-zero}
+use Rattle.motion_pad.proofs.Box.{PadWithin, pad-within-finite, grow-subset, grow-box, grow-refused, grow-zero}
+use Rattle.motion_pad.proofs.Zeros.{answers-zeros}
 use Rattle.motion_cover.specs.Cover.{BoundsAnswer·fromEnclosure, Transform·encloseBounds, Transform·enclosePadded, AnimatedTransform·encloseBounds}
 use Rattle.motion_cover.specs.Cover.{AnimatedTransform·encloseEnds, unionSlices, AnimatedTransform·encloseMotion, AnimatedTransform·cover}
 use Rattle.motion_cover.proofs.Contains.{from-enclosure-accepted, motion-stored, motion-slices, cover-box}
 use Rattle.motion_cover.proofs.Proper.{subset-self, BoxRefines, box-refines}
+use Rattle.motion_cover.proofs.Zeros.{Values, Valued}
 use Rattle.unpadded_cover.specs.Unpadded.{unionUnpadded, AnimatedTransform·coverUnpadded, CoverUnpadded}
 
 -- ---- pads of +0
@@ -83,12 +86,6 @@ stored-zero : PadWithin positiveZero positiveZero
 stored-zero = record { high-finite = zero-finite; from-zero = zero-refl; most = zero-refl }
 
 -- ---- a box that has grown by zero
--- What is a box is finite, with corners that are values of binary32.
-record Plain (r : BoundsAnswer) : Type 0 where
-  finite : (b : Bounds3f) → r ≡ Bounds b → T (Bounds3f·isFinite b)
-  low : (b : Bounds3f) → r ≡ Bounds b → Binary32 (b .«p_min»)
-  high : (b : Bounds3f) → r ≡ Bounds b → Binary32 (b .«p_max»)
-
 equal-finite : {b c : Bounds3f} → T (Bounds3f·isFinite b) → Subset c b → Subset b c → T (Bounds3f·isFinite c)
 equal-finite {b} {c} f s t =
     let l = low-finite b f in
@@ -106,38 +103,37 @@ equal-finite {b} {c} f s t =
     })
 
 grow-same : (pad : Judged) (r : BoundsAnswer) → pad .refusal ≡ 0
-    → PadWithin (pad .interval .high) positiveZero → Plain r → BoundsAnswer·Same (BoundsAnswer·grow pad r) r
-grow-same pad (Refused n) e w p = rw (grow-refused pad n) (same-refusal n)
-grow-same pad (Bounds b) e w p =
-    let f = p .finite b refl in
+    → PadWithin (pad .interval .high) positiveZero → Valued r → BoundsAnswer·Same (BoundsAnswer·grow pad r) r
+grow-same pad (Refused n) e w v = rw (grow-refused pad n) (same-refusal n)
+grow-same pad (Bounds b) e w v =
+    let f = v .values b refl .finite in
     let F = pad-within-finite w in
-    let (i, o) = grow-zero f (p .low b refl) (p .high b refl) in
+    let (i, o) = grow-zero f (v .values b refl .low) (v .values b refl .high) in
     let inner : Subset (Bounds3f·grow (pad .interval .high) b) b = subset-trans (grow-subset F zero-finite (w .most) f f (finite-self f)) i in
     let outer : Subset b (Bounds3f·grow (pad .interval .high) b) = subset-trans o (grow-subset zero-finite F (w .from-zero) f f (finite-self f)) in
     rw (grow-box pad b e (equal-finite f inner outer)) (same-box inner outer)
 
 -- ---- boxes of intervals
 enclosed-values : (n : ℕ) (M : IntervalMatrix) (P : IntervalVector)
-    → Binary32 (IntervalVector·bounds (Pose·encloseTransformPoint n M P .vector) .«p_min»)
-    × Binary32 (IntervalVector·bounds (Pose·encloseTransformPoint n M P .vector) .«p_max»)
+    → T (Bounds3f·isFinite (IntervalVector·bounds (Pose·encloseTransformPoint n M P .vector)))
+    → Values (IntervalVector·bounds (Pose·encloseTransformPoint n M P .vector))
 unfolding Pose·encloseTransformPoint Program·enclose Expr·encloseAll Expr·enclose Judged·addEnclosure Judged·judge Interval·addEnclosure
-enclosed-values n M P = (
-  record { x = add-fits binary32 _ _; y = add-fits binary32 _ _; z = add-fits binary32 _ _ },
-  record { x = add-fits binary32 _ _; y = add-fits binary32 _ _; z = add-fits binary32 _ _ },
-)
+enclosed-values n M P f = record {
+  finite = f;
+  low = record { x = add-fits binary32 _ _; y = add-fits binary32 _ _; z = add-fits binary32 _ _ };
+  high = record { x = add-fits binary32 _ _; y = add-fits binary32 _ _; z = add-fits binary32 _ _ };
+}
 
-enclosure-plain : (n : ℕ) (M : IntervalMatrix) (P : IntervalVector)
+enclosure-valued : (n : ℕ) (M : IntervalMatrix) (P : IntervalVector)
     → (Pose·encloseTransformPoint n M P .refusal ≡ 0
     → Pairwise Refines (IntervalVector·list (Pose·encloseTransformPoint n M P .vector)) (IntervalVector·list (Pose·encloseTransformPoint n M P .vector)))
-    → Plain (BoundsAnswer·fromEnclosure (Pose·encloseTransformPoint n M P))
-enclosure-plain n M P f =
+    → Valued (BoundsAnswer·fromEnclosure (Pose·encloseTransformPoint n M P))
+enclosure-valued n M P f =
     let j = Pose·encloseTransformPoint n M P in
-    let (l, h) = enclosed-values n M P in
     record {
-      finite = λ b e. let g = from-enclosure-accepted j b e in
-          subst (λ (x : Bounds3f). T (Bounds3f·isFinite x)) (g .bounds) (refines-finite (j .vector) (j .vector) (f (g .accepted)));
-      low = λ b e. subst (λ (x : Bounds3f). Binary32 (x .«p_min»)) (from-enclosure-accepted j b e .bounds) l;
-      high = λ b e. subst (λ (x : Bounds3f). Binary32 (x .«p_max»)) (from-enclosure-accepted j b e .bounds) h;
+      values = λ b e.
+          let g = from-enclosure-accepted j b e in
+          subst Values (g .bounds) (enclosed-values n M P (refines-finite (j .vector) (j .vector) (f (g .accepted))));
     }
 
 -- ---- the cover
@@ -148,7 +144,7 @@ stored-same t s b r =
     let B = Bounds3f·intervals b in
     let M = IntervalMatrix·point (t .m) in
     grow-same (Pad·stored positiveZero) _ refl stored-zero
-    (enclosure-plain 0 M B (λ z. transformPoint-isotone 0 refl B B (stored-refines (t .m) (s .matrix)) r z .1))
+    (enclosure-valued 0 M B (λ z. transformPoint-isotone 0 refl B B (stored-refines (t .m) (s .matrix)) r z .1))
 
 module _ {m : AnimatedTransform} (built : Built m) (e0 : m .pad0 ≡ positiveZero) (e1 : m .pad1 ≡ positiveZero) (b : Bounds3f) (r : BoxRefines b) where
   abbrev a : PoseConstants
@@ -164,7 +160,7 @@ module _ {m : AnimatedTransform} (built : Built m) (e0 : m .pad0 ≡ positiveZer
       let (z, w) = pad-zero u in
       rw (e0, e1)
       (grow-same (Pad·enclose positiveZero positiveZero D) _ z w
-      (enclosure-plain (pose .refusal) (pose .matrix) B (λ z. point-isotone (built-valid built) s0 s1 u (subset-self u) B B r z .1)))
+      (enclosure-valued (pose .refusal) (pose .matrix) B (λ z. point-isotone (built-valid built) s0 s1 u (subset-self u) B B r z .1)))
 
   start-same : BoundsAnswer·Same (Transform·enclosePadded (m .pad0) (m .«start_transform») b) (Transform·encloseBounds (m .«start_transform») b)
   start-same = rw e0 (stored-same (m .«start_transform») (built-judged built .start) b r)
@@ -198,8 +194,11 @@ cover-unpadded m b d built e0 e1 = go (eqb (coverRefusal b d) 0) (m .«actually_
     larger = rw (e0, e1, larger-zero)
 
     go : (s t : Bool) → (s ≡ true → coverRefusal b d ≡ 0) → m .«actually_animated» ≡ t
-        → BoundsAnswer·Same (cond s (AnimatedTransform·encloseMotion m b d) (Refused (coverRefusal b d)))
-        (cond s (cond t slices start) (Refused (coverRefusal b d)))
-    go true true f g = rw (motion-slices m b d g) (slices-same built e0 e1 b (box-refines b (cover-box b d (f refl))) d (2 ^ d) (omega arith))
-    go true false f g = rw (motion-stored m b d g, larger) (start-same built e0 e1 b (box-refines b (cover-box b d (f refl))))
-    go false t f g = same-refusal (coverRefusal b d)
+        → cond s (BoundsAnswer·positiveZeros (AnimatedTransform·encloseMotion m b d)) (Refused (coverRefusal b d))
+        ≡ cond s (BoundsAnswer·positiveZeros (cond t slices start)) (Refused (coverRefusal b d))
+    go true true f g =
+        ap BoundsAnswer·positiveZeros (motion-slices m b d g)
+        ∙ answers-zeros (slices-same built e0 e1 b (box-refines b (cover-box b d (f refl))) d (2 ^ d) (omega arith))
+    go true false f g =
+        ap BoundsAnswer·positiveZeros (motion-stored m b d g ∙ larger) ∙ answers-zeros (start-same built e0 e1 b (box-refines b (cover-box b d (f refl))))
+    go false t f g = refl

@@ -1,1 +1,1 @@
-// With pads of zero a cover is document 01's, a zero's sign aside. Laws in proofs/. No code.
+// With pads of +0 a cover is equal to document 01's, the one without pads. Laws in proofs/. No code.

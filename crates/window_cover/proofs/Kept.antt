@@ -18,6 +18,7 @@ use Rattle.transform.specs.declared.BoundsAnswer.the-variants.{Refused}
 use Rattle.transform.specs.Answer.{BoundsAnswer·refusal, BoundsAnswer·bounds}
 use Rattle.transform.proofs.Answer.{one-of-wider}
 use Rattle.bounds_query.specs.Query.{maxDepth, coverRefusal}
+use Rattle.bounds_query.specs.Zeros.{BoundsAnswer·positiveZeros}
 use Rattle.motion_cover.specs.Answer.{BoundsAnswer·Numbered}
 use Rattle.motion_cover.proofs.Contains.{cover-depth}
 use Rattle.cover_depth.specs.Finer.{Within}
@@ -88,7 +89,7 @@ module _ (rows : List Rows) (b : Bounds3f) (depth : ℕ) (w : Window) (some : le
   unfolding Moves·windowCover Chain·windowCover
   arguments-refused {n} k e h = rw (ne-eqb (length rows) 0 some, k, e, ne-eqb (coverRefusal b depth) 0 (λ j. h (e ∙ j)))
 
-  pub window-worked : {r : BoundsAnswer} → Window·refusal w ≡ 0 → coverRefusal b depth ≡ 0
-      → r ≡ Chain·encloseWindow (Moves·chain rows) b depth w → r ≡ Moves·windowCover rows b depth w
+  pub window-worked : {r u : BoundsAnswer} → Window·refusal w ≡ 0 → coverRefusal b depth ≡ 0
+      → u ≡ Chain·encloseWindow (Moves·chain rows) b depth w → r ≡ BoundsAnswer·positiveZeros u → r ≡ Moves·windowCover rows b depth w
   unfolding Moves·windowCover Chain·windowCover
-  window-worked k e h = rw (ne-eqb (length rows) 0 some, k, e) h
+  window-worked k e h z = rw (ne-eqb (length rows) 0 some, k, e, ← h) z

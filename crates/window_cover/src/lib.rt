@@ -1,5 +1,5 @@
 // The cover of one window of a kept chain's times: slices of all moves, then poses,
-// then moves with equal poses, joined in that order, of which the first refusal stands.
+// then moves with equal poses, joined in that order, of which the first refusal stands. Its zeros are +0.
 use animated_transform::AnimatedTransform;
 use bounds3::Bounds3f;
 use transform::BoundsAnswer;
@@ -107,7 +107,7 @@ fn union_moves(
     r
 }
 
-// A box that holds the box b at every time of a window of a kept chain. Refused with 21 for ticks that don't rise,
+// A box that holds the box b at every time of a window of a kept chain; its zeros are +0. Refused with 21 for ticks that don't rise,
 // then 6, 7 or 8, then 5 or 10, and with 12 where there are no moves. Accuracy: encloses.
 pub fn cover(moves: &[[[f32; 4]; 45]], b: Bounds3f, depth: u32, w: Window) -> BoundsAnswer
     ensures value { λ r. ⌜ r ≡ Moves·windowCover (now (moves .entry)) b depth w ⌝ }
@@ -132,5 +132,5 @@ pub fn cover(moves: &[[[f32; 4]; 45]], b: Bounds3f, depth: u32, w: Window) -> Bo
     let asked = window_times::asks_first(w, m.start_time);
     let first = union_pose(slices, asked, m.pad0, m.start_transform, b);
     let poses = union_moves(1, first, moves, b, depth, w);
-    union_moves(2, poses, moves, b, depth, w)
+    bounds_query::positive_zeros(union_moves(2, poses, moves, b, depth, w))
 }

@@ -1,4 +1,5 @@
--- `cover` meets its contract: the tests, then the three passes with the first pose between them; the other clauses follow from the value (`window-clauses`).
+-- `cover` meets its contract: the tests, the three passes with the first pose between them, then the zeros; the other clauses follow from the value
+-- (`window-clauses`).
 use borrow.Author.Needs.{needs}
 use borrow.Author.Tests.{eq-eqb}
 use mathlib.Core.Path.{sym, _∙_}
@@ -59,10 +60,15 @@ union-moves-requires-2 c κs = search needs
 union-moves-requires-3 : tie.Need-union-moves-requires-3
 union-moves-requires-3 c κs = search needs
 
+positive-zeros-requires : tie.Need-positive-zeros-requires
+positive-zeros-requires c κs = search needs
+
 returns-4 : tie.Need-returns-4
 unfolding firstPoseBoxes
 returns-4 c =
-    let pose = c .before .before in
+    let equal = c .before in
+    let poses = equal .before in
+    let pose = poses .before in
     let slices = pose .before .before in
     let rows = slices .before .before in
     let box = rows .before .before in
@@ -74,10 +80,10 @@ returns-4 c =
     window-clauses (a .moves .now) (a .b) (a .depth) (a .w)
     (window-worked (a .moves .now) (a .b) (a .depth) (a .w) (some .if1 .left) (sym (ticks .before .refusal .ensures) ∙ ticks .if2 .left) none
     (worked (a .moves .now) (a .b) (a .depth) (a .w) (slices .union-moves .result) (pose .union-pose .result)
-    (c .before .union-moves2 .result) (c .union-moves3 .result) (some .if1 .left)
+    (poses .union-moves2 .result) (equal .union-moves3 .result) (some .if1 .left)
     (rw (slices .before .default .ensures, held) at (slices .union-moves .ensures))
     (rw (pose .before .asks-first .ensures, rows .from-rows .ensures) at (pose .union-pose .ensures))
-    (rw held at (c .before .union-moves2 .ensures)) (rw held at (c .union-moves3 .ensures))))
+    (rw held at (poses .union-moves2 .ensures)) (rw held at (equal .union-moves3 .ensures))) (c .positive-zeros .ensures))
 
 pub cover-spec : {M : Type 1} → statement M
 cover-spec =
@@ -96,4 +102,5 @@ cover-spec =
     union-pose-requires
     union-moves-requires-2
     union-moves-requires-3
+    positive-zeros-requires
     returns-4)
