@@ -159,6 +159,11 @@ pub fn union(a: [f32; 6], b: [f32; 6]) -> [f32; 6] {
     std::array::from_fn(|i| if i < 3 { least(a[i], b[i]) } else { greatest(a[i], b[i]) })
 }
 
+/// A finished cover's zeros are +0: rounded to nearest, -0 + +0 is +0, and every other value stays.
+pub fn positive_zeros(b: [f32; 6]) -> [f32; 6] {
+    b.map(|x| x + 0.0)
+}
+
 /// A quaternion x y z w.
 type Quaternion = [Interval; 4];
 
@@ -245,6 +250,7 @@ enum Part {
 }
 
 /// The union of a cover's boxes at a depth: 6, 7, 8, then start box, end box, slices in rising order, each handed to `grow` as soon as it is worked out.
+/// Its zeros are +0.
 fn union_of_boxes(m: &Move, b: &[f32; 6], depth: u64, grow: impl Fn(Part, [f32; 6]) -> Judged<[f32; 6]>) -> Judged<[f32; 6]> {
     check_box(b)?;
     if depth > MAX_DEPTH {
@@ -254,7 +260,7 @@ fn union_of_boxes(m: &Move, b: &[f32; 6], depth: u64, grow: impl Fn(Part, [f32; 
     let f = &m.fields;
     let start = moved(&matrix(&f.start.m.m), &b)?;
     if f.start == f.end {
-        return grow(Part::EqualPoses, start);
+        return grow(Part::EqualPoses, start).map(positive_zeros);
     }
     let start = grow(Part::Start, start)?;
     let mut covered = union(start, grow(Part::End, moved(&matrix(&f.end.m.m), &b)?)?);
@@ -264,7 +270,7 @@ fn union_of_boxes(m: &Move, b: &[f32; 6], depth: u64, grow: impl Fn(Part, [f32; 
         let dt = Interval { low: end(k), high: end(k + 1), refusal: 0 };
         covered = union(covered, grow(Part::Slice(dt), slice(m, dt, &b)?)?);
     }
-    Ok(covered)
+    Ok(positive_zeros(covered))
 }
 
 /// Document 01's cover of a box x0 y0 z0 x1 y1 z1, which knows no pads; of a rigid move the same with the identity for S.
@@ -353,6 +359,10 @@ mod tests {
             }
             moves
         }
+    }
+
+    fn bits(b: [f32; 6]) -> [u32; 6] {
+        b.map(f32::to_bits)
     }
 
     fn a() -> Move {
@@ -444,7 +454,26 @@ mod tests {
         for m in random.moves(300) {
             let b = [-1.0, -2.0, 0.0, 1.0, 0.5, 0.0];
             for (depth, pads) in [(0, [0.0, 0.0]), (3, [0.0, 0.0]), (3, [-0.0, 0.0]), (4, [-0.0, -0.0])] {
-                assert_eq!(padded_cover(&Move { pads, ..m.clone() }, &b, depth), cover(&m, &b, depth));
+                assert_eq!(padded_cover(&Move { pads, ..m.clone() }, &b, depth).map(bits), cover(&m, &b, depth).map(bits));
+            }
+        }
+    }
+
+    /// Of equal poses and of others; the boxes of which a cover is the union keep their signs.
+    #[test]
+    fn zeros_are_positive() {
+        let pose = |x: f32| {
+            let mut pose = Matrix4x4::default();
+            [pose.m[0][3], pose.m[1][3], pose.m[2][3]] = [x, -0.0, -0.0];
+            pose
+        };
+        let b = [-0.0; 6];
+        assert_eq!(padded_pose(&pose(-0.0), 0.0, &b).map(bits), Ok([1 << 31, 1 << 31, 1 << 31, 0, 0, 0]));
+        for (end, high) in [(-0.0, 0.0), (1.0, 1.0)] {
+            let m = build(Kind::Plain, 0.0, &pose(-0.0), 1.0, &pose(end)).unwrap();
+            for depth in 1..4 {
+                let expected = Ok([0.0, 0.0, 0.0, high, 0.0, 0.0]).map(bits);
+                assert_eq!((cover(&m, &b, depth).map(bits), padded_cover(&m, &b, depth).map(bits)), (expected, expected));
             }
         }
     }

@@ -68,7 +68,7 @@ impl Chain {
         Ok(boxes)
     }
 
-    /// 21 for ticks that don't rise, 6, 7, 8, then the union of the window's boxes.
+    /// 21 for ticks that don't rise, 6, 7, 8, then the union of the window's boxes, its zeros +0.
     pub fn window_cover(&self, b: &[f32; 6], depth: u64, w: Window) -> Judged<[f32; 6]> {
         if !(w.earlier < w.later) {
             return Err(TICKS);
@@ -77,7 +77,8 @@ impl Chain {
         if depth > MAX_DEPTH {
             return Err(DEPTH);
         }
-        Ok(self.window_boxes(b, depth, w)?.into_iter().reduce(cover::union).expect("a time of the window belongs to a move"))
+        let covered = self.window_boxes(b, depth, w)?.into_iter().reduce(cover::union).expect("a time of the window belongs to a move");
+        Ok(cover::positive_zeros(covered))
     }
 
     /// The windows, from 0, in which the covers of two chains meet: 21, 6 and 7 of each box, 8, then each window's covers, this chain's first.

@@ -238,6 +238,17 @@ fn fixed_zeros<W: Write>(q: &mut Questions<W>) {
             q.ask_times(0, 15, &p, &[-INFINITY, 1.0, 1.0, 1.0f32.next_up(), 2.0]);
         }
     }
+    q.new_case();
+    for kind in [Kind::Plain, Kind::Rigid] {
+        for pad in [0.0, -0.0] {
+            let chain: Chain = at_whole_times(&negative_zeros()).into_iter().map(|pose| Pose { pad, ..pose }).collect();
+            q.ask_poses_as(kind, "chain", 0, &chain);
+            q.ask_poses_as(kind, "lone", 1, &chain[..2]);
+            for slot in 0..2 {
+                q.ask(&format!("ccover {slot} 1"), &[&[-0.0; 6]]);
+            }
+        }
+    }
 }
 
 /// The line as long as one may be, and one byte more.

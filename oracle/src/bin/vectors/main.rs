@@ -201,6 +201,11 @@ fn translated(x: f32, y: f32, z: f32) -> [f32; 16] {
     from_rows([[1., 0., 0.], [0., 1., 0.], [0., 0., 1.]], [x, y, z])
 }
 
+/// Poses that leave a box of -0 where it is, and then move it along x: what they make of it has zeros of -0, and a cover's are +0.
+fn negative_zeros() -> [[f32; 16]; 3] {
+    [translated(-0., -0., -0.), translated(-0., -0., -0.), translated(1., -0., -0.)]
+}
+
 fn diagonal(x: f32, y: f32, z: f32, w: f32) -> [f32; 16] {
     [x, 0., 0., 0., 0., y, 0., 0., 0., 0., z, 0., 0., 0., 0., w]
 }
@@ -1142,6 +1147,14 @@ fn fixed_covers<W: Write>(q: &mut Questions<W>) {
     }
     for depth in ["", "x", "-1", "+1", "007", "18446744073709551616"] {
         q.ask(&format!("cover {depth}"), &[&ORIGIN]);
+    }
+    let [there, still, away] = negative_zeros();
+    for poses in [[there, still], [still, away], [away, still]] {
+        q.ask_move(&Move { times: [0.0, 1.0], poses });
+        for depth in [1, 4] {
+            ask_cover(q, depth, &[-0.0; 6]);
+            ask_cover(q, depth, BOXES[3].as_slice());
+        }
     }
 }
 

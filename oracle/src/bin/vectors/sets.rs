@@ -1,6 +1,6 @@
 //! Questions about sets of boxes: each case fills a slot and asks for the covers of some boxes at one depth, and at times for a box's own.
 
-use super::chains::{of_move, swing_of_six, Chain, SLOTS};
+use super::chains::{at_whole_times, of_move, swing_of_six, Chain, SLOTS};
 use super::*;
 use oracle::chain::MOST_BOXES;
 
@@ -48,10 +48,13 @@ pub fn fixed<W: Write>(q: &mut Questions<W>) {
         boxes[place][4] = INFINITY;
         q.ask_set(0, 2, &boxes);
     }
-    // Zeros of both signs, of which the union keeps the first.
+    // Zeros of both signs.
     let zeros = [[0.0; 6], [-0.0; 6]];
     q.ask_set(0, 2, &zeros);
     q.ask_set(0, 2, &[zeros[1], zeros[0]]);
+    q.ask_chain(3, &at_whole_times(&negative_zeros()));
+    q.ask_set(3, 2, &zeros);
+    q.ask_set(3, 2, &[zeros[1], zeros[0], zeros[1]]);
     for depth in ["4294967296", "18446744073709551615", "18446744073709551616", "", "x", "-1"] {
         q.ask(&format!("cset 0 {depth}"), &[&good[1]]);
     }

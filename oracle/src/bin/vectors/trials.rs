@@ -1,6 +1,6 @@
 //! Questions about poses that are tried: each case fills a slot and tries a pose at some places, at times with the cover of the chain as it is.
 
-use super::chains::{of_move, swing_of_six, Chain, Pose, SLOTS};
+use super::chains::{at_whole_times, of_move, swing_of_six, Chain, Pose, SLOTS};
 use super::*;
 
 impl<W: Write> Questions<W> {
@@ -72,6 +72,13 @@ pub fn fixed<W: Write>(q: &mut Questions<W>) {
                 q.ask_trial(0, place, 3, &Pose { matrix, ..own }, b);
             }
         }
+    }
+    // Zeros of -0.
+    let zeros = at_whole_times(&negative_zeros());
+    q.ask_chain(0, &zeros);
+    for (place, pose) in zeros.iter().enumerate() {
+        q.ask_trial(0, place, 1, pose, &[-0.0; 6]);
+        q.ask_trial(0, place, 1, &Pose { matrix: translated(-0.0, 2.0, -0.0), ..*pose }, &[-0.0; 6]);
     }
     // The fullest chain: its first place, its last and one in the middle.
     let full: Chain = (0..32).map(|i| Pose { time: i as f32, matrix: translated(i as f32, 0.0, 0.0), pad: 0.0 }).collect();

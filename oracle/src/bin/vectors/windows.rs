@@ -1,6 +1,6 @@
 //! Questions about two booms over one bay: each case fills two slots and asks for the windows in which the two meet, and for the covers of single windows.
 
-use super::chains::{of_move, swing_of_six, Chain, Pose};
+use super::chains::{at_whole_times, of_move, swing_of_six, Chain, Pose};
 use super::*;
 
 const FIRST: usize = 0;
@@ -61,6 +61,12 @@ fn fixed_covers<W: Write>(q: &mut Questions<W>) {
         for ticks in [[-2.0, -1.0], [-1.0, 0.0], [0.0, 1.0], [0.5, 0.75], [1.0, 1.5], [1.0, 2.0], [1.5, 2.0], [2.0, 3.0], [3.0, 4.0], [-1.0, 3.0]] {
             q.ask_window(FIRST, 1, &BOXES[1], ticks);
         }
+    }
+    // Zeros of -0: before the chain, at its rest, in a slice.
+    q.new_case();
+    q.ask_chain(FIRST, &at_whole_times(&negative_zeros()));
+    for ticks in [[-1.0, -0.5], [0.0, 0.5], [0.5, 1.5], [1.25, 1.5], [1.5, 3.0]] {
+        q.ask_window(FIRST, 1, &[-0.0; 6], ticks);
     }
     // A slice that is refused with 10 before a pose or a rest that is refused with 5: the poses turn so far that a quaternion's square may be zero.
     q.new_case();
