@@ -114,9 +114,10 @@ def changed(change, question, answer):
         return b"refused 5"
     if change == "list_unanswered" and word == "ctimes":
         return b"refused 5"
-    if change == "box_zeros" and word in ("motion", "pmotion", "cover", "bounds", "ccover", "cset", "cmotion", "cpmotion", "try"):
+    if change == "box_zeros" and word in ("motion", "pmotion", "bounds", "cmotion", "cpmotion"):
         return re.sub(rb"\b[08]0000000\b", lambda zero: b"80000000" if zero[0] == b"00000000" else b"00000000", answer)
-    if change == "point_zero" and word in ("point", "cpoint") and b" 00000000" in answer:
+    is_of_zero = change == "point_zero" and word in ("point", "cpoint") or change == "cover_zero" and word in ("cover", "ccover", "cset", "try", "wcover")
+    if is_of_zero and b" 00000000" in answer:
         return answer.replace(b" 00000000", b" 80000000", 1) if first_time(change) else answer
     if change == "other_time" and word == "write" and answer.startswith(b"ok "):
         # The last digit of the first pose's time.
@@ -294,6 +295,8 @@ def cover(change):
     printed = b"x0 y0 z0 x1 y1 z1\n" + answer[3:] + b"\n" if answer.startswith(b"ok") else answer.replace(b" ", b"\n") + b"\n"
     if is_wrong and (printed.startswith(b"x0") and first_time("box") or printed.startswith(b"refused") and first_time("number")):
         printed = other_digit(printed[:-1]) + b"\n"
+    if change == "zero_file" and printed.startswith(b"x0") and b"00000000" in printed and first_time("zero"):
+        printed = printed.replace(b"00000000", b"80000000", 1)
     sys.stdout.buffer.write(printed)
 
 
@@ -342,7 +345,8 @@ def main():
     results += [
         trial("a built move refused", "bounds", ["built"], 1, ["move"]),
         trial("another number of one refusal", "moves", ["refusal"], 1),
-        trial("every zero of every box with the other sign", "bounds,boxes,covers", ["box_zeros"], 0),
+        trial("every zero of every box of the original's with the other sign", "bounds,boxes,motion", ["box_zeros"], 0),
+        trial("one zero of a cover with the other sign", "covers", ["cover_zero"], 1, ["cover"]),
         trial("one zero of a point with the other sign", "moves", ["point_zero"], 1, ["point"]),
         trial("every NaN with other bits", "numbers,matrices", ["nan_bits"], 0),
         trial("an answer missing", "angles", ["missing"], 1, ["no answer"]),
@@ -357,7 +361,8 @@ def main():
         trial("33 poses accepted", "chains", ["too_long"], 1, ["chain"]),
         trial("another number of one chain's refusal", "chains", ["refusal"], 1),
         trial("a list that falls, or has not its places, answered", "chains", ["falling"], 1, ["ctimes"]),
-        trial("every zero of every box of chains with the other sign", "chains", ["box_zeros"], 0),
+        trial("every zero of every motion box of chains with the other sign", "chains", ["box_zeros"], 0),
+        trial("one zero of a chain's cover with the other sign", "chains", ["cover_zero"], 1, ["ccover"]),
         trial("one zero of a chain's point with the other sign", "chains", ["point_zero"], 1, ["cpoint"]),
         trial("slots kept after a refusal", "chains", ["slots_kept"], None, ["cpoint"], cases=200),
         trial("one slot for all", "chains", ["one_slot"], None, ["cpoint"], cases=200),
@@ -385,7 +390,7 @@ def main():
         trial("17 boxes accepted", "sets", ["many_boxes"], 1, ["cset"]),
         trial("another number of one set's refusal", "sets", ["refusal"], 1),
         trial("the last refused box's number", "sets", ["last_refused"], None, ["cset"]),
-        trial("every zero of every box of sets with the other sign", "sets", ["box_zeros"], 0),
+        trial("one zero of a set's covers with the other sign", "sets", ["cover_zero"], 1, ["cset"]),
         trial("sets without their last cover", "sets", ["last_missing"], None, ["cset"]),
         trial("the union without its last box, on both sides", "sets", ["union_short"], None, ["guarantee: a point leaves"], BOTH_OF_CHAINS),
         trial("one box's cover given to all, on both sides", "sets", ["first_for_all"], None, ["guarantee: a point leaves"], BOTH_OF_CHAINS),
@@ -396,12 +401,14 @@ def main():
         trial("poses tried as they are", "trials", [], 0, cases=200),
         trial("another number of one place", "trials", ["nineteen"], 1, ["try"]),
         trial("another number of one trial's refusal", "trials", ["refusal"], 1),
+        trial("one zero of a trial with the other sign", "trials", ["cover_zero"], 1, ["try"]),
         trial("every trial wider than its copy, on both sides", "trials", ["tried_otherwise"], None, ["a trial is not what a changed copy answers"], BOTH_OF_CHAINS),
         trial("joins as they are", "joins", [], 0, cases=200),
         trial("another number of one mismatch", "joins", ["twenty"], 1, ["join"]),
         trial("joined covers wider than the union, on both sides", "joins", ["joined_wider"], None, ["a joined chain and the two"], BOTH_OF_CHAINS),
         trial("windows as they are", "windows", [], 0, cases=200),
         trial("another number of ticks", "windows", ["twenty_one"], 1),
+        trial("one zero of a window's cover with the other sign", "windows", ["cover_zero"], 1, ["wcover"]),
         trial("the last window left off every list, on both sides", "windows", ["left_off"], None, ["windows, and the covers of each"], BOTH_OF_CHAINS),
         trial("every window listed above depth 2, on both sides", "windows", ["windows_added"], None, ["windows at a greater depth"], BOTH_OF_CHAINS),
         trial("covers of windows that are a corner, on both sides", "windows", ["window_narrow"], None, ["a point in its window's cover"], BOTH_OF_CHAINS),
@@ -423,6 +430,7 @@ def main():
         trial("the last row that is reached left off", "rows", ["row_left_off"], None, ["rows"]),
         trial("files as they are", "files", ["file"], 0, cases=200),
         trial("a digit of one file's box and of one file's refusal", "files", ["wrong_file"], 2, ["cover, the program"], cases=200),
+        trial("one zero of a file's cover with the other sign", "files", ["zero_file"], 1, ["cover, the program"], cases=200),
         trial("a space at the end of one rewritten file", "files", ["wrong_text"], None, ["rewrite, the program"], cases=200),
         trial("one file rewritten with the old thirteen names", "files", ["old_names"], None, ["rewrite, the program"], cases=200),
         trial("stretches as they are", "stretches", [], 0, cases=200),
@@ -442,7 +450,7 @@ if __name__ == "__main__":
         rewrite(os.environ["WRONG"])
     elif os.path.basename(sys.argv[0]) == "stretch":
         stretch(os.environ["WRONG"])
-    elif os.environ["WRONG"] in ("file", "wrong_file", "wrong_text", "old_names", "no_pads", "wrong_lines"):
+    elif os.environ["WRONG"] in ("file", "wrong_file", "zero_file", "wrong_text", "old_names", "no_pads", "wrong_lines"):
         cover(os.environ["WRONG"])
     else:
         answers(os.environ["WRONG"].split())

@@ -1,6 +1,6 @@
 #!/usr/bin/env bash
 # Runs the programs on the files of examples/ and holds what they print to what is expected: a `main` has no contract, and these runs hold what it reads and prints.
-#   `cover`     on each move file of examples/ and examples/refused/: its .expected; zeros count as equal whatever their sign.
+#   `cover`     on each move file of examples/ and examples/refused/: its .expected.
 #   `rewrite`   on the same: the one form of a file of examples/ is the file with its pads, +0 where it has none, that of examples/rewritten/NAME.*.txt is that of
 #               examples/NAME.txt, byte for byte, and the refused ones are refused with the same numbers.
 #   `stretch`   on the same: it accepts the files of examples/, and for one of examples/refused/ prints its .stretch, or its .expected where it has none.
@@ -34,16 +34,13 @@ fi
 [ $# -eq 0 ] || { sed -n '2,12s/^# \{0,1\}//p' "$0"; exit 2; }
 # A file of thirteen names with its pads of +0.
 with_pads() { awk 'NR == 1 { old = NF == 13; print $0 (old ? " pad" : ""); next } $1 == "x0" { old = 0 } { print $0 (old ? " 00000000" : "") }' "$1"; }
-same_zeros() { sed 's/\b80000000\b/00000000/g' "$1"; }
 made=$(mktemp) input=$(mktemp) eleven=$(mktemp) form=$(mktemp)
 trap 'rm -f "$made" "$input" "$eleven" "$form"' EXIT
 printf 'refused\n11\n' >"$eleven"
 count=0 status=0
-# Runs a program on a file and compares; a box's zeros alone may differ in sign.
+# Runs a program on a file and compares.
 try() { # PROGRAM NAME FILE EXPECTED [WORDS FOR IT]
-    local filter=cat
-    [ "$1" != cover ] || filter=same_zeros
-    if "target/bin/$1" <"$3" >"$made" 2>&1 && [ -s "$4" ] && diff -q <("$filter" "$4") <("$filter" "$made") >/dev/null; then
+    if "target/bin/$1" <"$3" >"$made" 2>&1 && [ -s "$4" ] && cmp -s "$4" "$made"; then
         count=$((count + 1))
     else
         echo "EXAMPLE $2: target/bin/$1 does not print what ${5:-$4} has:"

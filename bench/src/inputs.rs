@@ -125,7 +125,7 @@ impl Case {
         assert_eq!(array(&port.bounds), judged::bounds_values(&original.bounds), "the motion box of {:?}", self.bounds);
         assert_eq!(port.examined, original.examined, "the intervals examined for {:?}", self.bounds);
         let (Ok(port), Ok(second)) = (self.port.cover(&self.bounds, 8), cover(&self.original, &array(&self.bounds), 8)) else { return false };
-        assert_eq!(array(&port), second, "the cover of {:?}", self.bounds);
+        assert!(same_bits(&array(&port), &second), "the cover of {:?}: {port:?}, the second implementation's {second:?}", self.bounds);
         true
     }
 }

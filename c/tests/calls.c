@@ -20,13 +20,6 @@ static void expect(bool holds, const char *what, int line)
 }
 #define EXPECT(condition) expect((condition), #condition, __LINE__)
 
-static uint32_t bits_of(float x)
-{
-    uint32_t bits;
-    memcpy(&bits, &x, sizeof bits);
-    return bits;
-}
-
 static float float_of(uint32_t bits)
 {
     float x;
@@ -34,13 +27,10 @@ static float float_of(uint32_t bits)
     return x;
 }
 
-/* The same bits, but for a zero's sign. */
+/* The same bits. */
 static bool same(const float *a, const float *b, size_t count)
 {
-    for (size_t i = 0; i < count; i++)
-        if (bits_of(a[i]) != bits_of(b[i]) && !(a[i] == 0 && b[i] == 0))
-            return false;
-    return true;
+    return memcmp(a, b, count * sizeof *a) == 0;
 }
 
 /* ---- all that is lent for an answer, in one place, so that a refusal is seen to leave all of it alone */
@@ -170,6 +160,18 @@ static void moves(void)
     REFUSED(8, jellyplain_cover(&move, point_box, 13, lent.bounds));
     REFUSED(6, jellyplain_cover(&move, nan_box, 13, lent.bounds));
     REFUSED(7, jellyplain_cover(&move, crossed, 13, lent.bounds));
+
+    /* A cover's zeros are +0; a point's keep their signs. */
+    const float minus[6] = {-0.0f, -0.0f, -0.0f, -0.0f, -0.0f, -0.0f};
+    jellyplain_pose from = still(0), to = still(1);
+    for (int i = 0; i < 3; i++)
+        from.matrix[i][3] = to.matrix[i][3] = -0.0f;
+    jellyplain_move resting;
+    ACCEPTED(jellyplain_build(false, &from, &to, &resting));
+    ACCEPTED(jellyplain_point(&resting, 0.5f, minus, lent.moved));
+    EXPECT(same(lent.moved, minus, 3));
+    ACCEPTED(jellyplain_cover(&resting, minus, 1, lent.bounds));
+    EXPECT(same(lent.bounds, point_box, 6));
 
     /* The pad goes from 1 to 3. */
     jellyplain_pose narrow = start, wide = end;

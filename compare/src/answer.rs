@@ -109,20 +109,20 @@ pub fn write_float(line: &mut Vec<u8>, x: f32) {
     line.extend((0..8).rev().map(|place| b"0123456789abcdef"[(x.to_bits() >> (4 * place) & 15) as usize]));
 }
 
-fn same_word(is_box: bool, a: &[u8], b: &[u8]) -> bool {
+fn same_word(either_zero: bool, a: &[u8], b: &[u8]) -> bool {
     a == b
         || match (float(a), float(b)) {
-            (Some(a), Some(b)) => a.is_nan() && b.is_nan() || is_box && a == 0.0 && b == 0.0,
+            (Some(a), Some(b)) => a.is_nan() && b.is_nan() || either_zero && a == 0.0 && b == 0.0,
             _ => false,
         }
 }
 
-/// The same bytes; but any NaN is any NaN, and a box's zeros have either sign.
-pub fn same(is_box: bool, a: &[u8], b: &[u8]) -> bool {
-    a == b || words(a).count() == words(b).count() && words(a).zip(words(b)).all(|(a, b)| same_word(is_box, a, b))
+/// The same bytes; but any NaN is any NaN, and where either zero is meant zeros have either sign.
+pub fn same(either_zero: bool, a: &[u8], b: &[u8]) -> bool {
+    a == b || words(a).count() == words(b).count() && words(a).zip(words(b)).all(|(a, b)| same_word(either_zero, a, b))
 }
 
-/// The questions whose answer is a box, or boxes.
-pub fn answers_a_box(question: &[u8]) -> bool {
-    matches!(words(question).next(), Some(b"motion" | b"pmotion" | b"cover" | b"bounds" | b"ccover" | b"cset" | b"cmotion" | b"cpmotion" | b"try" | b"wcover"))
+/// The questions whose answer is a box of the original's, of which a zero has either sign. A cover's zeros are +0.
+pub fn answers_either_zero(question: &[u8]) -> bool {
+    matches!(words(question).next(), Some(b"motion" | b"pmotion" | b"bounds" | b"cmotion" | b"cpmotion"))
 }

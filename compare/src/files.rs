@@ -2,7 +2,7 @@
 //! tools/move_files.py makes the files, around the moves and boxes of `vectors covers` and the chains and boxes of `vectors chains`, and reads their layout; the
 //! oracle builds the chain, covers the box at depth 10, writes both and looks for the shortest refused stretch. What `rewrite` prints for a file it prints for that text too.
 
-use crate::answer::{bytes, lines, poses, same, text, words};
+use crate::answer::{bytes, lines, poses, text, words};
 use crate::program::{give_up, output_of, run, Programs, Run};
 use crate::report::Report;
 use std::path::Path;
@@ -86,13 +86,6 @@ fn stretched(built: &[u8], stretch: &[u8]) -> Vec<u8> {
     }
 }
 
-/// The same text, but for the signs of the box's zeros.
-fn same_text(a: &[u8], b: &[u8]) -> bool {
-    let split = |text: &[u8]| text.split(|byte| *byte == b'\n').map(<[u8]>::to_vec).collect::<Vec<_>>();
-    let (a, b) = (split(a), split(b));
-    a.len() == b.len() && a.iter().zip(&b).all(|(a, b)| same(true, a, b))
-}
-
 pub fn compare(programs: &Programs, count: usize, seed: u64, report: &mut Report) {
     let rows = values(programs, count, seed);
     let make =
@@ -130,8 +123,7 @@ pub fn compare(programs: &Programs, count: usize, seed: u64, report: &mut Report
             }
         };
         let run_of_cover = run(&programs.cover, &[], file);
-        let is_same = same_text(&run_of_cover.output, &printed(cover));
-        tell("move file, to the program `cover`", "cover, the program", cover, &run_of_cover, is_same);
+        tell("move file, to the program `cover`", "cover, the program", cover, &run_of_cover, run_of_cover.output == printed(cover));
         let (run_of_rewrite, text) = (run(&programs.rewrite, &[], file), rewritten(form));
         tell("move file, to the program `rewrite`", "rewrite, the program", form, &run_of_rewrite, run_of_rewrite.output == text);
         let run_of_stretch = run(&programs.stretch, &[], file);

@@ -1,7 +1,7 @@
 //! Two chains made one, tested from outside: the joined chain answers as the chain of all poses does, up to the shared time as the first, above it as the second, and its cover is the
 //! union of theirs, the first refusal standing. `vectors joins` asks each question of the slots 2, 3, 0 and 1 in turn: the joined chain, that of all poses, the first and the second.
 
-use crate::answer::{accepted, float, lines, poses, questions, same, words, write_float};
+use crate::answer::{accepted, float, lines, poses, questions, words, write_float};
 use crate::report::Report;
 
 /// The slots in the order in which they are asked.
@@ -66,12 +66,11 @@ pub fn test(asked: &[u8], answers: &[u8], report: &mut Report) {
         let is_group = asks.len() == 4
             && asks.iter().zip(ASKED).all(|((question, _), asked)| slot(question) == asked && question[0] == b'c' && !question.starts_with(b"chain"));
         let (Some(shared), true) = (shared, is_group) else { continue };
-        let is_box = question.starts_with(b"ccover");
         if is_whole {
             check(report, "a joined chain and that of all poses", question, answer, asks[1].1, answer == asks[1].1);
         }
         if let Some(expected) = expected(question, shared, asks[2].1, asks[3].1) {
-            check(report, "a joined chain and the two", question, answer, &expected, same(is_box, answer, &expected));
+            check(report, "a joined chain and the two", question, answer, &expected, answer == expected);
         }
     }
 }

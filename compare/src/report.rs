@@ -1,6 +1,6 @@
 //! What was compared and what was found, in numbers and in words.
 
-use crate::answer::{answers_a_box, lines, questions, same, text, words, Kept};
+use crate::answer::{answers_either_zero, lines, questions, same, text, words, Kept};
 use crate::program::Run;
 use std::fmt::Write;
 
@@ -169,7 +169,7 @@ impl Report {
                 self.found("no answer", &[("", before), ("", question), ("project:", a.as_bytes()), ("oracle:", b.as_bytes())]);
                 return;
             };
-            let is_same = same(answers_a_box(question), a, b);
+            let is_same = same(answers_either_zero(question), a, b);
             if !is_same {
                 self.found(name, &[("", before), ("", question), ("project:", a), ("oracle:", b)]);
             }
