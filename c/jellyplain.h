@@ -236,7 +236,7 @@ JELLYPLAIN_CHECKED uint8_t jellyplain_motion_bounds(const jellyplain_move *motio
 
 /* A box that holds every point of the box b at every time but NaN, and that point less and plus the pad at that time on
  * each axis, each rounded; from 2^depth slices of the move. A greater depth, up to 12, is not refused where a lesser
- * was accepted, and its box lies in the lesser's.
+ * was accepted, and its box lies in the lesser's. Its zeros are +0, whatever signs went into them.
  * Refused with 6, 7, 8; 5 or 10. */
 JELLYPLAIN_CHECKED uint8_t jellyplain_cover(const jellyplain_move *motion, const float b[6], uint32_t depth,
                                             float bounds[JELLYPLAIN_RESTRICT 6]);
@@ -294,7 +294,7 @@ JELLYPLAIN_CHECKED uint8_t jellyplain_moves_points(const jellyplain_move *moves,
                                                    float *JELLYPLAIN_RESTRICT answers, size_t places);
 
 /* A box that holds every point of the box b at every time but NaN, less and plus its pad as above, from 2^depth slices
- * of each move; greater depths as above.
+ * of each move; greater depths and zeros as above.
  * Refused with 12 for no moves; 6, 7, 8; 5 or 10. */
 JELLYPLAIN_CHECKED uint8_t jellyplain_moves_cover(const jellyplain_move *moves, size_t count, const float b[6],
                                                   uint32_t depth, float bounds[JELLYPLAIN_RESTRICT 6]);
@@ -329,7 +329,8 @@ typedef struct {
 } jellyplain_windows;
 
 /* A box that holds every point of the box b at every time from one tick to a later one, both included, less and plus
- * its pad as above; each move's share of the window is cut depth times. Greater depths as above. Ticks may be infinite.
+ * its pad as above; each move's share of the window is cut depth times. Greater depths and zeros as above. Ticks may be
+ * infinite.
  * Refused with 12 for no moves; 21 where the ticks don't rise; 6, 7, 8; 5 or 10. */
 JELLYPLAIN_CHECKED uint8_t jellyplain_moves_window_cover(const jellyplain_move *moves, size_t count, const float b[6],
                                                          uint32_t depth, float earlier, float later,

@@ -130,8 +130,8 @@ class Move(_Built):
         each axis, each rounded to 32 bits.
 
         It is from 2^depth slices of the move; a depth more, up to 12, costs twice as much, is not refused where the lesser was accepted,
-        and its box lies in the lesser's. Refused with 6, 7 and 8, in this order, then with 5 or 10, whichever is met first. ValueError for
-        a depth below zero.
+        and its box lies in the lesser's. Its zeros are +0. Refused with 6, 7 and 8, in this order, then with 5 or 10, whichever is met
+        first. ValueError for a depth below zero.
         """
         box = Box()
         checked(functions().cover(self._moves, box_array(b), _depth(depth), box))
@@ -233,8 +233,8 @@ class Chain(_Built):
         """A box that holds every point of `b` at every time but NaN: `point` and `points` answer points inside it, and so they are less and
         plus `pad` on each axis, each rounded to 32 bits.
 
-        It is from 2^depth slices of each move, with depths as for `Move.cover`. Refused with 6, 7 and 8, in this order, then with 5 or 10,
-        whichever is met first. ValueError for a depth below zero.
+        It is from 2^depth slices of each move, with depths as for `Move.cover`, and its zeros are +0. Refused with 6, 7 and 8, in this
+        order, then with 5 or 10, whichever is met first. ValueError for a depth below zero.
         """
         box = Box()
         checked(functions().moves_cover(self._moves, self._count, box_array(b), _depth(depth), box))
@@ -262,7 +262,7 @@ class Chain(_Built):
 
     def window_cover(self, b: Bounds, earlier: float, later: float, depth: int = 10) -> Bounds:
         """A box that holds every point of `b` at every time from one tick to a later one, both included, as `cover` does at all times.
-        Ticks may be infinite.
+        Ticks may be infinite. Its zeros are +0.
 
         Refused with 21 where the ticks don't rise, then as `cover`. ValueError for a depth below zero.
         """

@@ -242,7 +242,7 @@ impl Move {
     }
 
     /// A box that holds every point of `b` at every time but NaN: [`Move::point`] answers a point inside it, and less and plus [`Move::pad`] on each axis, each rounded, that
-    /// point is inside too. It is worked from 2^depth slices of the move, `depth` from 0 to 12; a greater depth costs twice as much and never gives a larger box. Refused with [`Refusal::Query`], [`Refusal::Corners`] and [`Refusal::Depth`], in this
+    /// point is inside too. It is worked from 2^depth slices of the move, `depth` from 0 to 12; a greater depth costs twice as much and never gives a larger box. Its zeros are +0. Refused with [`Refusal::Query`], [`Refusal::Corners`] and [`Refusal::Depth`], in this
     /// order, then with [`Refusal::NotFinite`] or [`Refusal::SquaredLength`], whichever is met first.
     pub fn cover(&self, b: &Bounds, depth: u32) -> Result<Bounds, Refusal> {
         let mut bounds = [0.0; 6];
@@ -426,7 +426,7 @@ impl Chain {
     }
 
     /// A box that holds every point of `b` at every time but NaN: [`Chain::point`] and [`Chain::points`] answer points inside it, and so they are less and plus [`Chain::pad`]. It
-    /// is the union of the moves' covers, each from 2^depth slices. Refused as [`Move::cover`].
+    /// is the union of the moves' covers, each from 2^depth slices, and its zeros are +0. Refused as [`Move::cover`].
     pub fn cover(&self, b: &Bounds, depth: u32) -> Result<Bounds, Refusal> {
         let (moves, mut bounds) = (self.built()?, [0.0; 6]);
         let number = unsafe { library::jellyplain_moves_cover(moves.as_ptr(), moves.len(), &b.to_array(), depth, &mut bounds) };
@@ -452,7 +452,7 @@ impl Chain {
         answered(number, Covers { each: List::front(covers.map(Bounds::from_array), boxes.len()), union: Bounds::from_array(union) })
     }
 
-    /// A box that holds every point of `b` at every time from one tick to a later one, both included, as [`Chain::cover`] does at all times. Ticks may be infinite. Refused with
+    /// A box that holds every point of `b` at every time from one tick to a later one, both included, as [`Chain::cover`] does at all times; its zeros are +0. Ticks may be infinite. Refused with
     /// [`Refusal::Ticks`] where they don't rise, then as [`Chain::cover`].
     pub fn window_cover(&self, b: &Bounds, depth: u32, earlier: f32, later: f32) -> Result<Bounds, Refusal> {
         let (moves, mut bounds) = (self.built()?, [0.0; 6]);
