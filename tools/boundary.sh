@@ -4,7 +4,7 @@
 #   tools/boundary.sh --built    takes target/lib as it stands
 # One version everywhere; the names that the libraries export and need; the header without warnings, and a warning wherever a refusal is passed over, an array handed over twice or a number left out of a
 # switch; every function, called from C and from C++,
-# with either library (c/tests/calls.c); what is asked of the thread (c/tests/thread.c); the stack (c/tests/stack.c, tools/stack); an installed library, found by pkg-config, and taken away again,
+# with either library (c/tests/calls.c); what is asked of the thread (c/tests/thread.c); the stack (c/tests/stack.c, tools/stack); any numbers, lengths and bytes for every function (c/tests/fuzz.c); an installed library, found by pkg-config, and taken away again,
 # with the program of docs/for-engineers.md;
 # the Rust package's tests, optimized and not, its documentation and clippy, and a program without std. What needs a command that isn't here is skipped, and said to be.
 # Exit status 1 where something is otherwise than it has to be, 2 where the library isn't there or isn't built. Nothing is written but below target/ and to a temporary folder.
@@ -112,6 +112,25 @@ quiet "$CC" -std=c99 "${warnings[@]}" -frounding-math -I c c/tests/thread.c "$li
 quiet "$made/thread" || fail "c/tests/thread.c: what the header says of the thread is not shown"
 quiet "$CC" -std=c99 "${warnings[@]}" -I c c/tests/stack.c "$library/libjellyplain.a" -pthread -o "$made/stack" || fail "c/tests/stack.c does not compile"
 quiet "$made/stack" || fail "c/tests/stack.c: a call takes more stack than JELLYPLAIN_STACK"
+# Every export is fuzzed for some seconds, from one seed; a function that writes although it refuses is seen.
+quiet "$CC" -std=c99 "${warnings[@]}" -I c c/tests/fuzz.c "$library/libjellyplain.a" -o "$made/fuzz" || fail "c/tests/fuzz.c does not compile"
+quiet "$made/fuzz" 20261118 30000 60 || fail "c/tests/fuzz.c: a function reads, writes or answers what it must not"
+[ "$("$made/fuzz" --list | sort)" = "$declared" ] || { fail "c/tests/fuzz.c calls other functions than c/jellyplain.h declares:"; diff <(echo "$declared") <("$made/fuzz" --list | sort); }
+cat >"$made/writes.c" <<'C'
+#include "jellyplain.h"
+uint8_t __real_jellyplain_pad(const jellyplain_move *motion, float time, float *pad);
+uint8_t __wrap_jellyplain_pad(const jellyplain_move *motion, float time, float *pad);
+uint8_t __wrap_jellyplain_pad(const jellyplain_move *motion, float time, float *pad)
+{
+    uint8_t number = __real_jellyplain_pad(motion, time, pad);
+    if (number != JELLYPLAIN_NONE)
+        *pad = 0;
+    return number;
+}
+C
+quiet "$CC" -std=c99 -I c c/tests/fuzz.c "$made/writes.c" "$library/libjellyplain.a" -Wl,--wrap=jellyplain_pad -o "$made/fuzz_writes" || fail "c/tests/fuzz.c does not link a wrong function"
+"$made/fuzz_writes" 20261118 30000 60 >"$made/said" && fail "c/tests/fuzz.c passes a function that writes although it refuses"
+grep -Fq "jellyplain_pad: writes although it refuses" "$made/said" || { cat "$made/said"; fail "c/tests/fuzz.c doesn't name the function that writes although it refuses"; }
 if here python3 && here objdump; then
     quiet tools/stack --check || fail "tools/stack --check: a call can take more stack than JELLYPLAIN_STACK"
 else
