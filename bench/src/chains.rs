@@ -25,7 +25,7 @@ fn chain(random: &mut Random) -> (Vec<Pose>, Chain, Bounds) {
 }
 
 /// What is answered is kept from the optimiser, and not looked at.
-fn asked<T>(answer: T) {
+pub fn asked<T>(answer: T) {
     black_box(answer);
 }
 

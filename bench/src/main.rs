@@ -4,6 +4,7 @@
 //!     bench                      every comparison, and how the cover's cost grows with its depth
 //!     bench rigid                rigid moves beside plain ones alone
 //!     bench boost                covers beside Boost.Interval alone
+//!     bench worst                the slowest calls that a search finds
 //!     bench profile OP SECONDS   the port alone, for a profiler: OP is build, point, interpolate, motion or cover
 
 #[cfg(boost)]
@@ -11,6 +12,7 @@ mod boost;
 mod chains;
 mod inputs;
 mod rigid;
+mod worst;
 
 use inputs::{array, cases, original_bounds, original_matrix, original_point, Case, Kind, Random, CALLS};
 use jellyplain::Bounds;
@@ -240,6 +242,9 @@ fn main() {
     }
     if arguments == ["chains"] {
         return compare_chains(&mut random);
+    }
+    if arguments == ["worst"] {
+        return worst::worst(&mut random);
     }
     println!("{:32} {:>12} {:>12} {:>8}   quartiles", "nanoseconds a call, medians", "port", "other", "ratio");
     compare_all("turning", &turning);
