@@ -1,9 +1,10 @@
 -- H never falls, `quarterSine-mono`, from 0 at 0 (`quarterSine-zero`) to 2 ^ 30 at a quarter turn (`quarterSine-one`): within two neighbours by the
--- straight line, across entries by the table's rise. H over any entries ends at the last of the table's 2,049, `quarterSineOver-one`, and over those of T is H,
+-- straight line, across entries by the table's rise. H over any entries begins at the first of the table's 2,049, `quarterSineOver-zero`, and ends at the last,
+-- `quarterSineOver-one`; a quarter turn less an angle takes the angle's own division, `quarterSineOver-rest`. Over the entries of T it is H,
 -- `quarterSineOver-table`.
 use mathlib.Core.Path.{_≡_, refl, sym, ap, ap₂, subst, _∙_}
 use mathlib.Core.Logic.{inl, inr}
-use Prim.Native.Nat.{ℕ, _+_, _-_, _*_, _/_, _%_, _^_, _≤_, _<_}
+use Prim.Native.Nat.{ℕ, zero, suc, _+_, _-_, _*_, _/_, _%_, _^_, _≤_, _<_}
 use native.Mathlib.Nat.{le-refl, le-trans, le-of-eq, eq-or-lt-of-le, mul-le-mul-left}
 use native.Mathlib.Decide.{decLt}
 use native.Mathlib.Omega.{arith}
@@ -103,6 +104,45 @@ quarterSineOver-one T = start (T 2048) (T 2049)
   where
     start : (a b : ℕ) → line a b 0 ≡ a
     start a b = omega arith
+
+-- At 0 it is the first.
+pub quarterSineOver-zero : (T : ℕ → ℕ) → quarterSineOver T 0 ≡ T 0
+unfolding quarterSineOver
+quarterSineOver-zero T = start (T 0) (T 1)
+  where
+    start : (a b : ℕ) → line a b 0 ≡ a
+    start a b = omega arith
+
+-- A quarter turn less v, by the division that v takes: v is r parts past the entry i, and it is Q - r parts past the entry 2047 - i.
+pub quarterSineOver-rest : (T : ℕ → ℕ) (v : ℕ) → v < quarterTurn
+    → quarterSineOver T (quarterTurn - v)
+    ≡ line (T (2047 - v * 2048 / quarterTurn)) (T (2048 - v * 2048 / quarterTurn)) (quarterTurn - v * 2048 % quarterTurn)
+unfolding quarterSineOver
+quarterSineOver-rest T v h = go (v * 2048 / quarterTurn) (v * 2048 % quarterTurn) (omega arith) (omega arith) (omega arith)
+  where
+    -- at an entry itself the line begins there, or ends there
+    ends : (a b c : ℕ) → line a b 0 ≡ line c a quarterTurn
+    ends a b c = omega arith
+
+    quotient : (n i r : ℕ) → n ≡ i * quarterTurn + r → r < quarterTurn → n / quarterTurn ≡ i
+    quotient n i r e l = omega arith
+
+    remainder : (n i r : ℕ) → n ≡ i * quarterTurn + r → r < quarterTurn → n % quarterTurn ≡ r
+    remainder n i r e l = let q = quotient n i r e l in omega (arith, q)
+
+    place : (n i r : ℕ) → n ≡ i * quarterTurn + r → r < quarterTurn
+        → line (T (n / quarterTurn)) (T (n / quarterTurn + 1)) (n % quarterTurn) ≡ line (T i) (T (i + 1)) r
+    place n i r e l = ap₂ (λ (j s : ℕ). line (T j) (T (j + 1)) s) (quotient n i r e l) (remainder n i r e l)
+
+    go : (i r : ℕ) → v * 2048 ≡ i * quarterTurn + r → r < quarterTurn → i < 2048
+        → line (T ((quarterTurn - v) * 2048 / quarterTurn)) (T ((quarterTurn - v) * 2048 / quarterTurn + 1)) ((quarterTurn - v) * 2048 % quarterTurn)
+        ≡ line (T (2047 - i)) (T (2048 - i)) (quarterTurn - r)
+    go i zero e l k =
+        place ((quarterTurn - v) * 2048) (2048 - i) 0 (omega arith) (omega arith)
+        ∙ ends (T (2048 - i)) (T (2048 - i + 1)) (T (2047 - i))
+    go i (suc r) e l k =
+        place ((quarterTurn - v) * 2048) (2047 - i) (quarterTurn - suc r) (omega arith) (omega arith)
+        ∙ ap (λ (j : ℕ). line (T (2047 - i)) (T j) (quarterTurn - suc r)) (let z : 2047 - i + 1 ≡ 2048 - i = omega arith in z)
 
 pub quarterSineOver-table : (v : ℕ) → v ≤ quarterTurn → quarterSineOver (entry sineTable) v ≡ quarterSine v
 quarterSineOver-table v h = elim (eq-or-lt-of-le h) [

@@ -1,7 +1,7 @@
 // The sine over a quarter turn: a table of 2,049 entries, and the straight line between them.
 // Angles are in units of 2^-28, sines in units of 2^-30.
 ghost use mathlib.Core.Path.{_≡_};
-ghost use Prim.Native.Nat.{_<_, min};
+ghost use Prim.Native.Nat.{_-_, _≤_, min};
 ghost use Rattle.sine_table.specs.Table.{quarterTurn, sineTable, SineTable};
 ghost use Rattle.sine_table.specs.QuarterSine.{line, quarterSineOver, entry};
 
@@ -2074,11 +2074,11 @@ fn wide(x: u32) -> u64
     x as u64
 }
 
-fn interpolate(a: u32, b: u32, r: u64) -> u64
-    requires { ⌜ r < quarterTurn ⌝ }
+fn interpolate(a: u32, b: u32, r: u64) -> u32
+    requires { ⌜ r ≤ quarterTurn ⌝ }
     ensures value { λ s. ⌜ s ≡ line a b r ⌝ }
 {
-    (a as u64 * (QUARTER_TURN - r) + b as u64 * r) / QUARTER_TURN
+    ((a as u64 * (QUARTER_TURN - r) + b as u64 * r) / QUARTER_TURN) as u32
 }
 
 // Document 01's H over the entries of a table; from a quarter turn on, its value there, the last entry. Accuracy: exact.
@@ -2089,5 +2089,31 @@ pub fn quarter_sine_in(table: &[u32; 2049], v: u64) -> u64
         return wide(table[2048]);
     }
     let i = (v * 2048 / QUARTER_TURN) as usize;
-    interpolate(table[i], table[i + 1], v * 2048 % QUARTER_TURN)
+    wide(interpolate(table[i], table[i + 1], v * 2048 % QUARTER_TURN))
+}
+
+// H of an angle, and of a quarter turn less it.
+pub struct QuarterSinCos {
+    pub sin: u32,
+    pub cos: u32,
+}
+
+// Both over the entries of a table; from a quarter turn on, the last entry and the first. Accuracy: exact.
+pub fn quarter_sin_cos_in(table: &[u32; 2049], v: u64) -> QuarterSinCos
+    ensures sin { λ r. ⌜ r .sin ≡ quarterSineOver (entry (now (table .entry))) (min v quarterTurn) ⌝ }
+    ensures cos { λ r. ⌜ r .cos ≡ quarterSineOver (entry (now (table .entry))) (quarterTurn - v) ⌝ }
+{
+    if v >= QUARTER_TURN {
+        return QuarterSinCos {
+            sin: table[2048],
+            cos: table[0],
+        };
+    }
+    let i = (v * 2048 / QUARTER_TURN) as usize;
+    let r = v * 2048 % QUARTER_TURN;
+    // A quarter turn less v is Q - r parts past the entry 2047 - i, by the same division.
+    QuarterSinCos {
+        sin: interpolate(table[i], table[i + 1], r),
+        cos: interpolate(table[2047 - i], table[2048 - i], QUARTER_TURN - r),
+    }
 }

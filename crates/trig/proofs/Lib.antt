@@ -3,6 +3,8 @@ pub mod Quarters
 pub mod OverTable
 pub mod Shift
 pub mod Fixed
+pub mod FromUnits
+pub mod FirstQuarter
 pub mod Values
 pub mod Monotone
 pub mod Range

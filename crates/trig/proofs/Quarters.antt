@@ -69,12 +69,12 @@ module _ (T : ℕ → ℕ) (u w n : ℕ) (W : w ≡ fold (u / quarterTurn % 4) (
       ap (λ (m : ℕ). withSign (not (Bool·beq s (leb 2 (u / quarterTurn % 4)))) (pos m)) e
       ∙ quarter-sin (quarterSineOver T) s (u / quarterTurn % 4) (u % quarterTurn) (omega arith)
 
-  pub cos-folded : n ≡ quarterSineOver T (min (quarterTurn - w) quarterTurn)
+  pub cos-folded : n ≡ quarterSineOver T (quarterTurn - w)
       → withSign (eqb (u / quarterTurn % 4) 1 || eqb (u / quarterTurn % 4) 2) (pos n) ≡ cosUnitsOver T u
   unfolding cosUnitsOver sinUnitsOver
   cos-folded N =
       let e : n ≡ quarterSineOver T (quarterTurn - fold (u / quarterTurn % 4) (u % quarterTurn)) =
-      N ∙ ap (quarterSineOver T) (let z : min (quarterTurn - w) quarterTurn ≡ quarterTurn - w = omega arith in z ∙ ap (λ (x : ℕ). quarterTurn - x) W)
+      N ∙ ap (λ (x : ℕ). quarterSineOver T (quarterTurn - x)) W
       in
       ap (λ (m : ℕ). withSign (eqb (u / quarterTurn % 4) 1 || eqb (u / quarterTurn % 4) 2) (pos m)) e
       ∙ quarter-cos (quarterSineOver T) (u / quarterTurn % 4) ((u + quarterTurn) / quarterTurn % 4) (u % quarterTurn) (omega arith) (omega arith) (omega arith)

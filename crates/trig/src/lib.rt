@@ -1,9 +1,10 @@
 // Sine and cosine, by document 01's table of sines, which a caller with many angles lends. Angles are in units of 2^-28, sines and cosines in units of 2^-30.
 ghost use mathlib.Core.Path.{_≡_};
-ghost use mathlib.Core.Bool.{cond};
-ghost use Prim.Native.Nat.{_-_, _*_, _/_, _%_, _^_, _≤_, _<_, min};
+ghost use mathlib.Core.Bool.{false, cond};
+ghost use Prim.Native.Nat.{_+_, _-_, _*_, _/_, _%_, _^_, _≤_, _<_, min};
 ghost use lib.Dec.{eqb};
 ghost use lib.IntN.{pos};
+ghost use lib.Ieee.{binary32, round};
 ghost use Rattle.sine_table.specs.Table.{quarterTurn};
 ghost use Rattle.sine_table.specs.QuarterSine.{entry};
 ghost use Rattle.trig.specs.Units.{angleUnits, sinUnitsOver, cosUnitsOver, nearestFloat, withSign};
@@ -13,6 +14,14 @@ const QUARTER_TURN: u64 = 421657428;
 
 // 2^24: from here on an angle is far.
 const FAR: f32 = 16777216.0;
+
+// The weight of the exponent's field in a float's bits, which is also a significand's leading digit.
+const FIELD: u32 = 0x80_0000;
+
+// The bits of 2^-28, the least angle of one unit, and of the least float whose u is a quarter turn or more. Between them stands the first quarter.
+const ONE_UNIT: u32 = 0x3180_0000;
+
+const QUARTER_TURN_BITS: u32 = 0x3fc9_0fdb;
 
 // The sine and the cosine of an angle.
 pub struct SinCos {
@@ -62,11 +71,19 @@ fn folded(k: u64, v: u64) -> u64
     v
 }
 
+// The float nearest to n units. Both halves are floats exactly, so that the sum alone is rounded.
+fn from_units(n: u32) -> f32
+    ensures value { λ r. ⌜ r ≡ round binary32 false n (2 ^ 30) ⌝ }
+{
+    (n / 0x1_0000) as f32 * 0.00006103515625
+        + (n % 0x1_0000) as f32 * 0.000000000931322574615478515625
+}
+
 // The float nearest to n units, negated where the sign says so; a zero is +0.
-fn units_float(negative: bool, n: u64) -> f32
+fn units_float(negative: bool, n: u32) -> f32
     ensures value { λ r. ⌜ r ≡ nearestFloat (withSign negative (pos n)) ⌝ }
 {
-    let x = float_bits::from_fixed(n, 30);
+    let x = from_units(n);
     if negative & (n > 0) {
         return -x;
     }
@@ -79,13 +96,31 @@ fn units_sin_cos(table: &[u32; 2049], negative: bool, u: u64) -> SinCos
     ensures cos { λ r. ⌜ r .cos ≡ nearestFloat (cosUnitsOver (entry (now (table .entry))) u) ⌝ }
 {
     let k = u / QUARTER_TURN % 4;
-    let v = folded(k, u % QUARTER_TURN);
+    let h = sine_table::quarter_sin_cos_in(table, folded(k, u % QUARTER_TURN));
     SinCos {
-        sin: units_float(negative != (k >= 2), sine_table::quarter_sine_in(table, v)),
-        cos: units_float(
-            (k == 1) | (k == 2),
-            sine_table::quarter_sine_in(table, QUARTER_TURN - v),
-        ),
+        sin: units_float(negative != (k >= 2), h.sin),
+        cos: units_float((k == 1) | (k == 2), h.cos),
+    }
+}
+
+// u of an angle in the first quarter, by its bits: one shift.
+fn first_quarter_units(bits: u32) -> u64
+    requires { ⌜ 0x31800000 ≤ bits ⌝ ∗ ⌜ bits < 0x3fc90fdb ⌝ }
+    ensures value { λ r. ⌜ r ≡ (0x800000 + bits % 0x800000) * 32 / 2 ^ (127 - bits / 0x800000) ⌝ }
+{
+    ((FIELD + bits % FIELD) as u64 * 32) >> (127 - bits / FIELD)
+}
+
+// The sine and the cosine of a u in the first quarter, where both are as the table has them.
+fn first_quarter_sin_cos(table: &[u32; 2049], u: u64) -> SinCos
+    requires { ⌜ u < quarterTurn ⌝ }
+    ensures sin { λ r. ⌜ r .sin ≡ nearestFloat (sinUnitsOver (entry (now (table .entry))) u) ⌝ }
+    ensures cos { λ r. ⌜ r .cos ≡ nearestFloat (cosUnitsOver (entry (now (table .entry))) u) ⌝ }
+{
+    let h = sine_table::quarter_sin_cos_in(table, u);
+    SinCos {
+        sin: from_units(h.sin),
+        cos: from_units(h.cos),
     }
 }
 
@@ -95,6 +130,11 @@ pub fn sin_cos_in(table: &[u32; 2049], a: f32) -> SinCos
     ensures value { λ r. ⌜ (r .sin ≡ sinOver (entry (now (table .entry))) a) × (r .cos ≡ cosOver (entry (now (table .entry))) a) ⌝ }
 {
     if float32::abs(a) < FAR {
+        // Nearly every angle of a slice is in the first quarter. There no sign, no quarter and no field has to be told apart.
+        let bits = f32::to_bits(a);
+        if (bits >= ONE_UNIT) & (bits < QUARTER_TURN_BITS) {
+            return first_quarter_sin_cos(table, first_quarter_units(bits));
+        }
         let d = float_bits::integer_decode(a);
         return units_sin_cos(table, d.negative, angle_units(a));
     }

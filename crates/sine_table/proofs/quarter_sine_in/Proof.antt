@@ -46,11 +46,15 @@ mul-interpolate-3 c = search needs
 interpolate-requires : tie.Need-interpolate-requires
 interpolate-requires c κs = search needs
 
+wide-requires-2 : tie.Need-wide-requires-2
+wide-requires-2 c κs = search needs
+
 returns-2 : tie.Need-returns-2
 returns-2 c =
-    let c1 = c .before in let c2 = c1 .before in let c3 = c2 .before in let c4 = c3 .before in
-    let a = c4 .args in
-    c .interpolate .ensures ∙ unfold quarterSineOver in ap (quarterSineOver (entry (a .table .now))) (let e : a .v ≡ min (a .v) quarterTurn = omega arith in e)
+    let c1 = c .before in let c2 = c1 .before in let c3 = c2 .before in let c4 = c3 .before in let c5 = c4 .before in
+    let a = c5 .args in
+    c .wide2 .ensures ∙ c1 .interpolate .ensures
+    ∙ unfold quarterSineOver in ap (quarterSineOver (entry (a .table .now))) (let e : a .v ≡ min (a .v) quarterTurn = omega arith in e)
 
 pub quarter-sine-in-spec : {M : Type 1} → statement M
 quarter-sine-in-spec =
@@ -67,4 +71,5 @@ quarter-sine-in-spec =
     element-copy-out-interpolate-2
     mul-interpolate-3
     interpolate-requires
+    wide-requires-2
     returns-2)

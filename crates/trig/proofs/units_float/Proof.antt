@@ -6,14 +6,14 @@ use Rattle.trig.proofs.Fixed.{float-negated, float-kept}
 use Rattle.trig.proofs.units_float.Statement.{statement}
 use Rattle.trig.proofs.units_float.Tie as tie
 
-from-fixed-requires : tie.Need-from-fixed-requires
-from-fixed-requires c κs = search needs
+from-units-requires : tie.Need-from-units-requires
+from-units-requires c κs = search needs
 
 returns : tie.Need-returns
-returns c = ap neg (c .before .from-fixed .ensures) ∙ float-negated (c .before .before .args .negative) (c .before .before .args .n) (c .if1 .taken)
+returns c = ap neg (c .before .from-units .ensures) ∙ float-negated (c .before .before .args .negative) (c .before .before .args .n) (c .if1 .taken)
 
 returns-2 : tie.Need-returns-2
-returns-2 c = c .before .from-fixed .ensures ∙ float-kept (c .before .before .args .negative) (c .before .before .args .n) (c .if1 .left)
+returns-2 c = c .before .from-units .ensures ∙ float-kept (c .before .before .args .negative) (c .before .before .args .n) (c .if1 .left)
 
 pub units-float-spec : {M : Type 1} → statement M
-units-float-spec = tie.close (tie.spec from-fixed-requires returns returns-2)
+units-float-spec = tie.close (tie.spec from-units-requires returns returns-2)
