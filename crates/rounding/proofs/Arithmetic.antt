@@ -1,17 +1,18 @@
 -- Sum, difference, product and quotient of finite floats keep the order. Each is the rounding of a fraction (`add-rounds` and its like), so each
 -- monotone law is one inequality of fractions: `add-mono`, `sub-mono`, `mul-between-left`, `mul-between-right`, and for a positive
--- divisor `div-mono`, `div-between-left`, `div-between-right`.
+-- divisor `div-mono`, `div-between-left`, `div-between-right`. Of two fractions that are not negative the sum is one rounding, `add-at`.
 use mathlib.Core.Path.{_≡_, refl, ap, ap₂, _∙_}
 use mathlib.Core.Logic.{inl, inr}
 use Prim.Native.Nat.{ℕ, _+_, _-_, _*_, _≤_, _<_}
 use native.Mathlib.Nat.{mul-le-mul-right, mul-pos, mul-comm, zero-mul}
 use native.Mathlib.Omega.{arith}
-use mathlib.Core.Bool.{Bool, true, false, not, cond}
+use mathlib.Core.Bool.{Bool, true, false, true≢false, not, cond}
 use lib.IntN.{ℤ}
 use lib.Dec.{T, ltb, eqb, eqb→eq, ltb→lt, nltb→le}
 use lib.Ieee.{Float, nan, inf, fin, Format, up, down, unlike, round, neg, sum, add, sub, mul, div}
 use lib.Ieee.Fits.{down-pos}
-use lib.Ieee.Scale.{finite}
+use lib.Ieee.Exact.{HasValue}
+use lib.Ieee.Scale.{finite, round-same}
 use lib.Ieee.Positive.{den, den-pos, positive}
 use Rattle.rounding.specs.Order.{_≼_, Between}
 use Rattle.rounding.proofs.Rational.{posPart, negPart, posPart-mul, negPart-mul, numPos, numNeg, numPos-pos, FractionLe, fraction-trans}
@@ -46,6 +47,26 @@ add-rounds f (fin s m e) (inf t) p q = absurd q
 add-rounds f (fin s m e) (fin t n d) p q =
     rw (posPart-mul s (m * up e) (down d), negPart-mul s (m * up e) (down d), posPart-mul t (n * up d) (down e), negPart-mul t (n * up d) (down e))
     at (sum-rounds f s (m * up e * down d) t (n * up d * down e) (down e * down d))
+
+-- Of two floats that are not negative and known as fractions, as `mul-at` has it for products.
+pub add-at : (f : Format) (x y : Float) (a c b d : ℕ) → 0 < c → 0 < d → HasValue x false a c → HasValue y false b d
+    → add f x y ≡ round f false (a * d + b * c) (c * d)
+unfolding add sum
+add-at f nan y a c b d C D h k = absurd h
+add-at f (inf s) y a c b d C D h k = absurd h
+add-at f (fin s m e) nan a c b d C D h k = absurd k
+add-at f (fin s m e) (inf t) a c b d C D h k = absurd k
+add-at f (fin true m e) (fin t n g) a c b d C D h k = absurd (true≢false (h .0))
+add-at f (fin false m e) (fin true n g) a c b d C D h k = absurd (true≢false (k .0))
+add-at f (fin false m e) (fin false n g) a c b d C D h k =
+    round-same f false (m * up e * down g + n * up g * down e) (down e * down g) (a * d + b * c) (c * d)
+    (mul-pos (down-pos e) (down-pos g)) (mul-pos C D) (cross (m * up e) (down e) (n * up g) (down g) a c b d (h .1) (k .1))
+  where
+    cross : (m e n g a c b d : ℕ) → m * c ≡ a * e → n * d ≡ b * g → (m * g + n * e) * (c * d) ≡ (a * d + b * c) * (e * g)
+    cross m e n g a c b d h k =
+        let p : m * c * (g * d) ≡ a * e * (g * d) = ap (λ (z : ℕ). z * (g * d)) h in
+        let q : n * d * (e * c) ≡ b * g * (e * c) = ap (λ (z : ℕ). z * (e * c)) k in
+        omega (arith, p, q)
 
 pub sub-rounds : (f : Format) (x y : Float) → T (finite x) → T (finite y)
     → Rounds f (sub f x y) (numPos x * den y + numNeg y * den x) (numNeg x * den y + numPos y * den x) (den x * den y)

@@ -8,11 +8,12 @@ use native.Mathlib.Omega.{arith}
 use lib.IntN.{pos, negsuc}
 use lib.Dec.{T, le→leb, lit≤}
 use lib.Pow.{pow-pos, pow-mono}
-use lib.Ieee.{Float, nan, inf, fin, binary32, up, down, round, add, sum, mul, ofInt, inFloat, ofBits}
+use lib.Ieee.{Float, nan, inf, fin, binary32, up, down, round, add, mul, ofInt, inFloat, ofBits}
 use lib.Ieee.Fits.{down-pos}
 use lib.Ieee.Exact.{HasValue, round-exact}
 use lib.Ieee.Scale.{round-same}
 use lib.Ieee.Back.{round-whole}
+use Rattle.rounding.proofs.Arithmetic.{add-at}
 
 pub half-casts : (a : ℕ) → a < 2 ^ 16 → T (inFloat binary32 (pos a))
 unfolding inFloat
@@ -30,26 +31,6 @@ scaled (fin false m e) a k h =
   where
     cross : (n d P a : ℕ) → n * 1 ≡ a * d → n * (1 * 1) * P ≡ a * (d * P)
     cross n d P a h = let e : n * 1 * P ≡ a * d * P = ap (λ (z : ℕ). z * P) h in omega (arith, e)
-
--- The sum of two floats that are not negative.
-summed : (x y : Float) (a c b d : ℕ) → 0 < c → 0 < d → HasValue x false a c → HasValue y false b d
-    → add binary32 x y ≡ round binary32 false (a * d + b * c) (c * d)
-unfolding add sum
-summed nan y a c b d C D h k = absurd h
-summed (inf s) y a c b d C D h k = absurd h
-summed (fin s m e) nan a c b d C D h k = absurd k
-summed (fin s m e) (inf t) a c b d C D h k = absurd k
-summed (fin true m e) (fin t n g) a c b d C D h k = absurd (true≢false (h .0))
-summed (fin false m e) (fin true n g) a c b d C D h k = absurd (true≢false (k .0))
-summed (fin false m e) (fin false n g) a c b d C D h k =
-    round-same binary32 false (m * up e * down g + n * up g * down e) (down e * down g) (a * d + b * c) (c * d)
-    (mul-pos (down-pos e) (down-pos g)) (mul-pos C D) (cross (m * up e) (down e) (n * up g) (down g) a c b d (h .1) (k .1))
-  where
-    cross : (m e n g a c b d : ℕ) → m * c ≡ a * e → n * d ≡ b * g → (m * g + n * e) * (c * d) ≡ (a * d + b * c) * (e * g)
-    cross m e n g a c b d h k =
-        let p : m * c * (g * d) ≡ a * e * (g * d) = ap (λ (z : ℕ). z * (g * d)) h in
-        let q : n * d * (e * c) ≡ b * g * (e * c) = ap (λ (z : ℕ). z * (e * c)) k in
-        omega (arith, p, q)
 
 -- A half over 2 ^ k, k being 30 at most.
 exact : (a k j : ℕ) → a < 2 ^ 16 → j ≤ 149 → 2 ^ 149 ≡ 2 ^ j * 2 ^ k → HasValue (round binary32 false a (2 ^ k)) false a (2 ^ k)
@@ -92,6 +73,6 @@ from-halves n h =
     let q : mul binary32 (ofInt binary32 (pos b)) (ofBits binary32 0x30800000) ≡ round binary32 false b (2 ^ 30) =
     ap (λ (z : Float). mul binary32 (ofInt binary32 (pos b)) z) lower ∙ scaled (ofInt binary32 (pos b)) b 29 (cast-half b B) in
     ap₂ (add binary32) p q
-    ∙ summed (round binary32 false a (2 ^ 14)) (round binary32 false b (2 ^ 30)) a (2 ^ 14) b (2 ^ 30) (pow-pos 14) (pow-pos 30)
+    ∙ add-at binary32 (round binary32 false a (2 ^ 14)) (round binary32 false b (2 ^ 30)) a (2 ^ 14) b (2 ^ 30) (pow-pos 14) (pow-pos 30)
     (exact a 14 135 A (lit≤ tt) refl) (exact b 30 119 B (lit≤ tt) refl)
     ∙ round-same binary32 false (a * 2 ^ 30 + b * 2 ^ 14) (2 ^ 14 * 2 ^ 30) n (2 ^ 30) (mul-pos (pow-pos 14) (pow-pos 30)) (pow-pos 30) (omega arith)

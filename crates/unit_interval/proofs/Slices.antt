@@ -1,11 +1,11 @@
 -- The slices of the unit interval. They rise (`sliceEnd-mono`), from 0 (`sliceEnd-first`) to 1 (`sliceEnd-last`), each within the unit interval
 -- (`slice-unit`); one that is cut finer lies in the one it was cut from (`slice-finer`); every float from 0 to 1 lies in one (`slice-covers`).
--- Ends are exact (`sliceEnd-exact`). All rests on monotone rounding.
+-- Ends are exact (`sliceEnd-exact`), so that each is the one before it and the first beyond 0 (`sliceEnd-next`). All else rests on monotone rounding.
 use mathlib.Core.Path.{_≡_, refl, sym, ap, _∙_, subst}
 use mathlib.Core.Logic.{inl, inr}
 use mathlib.Core.Bool.{false}
 use Prim.Native.Nat.{ℕ, zero, suc, _+_, _-_, _*_, _/_, _^_, _≤_, _<_}
-use native.Mathlib.Nat.{le-refl, le-step, le-of-eq, lt-irrefl, le-trans, lt-of-le-of-lt, mul-assoc, mul-le-mul-left}
+use native.Mathlib.Nat.{le-refl, le-step, le-of-eq, le-of-lt, mul-pos, lt-irrefl, le-trans, lt-of-le-of-lt, mul-assoc, mul-le-mul-left}
 use native.Mathlib.Nat.{mul-le-mul-right, div-mul-le-self, lt-div-mul-add, div-lt-iff-lt-mul, zero-lt-suc}
 use native.Mathlib.Numerals.{add-one}
 use native.Mathlib.Omega.{arith}
@@ -17,7 +17,8 @@ use lib.Ieee.Scale.{round-same}
 use Rattle.rounding.specs.Order.{_≼_}
 use Rattle.rounding.proofs.Order.{≼-total, number-left}
 use Rattle.rounding.proofs.Monotone.{round-mono}
-use Rattle.float32.specs.Operators.{one}
+use Rattle.rounding.proofs.Arithmetic.{add-at}
+use Rattle.float32.specs.Operators.{_⊕_, one}
 use Rattle.interval.specs.Contains.{Contains, Subset}
 use Rattle.unit_interval.specs.Unit.{unitInterval, sliceEnd, slice}
 
@@ -46,6 +47,16 @@ sliceEnd-exact d k h l =
   where
     whole : (d : ℕ) → d ≤ 12 → 149 ≡ 149 - d + d
     whole d h = omega arith
+
+-- So a border of a loop over slices is the one before it and the width of a slice, to the bit.
+pub sliceEnd-next : (d k : ℕ) → d ≤ 12 → k < 2 ^ d → sliceEnd d k ⊕ sliceEnd d 1 ≡ sliceEnd d (k + 1)
+sliceEnd-next d k h l =
+    let P = pow-pos d in
+    add-at binary32 (sliceEnd d k) (sliceEnd d 1) k (2 ^ d) 1 (2 ^ d) P P (sliceEnd-exact d k h (le-of-lt l)) (sliceEnd-exact d 1 h P)
+    ∙ unfold sliceEnd in round-same binary32 false (k * 2 ^ d + 1 * 2 ^ d) (2 ^ d * 2 ^ d) (k + 1) (2 ^ d) (mul-pos P P) P (regroup k (2 ^ d))
+  where
+    regroup : (k p : ℕ) → (k * p + 1 * p) * p ≡ (k + 1) * (p * p)
+    regroup k p = omega arith
 
 -- ---- slices
 pub slice-unit : (d k : ℕ) → k < 2 ^ d → Subset (slice d k) unitInterval
