@@ -1,4 +1,4 @@
--- Floats that are equal as numbers are the same with +0 added, for all floats: `equal-sum`. So boxes that lie in each other are the same with their zeros +0
+-- Alike floats are the same with +0 added, for all floats: `alike-sum`. So boxes that lie in each other are the same with their zeros +0
 -- (`same-zeros`), and so are answers (`answers-zeros`).
 use Prim.Native.Nat.{ℕ, _-_, _*_, _≤_, _<_}
 use mathlib.Core.Path.{_≡_, refl, sym, ap, ap₂, _∙_}
@@ -16,7 +16,7 @@ use Rattle.rounding.specs.Order.{_≼_}
 use Rattle.rounding.proofs.Rational.{posPart, negPart, FractionLe}
 use Rattle.rounding.proofs.Order.{to-fraction}
 use Rattle.float32.specs.Operators.{_⊕_, positiveZero}
-use Rattle.own_rounding.proofs.OwnRounding.{Equal}
+use Rattle.own_rounding.specs.means.Alike.{Alike}
 use Rattle.bounds3.specs.declared.Bounds3f.{Bounds3f}
 use Rattle.bounds3.specs.Inside.{Subset}
 use Rattle.transform.specs.declared.BoundsAnswer.{BoundsAnswer}
@@ -77,8 +77,8 @@ module _ (f : Format) (a b c d : ℕ) (C : 0 < c) (D : 0 < d) where
   round-equal false true h k = round-zeros false true (zero-factor a d D (omega arith)) (zero-factor b c C (omega arith))
   round-equal true false h k = round-zeros true false (zero-factor a d D (omega arith)) (zero-factor b c C (omega arith))
 
-pub equal-sum : {x y : Float} → Equal x y → x ⊕ positiveZero ≡ y ⊕ positiveZero
-equal-sum {x} {y} e = go x y (e .to) (e .from)
+pub alike-sum : {x y : Float} → Alike x y → x ⊕ positiveZero ≡ y ⊕ positiveZero
+alike-sum {x} {y} e = go x y (e .to) (e .from)
   where
     go : (x y : Float) → x ≼ y → y ≼ x → x ⊕ positiveZero ≡ y ⊕ positiveZero
     go nan y h k = absurd (unfold le in h .holds)
@@ -112,7 +112,7 @@ same-zeros {a} {b} s t =
     )
   where
     ends : {x y : Float} → x ≼ y → y ≼ x → x ⊕ positiveZero ≡ y ⊕ positiveZero
-    ends h k = equal-sum (record { to = h; from = k })
+    ends h k = alike-sum (record { to = h; from = k })
 
 pub answers-zeros : {r s : BoundsAnswer} → BoundsAnswer·Same r s → BoundsAnswer·positiveZeros r ≡ BoundsAnswer·positiveZeros s
 unfolding BoundsAnswer·positiveZeros

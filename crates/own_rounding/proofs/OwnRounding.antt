@@ -21,28 +21,24 @@ use Rattle.float32.specs.Operators.{_⊕_, _⊖_, positiveZero}
 use Rattle.float32.proofs.Constants.{zero-refl}
 use Rattle.float_bits.specs.Decode.{integerDecode}
 use Rattle.float_bits.proofs.Decode.{magnitude-lt, decode-exact, decode-value, significand-lt}
+use Rattle.own_rounding.specs.means.Alike.{Alike}
 
--- Equal as numbers: the two zeros are.
-pub record Equal (x y : Float) : Type 0 where
-  pub to : x ≼ y
-  pub from : y ≼ x
+pub alike-trans : {x y z : Float} → Alike x y → Alike y z → Alike x z
+alike-trans e f = record { to = ≼-trans (e .to) (f .to); from = ≼-trans (f .from) (e .from) }
 
-pub equal-trans : {x y z : Float} → Equal x y → Equal y z → Equal x z
-equal-trans e f = record { to = ≼-trans (e .to) (f .to); from = ≼-trans (f .from) (e .from) }
-
--- Values of one fraction are equal.
-value-equal : (s : Bool) (m : ℕ) (e : ℤ) (z : Float) → HasValue z s (m * up e) (down e) → Equal z (fin s m e)
-value-equal s m e nan v = absurd v
-value-equal s m e (inf t) v = absurd v
-value-equal s m e (fin t n d) v = subst (λ (u : Bool). Equal (fin u n d) (fin s m e)) (sym (v .0)) (same s (v .1))
+-- Values of one fraction are alike.
+value-alike : (s : Bool) (m : ℕ) (e : ℤ) (z : Float) → HasValue z s (m * up e) (down e) → Alike z (fin s m e)
+value-alike s m e nan v = absurd v
+value-alike s m e (inf t) v = absurd v
+value-alike s m e (fin t n d) v = subst (λ (u : Bool). Alike (fin u n d) (fin s m e)) (sym (v .0)) (same s (v .1))
   where
-    same : (s : Bool) → n * up d * down e ≡ m * up e * down d → Equal (fin s n d) (fin s m e)
+    same : (s : Bool) → n * up d * down e ≡ m * up e * down d → Alike (fin s n d) (fin s m e)
     same true h = record { to = of-fraction tt tt (omega (arith, h)); from = of-fraction tt tt (omega (arith, h)) }
     same false h = record { to = of-fraction tt tt (omega (arith, h)); from = of-fraction tt tt (omega (arith, h)) }
 
--- Roundings of one fraction are equal.
-rounds-equal : {z w : Float} {p n d : ℕ} → 0 < d → Rounds binary32 z p n d → Rounds binary32 w p n d → Equal z w
-rounds-equal {p = p} {n = n} {d = d} D r s = record { to = rounds-mono r s D D (level p n d); from = rounds-mono s r D D (level p n d) }
+-- Roundings of one fraction are alike.
+rounds-alike : {z w : Float} {p n d : ℕ} → 0 < d → Rounds binary32 z p n d → Rounds binary32 w p n d → Alike z w
+rounds-alike {p = p} {n = n} {d = d} D r s = record { to = rounds-mono r s D D (level p n d); from = rounds-mono s r D D (level p n d) }
   where
     level : (p n d : ℕ) → FractionLe p n d p n d
     level p n d = omega arith
@@ -51,7 +47,7 @@ rounds-equal {p = p} {n = n} {d = d} D r s = record { to = rounds-mono r s D D (
 record Own (x : Float) : Type 0 where
   value : Float
   rounds : Rounds binary32 value (numPos x) (numNeg x) (den x)
-  equal : Equal value x
+  alike : Alike value x
 
 own : (x : Float) → T (finite x) → T (fits binary32 x) → Own x
 own nan f h = absurd f
@@ -64,11 +60,11 @@ own (fin s m e) f h =
     record {
       value = round binary32 s (m * up e) (down e);
       rounds = record { sign = s; size = m * up e; is = refl; value = refl };
-      equal = value-equal s m e (round binary32 s (m * up e) (down e)) v;
+      alike = value-alike s m e (round binary32 s (m * up e) (down e)) v;
     }
 
-pub own-rounding : {z : Float} (x : Float) → T (finite x) → T (fits binary32 x) → Rounds binary32 z (numPos x) (numNeg x) (den x) → Equal z x
-own-rounding x f h r = let o = own x f h in equal-trans (rounds-equal (den-pos x) r (o .rounds)) (o .equal)
+pub own-rounding : {z : Float} (x : Float) → T (finite x) → T (fits binary32 x) → Rounds binary32 z (numPos x) (numNeg x) (den x) → Alike z x
+own-rounding x f h r = let o = own x f h in alike-trans (rounds-alike (den-pos x) r (o .rounds)) (o .alike)
 
 -- ---- numbers from zero on
 pub no-negative : (x : Float) → T (finite x) → positiveZero ≼ x → numNeg x ≡ 0
@@ -96,7 +92,7 @@ module _ (x y : Float) (f : T (finite x)) (g : T (finite y)) (z : positiveZero �
     pub add-above : x ≼ x ⊕ y
     add-above =
         let o = own x f h in
-        ≼-trans (o .equal .from)
+        ≼-trans (o .alike .from)
         (rounds-mono (o .rounds) (add-rounds binary32 x y f g) (den-pos x) (mul-pos (den-pos x) (den-pos y))
         (above (numPos x) (numNeg x) (den x) (numPos y) (numNeg y) (den y) (no-negative y g z)))
       where
@@ -109,29 +105,29 @@ module _ (x y : Float) (f : T (finite x)) (g : T (finite y)) (z : positiveZero �
         ≼-trans
         (rounds-mono (sub-rounds binary32 x y f g) (o .rounds) (mul-pos (den-pos x) (den-pos y)) (den-pos x)
         (below (numPos x) (numNeg x) (den x) (numPos y) (numNeg y) (den y) (no-negative y g z)))
-        (o .equal .to)
+        (o .alike .to)
       where
         below : (p n d q m e : ℕ) → m ≡ 0 → FractionLe (p * e + m * d) (n * e + q * d) (d * e) p n d
         below p n d q m e k = rw k (omega arith)
 
 -- ---- zero
 module _ (x : Float) (f : T (finite x)) (h : T (fits binary32 x)) where
-  pub add-zero : Equal (x ⊕ positiveZero) x
+  pub add-zero : Alike (x ⊕ positiveZero) x
   unfolding ofBits
   add-zero = record {
     to = ≼-trans (rounds-mono (add-rounds binary32 x positiveZero f tt) (own x f h .rounds) (mul-pos (den-pos x) (den-pos positiveZero))
-        (den-pos x) (level (numPos x) (numNeg x) (den x))) (own x f h .equal .to);
+        (den-pos x) (level (numPos x) (numNeg x) (den x))) (own x f h .alike .to);
     from = add-above x positiveZero f tt zero-refl h;
   }
     where
       level : (p n d : ℕ) → FractionLe (p * 1 + 0 * d) (n * 1 + 0 * d) (d * 1) p n d
       level p n d = omega arith
 
-  pub sub-zero : Equal (x ⊖ positiveZero) x
+  pub sub-zero : Alike (x ⊖ positiveZero) x
   unfolding ofBits
   sub-zero = record {
     to = sub-below x positiveZero f tt zero-refl h;
-    from = ≼-trans (own x f h .equal .from) (rounds-mono (own x f h .rounds)
+    from = ≼-trans (own x f h .alike .from) (rounds-mono (own x f h .rounds)
         (sub-rounds binary32 x positiveZero f tt) (den-pos x) (mul-pos (den-pos x) (den-pos positiveZero)) (level (numPos x) (numNeg x) (den x)));
   }
     where

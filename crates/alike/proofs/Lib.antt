@@ -1,0 +1,12 @@
+pub mod Equivalence
+pub mod Compare
+pub mod Arithmetic
+pub mod Intervals
+pub mod Constant
+pub mod Neutral
+pub mod Terms
+pub mod Proper
+pub mod Refines
+pub mod Values
+pub mod Turns
+pub mod Angles
