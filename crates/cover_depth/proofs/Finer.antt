@@ -1,16 +1,18 @@
 -- A finer cover of a built move is never a wider one: `cover-finer`. A part of an interval of dt is accepted where the whole is, and its box lies in the
--- whole's (`piece-isotone`), grown by no greater pad; so it is of a slice of a greater depth and the slice that it was cut from (`piece-finer`).
+-- whole's (`part-isotone`, `piece-isotone`), grown by no greater pad; so it is of a slice of a greater depth and the slice that it was cut from (`piece-finer`).
 -- What lies in the coarse cover, part by part, has its union in it.
 use Prim.Native.Nat.{ℕ, zero, suc, _+_, _/_, _^_, _≤_, _<_}
 use mathlib.Core.Path.{_≡_, refl, sym, ap, subst, _∙_}
 use mathlib.Core.Bool.{Bool, true, false}
 use native.Mathlib.Omega.{arith}
 use lib.Dec.{eqb}
+use lib.Ieee.{Float}
 use borrow.Author.Tests.{eqb-true, eqb-false, eq-eqb, le-ltb}
 use Rattle.bounds3.specs.declared.Bounds3f.{Bounds3f}
 use Rattle.bounds3.specs.Bounds3f.{Bounds3f·unionBounds}
 use Rattle.bounds3.specs.Inside.{Subset}
 use Rattle.bounds3.proofs.Union.{subset-trans, union-least, union-subset-left, union-subset-right}
+use Rattle.matrix4x4.specs.declared.Matrix4x4.{Matrix4x4}
 use Rattle.transform.specs.declared.BoundsAnswer.{BoundsAnswer}
 use Rattle.transform.specs.declared.BoundsAnswer.the-variants.{Bounds}
 use Rattle.transform.specs.Answer.{BoundsAnswer·refusal, BoundsAnswer·bounds}
@@ -22,6 +24,7 @@ use Rattle.interval.specs.declared.Interval.{Interval}
 use Rattle.interval.specs.Contains as interval
 use Rattle.unit_interval.specs.Unit.{unitInterval, slice}
 use Rattle.unit_interval.proofs.Slices.{slice-unit, slice-finer, finer-lt}
+use Rattle.pose_steps.specs.declared.PoseConstants.{PoseConstants}
 use Rattle.pose_steps.specs.declared.JudgedVector.{JudgedVector}
 use Rattle.pose_steps.specs.Enclose.{Pose·enclosePoint, Bounds3f·intervals, IntervalVector·bounds}
 use Rattle.pose_steps.proofs.Isotone.{point-isotone}
@@ -43,6 +46,7 @@ use Rattle.motion_cover.proofs.NonZero.{cover-answered}
 use Rattle.motion_cover.proofs.Zeros.{motion-valued, zeros-within}
 use Rattle.motion_cover.proofs.Proper.{box-order, BoxRefines, box-refines, piece-proper, ends-proper, slices-proper, subset-self, motion-proper}
 use Rattle.cover_depth.specs.Finer.{Within, CoverFiner}
+use Rattle.cover_depth.specs.means.Piece.{Pose·encloseBounds, Enclosable}
 
 -- ---- answers within a box
 -- The answer is a box, and lies in c on every axis.
@@ -87,36 +91,45 @@ from-enclosure-box : (j : JudgedVector) → j .refusal ≡ 0 → BoundsAnswer·f
 unfolding BoundsAnswer·fromEnclosure
 from-enclosure-box j e = rw (eq-eqb (j .refusal) 0 e)
 
-module _ {m : AnimatedTransform} (built : Built m) (b : Bounds3f) (r : BoxRefines b) where
-  -- ---- a part of an interval of dt
-  pub piece-isotone : (D D' : Interval) (c : Bounds3f) → interval.Subset D D' → interval.Subset D' unitInterval
-      → BoxWithin (AnimatedTransform·encloseBounds m (AnimatedTransform·constants m) D' b) c
-      → BoxWithin (AnimatedTransform·encloseBounds m (AnimatedTransform·constants m) D b) c
-  unfolding AnimatedTransform·encloseBounds
-  piece-isotone D D' c s u w =
+-- ---- a part of an interval of dt, by the parts of a move
+module _ {a : PoseConstants} {s0 s1 : Matrix4x4} {pad0 pad1 : Float} (parts : Enclosable a s0 s1 pad0 pad1) (b : Bounds3f) (r : BoxRefines b) where
+  pub part-isotone : (D D' : Interval) (c : Bounds3f) → interval.Subset D D' → interval.Subset D' unitInterval
+      → BoxWithin (Pose·encloseBounds a s0 s1 pad0 pad1 D' b) c → BoxWithin (Pose·encloseBounds a s0 s1 pad0 pad1 D b) c
+  part-isotone D D' c s u w =
       let B = Bounds3f·intervals b in
-      let a = AnimatedTransform·constants m in
-      let j = built-judged built in
-      let whole = Pose·enclosePoint a (m .s0) (m .s1) D' B in
-      let part = Pose·enclosePoint a (m .s0) (m .s1) D B in
-      let pad = Pad·enclose (m .pad0) (m .pad1) D in
-      let grown = grow-accepted (Pad·enclose (m .pad0) (m .pad1) D') (BoundsAnswer·fromEnclosure whole) (w .box) (w .accepted) in
+      let p0 = parts .pad0-judged in
+      let p1 = parts .pad1-judged in
+      let whole = Pose·enclosePoint a s0 s1 D' B in
+      let part = Pose·enclosePoint a s0 s1 D B in
+      let pad = Pad·enclose pad0 pad1 D in
+      let grown = grow-accepted (Pad·enclose pad0 pad1 D') (BoundsAnswer·fromEnclosure whole) (w .box) (w .accepted) in
       let g = from-enclosure-accepted whole (grown .before) (grown .worked) in
-      let (s0, s1) = built-scales built in
-      let (z, e) = point-isotone (built-valid built) s0 s1 u s B B r (g .accepted) in
-      let (k, within) =
-      pad-high-within (m .pad0) (m .pad1) (j .pad0 .finite) (j .pad1 .finite) (j .pad0 .at-least-zero) (j .pad1 .at-least-zero) s u (grown .accepted) in
+      let (z, e) = point-isotone (parts .constants) (parts .scale0) (parts .scale1) u s B B r (g .accepted) in
+      let (k, within) = pad-high-within pad0 pad1 (p0 .finite) (p1 .finite) (p0 .at-least-zero) (p1 .at-least-zero) s u (grown .accepted) in
       let box = IntervalVector·bounds (part .vector) in
-      let (accepted, inWhole) = grow-isotone pad (Pad·enclose (m .pad0) (m .pad1) D') box (IntervalVector·bounds (whole .vector)) (w .box) k within
+      let (accepted, inWhole) = grow-isotone pad (Pad·enclose pad0 pad1 D') box (IntervalVector·bounds (whole .vector)) (w .box) k within
       (refines-order (part .vector) (whole .vector) e) (refines-finite (part .vector) (whole .vector) e) (wider-finite (part .vector) (whole .vector) e)
       (refines-subset (part .vector) (whole .vector) e)
-      (subst (λ (x : Bounds3f). BoundsAnswer·grow (Pad·enclose (m .pad0) (m .pad1) D') (Bounds x) ≡ Bounds (w .box)) (sym (g .bounds))
-      (subst (λ (x : BoundsAnswer). BoundsAnswer·grow (Pad·enclose (m .pad0) (m .pad1) D') x ≡ Bounds (w .box)) (grown .worked) (w .accepted))) in
+      (subst (λ (x : Bounds3f). BoundsAnswer·grow (Pad·enclose pad0 pad1 D') (Bounds x) ≡ Bounds (w .box)) (sym (g .bounds))
+      (subst (λ (x : BoundsAnswer). BoundsAnswer·grow (Pad·enclose pad0 pad1 D') x ≡ Bounds (w .box)) (grown .worked) (w .accepted))) in
       record {
         box = Bounds3f·grow (pad .interval .high) box;
         accepted = rw (from-enclosure-box part z) accepted;
         subset = subset-trans inWhole (w .subset);
       }
+
+pub built-enclosable : {m : AnimatedTransform} → Built m → Enclosable (AnimatedTransform·constants m) (m .s0) (m .s1) (m .pad0) (m .pad1)
+built-enclosable built =
+    let j = built-judged built in
+    let (s0, s1) = built-scales built in
+    record { constants = built-valid built; scale0 = s0; scale1 = s1; pad0-judged = j .pad0; pad1-judged = j .pad1 }
+
+module _ {m : AnimatedTransform} (built : Built m) (b : Bounds3f) (r : BoxRefines b) where
+  pub piece-isotone : (D D' : Interval) (c : Bounds3f) → interval.Subset D D' → interval.Subset D' unitInterval
+      → BoxWithin (AnimatedTransform·encloseBounds m (AnimatedTransform·constants m) D' b) c
+      → BoxWithin (AnimatedTransform·encloseBounds m (AnimatedTransform·constants m) D b) c
+  unfolding AnimatedTransform·encloseBounds
+  piece-isotone = part-isotone (built-enclosable built) b r
 
   -- a slice of a greater depth
   pub piece-finer : (d n k : ℕ) (c : Bounds3f) → k < 2 ^ (d + n)

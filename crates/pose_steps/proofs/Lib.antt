@@ -1,6 +1,6 @@
 pub mod Angle
 mod Valid
-mod Zero
+pub mod Zero
 pub mod Rows
 pub mod Finite
 pub mod Extends
