@@ -1,0 +1,4 @@
+pub mod Piece
+pub mod Join
+pub mod Union
+pub mod Test
