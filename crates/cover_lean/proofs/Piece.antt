@@ -22,8 +22,7 @@ use Rattle.formula_lean.specs.means.Lean.{number, range, Lean·of, Expr·lean, 
 use Rattle.formula_lean.proofs.Operations.{Stands}
 use Rattle.pose_steps.specs.declared.PoseConstants.{PoseConstants}
 use Rattle.pose_steps.specs.declared.IntervalVector.{IntervalVector}
-use Rattle.pose_steps.specs.Enclose.{Pose·enclosePoint, Bounds3f·intervals, IntervalVector·bounds}
-use Rattle.pose_steps.proofs.Box.{order-refl}
+use Rattle.pose_steps.specs.Enclose.{Pose·encloseTransformPoint, Pose·encloseMatrix, Pose·enclosePoint, Bounds3f·intervals, IntervalVector·bounds}
 use Rattle.pose_lean.specs.means.Lean.{lerp, oneMinus, Lean·slerp, rotation, shifted, linearBy, padHigh, movedBy, LeanPose·over, Interval·grown}
 use Rattle.pose_lean.specs.means.Lean.{IntervalVector·grown, LeanPose·vector, LeanPose·box, Lean·box}
 use Rattle.pose_lean.specs.means.Values.{PoseValues, Bounds3f·Values}
@@ -31,7 +30,7 @@ use Rattle.pose_lean.proofs.Stages.{number-stands, range-stands, stage-lean, St
 use Rattle.pose_lean.proofs.Pose.{point-accepted}
 use Rattle.animated_transform.specs.Built.{Pad·Judged}
 use Rattle.motion_pad.specs.Pad.{padStage, Pad·inputs, Pad·enclose}
-use Rattle.motion_pad.specs.Grow.{Bounds3f·grow}
+use Rattle.motion_pad.specs.Grow.{Bounds3f·grow, BoundsAnswer·grow}
 use Rattle.motion_pad.proofs.Box.{grow-accepted}
 use Rattle.motion_cover.specs.Cover.{BoundsAnswer·fromEnclosure}
 use Rattle.motion_cover.proofs.Contains.{from-enclosure-accepted}
@@ -90,6 +89,14 @@ module _ {v W : IntervalVector} {pad pad' : Float} (s : StandsVector v W) (f : T
       record { x = (x .low .to, x .high .from); y = (y .low .to, y .high .from); z = (z .low .to, z .high .from) }
 
 -- ---- the piece
+-- A pose once, and then boxes.
+pub over-bounds : (a : PoseConstants) (s0 s1 : Matrix4x4) (pad0 pad1 : Float) (D : Interval) (b : Bounds3f)
+    → BoundsAnswer·grow (Pad·enclose pad0 pad1 D) (BoundsAnswer·fromEnclosure
+    (Pose·encloseTransformPoint (Pose·encloseMatrix a s0 s1 D .refusal) (Pose·encloseMatrix a s0 s1 D .matrix) (Bounds3f·intervals b)))
+    ≡ Pose·encloseBounds a s0 s1 pad0 pad1 D b
+unfolding Pose·enclosePoint
+over-bounds a s0 s1 pad0 pad1 D b = refl
+
 module _ {a : PoseConstants} {s0 s1 : Matrix4x4} {pad0 pad1 : Float} (parts : Enclosable a s0 s1 pad0 pad1) (values : PoseValues a s0 s1)
     (b : Bounds3f) (r : BoxRefines b) (numbers : Bounds3f·Values b) where
   -- One that is accepted.
