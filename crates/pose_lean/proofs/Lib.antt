@@ -1,3 +1,4 @@
 pub mod Stages
 pub mod Slerp
 pub mod Pose
+pub mod Values
