@@ -1,10 +1,8 @@
 -- Where the slices of a depth are accepted, with what stands before them, those of each greater depth are the lean ones but for zeros' signs, and so is their union in
--- rising order, `slices-lean`. In four lanes it is the same with its zeros +0: `lanes-zeros`, `groups-zeros`. In any other order it is by `same-zeros-of`; a list of
--- answers, as pieces of a window are, by `list-lean`.
+-- rising order, `slices-lean`. In four lanes it is the same with its zeros +0: `lanes-zeros`, `groups-zeros`. In any other order it is by `same-zeros-of`.
 use Prim.Native.Nat.{ℕ, zero, suc, _+_, _*_, _/_, _^_, _≤_, _<_}
 use mathlib.Core.Path.{_≡_, refl, sym, ap, subst, _∙_}
 use mathlib.Core.Bool.{Bool, true, false}
-use mathlib.Core.List.{List, [], _∷_, map}
 use native.Mathlib.Omega.{arith}
 use lib.Dec.{T, eqb}
 use lib.Ieee.{binary32}
@@ -38,10 +36,9 @@ use Rattle.motion_cover.specs.Cover.{Transform·enclosePadded, AnimatedTransfor
 use Rattle.motion_cover.proofs.Zeros.{stored-valued, union-valued}
 use Rattle.motion_cover.proofs.Proper.{BoxRefines}
 use Rattle.cover_depth.specs.means.Piece.{Enclosable}
-use Rattle.bounds_answers.specs.UnionAll.{BoundsAnswer·unionAll, Each}
 use Rattle.cover_lean.specs.means.Union.{unionOf, stride, inPairs}
 use Rattle.cover_lean.proofs.Piece.{piece-lean}
-use Rattle.cover_lean.proofs.Join.{Self, SameBox, lanes-same, groups-same, unionList}
+use Rattle.cover_lean.proofs.Join.{Self, SameBox, lanes-same, groups-same}
 
 -- ---- answers
 -- A box that lies in and around the lean one is the answer's, with zeros +0.
@@ -49,13 +46,6 @@ pub same-zeros-of : {r : BoundsAnswer} {u x : Bounds3f} → BoundsAnswer·Same r
     → BoundsAnswer·positiveZeros r ≡ Bounds (Bounds3f·positiveZeros x)
 unfolding BoundsAnswer·positiveZeros
 same-zeros-of {r} {u} {x} s p q = answers-zeros s ∙ ap Bounds (same-zeros p q)
-
--- Answers joined in order to what stands before, and their lean boxes.
-pub list-lean : {r : BoundsAnswer} {u : Bounds3f} (box : Interval → BoundsAnswer) (lean : Interval → Bounds3f) → BoundsAnswer·Same r (Bounds u) → (l : List Interval)
-    → Each (λ (D : Interval). BoundsAnswer·Same (box D) (Bounds (lean D))) l → BoundsAnswer·Same (BoundsAnswer·unionAll r (map box l)) (Bounds (unionList u (map lean l)))
-unfolding BoundsAnswer·unionBounds unionList
-list-lean box lean s [] t = s
-list-lean box lean s (D ∷ l) t = list-lean box lean (union-same s (t .0)) l (t .1)
 
 -- What the two stored poses give is finite.
 pub ends-finite : (m : AnimatedTransform) (b first : Bounds3f) → AnimatedTransform·encloseEnds m b ≡ Bounds first → T (Bounds3f·isFinite first)
