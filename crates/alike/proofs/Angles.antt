@@ -10,9 +10,8 @@ use lib.Dec.{T, leb, leb→le}
 use lib.Ieee.{fits}
 use lib.Ieee.Bits.{ofBits-fits}
 use lib.Ieee.Scale.{finite}
-use lib.Ieee.{Float, binary32, ofBits, isNan, lt, le, neg}
+use lib.Ieee.{Float, binary32, ofBits, isNan, lt, le}
 use Rattle.rounding.specs.Order.{_≼_, Number}
-use Rattle.rounding.proofs.Corners.{Bounds}
 use Rattle.rounding.proofs.Order.{finite-number, number-left, not-lt-≼}
 use Rattle.float32.specs.MinMax.{minNum, maxNum}
 use Rattle.float32.specs.Operators.{one}
@@ -26,7 +25,6 @@ use Rattle.trig.specs.Units.{fixed}
 use Rattle.trig.specs.Range.{Angle, lies, quarterTurnFloat, sinLow, sinHigh, cosLow, cosHigh}
 use Rattle.trig.proofs.Units.{sin-falls}
 use Rattle.trig.proofs.Monotone.{biasedFloat, sin-at, sin-unit, cos-at, cos-unit, angle-near, angle-finite, angleUnits-mono}
-use Rattle.interval.specs.declared.Interval.{Interval}
 use Rattle.interval.specs.Interval.{Interval·new}
 use Rattle.interval.specs.Enclosure.{Interval·sinEnclosure, Interval·cosEnclosure}
 use Rattle.own_rounding.specs.means.Alike.{Alike}

@@ -2,11 +2,11 @@
 -- and roots of what is from zero up, `sqrt-alike`. Each is the operation's monotone law, used both ways.
 use mathlib.Core.Logic.{inl, inr}
 use lib.Dec.{T}
-use lib.Ieee.{Float, binary32, ofBits, neg}
+use lib.Ieee.{Float, binary32, ofBits}
 use lib.Ieee.Scale.{finite}
 use lib.Ieee.Positive.{positive}
 use Rattle.rounding.specs.Order.{_≼_, Between}
-use Rattle.rounding.proofs.Order.{≼-trans, neg-antitone}
+use Rattle.rounding.proofs.Order.{≼-trans}
 use Rattle.rounding.proofs.Arithmetic.{add-mono, sub-mono, mul-between-left, mul-between-right, div-mono, div-between-right}
 use Rattle.float32.specs.Operators.{_⊕_, _⊖_, _⊗_, _⊘_, positiveZero}
 use Rattle.square_root.specs.SquareRoot.{sqrt}
@@ -16,12 +16,9 @@ use Rattle.own_rounding.proofs.OwnRounding.{alike-trans}
 use Rattle.alike.proofs.Equivalence.{alike-finite, alike-positive}
 
 -- What lies between x and x is alike to x.
-pub between-alike : {x y : Float} → Between x y x → Alike x y
+between-alike : {x y : Float} → Between x y x → Alike x y
 between-alike (inl b) = record { to = b .0; from = b .1 }
 between-alike (inr b) = record { to = b .0; from = b .1 }
-
-pub neg-alike : {x y : Float} → Alike x y → Alike (neg x) (neg y)
-neg-alike a = record { to = neg-antitone (a .from); from = neg-antitone (a .to) }
 
 module _ {x x' y y' : Float} (f : T (finite x)) (g : T (finite y)) (a : Alike x x') (b : Alike y y') where
   pub add-alike : Alike (x ⊕ y) (x' ⊕ y')

@@ -1,16 +1,14 @@
--- Comparisons of alike floats come out the same, `lt-alike`, `le-alike`; so least and greatest of them are alike, by a comparison alone (`lesser-alike`,
--- `greater-alike`) and as document 01 has them (`min-alike`, `max-alike`). In either order they are alike: `min-swap`, `max-swap`.
-use mathlib.Core.Path.{_≡_, refl, sym}
-use mathlib.Core.Logic.{inl, inr}
-use mathlib.Core.Bool.{Bool, true, false, not, cond, _||_}
+-- Strict comparisons of alike floats come out the same, `lt-alike`; so least and greatest of them are alike, by a comparison alone (`lesser-alike`, `greater-alike`) and
+-- as document 01 has them (`min-alike`, `max-alike`).
+use mathlib.Core.Path.{_≡_, refl}
+use mathlib.Core.Bool.{Bool, true, false, not, cond}
 use Prim.Native.Nat.{ℕ, _+_, _*_, _≤_}
 use native.Mathlib.Omega.{arith}
 use lib.Dec.{T, ltb→lt}
 use lib.Ieee.{Float, nan, inf, fin, below, up, down, lt, le, isNan}
-use lib.Ieee.Bits.{is-true}
 use Rattle.rounding.specs.Order.{_≼_, Number}
 use Rattle.rounding.proofs.Rational.{posPart, negPart, posPart-mul, negPart-mul}
-use Rattle.rounding.proofs.Order.{≼-refl, lt-≼, not-lt-≼, to-fraction}
+use Rattle.rounding.proofs.Order.{not-lt-≼, to-fraction}
 use Rattle.float32.specs.MinMax.{minNum, maxNum}
 use Rattle.interval_unjudged.specs.means.Ordered.{lesser, greater}
 use Rattle.own_rounding.specs.means.Alike.{Alike}
@@ -55,15 +53,9 @@ module _ {x x' y y' : Float} (a : Alike x x') (b : Alike y y') where
   lt-goes : T (lt x y) → T (lt x' y')
   lt-goes h = refute (lt x' y') (λ n. lt-not-≼ x y h (alike-≼ (alike-sym b) (alike-sym a) (not-lt-≼ y' x' (alike-right b) (alike-right a) n)))
 
-  le-goes : T (le x y) → T (le x' y')
-  le-goes h = alike-≼ a b (record { holds = h }) .holds
-
 module _ {x x' y y' : Float} (a : Alike x x') (b : Alike y y') where
-  pub lt-alike : lt x y ≡ lt x' y'
+  lt-alike : lt x y ≡ lt x' y'
   lt-alike = same-test (lt x y) (lt x' y') (lt-goes a b) (lt-goes (alike-sym a) (alike-sym b))
-
-  pub le-alike : le x y ≡ le x' y'
-  le-alike = same-test (le x y) (le x' y') (le-goes a b) (le-goes (alike-sym a) (alike-sym b))
 
 -- ---- least and greatest
 cond-alike : {x x' y y' : Float} (b : Bool) → Alike x x' → Alike y y' → Alike (cond b x y) (cond b x' y')

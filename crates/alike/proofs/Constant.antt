@@ -33,7 +33,7 @@ use Rattle.alike.proofs.Intervals.{interval-self, interval-sym, interva
 
 -- ---- two in order
 module _ {a b : Float} (h : a ≼ b) where
-  pub lesser-first : Alike (lesser a b) a
+  lesser-first : Alike (lesser a b) a
   unfolding lesser
   lesser-first = go (lt b a) (λ t. lt-not-≼ b a t h)
     where
@@ -41,7 +41,7 @@ module _ {a b : Float} (h : a ≼ b) where
       go true k = absurd (k tt)
       go false k = alike-refl a (number-left h)
 
-  pub greater-second : Alike (greater a b) b
+  greater-second : Alike (greater a b) b
   unfolding greater
   greater-second = go (lt a b) (λ n. not-lt-≼ b a (number-right h) (number-left h) n)
     where
@@ -69,10 +69,10 @@ module _ {a b : Float} (h : a ≼ b) where
   pub ordered-alike : Interval·Alike (Interval·newOrdered a b) (record { low = a; high = b })
   ordered-alike = record { low = lesser-first; high = greater-second }
 
-  pub swapped-alike : Interval·Alike (Interval·newOrdered b a) (record { low = a; high = b })
+  swapped-alike : Interval·Alike (Interval·newOrdered b a) (record { low = a; high = b })
   swapped-alike = record { low = lesser-second; high = greater-first }
 
-pub ordered-swap : (a b : Float) → Number a → Number b → Interval·Alike (Interval·newOrdered a b) (Interval·newOrdered b a)
+ordered-swap : (a b : Float) → Number a → Number b → Interval·Alike (Interval·newOrdered a b) (Interval·newOrdered b a)
 ordered-swap a b n m = elim (≼-total a b n m) [
   | inl h ↦ interval-trans (ordered-alike h) (interval-sym (swapped-alike h))
   | inr h ↦ interval-trans (swapped-alike h) (interval-sym (ordered-alike h))

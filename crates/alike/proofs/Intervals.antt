@@ -1,23 +1,19 @@
 -- The operations of the cover on alike intervals give alike intervals: `add-alike` and its like, for finite ends, and positive ones where they are divided by or
--- rooted. So do products and quotients by comparisons alone, `mul-ordered-alike`, `div-ordered-alike`, and hulls, `hull-alike`.
-use lib.Dec.{T}
-use lib.Ieee.{Float, binary32, ofBits}
+-- rooted.
+use lib.Ieee.{Float, ofBits}
 use lib.Ieee.Scale.{finite}
 use lib.Ieee.Positive.{positive}
-use Rattle.rounding.specs.Order.{_≼_}
 use Rattle.square_root.proofs.Monotone.{positive-above-zero}
-use Rattle.float32.specs.Operators.{_⊕_, _⊖_, _⊗_, _⊘_, positiveZero}
 use Rattle.interval.specs.declared.Interval.{Interval}
 use Rattle.interval.specs.Contains.{Finite}
 use Rattle.interval.specs.Interval.{Interval·new, Interval·point, Interval·hull, Interval·ofFour}
 use Rattle.interval.specs.Enclosure.{Interval·addEnclosure, Interval·subEnclosure, Interval·mulEnclosure, Interval·divEnclosure, Interval·sqrtEnclosure}
-use Rattle.interval_unjudged.specs.means.Ordered.{Interval·ofFourOrdered, Interval·mulOrdered, Interval·divOrdered}
 use Rattle.interval_unjudged.specs.means.Unjudged.{Positive}
 use Rattle.own_rounding.specs.means.Alike.{Alike}
 use Rattle.alike.specs.means.Alike.{Interval·Alike}
 use Rattle.own_rounding.proofs.OwnRounding.{alike-trans}
 use Rattle.alike.proofs.Equivalence.{alike-self, alike-sym, alike-finite, alike-positive}
-use Rattle.alike.proofs.Compare.{lesser-alike, greater-alike, min-alike, max-alike}
+use Rattle.alike.proofs.Compare.{min-alike, max-alike}
 use Rattle.alike.proofs.Arithmetic as float
 
 -- ---- an equivalence of finite intervals
@@ -40,22 +36,18 @@ pub point-alike : {x y : Float} → Alike x y → Interval·Alike (Interval·poi
 point-alike a = record { low = a; high = a }
 
 -- ---- from the least to the greatest
-pub new-alike : {a a' b b' : Float} → Alike a a' → Alike b b' → Interval·Alike (Interval·new a b) (Interval·new a' b')
+new-alike : {a a' b b' : Float} → Alike a a' → Alike b b' → Interval·Alike (Interval·new a b) (Interval·new a' b')
 unfolding Interval·new
 new-alike p q = record { low = min-alike p q; high = max-alike p q }
 
-pub hull-alike : {X X' Y Y' : Interval} → Interval·Alike X X' → Interval·Alike Y Y' → Interval·Alike (Interval·hull X Y) (Interval·hull X' Y')
+hull-alike : {X X' Y Y' : Interval} → Interval·Alike X X' → Interval·Alike Y Y' → Interval·Alike (Interval·hull X Y) (Interval·hull X' Y')
 unfolding Interval·hull
 hull-alike p q = record { low = min-alike (p .low) (q .low); high = max-alike (p .high) (q .high) }
 
 module _ {a a' b b' c c' d d' : Float} (p : Alike a a') (q : Alike b b') (r : Alike c c') (s : Alike d d') where
-  pub four-alike : Interval·Alike (Interval·ofFour a b c d) (Interval·ofFour a' b' c' d')
+  four-alike : Interval·Alike (Interval·ofFour a b c d) (Interval·ofFour a' b' c' d')
   unfolding Interval·ofFour
   four-alike = hull-alike (new-alike p q) (new-alike r s)
-
-  pub four-ordered-alike : Interval·Alike (Interval·ofFourOrdered a b c d) (Interval·ofFourOrdered a' b' c' d')
-  unfolding Interval·ofFourOrdered
-  four-ordered-alike = record { low = lesser-alike (lesser-alike p q) (lesser-alike r s); high = greater-alike (greater-alike p q) (greater-alike r s) }
 
 -- ---- the operations
 module _ {X X' Y Y' : Interval} (f : Finite X) (g : Finite Y) (a : Interval·Alike X X') (b : Interval·Alike Y Y') where
@@ -74,25 +66,11 @@ module _ {X X' Y Y' : Interval} (f : Finite X) (g : Finite Y) (a : Interval·Ali
       (float.mul-alike (f .low) (g .low) (a .low) (b .low)) (float.mul-alike (f .high) (g .low) (a .high) (b .low))
       (float.mul-alike (f .low) (g .high) (a .low) (b .high)) (float.mul-alike (f .high) (g .high) (a .high) (b .high))
 
-  pub mul-ordered-alike : Interval·Alike (Interval·mulOrdered X Y) (Interval·mulOrdered X' Y')
-  unfolding Interval·mulOrdered
-  mul-ordered-alike =
-      four-ordered-alike
-      (float.mul-alike (f .low) (g .low) (a .low) (b .low)) (float.mul-alike (f .high) (g .low) (a .high) (b .low))
-      (float.mul-alike (f .low) (g .high) (a .low) (b .high)) (float.mul-alike (f .high) (g .high) (a .high) (b .high))
-
 module _ {X X' Y Y' : Interval} (f : Finite X) (p : Positive Y) (a : Interval·Alike X X') (b : Interval·Alike Y Y') where
   pub div-alike : Interval·Alike (Interval·divEnclosure X Y) (Interval·divEnclosure X' Y')
   unfolding Interval·divEnclosure
   div-alike =
       four-alike
-      (float.div-alike (f .low) (p .low) (a .low) (b .low)) (float.div-alike (f .high) (p .low) (a .high) (b .low))
-      (float.div-alike (f .low) (p .high) (a .low) (b .high)) (float.div-alike (f .high) (p .high) (a .high) (b .high))
-
-  pub div-ordered-alike : Interval·Alike (Interval·divOrdered X Y) (Interval·divOrdered X' Y')
-  unfolding Interval·divOrdered
-  div-ordered-alike =
-      four-ordered-alike
       (float.div-alike (f .low) (p .low) (a .low) (b .low)) (float.div-alike (f .high) (p .low) (a .high) (b .low))
       (float.div-alike (f .low) (p .high) (a .low) (b .high)) (float.div-alike (f .high) (p .high) (a .high) (b .high))
 

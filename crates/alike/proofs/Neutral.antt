@@ -1,14 +1,14 @@
 -- Terms by the constants 0 and 1. Of floats: `add-zero`, `sub-zero`, `zero-add`, `one-mul`, `mul-one` for values of binary32, `zero-mul`, `mul-zero` for finite floats;
 -- each is a fraction rounded, so that each is one equation of fractions (`rounds-alike`).
-use mathlib.Core.Path.{_≡_, refl, ap, _∙_}
+use mathlib.Core.Path.{_≡_, ap, _∙_}
 use Prim.Native.Nat.{ℕ, _+_, _*_, _<_}
 use native.Mathlib.Nat.{mul-pos}
 use native.Mathlib.Omega.{arith}
 use lib.Dec.{T}
-use lib.Ieee.{Float, binary32, round, ofBits, fits, mul}
+use lib.Ieee.{Float, binary32, round, ofBits, fits}
 use lib.Ieee.Scale.{finite}
 use lib.Ieee.Positive.{den, den-pos}
-use Rattle.rounding.proofs.Rational.{numPos, numNeg, FractionLe}
+use Rattle.rounding.proofs.Rational.{numPos, numNeg}
 use Rattle.rounding.proofs.Monotone.{Rounds, rounds-mono}
 use Rattle.rounding.proofs.Arithmetic.{add-rounds, mul-rounds, mul-comm-finite}
 use Rattle.float32.specs.Operators.{_⊕_, _⊖_, _⊗_, positiveZero, one}

@@ -10,7 +10,7 @@ use lib.Ieee.Scale.{finite}
 use Rattle.rounding.specs.Order.{_≼_, Number}
 use Rattle.rounding.proofs.Order.{≼-refl, ≼-trans, finite-number}
 use Rattle.rounding.proofs.Arithmetic.{add-mono, sub-mono}
-use Rattle.float32.specs.Operators.{_⊕_, _⊖_, _⊗_, _⊘_}
+use Rattle.float32.specs.Operators.{_⊗_, _⊘_}
 use Rattle.float32.proofs.MinMax.{min-picks, max-picks}
 use Rattle.square_root.specs.SquareRoot.{sqrt, roundSqrt, stickySqrt}
 use Rattle.square_root.proofs.Monotone.{sqrt-mono, positive-above-zero}

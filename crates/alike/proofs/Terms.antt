@@ -11,10 +11,9 @@ use Rattle.own_rounding.specs.means.Alike.{Alike}
 use Rattle.alike.specs.means.Alike.{Interval·Alike, Interval·Values, Interval·Proper}
 use Rattle.alike.specs.means.Alike.{Interval·newOrdered}
 use Rattle.own_rounding.proofs.OwnRounding.{alike-trans}
-use Rattle.alike.proofs.Equivalence.{alike-self, alike-sym}
 use Rattle.alike.proofs.Compare.{lesser-alike, greater-alike}
 use Rattle.alike.proofs.Neutral as float
-use Rattle.alike.proofs.Intervals.{interval-self, interval-sym, interval-trans, interval-finite, add-alike, sub-alike}
+use Rattle.alike.proofs.Intervals.{interval-sym, interval-trans, interval-finite, add-alike, sub-alike}
 use Rattle.alike.proofs.Constant.{mul-constant-left, mul-constant-right, ordered-alike}
 
 abbrev 𝟎 : Interval

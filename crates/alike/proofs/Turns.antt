@@ -1,7 +1,7 @@
 -- Sine and cosine of alike intervals of angles are alike, and proper: `sin-turn`, `cos-turn`, by isotonicity used both ways.
-use mathlib.Core.Path.{_≡_, refl}
+use mathlib.Core.Path.{refl}
 use mathlib.Core.Bool.{Bool, true, false, cond, _||_}
-use Prim.Native.Nat.{ℕ, suc, _*_, _^_}
+use Prim.Native.Nat.{suc, _*_, _^_}
 use lib.IntN.{ℤ, pos, negsuc}
 use lib.Dec.{T}
 use lib.Ieee.{Float, binary32, ofBits, le, fits, neg}
@@ -18,8 +18,7 @@ use Rattle.trig.specs.Units.{angleUnits, sinUnits, cosUnits, nearestFloat, with
 use Rattle.trig.specs.SinCos.{sin, cos, near, farSin, farCos}
 use Rattle.trig.specs.Range.{fullTurnFloat, lies, sinLow, sinHigh, cosLow, cosHigh}
 use Rattle.interval.specs.declared.Interval.{Interval}
-use Rattle.interval.specs.declared.Judged.{Judged}
-use Rattle.interval.specs.Contains.{Finite, Refines}
+use Rattle.interval.specs.Contains.{Finite}
 use Rattle.interval.specs.Enclosure.{Interval·sinEnclosure, Interval·cosEnclosure, Judged·judge, Judged·sinEnclosure, Judged·cosEnclosure}
 use Rattle.interval.specs.Extension.{Isotone₁, Angles}
 use Rattle.interval.proofs.Refusal.{finite-accepted}
@@ -39,7 +38,7 @@ pub sin-fits : (x : Float) → T (fits binary32 (sin x))
 unfolding sin
 sin-fits x = cond-fits binary32 (near x) (nearestFloat (withSign (negative x) (sinUnits (angleUnits x)))) farSin (nearest-fits _) (nan-fits binary32)
 
-pub cos-fits : (x : Float) → T (fits binary32 (cos x))
+cos-fits : (x : Float) → T (fits binary32 (cos x))
 unfolding cos
 cos-fits x = cond-fits binary32 (near x) (nearestFloat (cosUnits (angleUnits x))) farCos (nearest-fits (cosUnits (angleUnits x))) (nan-fits binary32)
 

@@ -7,14 +7,13 @@ use native.Mathlib.Nat.{mul-pos, eq-zero-or-pos}
 use native.Mathlib.Omega.{arith}
 use lib.IntN.{ℤ, pos}
 use lib.Dec.{T}
-use lib.Ieee.{Float, nan, inf, fin, Format, binary32, prec, low, hid, top, size, up, down, add, le, ofBits, toBits, fits}
-use lib.Ieee.Fits.{up-pos, down-pos, add-fits}
+use lib.Ieee.{Float, nan, inf, fin, Format, binary32, prec, low, hid, top, size, up, down, le, ofBits, toBits, fits}
+use lib.Ieee.Fits.{up-pos, down-pos}
 use lib.Ieee.Bits.{ofBits-toBits}
 use lib.Ieee.Nearest.{div-same}
-use lib.Ieee.Scale.{finite}
 use Rattle.rounding.specs.Order.{_≼_}
-use Rattle.rounding.proofs.Order.{to-fraction, zeros-equal}
-use Rattle.float32.specs.Operators.{_⊕_, positiveZero}
+use Rattle.rounding.proofs.Order.{to-fraction}
+use Rattle.float32.specs.Operators.{positiveZero}
 use Rattle.own_rounding.specs.means.Alike.{Alike}
 use Rattle.alike.proofs.Equivalence.{alike-zeros}
 

@@ -1,14 +1,10 @@
 -- What the laws ask is met, by computing: a move that turns by an eighth of a full turn about z, shifts and has pads, judged over all of dt, and a quarter of dt leanly.
-use Prim.Native.Nat.{ℕ}
 use mathlib.Core.Path.{_≡_, refl}
 use mathlib.Core.Bool.{Bool, true, false}
-use mathlib.Core.List.{[], _∷_}
 use lib.Dec.{T, lit<}
 use lib.Ieee.{Float, binary32, ofBits, fits}
 use Rattle.float32.specs.Operators.{positiveZero, one}
 use Rattle.bounds3.specs.declared.Bounds3f.{Bounds3f}
-use Rattle.quaternion.specs.declared.Quaternion.{Quaternion}
-use Rattle.matrix4x4.specs.declared.Matrix4x4.{Matrix4x4}
 use Rattle.transform.specs.declared.BoundsAnswer.{BoundsAnswer}
 use Rattle.transform.specs.declared.BoundsAnswer.the-variants.{Bounds, Refused}
 use Rattle.transform.specs.Answer.{BoundsAnswer·bounds}
@@ -19,7 +15,7 @@ use Rattle.unit_interval.proofs.Slices.{slice-unit, slice-finer}
 use Rattle.pose_steps.specs.declared.PoseConstants.{PoseConstants}
 use Rattle.pose_steps.specs.Pose.{Matrix4x4·identity}
 use Rattle.pose_lean.specs.means.Lean.{Lean·box}
-use Rattle.pose_lean.specs.means.Values.{PoseConstants·Values, ScaleValues, PoseValues, Bounds3f·Values}
+use Rattle.pose_lean.specs.means.Values.{ScaleValues, PoseValues, Bounds3f·Values}
 use Rattle.motion_cover.specs.means.Computing as cover
 use Rattle.motion_cover.proofs.Proper.{box-refines}
 use Rattle.cover_depth.specs.means.Piece.{Pose·encloseBounds, Enclosable}

@@ -13,7 +13,7 @@ use Rattle.bounds3.specs.declared.Bounds3f.{Bounds3f}
 use Rattle.bounds3.specs.Point3f.{Point3f·min, Point3f·max}
 use Rattle.bounds3.specs.Bounds3f.{Bounds3f·unionBounds}
 use Rattle.bounds3.specs.Inside.{Subset}
-use Rattle.bounds3.proofs.Union.{subset-trans, union-least, union-subset-left, union-subset-right, union-isotone}
+use Rattle.bounds3.proofs.Union.{union-least, union-subset-left, union-subset-right, union-isotone}
 use Rattle.interval_unjudged.proofs.Ordered.{lesser-min, greater-max}
 use Rattle.pose_steps.specs.declared.IntervalVector.{IntervalVector}
 use Rattle.pose_steps.specs.Enclose.{Bounds3f·intervals, IntervalVector·bounds}

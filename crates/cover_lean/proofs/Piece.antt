@@ -23,7 +23,7 @@ use Rattle.formula_lean.proofs.Operations.{Stands}
 use Rattle.pose_steps.specs.declared.PoseConstants.{PoseConstants}
 use Rattle.pose_steps.specs.declared.IntervalVector.{IntervalVector}
 use Rattle.pose_steps.specs.Enclose.{Pose·encloseTransformPoint, Pose·encloseMatrix, Pose·enclosePoint, Bounds3f·intervals, IntervalVector·bounds}
-use Rattle.pose_lean.specs.means.Lean.{lerp, oneMinus, Lean·slerp, rotation, shifted, linearBy, padHigh, movedBy, LeanPose·over, Interval·grown}
+use Rattle.pose_lean.specs.means.Lean.{lerp, oneMinus, padHigh, LeanPose·over, Interval·grown}
 use Rattle.pose_lean.specs.means.Lean.{IntervalVector·grown, LeanPose·vector, LeanPose·box, Lean·box}
 use Rattle.pose_lean.specs.means.Values.{PoseValues, Bounds3f·Values}
 use Rattle.pose_lean.proofs.Stages.{number-stands, range-stands, stage-lean, StandsVector}

@@ -1,10 +1,8 @@
 -- Each lean operation stands for the cover's, where that is finite: `plus-stands` and its like.
 use mathlib.Core.Path.{_≡_, sym, subst}
-use lib.Dec.{T}
-use lib.Ieee.{Float, binary32}
+use lib.Ieee.{Float}
 use lib.Ieee.Scale.{finite}
-use Rattle.float32.specs.Operators.{_⊕_, _⊖_, _⊗_, _⊘_}
-use Rattle.square_root.specs.SquareRoot.{sqrt}
+use Rattle.float32.specs.Operators.{_⊗_}
 use Rattle.interval.specs.declared.Interval.{Interval}
 use Rattle.interval.specs.Contains.{Finite}
 use Rattle.interval.specs.Interval.{Interval·point}
@@ -14,13 +12,13 @@ use Rattle.interval.proofs.Points.{add-point, sub-point, mul-point, div-point, 
 use Rattle.interval_unjudged.specs.means.Ordered.{Interval·mulOrdered, Interval·divOrdered}
 use Rattle.interval_unjudged.specs.means.Unjudged.{Positive}
 use Rattle.interval_unjudged.proofs.Ordered.{mul-ordered, div-ordered}
-use Rattle.alike.specs.means.Alike.{Interval·Alike, Interval·Proper, Interval·newOrdered}
+use Rattle.alike.specs.means.Alike.{Interval·Alike, Interval·Proper}
 use Rattle.alike.proofs.Intervals.{interval-self, interval-trans, interval-finite, interval-positive, add-alike, sub-alike, mul-alike, div-alike, sqrt-alike}
 use Rattle.alike.proofs.Constant.{ordered-finite, ordered-both, mul-span}
 use Rattle.alike.proofs.Terms.{zero-mul, mul-zero, one-mul, mul-one, add-none, none-add, sub-none, zero-interval, one-interval}
 use Rattle.alike.proofs.Proper.{add-proper, sub-proper, mul-proper, div-proper, sqrt-proper}
 use Rattle.formula_lean.specs.means.Lean.{Lean, nought, unit, number, span, range, Lean·interval, Lean·Finite}
-use Rattle.formula_lean.specs.means.Lean.{Lean·added, Lean·addedNumber, Lean·plus, Lean·lessNumber, Lean·less, Lean·minus}
+use Rattle.formula_lean.specs.means.Lean.{Lean·added, Lean·addedNumber, Lean·plus, Lean·lessNumber, Lean·minus}
 use Rattle.formula_lean.specs.means.Lean.{Lean·multiplied, Lean·multipliedNumber, Lean·times, Lean·dividedNumber, Lean·over, Lean·root}
 
 -- v stands for X.

@@ -14,7 +14,6 @@ use Rattle.refusal.proofs.First.{first-zero}
 use Rattle.rounding.proofs.Order.{above-positive}
 use Rattle.float32.specs.Operators.{positiveZero, one}
 use Rattle.interval.specs.declared.Interval.{Interval}
-use Rattle.interval.specs.declared.Judged.{Judged}
 use Rattle.interval.specs.Contains.{Finite}
 use Rattle.interval.specs.Interval.{Interval·point}
 use Rattle.interval.specs.Enclosure.{Interval·addEnclosure, Interval·subEnclosure, Interval·mulEnclosure, Interval·divEnclosure, Interval·sqrtEnclosure}
@@ -22,7 +21,7 @@ use Rattle.interval.specs.Enclosure.{notFinite, notPositive, Judged·judge, Jud
 use Rattle.interval.specs.Enclosure.{Judged·divEnclosure, Judged·sqrtEnclosure, Judged·sinEnclosure, Judged·cosEnclosure}
 use Rattle.interval.proofs.Refusal.{accepted-finite, judged-positive}
 use Rattle.formula.specs.Program.{Binary, sum, difference, product, quotient, Unary, root, sine, cosine, Expr, var, con, binary, unary, Program, _>>=_, give}
-use Rattle.formula.specs.Enclose.{Binary·enclose, Unary·enclose, unbound, Expr·enclose, Enclosure, enclosure, Expr·encloseAll, extend, Program·enclose}
+use Rattle.formula.specs.Enclose.{Binary·enclose, Unary·enclose, unbound, Expr·enclose, enclosure, Expr·encloseAll, extend, Program·enclose}
 use Rattle.formula.specs.Promise.{Pairwise}
 use Rattle.formula.proofs.Pairwise.{pairwise-length, pairwise-getD, pairwise-append}
 use Rattle.formula.proofs.Carries.{binary-zero, unary-zero, expr-zero, all-zero, program-zero}

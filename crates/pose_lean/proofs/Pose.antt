@@ -12,7 +12,7 @@ use Rattle.pose_steps.specs.declared.IntervalVector.{IntervalVector}
 use Rattle.pose_steps.specs.declared.IntervalMatrix.{IntervalMatrix}
 use Rattle.pose_steps.specs.Promise.{PoseConstants·Valid, FiniteScale}
 use Rattle.pose_steps.specs.Enclose.{IntervalVector·point, IntervalMatrix·point, IntervalMatrix·translation, Pose·encloseTranslation, Pose·encloseSlerp}
-use Rattle.pose_steps.specs.Enclose.{Pose·encloseScaleRow, Pose·encloseScale, encloseScaleBy, Pose·encloseRotation, Pose·encloseMul, Pose·encloseTransformPoint}
+use Rattle.pose_steps.specs.Enclose.{Pose·encloseScaleRow, Pose·encloseScale, encloseScaleBy, Pose·encloseRotation, Pose·encloseMul}
 use Rattle.pose_steps.specs.Enclose.{Pose·encloseMatrix, Pose·enclosePoint}
 use Rattle.pose_steps.proofs.Zero.{slerp-zero, scale-row-zero, scale-by-zero, rotation-zero, mul-zero, point-zero}
 use Rattle.pose_lean.specs.means.Lean.{LinearPart, oneMinus, Lean·slerp, rotation, shifted, scale, product, linearBy, movedBy}

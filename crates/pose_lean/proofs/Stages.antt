@@ -10,7 +10,6 @@ use lib.Ieee.Scale.{finite}
 use Rattle.float32.specs.Operators.{positiveZero, one}
 use Rattle.float32.proofs.Constants.{zero-finite, one-finite}
 use Rattle.vector3.specs.declared.Vector3f.{Vector3f}
-use Rattle.quaternion.specs.declared.Quaternion.{Quaternion}
 use Rattle.matrix4x4.specs.Rows.{Row}
 use Rattle.interval.specs.declared.Interval.{Interval}
 use Rattle.interval.specs.Interval.{Interval·point}
@@ -82,7 +81,7 @@ ranges v = range (v .x) ∷ range (v .y) ∷ range (v .z) ∷ []
 abbrev pub StandsVector : IntervalVector → IntervalVector → Type 0
 StandsVector v W = Pairwise Stands (ranges v) (IntervalVector·list W)
 
-abbrev pub quaternionRanges : IntervalQuaternion → List Lean
+abbrev quaternionRanges : IntervalQuaternion → List Lean
 quaternionRanges q = range (q .x) ∷ range (q .y) ∷ range (q .z) ∷ range (q .w) ∷ []
 
 abbrev pub StandsQuaternion : IntervalQuaternion → IntervalQuaternion → Type 0
@@ -101,13 +100,13 @@ pub record StandsRows (A : LeanRows) (M : IntervalMatrix) : Type 0 where
   pub r1 : Pairwise Stands (A .r1) (IntervalRow·list (M .r1))
   pub r2 : Pairwise Stands (A .r2) (IntervalRow·list (M .r2))
 
-pub rows-stand : {A : LeanRows} {M : IntervalMatrix} → StandsRows A M → Pairwise Stands (LeanRows·list A) (IntervalMatrix·list M)
+rows-stand : {A : LeanRows} {M : IntervalMatrix} → StandsRows A M → Pairwise Stands (LeanRows·list A) (IntervalMatrix·list M)
 rows-stand {A} {M} s =
     pairwise-append Stands (A .r0 ++ A .r1) (A .r2) (IntervalRow·list (M .r0) ++ IntervalRow·list (M .r1)) (IntervalRow·list (M .r2))
     (pairwise-append Stands (A .r0) (A .r1) (IntervalRow·list (M .r0)) (IntervalRow·list (M .r1)) (s .r0) (s .r1)) (s .r2)
 
 -- Rows of three with a fourth column.
-abbrev pub with-column : LinearPart → Lean → Lean → Lean → LeanRows
+abbrev with-column : LinearPart → Lean → Lean → Lean → LeanRows
 with-column A x y z = record { r0 = ranges (A .r0) ++ x ∷ []; r1 = ranges (A .r1) ++ y ∷ []; r2 = ranges (A .r2) ++ z ∷ [] }
 
 abbrev pub linear : LinearPart → LeanRows
