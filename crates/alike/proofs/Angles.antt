@@ -1,5 +1,5 @@
--- Sine and cosine of an interval of angles from 0 to a quarter turn are least and greatest of the values at its two ends: `sin-new`, `cos-new`. The float nearest to
--- a quarter turn lies beyond it, by 12 units; but its sine is 1, so that no test for the quarter turn is needed.
+-- Sine and cosine of an interval of angles from 0 to a quarter turn are least and greatest of the values at its two ends: `sin-new`, `cos-new`. The
+-- float nearest to a quarter turn lies beyond it, by 12 units; but its sine is 1, so that no test for the quarter turn is needed.
 use mathlib.Core.Path.{_≡_, refl, sym, ap, subst, _∙_}
 use mathlib.Core.Logic.{_⊎_, inl, inr}
 use mathlib.Core.Bool.{Bool, true, false, not, cond, _&&_, _||_}
@@ -91,7 +91,10 @@ one-next = refl
 
 -- Both round to 1.
 rounds-top : (n : ℕ) → 2 ^ 31 - 1 ≤ n → n ≤ 2 ^ 31 → biasedFloat n ≡ one
-rounds-top n h k = elim (split (decLt n (2 ^ 31))) [ inl e ↦ ap biasedFloat e ∙ one-top | inr l ↦ ap biasedFloat (let m : n ≡ 2 ^ 31 - 1 = omega (arith, h, l) in m) ∙ one-next ]
+rounds-top n h k = elim (split (decLt n (2 ^ 31))) [
+  | inl e ↦ ap biasedFloat e ∙ one-top
+  | inr l ↦ ap biasedFloat (let m : n ≡ 2 ^ 31 - 1 = omega (arith, h, l) in m) ∙ one-next
+]
   where
     split : Dec (n < 2 ^ 31) → (n ≡ 2 ^ 31) ⊎ (n < 2 ^ 31)
     split (yes l) = inr l

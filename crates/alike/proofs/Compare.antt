@@ -1,5 +1,5 @@
--- Strict comparisons of alike floats come out the same, `lt-alike`; so least and greatest of them are alike, by a comparison alone (`lesser-alike`, `greater-alike`) and
--- as document 01 has them (`min-alike`, `max-alike`).
+-- Strict comparisons of alike floats come out the same, `lt-alike`; so least and greatest of them are alike, by a comparison alone (`lesser-alike`,
+-- `greater-alike`) and as document 01 has them (`min-alike`, `max-alike`).
 use mathlib.Core.Path.{_≡_, refl}
 use mathlib.Core.Bool.{Bool, true, false, not, cond}
 use Prim.Native.Nat.{ℕ, _+_, _*_, _≤_}

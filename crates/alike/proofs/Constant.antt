@@ -1,6 +1,7 @@
--- A number times an interval, by comparisons, is the lesser and the greater of the products at its two ends, for all floats: `mul-ordered-left`, `mul-ordered-right`; for
--- finite ones so is the cover's product, `mul-constant-left`, `mul-constant-right`. Where the first is no greater than the second, these are alike to the two themselves
--- (`ordered-alike`), as for a number from 0 up (`mul-rising`). Times what lies between two values in either order it is alike to what lies between the products: `mul-span`.
+-- A number times an interval, by comparisons, is the lesser and the greater of the products at its two ends, for all floats: `mul-ordered-left`,
+-- `mul-ordered-right`; for finite ones so is the cover's product, `mul-constant-left`, `mul-constant-right`. Where the first is no greater than the
+-- second, these are alike to the two themselves (`ordered-alike`), as for a number from 0 up (`mul-rising`). Times what lies between two values in
+-- either order it is alike to what lies between the products: `mul-span`.
 use mathlib.Core.Path.{_≡_, refl, sym, _∙_}
 use mathlib.Core.Logic.{inl, inr}
 use mathlib.Core.Bool.{Bool, true, false, not, cond}

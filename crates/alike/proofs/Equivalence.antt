@@ -1,5 +1,5 @@
--- `Alike` is an equivalence of the floats that are no NaN: `alike-refl`, `alike-sym` (`alike-trans` stands in own_rounding); what is alike to a finite float is finite, and to a
--- positive one positive: `alike-finite`, `alike-positive`. Zeros are alike: `alike-zeros`.
+-- `Alike` is an equivalence of the floats that are no NaN: `alike-refl`, `alike-sym` (`alike-trans` stands in own_rounding); what is alike to a
+-- finite float is finite, and to a positive one positive: `alike-finite`, `alike-positive`. Zeros are alike: `alike-zeros`.
 use mathlib.Core.Bool.{Bool}
 use lib.IntN.{ℤ}
 use lib.Dec.{T}

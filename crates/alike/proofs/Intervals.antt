@@ -1,5 +1,5 @@
--- The operations of the cover on alike intervals give alike intervals: `add-alike` and its like, for finite ends, and positive ones where they are divided by or
--- rooted.
+-- The operations of the cover on alike intervals give alike intervals: `add-alike` and its like, for finite ends, and positive ones where they are
+-- divided by or rooted.
 use lib.Ieee.{Float, ofBits}
 use lib.Ieee.Scale.{finite}
 use lib.Ieee.Positive.{positive}

@@ -1,5 +1,5 @@
--- Terms by the constants 0 and 1. Of floats: `add-zero`, `sub-zero`, `zero-add`, `one-mul`, `mul-one` for values of binary32, `zero-mul`, `mul-zero` for finite floats;
--- each is a fraction rounded, so that each is one equation of fractions (`rounds-alike`).
+-- Terms by the constants 0 and 1. Of floats: `add-zero`, `sub-zero`, `zero-add`, `one-mul`, `mul-one` for values of binary32, `zero-mul`, `mul-zero`
+-- for finite floats; each is a fraction rounded, so that each is one equation of fractions (`rounds-alike`).
 use mathlib.Core.Path.{_≡_, ap, _∙_}
 use Prim.Native.Nat.{ℕ, _+_, _*_, _<_}
 use native.Mathlib.Nat.{mul-pos}
@@ -17,7 +17,8 @@ use Rattle.own_rounding.proofs.OwnRounding as own
 use Rattle.own_rounding.specs.means.Alike.{Alike}
 
 -- Roundings of equal fractions are alike.
-pub rounds-alike : {z w : Float} {p n d q m e : ℕ} → Rounds binary32 z p n d → Rounds binary32 w q m e → 0 < d → 0 < e → p * e + m * d ≡ q * d + n * e → Alike z w
+pub rounds-alike : {z w : Float} {p n d q m e : ℕ} → Rounds binary32 z p n d → Rounds binary32 w q m e → 0 < d → 0 < e
+    → p * e + m * d ≡ q * d + n * e → Alike z w
 rounds-alike r s D E h = record { to = rounds-mono r s D E (omega arith); from = rounds-mono s r E D (omega arith) }
 
 -- A rounding of x's own fraction, written otherwise.

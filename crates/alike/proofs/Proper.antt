@@ -1,5 +1,5 @@
--- What the operations of the cover give is proper where it is finite: `add-proper`, `sub-proper`, `mul-proper`, `div-proper`, `sqrt-proper`; so is a finite number,
--- `point-proper`.
+-- What the operations of the cover give is proper where it is finite: `add-proper`, `sub-proper`, `mul-proper`, `div-proper`, `sqrt-proper`; so is a
+-- finite number, `point-proper`.
 use lib.Dec.{T}
 use mathlib.Core.Bool.{true, false}
 use Prim.Native.Nat.{zero, suc, _+_, _*_, _^_}

@@ -1,4 +1,5 @@
--- Alike intervals in order are those that lie in each other: `alike-refines`, `refines-alike`. So every law of isotonicity, used both ways, is one of alikeness.
+-- Alike intervals in order are those that lie in each other: `alike-refines`, `refines-alike`. So every law of isotonicity, used both ways, is one of
+-- alikeness.
 use Rattle.rounding.specs.Order.{_≼_}
 use Rattle.interval.specs.declared.Interval.{Interval}
 use Rattle.interval.specs.Contains.{Finite, Refines}

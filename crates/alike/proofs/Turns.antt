@@ -56,7 +56,8 @@ range-values s t p q f g = record {
 
 sin-values : (X : Interval) → Interval·Values (Interval·sinEnclosure X)
 unfolding Interval·sinEnclosure sinLow sinHigh
-sin-values X = range-values (lies (3 * quarterTurn) (angleUnits (X .low)) (angleUnits (X .high))) (lies quarterTurn (angleUnits (X .low)) (angleUnits (X .high)))
+sin-values X = range-values (lies (3 * quarterTurn) (angleUnits (X .low)) (angleUnits (X .high)))
+    (lies quarterTurn (angleUnits (X .low)) (angleUnits (X .high)))
     (sin (X .low)) (sin (X .high)) (sin-fits (X .low)) (sin-fits (X .high))
 
 cos-values : (X : Interval) → Interval·Values (Interval·cosEnclosure X)

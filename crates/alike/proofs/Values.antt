@@ -68,7 +68,13 @@ alike-values {x} {y} v w a = go x y v w (a .to) (a .from)
         inl (value-unique binary32 true m e n d (omega arith) v w)
     go (fin false m e) (fin true n d) v w h k =
         let i = to-fraction {x = fin false m e} {y = fin true n d} tt tt h in
-        inr (is-zero false m e (zero-factor (m * up e) (down d) (down-pos d) (omega arith)), is-zero true n d (zero-factor (n * up d) (down e) (down-pos e) (omega arith)))
+        inr (
+          is-zero false m e (zero-factor (m * up e) (down d) (down-pos d) (omega arith)),
+          is-zero true n d (zero-factor (n * up d) (down e) (down-pos e) (omega arith)),
+        )
     go (fin true m e) (fin false n d) v w h k =
         let i = to-fraction {x = fin false n d} {y = fin true m e} tt tt k in
-        inr (is-zero true m e (zero-factor (m * up e) (down d) (down-pos d) (omega arith)), is-zero false n d (zero-factor (n * up d) (down e) (down-pos e) (omega arith)))
+        inr (
+          is-zero true m e (zero-factor (m * up e) (down d) (down-pos d) (omega arith)),
+          is-zero false n d (zero-factor (n * up d) (down e) (down-pos e) (omega arith)),
+        )

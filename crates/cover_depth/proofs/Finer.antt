@@ -1,6 +1,6 @@
--- A finer cover of a built move is never a wider one: `cover-finer`. A part of an interval of dt is accepted where the whole is, and its box lies in the
--- whole's (`part-isotone`, `piece-isotone`), grown by no greater pad; so it is of a slice of a greater depth and the slice that it was cut from (`piece-finer`).
--- What lies in the coarse cover, part by part, has its union in it.
+-- A finer cover of a built move is never a wider one: `cover-finer`. A part of an interval of dt is accepted where the whole is, and its box lies in
+-- the whole's (`part-isotone`, `piece-isotone`), grown by no greater pad; so it is of a slice of a greater depth and the slice that it was cut from
+-- (`piece-finer`). What lies in the coarse cover, part by part, has its union in it.
 use Prim.Native.Nat.{ℕ, zero, suc, _+_, _/_, _^_, _≤_, _<_}
 use mathlib.Core.Path.{_≡_, refl, sym, ap, subst, _∙_}
 use mathlib.Core.Bool.{Bool, true, false}

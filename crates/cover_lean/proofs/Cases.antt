@@ -1,4 +1,5 @@
--- What the laws ask is met, by computing: a move that turns by an eighth of a full turn about z, shifts and has pads, judged over all of dt, and a quarter of dt leanly.
+-- What the laws ask is met, by computing: a move that turns by an eighth of a full turn about z, shifts and has pads, judged over all of dt, and a
+-- quarter of dt leanly.
 use mathlib.Core.Path.{_≡_, refl}
 use mathlib.Core.Bool.{Bool, true, false}
 use lib.Dec.{T, lit<}
@@ -49,7 +50,8 @@ abbrev judged : BoundsAnswer
 judged = Pose·encloseBounds turning Matrix4x4·identity Matrix4x4·identity positiveZero one (slice 0 0) cube
 
 turning-enclosable : Enclosable turning Matrix4x4·identity Matrix4x4·identity positiveZero one
-turning-enclosable = tested-enclosable turning Matrix4x4·identity Matrix4x4·identity positiveZero one (unfold fits ofBits in tt) (unfold fits ofBits in tt) passed
+turning-enclosable =
+    tested-enclosable turning Matrix4x4·identity Matrix4x4·identity positiveZero one (unfold fits ofBits in tt) (unfold fits ofBits in tt) passed
   where
     passed : T (Pose·isEnclosable turning Matrix4x4·identity Matrix4x4·identity positiveZero one)
     passed = unfold cover.computing Pose·isEnclosable PoseConstants·isValid isFiniteScale isFiniteFront isPad isQuarterAngle Vector3f·isFinite in tt

@@ -1,6 +1,6 @@
--- Boxes joined by comparisons, in four lanes and then in pairs, lie in what holds each of them (`lanes-least`), and hold each of them (`lanes-start`, `lanes-hold`). So they
--- lie in and around the union in rising order: `lanes-same` where each lane starts from what stands before; `groups-same` where lanes start from the first four boxes, and
--- what stands before is joined at the end.
+-- Boxes joined by comparisons, in four lanes and then in pairs, lie in what holds each of them (`lanes-least`), and hold each of them (`lanes-start`,
+-- `lanes-hold`). So they lie in and around the union in rising order: `lanes-same` where each lane starts from what stands before; `groups-same`
+-- where lanes start from the first four boxes, and what stands before is joined at the end.
 use Prim.Native.Nat.{ℕ, zero, suc, _+_, _-_, _*_, _/_, _%_, _<_}
 use mathlib.Core.Path.{_≡_, refl, sym, ap, subst, _∙_}
 use mathlib.Core.List.{List, [], _∷_}

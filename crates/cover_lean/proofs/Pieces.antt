@@ -1,5 +1,5 @@
--- The pieces of a window's share of dt: where those of a depth are accepted, with what stands before them, those of each greater depth are the lean ones but for zeros'
--- signs, and so is their union, `pieces-lean`. For any list of intervals: `list-lean`.
+-- The pieces of a window's share of dt: where those of a depth are accepted, with what stands before them, those of each greater depth are the lean
+-- ones but for zeros' signs, and so is their union, `pieces-lean`. For any list of intervals: `list-lean`.
 use Prim.Native.Nat.{ℕ, _+_}
 use mathlib.Core.Path.{_≡_, refl, sym, subst}
 use mathlib.Core.Logic.{inl, inr}
@@ -50,7 +50,8 @@ list-answered box r (E ∷ l) c e D i =
     ]
 
 -- Answers joined in order to what stands before, and their lean boxes.
-pub list-lean : {r : BoundsAnswer} {u : Bounds3f} (box : Interval → BoundsAnswer) (lean : Interval → Bounds3f) → BoundsAnswer·Same r (Bounds u) → (l : List Interval)
+pub list-lean : {r : BoundsAnswer} {u : Bounds3f} (box : Interval → BoundsAnswer) (lean : Interval → Bounds3f)
+    → BoundsAnswer·Same r (Bounds u) → (l : List Interval)
     → ((D : Interval) → List·Memᴰ D l → BoundsAnswer·Same (box D) (Bounds (lean D)))
     → BoundsAnswer·Same (BoundsAnswer·unionAll r (map box l)) (Bounds (unionList u (map lean l)))
 unfolding BoundsAnswer·unionBounds unionList

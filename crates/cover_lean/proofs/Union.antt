@@ -1,5 +1,6 @@
--- Where the slices of a depth are accepted, with what stands before them, those of each greater depth are the lean ones but for zeros' signs, and so is their union in
--- rising order, `slices-lean`. In four lanes it is the same with its zeros +0: `lanes-zeros`, `groups-zeros`. In any other order it is by `same-zeros-of`.
+-- Where the slices of a depth are accepted, with what stands before them, those of each greater depth are the lean ones but for zeros' signs, and so
+-- is their union in rising order, `slices-lean`. In four lanes it is the same with its zeros +0: `lanes-zeros`, `groups-zeros`. In any other order it
+-- is by `same-zeros-of`.
 use Prim.Native.Nat.{ℕ, zero, suc, _+_, _*_, _/_, _^_, _≤_, _<_}
 use mathlib.Core.Path.{_≡_, refl, sym, ap, subst, _∙_}
 use mathlib.Core.Bool.{Bool, true, false}
@@ -85,7 +86,8 @@ module _ (m : AnimatedTransform) (a : PoseConstants) (b : Bounds3f) where
       go z earlier true p q = subst (λ (i : ℕ). Answered (AnimatedTransform·encloseBounds m a (slice d i) b)) (sym (p refl)) z
       go z earlier false p q = earlier k (omega (arith, h, q refl))
 
-  module _ (parts : Enclosable a (m .s0) (m .s1) (m .pad0) (m .pad1)) (values : PoseValues a (m .s0) (m .s1)) (r : BoxRefines b) (numbers : Bounds3f·Values b) where
+  module _ (parts : Enclosable a (m .s0) (m .s1) (m .pad0) (m .pad1)) (values : PoseValues a (m .s0) (m .s1))
+      (r : BoxRefines b) (numbers : Bounds3f·Values b) where
     abbrev pose : Interval → Bounds3f
     pose D = Lean·box a (m .s0) (m .s1) (m .pad0) (m .pad1) D b
 

@@ -90,7 +90,8 @@ module _ {X Y : Interval} where
     difference-proper : {v w : Lean} → Stands v X → Stands w Y → Interval·Proper (Interval·subEnclosure X Y)
     difference-proper p q = sub-proper (p .proper) (q .proper) F
 
-    differences : {v w : Lean} → Stands v X → Stands w Y → Stands (range (Interval·subEnclosure (Lean·interval v) (Lean·interval w))) (Interval·subEnclosure X Y)
+    differences : {v w : Lean} → Stands v X → Stands w Y
+        → Stands (range (Interval·subEnclosure (Lean·interval v) (Lean·interval w))) (Interval·subEnclosure X Y)
     differences p q = ranged (difference-proper p q) (sub-alike (p .proper .finite) (q .proper .finite) (p .alike) (q .alike))
 
     less-number : (v : Lean) (l : Float) → Stands v X → Stands (number l) Y → Stands (Lean·lessNumber v l) (Interval·subEnclosure X Y)
@@ -116,7 +117,8 @@ module _ {X Y : Interval} where
     product-proper : {v w : Lean} → Stands v X → Stands w Y → Interval·Proper (Interval·mulEnclosure X Y)
     product-proper p q = mul-proper (p .proper .finite) (q .proper .finite) F
 
-    product-alike : {v w : Lean} → Stands v X → Stands w Y → Interval·Alike (Interval·mulEnclosure X Y) (Interval·mulEnclosure (Lean·interval v) (Lean·interval w))
+    product-alike : {v w : Lean} → Stands v X → Stands w Y
+        → Interval·Alike (Interval·mulEnclosure X Y) (Interval·mulEnclosure (Lean·interval v) (Lean·interval w))
     product-alike p q = mul-alike (p .proper .finite) (q .proper .finite) (p .alike) (q .alike)
 
     products : (v w : Lean) → Stands v X → Stands w Y → Stands (range (Interval·mulOrdered (Lean·interval v) (Lean·interval w))) (Interval·mulEnclosure X Y)
@@ -129,14 +131,16 @@ module _ {X Y : Interval} where
     zero-left {w} p q = record {
       good = tt;
       proper = product-proper p q;
-      alike = interval-trans (mul-alike (p .proper .finite) (q .proper .finite) (p .alike) (interval-self Y (q .proper .finite))) (zero-mul Y (q .proper .finite));
+      alike = interval-trans (mul-alike (p .proper .finite) (q .proper .finite) (p .alike) (interval-self Y (q .proper .finite)))
+          (zero-mul Y (q .proper .finite));
     }
 
     zero-right : {v : Lean} → Stands v X → Stands nought Y → Stands nought (Interval·mulEnclosure X Y)
     zero-right {v} p q = record {
       good = tt;
       proper = product-proper p q;
-      alike = interval-trans (mul-alike (p .proper .finite) (q .proper .finite) (interval-self X (p .proper .finite)) (q .alike)) (mul-zero X (p .proper .finite));
+      alike = interval-trans (mul-alike (p .proper .finite) (q .proper .finite) (interval-self X (p .proper .finite)) (q .alike))
+          (mul-zero X (p .proper .finite));
     }
 
     one-left : {w : Lean} → Stands unit X → Stands w Y → Stands w (Interval·mulEnclosure X Y)
@@ -188,7 +192,8 @@ module _ {X Y : Interval} where
     quotient-proper : {v w : Lean} → Stands v X → Stands w Y → Interval·Proper (Interval·divEnclosure X Y)
     quotient-proper p q = div-proper (p .proper .finite) y F
 
-    quotient-alike : {v w : Lean} → Stands v X → Stands w Y → Interval·Alike (Interval·divEnclosure X Y) (Interval·divEnclosure (Lean·interval v) (Lean·interval w))
+    quotient-alike : {v w : Lean} → Stands v X → Stands w Y
+        → Interval·Alike (Interval·divEnclosure X Y) (Interval·divEnclosure (Lean·interval v) (Lean·interval w))
     quotient-alike p q = div-alike (p .proper .finite) y (p .alike) (q .alike)
 
     quotients : (v w : Lean) → Stands v X → Stands w Y → Stands (range (Interval·divOrdered (Lean·interval v) (Lean·interval w))) (Interval·divEnclosure X Y)

@@ -1,5 +1,5 @@
--- Where the judged reading of a formula is accepted, the lean one stands for it: each of its values is finite, and alike to the judged interval, `program-lean`.
--- One induction over the language. So it needs no test of its own.
+-- Where the judged reading of a formula is accepted, the lean one stands for it: each of its values is finite, and alike to the judged interval,
+-- `program-lean`. One induction over the language. So it needs no test of its own.
 use mathlib.Core.Path.{_≡_, sym, subst}
 use Prim.Native.Nat.{ℕ}
 use mathlib.Core.Bool.{Bool, true, false, cond, _&&_}
@@ -30,7 +30,8 @@ use Rattle.interval_unjudged.proofs.Unjudged.{all-left, all-right}
 use Rattle.alike.specs.means.Alike.{Interval·Proper}
 use Rattle.alike.proofs.Intervals.{interval-self, point-alike}
 use Rattle.alike.proofs.Proper.{point-proper}
-use Rattle.formula_lean.specs.means.Lean.{Lean, nought, unit, number, Lean·Angles, Lean·of, Binary·lean, Unary·lean, Expr·lean, Expr·leanAll, Program·lean}
+use Rattle.formula_lean.specs.means.Lean.{Lean, nought, unit, number, Lean·Angles, Lean·of}
+use Rattle.formula_lean.specs.means.Lean.{Binary·lean, Unary·lean, Expr·lean, Expr·leanAll, Program·lean}
 use Rattle.formula_lean.specs.means.Asked.{Expr·bound, Expr·boundAll, Program·bound, Unary·turned, Expr·turned, Expr·turnedAll, Program·turned}
 use Rattle.formula_lean.proofs.Operations.{Stands, plus-stands, minus-stands, times-stands, over-stands, root-stands}
 use Rattle.formula_lean.proofs.Turns.{sine-stands, cosine-stands}

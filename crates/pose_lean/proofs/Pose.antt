@@ -1,4 +1,5 @@
--- Where a piece of dt is accepted as the cover judges it, its lean reading stands for it: the three intervals are finite and alike to the judged ones, `point-accepted`.
+-- Where a piece of dt is accepted as the cover judges it, its lean reading stands for it: the three intervals are finite and alike to the judged
+-- ones, `point-accepted`.
 use mathlib.Core.Path.{_≡_, subst}
 use Prim.Native.Nat.{ℕ}
 use mathlib.Core.Bool.{Bool, true, false}
@@ -18,7 +19,8 @@ use Rattle.pose_steps.proofs.Zero.{slerp-zero, scale-row-zero, scale-by-zero, r
 use Rattle.pose_lean.specs.means.Lean.{LinearPart, oneMinus, Lean·slerp, rotation, shifted, scale, product, linearBy, movedBy}
 use Rattle.pose_lean.specs.means.Values.{ScaleValues, PoseValues}
 use Rattle.pose_lean.proofs.Stages.{unit-stands, nought-stands, StandsVector, LeanRows, StandsRows, linear, affine, translated, identity, LeanRows·times}
-use Rattle.pose_lean.proofs.Stages.{translation-lean, scale-row-lean, rotation-lean, mul-lean, translated-reading, scaled-reading, rigid-reading, point-lean}
+use Rattle.pose_lean.proofs.Stages.{translation-lean, scale-row-lean, rotation-lean, mul-lean}
+use Rattle.pose_lean.proofs.Stages.{translated-reading, scaled-reading, rigid-reading, point-lean}
 use Rattle.pose_lean.proofs.Slerp.{slerp-lean}
 
 -- ---- the scale, or the identity

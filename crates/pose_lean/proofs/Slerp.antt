@@ -1,5 +1,5 @@
--- Near and far slerp, read leanly, stand for the judged ones where these are accepted: `slerp-lean`. Theta times dt lies from 0 to a quarter turn, so that sine and
--- cosine are those at the borders, without a test (`theta-quarter`).
+-- Near and far slerp, read leanly, stand for the judged ones where these are accepted: `slerp-lean`. Theta times dt lies from 0 to a quarter turn, so
+-- that sine and cosine are those at the borders, without a test (`theta-quarter`).
 use mathlib.Core.Path.{_≡_, refl, ap, subst}
 use Prim.Native.Nat.{ℕ}
 use mathlib.Core.Bool.{Bool, true, false}
@@ -32,7 +32,8 @@ use Rattle.pose_steps.specs.declared.IntervalQuaternion.{IntervalQuaternion}
 use Rattle.pose_steps.specs.Stages.{slerpNearStage, slerpFarStage}
 use Rattle.pose_steps.specs.Pose.{Quaternion·list, isNear}
 use Rattle.pose_steps.specs.Promise.{PoseConstants·Valid, quarterInterval}
-use Rattle.pose_steps.specs.Enclose.{IntervalQuaternion·list, IntervalQuaternion·point, Pose·encloseSlerpNear, Pose·encloseSlerpFar, encloseSlerpBy, Pose·encloseSlerp}
+use Rattle.pose_steps.specs.Enclose.{IntervalQuaternion·list, IntervalQuaternion·point, Pose·encloseSlerpNear}
+use Rattle.pose_steps.specs.Enclose.{Pose·encloseSlerpFar, encloseSlerpBy, Pose·encloseSlerp}
 use Rattle.pose_steps.proofs.Angle.{quarter-finite, unit-finite, theta-finite, theta-subset}
 use Rattle.pose_slerp.specs.means.Unjudged.{Perpendicular·of}
 use Rattle.pose_lean.specs.means.Lean.{mix, oneMinus, turned, length, over, normalized, near, atBorders, slerpBy, secondBy, Lean·slerp}
@@ -82,7 +83,8 @@ mixed : (k l : Float) (C S : Interval) {Y : Interval}
 mixed k l C S {Y} s = subst (λ (X : Interval). Stands (range X) Y) (mix-borders k l C S) s
 
 -- ---- the stages
-module _ (a : PoseConstants) (v : PoseConstants·Valid a) (w : PoseConstants·Values a) {D : Interval} (d : Interval·Proper D) (u : Subset D unitInterval) (m : ℕ) where
+module _ (a : PoseConstants) (v : PoseConstants·Valid a) (w : PoseConstants·Values a)
+    {D : Interval} (d : Interval·Proper D) (u : Subset D unitInterval) (m : ℕ) where
   abbrev q0 : IntervalQuaternion
   q0 = IntervalQuaternion·point (a .r0)
 

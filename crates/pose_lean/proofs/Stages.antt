@@ -1,5 +1,5 @@
--- Where a judged stage of a pose is accepted, the lean one stands for it, interval by interval: `translation-lean` and its like. The lean readings of the stages are the
--- definitions of specs/means/Lean.antt, by computing.
+-- Where a judged stage of a pose is accepted, the lean one stands for it, interval by interval: `translation-lean` and its like. The lean readings of
+-- the stages are the definitions of specs/means/Lean.antt, by computing.
 use mathlib.Core.Path.{_≡_, refl, sym, subst}
 use Prim.Native.Nat.{ℕ}
 use mathlib.Core.List.{List, [], _∷_, _++_, map}
@@ -40,15 +40,24 @@ use Rattle.pose_steps.specs.Enclose.{IntervalVector·list, IntervalQuaternion·
 use Rattle.pose_steps.specs.Enclose.{IntervalVector·point, IntervalRow·point, Pose·encloseTranslation, Pose·encloseScaleRow, Pose·encloseRotation}
 use Rattle.pose_steps.specs.Enclose.{Pose·encloseMulRow, Pose·encloseMul, Pose·encloseTransformPoint}
 use Rattle.pose_steps.proofs.Zero.{mul-row-zero}
-use Rattle.pose_lean.specs.means.Lean.{LinearPart, mix, lerp, oneMinus, diagonal, twiceSum, twiceDifference, rotation, shifted, scaleRow, dot, rowBy, product, moved, movedBy}
+use Rattle.pose_lean.specs.means.Lean.{LinearPart, mix, lerp, oneMinus, diagonal, twiceSum, twiceDifference, rotation}
+use Rattle.pose_lean.specs.means.Lean.{shifted, scaleRow, dot, rowBy, product, moved, movedBy}
 use Rattle.pose_lean.specs.means.Values.{AllValues}
 
 -- ---- what stands for numbers, and for an interval
 pub nought-stands : Stands nought (Interval·point positiveZero)
-nought-stands = record { good = tt; proper = point-proper positiveZero zero-finite (ofBits-fits binary32 0); alike = interval-self (Interval·point positiveZero) zero-interval }
+nought-stands = record {
+  good = tt;
+  proper = point-proper positiveZero zero-finite (ofBits-fits binary32 0);
+  alike = interval-self (Interval·point positiveZero) zero-interval;
+}
 
 pub unit-stands : Stands unit (Interval·point one)
-unit-stands = record { good = tt; proper = point-proper one one-finite (ofBits-fits binary32 0x3f800000); alike = interval-self (Interval·point one) one-interval }
+unit-stands = record {
+  good = tt;
+  proper = point-proper one one-finite (ofBits-fits binary32 0x3f800000);
+  alike = interval-self (Interval·point one) one-interval;
+}
 
 pub number-stands : (x : Float) → T (finite x) → T (fits binary32 x) → Stands (number x) (Interval·point x)
 number-stands x f v = record { good = f; proper = point-proper x f v; alike = interval-self (Interval·point x) (record { low = f; high = f }) }
@@ -140,9 +149,11 @@ translation-lean m t0 t1 {D} f g v w d h =
     stage-lean translationStage m σ τ s tt tt h
 
 -- ---- a row of the scale
-pub scale-row-lean : (m : ℕ) (r s : Row) {D : Interval} → AllFinite (three r) → AllFinite (three s) → AllValues (three r) → AllValues (three s) → Interval·Proper D
+pub scale-row-lean : (m : ℕ) (r s : Row) {D : Interval} → AllFinite (three r) → AllFinite (three s)
+    → AllValues (three r) → AllValues (three s) → Interval·Proper D
     → Pose·encloseScaleRow m (IntervalRow·point r) (IntervalRow·point s) D .refusal ≡ 0
-    → Pairwise Stands (ranges (scaleRow r s (oneMinus D) D) ++ nought ∷ []) (IntervalRow·list (Pose·encloseScaleRow m (IntervalRow·point r) (IntervalRow·point s) D .row))
+    → Pairwise Stands (ranges (scaleRow r s (oneMinus D) D) ++ nought ∷ [])
+    (IntervalRow·list (Pose·encloseScaleRow m (IntervalRow·point r) (IntervalRow·point s) D .row))
 unfolding Pose·encloseScaleRow Program·lean Expr·leanAll Expr·lean Lean·of le ofBits fits scaleRow lerp oneMinus
 scale-row-lean m r s {D} f g v w d h =
     let x = numbers-stand (three r) f v in

@@ -1,5 +1,5 @@
--- The numbers of a struct and of an array that a function is handed by value are values of binary32: `vector-values`, `quaternion-values`, `box-values`, `row-values`.
--- Their hypotheses are what the code's own check has of such an argument.
+-- The numbers of a struct and of an array that a function is handed by value are values of binary32: `vector-values`, `quaternion-values`,
+-- `box-values`, `row-values`. Their hypotheses are what the code's own check has of such an argument.
 use mathlib.Core.Path.{_≡_}
 use mathlib.Core.Bool.{true}
 use mathlib.Core.List.{List, [], _∷_}

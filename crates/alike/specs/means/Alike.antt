@@ -1,5 +1,5 @@
--- Intervals that are alike end by end, `Interval·Alike`; what an operation of the cover gives, `Interval·Proper`; and the interval from the lesser to the greater of two
--- numbers. Definitions only.
+-- Intervals that are alike end by end, `Interval·Alike`; what an operation of the cover gives, `Interval·Proper`; and the interval from the lesser to
+-- the greater of two numbers. Definitions only.
 use lib.Dec.{T}
 use lib.Ieee.{Float, binary32, fits}
 use Rattle.rounding.specs.Order.{_≼_}

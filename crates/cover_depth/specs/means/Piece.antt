@@ -1,5 +1,5 @@
--- The box of a piece of dt by the parts of a move, `Pose·encloseBounds`, and what its laws ask of them, `Enclosable`: a built move's parts are so, and code can test it
--- of any others. Definitions only.
+-- The box of a piece of dt by the parts of a move, `Pose·encloseBounds`, and what its laws ask of them, `Enclosable`: a built move's parts are so,
+-- and code can test it of any others. Definitions only.
 use lib.Ieee.{Float}
 use Rattle.bounds3.specs.declared.Bounds3f.{Bounds3f}
 use Rattle.matrix4x4.specs.declared.Matrix4x4.{Matrix4x4}

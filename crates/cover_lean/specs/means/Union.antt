@@ -1,4 +1,5 @@
--- The union of boxes in rising order, `unionOf`; and in four lanes, by comparisons: lane l takes the boxes l, l + 4, .., and the four are joined in pairs. Definitions only.
+-- The union of boxes in rising order, `unionOf`; and in four lanes, by comparisons: lane l takes the boxes l, l + 4, .., and the four are joined in
+-- pairs. Definitions only.
 use Prim.Native.Nat.{ℕ, zero, suc, _+_, _*_}
 use Rattle.control_flow.specs.Loop.{loop}
 use Rattle.bounds3.specs.declared.Bounds3f.{Bounds3f}

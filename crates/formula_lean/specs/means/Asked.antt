@@ -1,5 +1,5 @@
--- What the lean reading of a formula asks beside that the judged one is accepted: variables bound and constants of binary32, `Program·bound`; and of what sine and
--- cosine are asked, `Program·turned`. Definitions only.
+-- What the lean reading of a formula asks beside that the judged one is accepted: variables bound and constants of binary32, `Program·bound`; and of
+-- what sine and cosine are asked, `Program·turned`. Definitions only.
 use mathlib.Core.Bool.{Bool, true, _&&_}
 use mathlib.Core.List.{List, [], _∷_, _++_}
 use lib.ListN.{length}

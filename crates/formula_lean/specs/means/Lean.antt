@@ -1,6 +1,6 @@
--- A formula read leanly: `Program·lean`. A value is known to be 0, 1, a number, what lies between two values (those at the borders of a slice), or an interval, and
--- an operation takes the shortest way: no term by 0 or 1, numbers by numbers, sine and cosine at the borders. Nothing is judged. Definitions only.
--- `program-lean` says that the judged reading, where it is accepted, is this one but for zeros' signs.
+-- A formula read leanly: `Program·lean`. A value is known to be 0, 1, a number, what lies between two values (those at the borders of a slice), or an
+-- interval, and an operation takes the shortest way: no term by 0 or 1, numbers by numbers, sine and cosine at the borders. Nothing is judged.
+-- Definitions only. `program-lean` says that the judged reading, where it is accepted, is this one but for zeros' signs.
 use mathlib.Core.Bool.{cond, _&&_}
 use mathlib.Core.List.{List, [], _∷_, _++_}
 use lib.ListN.{length, getD}

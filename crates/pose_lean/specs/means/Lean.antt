@@ -1,6 +1,6 @@
--- A piece of a cover computed leanly: no interval is judged, there is no term by a constant 0 or 1, and constants are taken by their ends. `LeanPose·over` is the pose
--- over an interval of dt, `LeanPose·vector` a box that it moves, and `Lean·box` both. Definitions only: `piece-lean` says where they are the cover's.
--- Terms stand in the order of the stages of `pose_steps`, so that code in lanes is these lane by lane.
+-- A piece of a cover computed leanly: no interval is judged, and there is no term by a constant 0 or 1. `LeanPose·over` is the pose over an interval of
+-- dt, `LeanPose·vector` a box that it moves, and `Lean·box` both. Definitions only: `piece-lean` says where they are the cover's. Terms stand in the
+-- order of the stages of `pose_steps`, so that code in lanes is these lane by lane.
 use mathlib.Core.Bool.{Bool, true, false}
 use lib.Ieee.{Float}
 use Rattle.float32.specs.Operators.{_⊕_, _⊖_, _⊗_, one, two}
@@ -74,7 +74,8 @@ near q p T = normalized (turned q p (oneMinus T) T)
 unfoldable pub atBorders : (Float → Float) → Float → Interval → Interval
 atBorders f theta T = record { low = f (theta ⊗ T .low); high = f (theta ⊗ T .high) }
 
--- Near or far slerp, C and S being cosine and sine at the borders. The second quaternion is the second pose's where slerp is near, and slerp's perpendicular otherwise.
+-- Near or far slerp, C and S being cosine and sine at the borders. The second quaternion is the second pose's where slerp is near, and slerp's
+-- perpendicular otherwise.
 unfoldable pub slerpBy : Bool → Quaternion → Quaternion → Interval → Interval → Interval → IntervalQuaternion
 slerpBy true q p T C S = near q p T
 slerpBy false q p T C S = turned q p C S
