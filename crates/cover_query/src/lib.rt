@@ -6,6 +6,7 @@ use transform::BoundsAnswer;
 ghost use Prim.Native.Nat.{_≤_};
 ghost use mathlib.Core.Path.{_≡_};
 ghost use Rattle.bounds_query.specs.Query.{maxDepth};
+ghost use Rattle.bounds_query.specs.Zeros.{BoundsAnswer·positiveZeros};
 ghost use Rattle.motion_cover.specs.Cover.{AnimatedTransform·encloseEnds, AnimatedTransform·encloseMotion, AnimatedTransform·cover};
 ghost use Rattle.motion_cover.specs.Theorem.{CoverContainsMotion};
 
@@ -21,21 +22,21 @@ fn ends_enclosure(m: AnimatedTransform, b: Bounds3f) -> BoundsAnswer
     )
 }
 
-// The cover of a box and a depth that aren't refused. Accuracy: encloses.
+// The cover of a box and a depth that aren't refused; its zeros are +0. Accuracy: encloses.
 fn motion_enclosure(m: AnimatedTransform, b: Bounds3f, d: u32) -> BoundsAnswer
     requires { ⌜ d ≤ maxDepth ⌝ }
-    ensures value { λ r. ⌜ r ≡ AnimatedTransform·encloseMotion m b d ⌝ }
+    ensures value { λ r. ⌜ r ≡ BoundsAnswer·positiveZeros (AnimatedTransform·encloseMotion m b d) ⌝ }
 {
     if !m.actually_animated {
         let pad = float32::max(m.pad0, m.pad1);
-        return motion_piece::box_enclosure(
+        return bounds_query::positive_zeros(motion_piece::box_enclosure(
             motion_piece::stored_enclosure(pad, m.start_transform),
             b,
-        );
+        ));
     }
     let ends = ends_enclosure(m, b);
     match ends {
-        BoundsAnswer::Bounds(first) => motion_slices::union_slices(m, b, d, first),
+        BoundsAnswer::Bounds(first) => cover_slices::union_slices(m, b, d, first),
         BoundsAnswer::Refused(n) => BoundsAnswer::Refused(n),
     }
 }
@@ -50,5 +51,5 @@ pub fn cover(m: AnimatedTransform, b: Bounds3f, depth: u32) -> BoundsAnswer
     if n != 0 {
         return BoundsAnswer::Refused(n);
     }
-    bounds_query::positive_zeros(motion_enclosure(m, b, depth))
+    motion_enclosure(m, b, depth)
 }

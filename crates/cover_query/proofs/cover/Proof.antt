@@ -23,12 +23,9 @@ motion-enclosure-requires c κs =
 returns-2 : tie.Need-returns-2
 unfolding AnimatedTransform·cover
 returns-2 c =
-    let c1 = c .before in let c2 = c1 .before in let c3 = c2 .before in let c4 = c3 .before in
-    cover-clauses (c4 .args .m) (c4 .args .b) (c4 .args .depth)
-    (rw (← c3 .cover-refusal .ensures, eq-eqb _ 0 (c2 .if1 .left), ← c1 .motion-enclosure .ensures, c .positive-zeros .ensures))
-
-positive-zeros-requires : tie.Need-positive-zeros-requires
-positive-zeros-requires c κs = search needs
+    let c1 = c .before in let c2 = c1 .before in let c3 = c2 .before in
+    cover-clauses (c3 .args .m) (c3 .args .b) (c3 .args .depth)
+    (rw (← c2 .cover-refusal .ensures, eq-eqb _ 0 (c1 .if1 .left), c .motion-enclosure .ensures))
 
 pub cover-spec : {M : Type 1} → statement M
-cover-spec = tie.close (tie.spec cover-refusal-requires returns motion-enclosure-requires positive-zeros-requires returns-2)
+cover-spec = tie.close (tie.spec cover-refusal-requires returns motion-enclosure-requires returns-2)

@@ -3,6 +3,7 @@
 use native.Mathlib.Nat.{min-eq-left}
 use borrow.Author.Needs.{needs}
 use borrow.Author.Tests.{not-true, not-false}
+use Rattle.bounds_query.specs.Zeros.{BoundsAnswer·positiveZeros}
 use Rattle.motion_cover.specs.Cover.{AnimatedTransform·encloseMotion}
 use Rattle.motion_cover.proofs.Slices.{refused-first}
 use Rattle.motion_piece.proofs.Piece.{stored-composition}
@@ -12,13 +13,14 @@ use Rattle.cover_query.proofs.motion_enclosure.Tie as tie
 returns : tie.Need-returns
 unfolding AnimatedTransform·encloseMotion
 returns c =
-    let c1 = c .before in let c2 = c1 .before in let c3 = c2 .before in let c4 = c3 .before in let c5 = c4 .before in
+    let c1 = c .before in let c2 = c1 .before in let c3 = c2 .before in let c4 = c3 .before in let c5 = c4 .before in let c6 = c5 .before in
     rw (
-      not-true (c5 .args .m .«actually_animated») (c3 .if1 .taken),
+      not-true (c6 .args .m .«actually_animated») (c4 .if1 .taken),
       stored-composition _ _ _,
-      c .box-enclosure .ensures,
-      c1 .stored-enclosure .ensures,
-      c2 .max .ensures,
+      c .positive-zeros .ensures,
+      c1 .box-enclosure .ensures,
+      c2 .stored-enclosure .ensures,
+      c3 .max .ensures,
     )
 
 enum-known-ends : tie.Need-enum-known-ends
@@ -41,7 +43,7 @@ returns-2 c =
     )
 
 returns-3 : tie.Need-returns-3
-unfolding AnimatedTransform·encloseMotion
+unfolding AnimatedTransform·encloseMotion BoundsAnswer·positiveZeros
 returns-3 c =
     let c1 = c .before in let c2 = c1 .before in let c3 = c2 .before in let c4 = c3 .before in let c5 = c4 .before in let c6 = c5 .before in
     rw (
@@ -55,6 +57,7 @@ pub motion-enclosure-spec : {M : Type 1} → statement M
 motion-enclosure-spec =
     tie.close
     (tie.spec
+    (λ c κs. tt)
     (λ c κs. tt)
     (λ c κs. tt)
     (λ c κs. tt)

@@ -1,2 +1,0 @@
-mod Borders
-mod Reached
