@@ -5,6 +5,7 @@ use animated_transform::AnimatedTransform;
 use bounds3::Bounds3f;
 use interval::Interval;
 use pose_steps::PoseConstants;
+use quaternion::SLERP_THRESHOLD;
 use transform::BoundsAnswer;
 ghost use Prim.Native.Nat.{_^_, _≤_, _<_, min};
 ghost use mathlib.Core.Path.{_≡_};
@@ -15,18 +16,29 @@ ghost use Rattle.motion_point.specs.TransformPoint.{AnimatedTransform·constant
 ghost use Rattle.bounds_query.specs.Query.{maxDepth};
 ghost use Rattle.bounds_query.specs.Zeros.{BoundsAnswer·positiveZeros};
 ghost use Rattle.motion_cover.specs.Cover.{AnimatedTransform·encloseBounds, unionSlices};
-ghost use Rattle.cover_slices.specs.means.Lean.{BoundsAnswer·isBox, Lean};
+ghost use Rattle.cover_slices.specs.means.Lean.{coarseDepth, BoundsAnswer·isBox, Lean};
 
 const MAX_DEPTH: u32 = 12;
 
-// The depth of the slices that are judged before any finer one is computed without judging.
-const COARSE_DEPTH: u32 = 2;
+// The depth of the coarse slices where slerp is near. With fewer of them the squared length of what is mixed may reach zero.
+const NEAR_COARSE_DEPTH: u32 = 2;
 
 // A depth, held at 12. Accuracy: exact.
 fn held_depth(d: u32) -> u32
     ensures value { λ r. ⌜ r ≡ min d maxDepth ⌝ }
 {
     if d > MAX_DEPTH { MAX_DEPTH } else { d }
+}
+
+// The depth of the slices that are judged before any finer one is computed without judging. Far slerp is seldom refused, and one slice will do.
+fn coarse_depth(a: PoseConstants) -> u32
+    ensures value { λ r. ⌜ r ≡ coarseDepth a ⌝ }
+{
+    if a.cos_theta > SLERP_THRESHOLD {
+        NEAR_COARSE_DEPTH
+    } else {
+        0
+    }
 }
 
 // The box of slice k of 2^h, judged; refused with 5 or 10. Accuracy: encloses.
@@ -97,10 +109,11 @@ fn is_lean(m: AnimatedTransform, a: PoseConstants, b: Bounds3f, first: Bounds3f)
     if refusal != 0 {
         return false;
     }
-    is_box(union_judged(m, a, b, COARSE_DEPTH, first))
+    let d = coarse_depth(a);
+    is_box(union_judged(m, a, b, d, first))
 }
 
-// The same at a depth beyond the coarse one, with zeros +0. Accuracy: encloses.
+// The same at a depth beyond the coarse one that has groups of four, with zeros +0. Accuracy: encloses.
 fn union_finer(
     m: AnimatedTransform,
     a: PoseConstants,
@@ -108,14 +121,15 @@ fn union_finer(
     h: u32,
     first: Bounds3f,
 ) -> BoundsAnswer
-    requires { ⌜ h ≤ maxDepth ⌝ ∗ ⌜ 2 < h ⌝ }
+    requires { ⌜ h ≤ maxDepth ⌝ ∗ ⌜ 2 ≤ h ⌝ ∗ ⌜ coarseDepth a ≤ h ⌝ }
     ensures value { λ r. ⌜ r ≡ BoundsAnswer·positiveZeros (unionSlices m a b h (Bounds first) (2 ^ h)) ⌝ }
 {
     if is_lean(m, a, b, first) {
         let union = cover_groups::union_groups(a, m.s0, m.s1, m.pad0, m.pad1, b, h, first);
         return bounds_query::positive_zeros(BoundsAnswer::Bounds(union));
     }
-    bounds_query::positive_zeros(union_judged(m, a, b, h, first))
+    let judged = union_judged(m, a, b, h, first);
+    bounds_query::positive_zeros(judged)
 }
 
 // The box `first` and those of the 2^h slices of dt, with h the depth, held at 12; zeros are +0. A slice ends at the border where the next one begins. Refused
@@ -125,7 +139,7 @@ pub fn union_slices(m: AnimatedTransform, b: Bounds3f, d: u32, first: Bounds3f) 
 {
     let h = held_depth(d);
     let a = motion_point::constants(m);
-    if h > COARSE_DEPTH {
+    if (h > 1) & (h > coarse_depth(a)) {
         return union_finer(m, a, b, h, first);
     }
     bounds_query::positive_zeros(union_judged(m, a, b, h, first))

@@ -21,7 +21,7 @@ returns c =
     ∙ ap (λ (u : Bounds3f). BoundsAnswer·positiveZeros (Bounds u))
     (c1 .union-groups .ensures
     ∙ ap (λ (k : ℕ). Groups·union (a .a) (m .s0) (m .s1) (m .pad0) (m .pad1) (a .b) k (2 ^ k / 4) (a .first)) (min-eq-left (s .pre .0)))
-    ∙ sym (groups-answer m (a .a) (a .b) (a .first) (c3 .is-lean .ensures (c2 .if1 .taken)) (a .h) (s .pre .1))
+    ∙ sym (groups-answer m (a .a) (a .b) (a .first) (c3 .is-lean .ensures (c2 .if1 .taken)) (a .h) (s .pre .1 .0) (s .pre .1 .1))
 
 union-judged-requires : tie.Need-union-judged-requires
 union-judged-requires c κs = c .before .before .pre .0
