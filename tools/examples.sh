@@ -1,22 +1,24 @@
 #!/usr/bin/env bash
 # Runs the programs on the files of examples/ and holds what they print to what is expected: a `main` has no contract, and these runs hold what it reads and prints.
-#   `cover`     on each move file of examples/ and examples/refused/: its .expected.
+#   `cover`     on each move file of examples/ and examples/refused/: its .expected. `cover_rigid` on the same: the .rigid of
+#               a file of examples/, and for one of examples/refused/ its .rigid, or its .expected where it has none. That the two kinds are two motions: examples/slight_scale.txt.
 #   `rewrite`   on the same: the one form of a file of examples/ is the file with its pads, +0 where it has none, that of examples/rewritten/NAME.*.txt is that of
 #               examples/NAME.txt, byte for byte, and the refused ones are refused with the same numbers.
 #   `stretch`   on the same: it accepts the files of examples/, and for one of examples/refused/ prints its .stretch, or its .expected where it has none.
 #   `day`       on each day file of examples/days/ and examples/days/refused/: its .expected.
 #   Each also   on a file that comes in two parts, on one of as many bytes as a file may have, on that with a line feed more, and on one of a byte more.
+#   A program   whose input can't be read prints nothing, one whose output can't be written ends; both say so on standard error.
 # Exit status 1 where one differs.
-#   tools/examples.sh                     compares; target/bin/cover, target/bin/rewrite, target/bin/stretch and target/bin/day must be built
-#   tools/examples.sh --expect PROGRAM    writes the .expected files of examples/ by what PROGRAM answers at depth 10: the oracle's `chain_answers`, so that
+#   tools/examples.sh                     compares; the five programs must be built in target/bin
+#   tools/examples.sh --expect PROGRAM    writes the .expected and .rigid files of examples/ by what PROGRAM answers at depth 10: the oracle's `chain_answers`, so that
 #                                         they come from outside the libraries; those of examples/refused/ are the documents' numbers
 set -u
 cd "$(dirname "$0")/.." || exit 2
 # A move file as two questions: the chain, its poses with the bottom rows that the file leaves out and their pads, of +0 where it has none, and its cover.
-questions() {
-    awk '
+questions() { # FILE KIND
+    awk -v kind="$2" '
         NR == 1 { next }
-        $1 == "x0" { getline; print "chain 0 plain" poses; print "ccover 0 10 " $0; exit }
+        $1 == "x0" { getline; print "chain 0 " kind poses; print "ccover 0 10 " $0; exit }
         { pad = NF == 14 ? $14 : "00000000"; NF = 13; poses = poses " " $0 " 00000000 00000000 00000000 3f800000 " pad }
     ' "$1"
 }
@@ -26,12 +28,16 @@ printed() {
 }
 if [ $# -eq 2 ] && [ "$1" = --expect ]; then
     for file in examples/*.txt; do
-        text=$(questions "$file" | "$2" | printed) || { echo "$file: $2 gives no answer"; exit 1; }
-        echo "$text" >"${file%.txt}.expected"
+        for kind in plain rigid; do
+            text=$(questions "$file" "$kind" | "$2" | printed) || { echo "$file: $2 gives no answer"; exit 1; }
+            ending=$kind
+            [ "$kind" = rigid ] || ending=expected
+            echo "$text" >"${file%.txt}.$ending"
+        done
     done
     exit
 fi
-[ $# -eq 0 ] || { sed -n '2,12s/^# \{0,1\}//p' "$0"; exit 2; }
+[ $# -eq 0 ] || { sed -n '2,14s/^# \{0,1\}//p' "$0"; exit 2; }
 # A file of thirteen names with its pads of +0.
 with_pads() { awk 'NR == 1 { old = NF == 13; print $0 (old ? " pad" : ""); next } $1 == "x0" { old = 0 } { print $0 (old ? " 00000000" : "") }' "$1"; }
 made=$(mktemp) input=$(mktemp) eleven=$(mktemp) form=$(mktemp)
@@ -69,11 +75,30 @@ try_reading() { # PROGRAM FILE EXPECTED [WORDS FOR IT]
     "${name%.txt}_of" 65537 >"$input"
     try "$1" "$name of 65,537 bytes" "$input" "$eleven" "refusal 11"
 }
+# A folder can't be read, which is no empty file; a full or a closed output can't be written. Rattle has no exit status: it is 0 throughout.
+refuses_streams() { # PROGRAM
+    local said
+    said=$("target/bin/$1" <examples 2>&1 >"$made") || true
+    [ "$said" = "standard input can't be read" ] && [ ! -s "$made" ] && count=$((count + 1)) || { echo "EXAMPLE: target/bin/$1 says '$said' of an input that can't be read"; status=1; }
+    said=$("target/bin/$1" <examples/swing.txt 2>&1 >/dev/full) || true
+    [ "$said" = "standard output can't be written" ] && count=$((count + 1)) || { echo "EXAMPLE: target/bin/$1 says '$said' of a full output"; status=1; }
+    said=$("target/bin/$1" <examples/swing.txt 2>&1 >&-) || true
+    [ "$said" = "standard output can't be written" ] && count=$((count + 1)) || { echo "EXAMPLE: target/bin/$1 says '$said' of a closed output"; status=1; }
+}
 {
     for file in examples/*.txt examples/refused/*.txt; do
         try cover "$file" "$file" "${file%.txt}.expected"
     done
+    for file in examples/*.txt; do
+        try cover_rigid "$file" "$file" "${file%.txt}.rigid"
+    done
+    for file in examples/refused/*.txt; do
+        expected=${file%.txt}.rigid
+        [ -f "$expected" ] || expected=${file%.txt}.expected
+        try cover_rigid "$file" "$file" "$expected"
+    done
     try_reading cover examples/swing.txt examples/swing.expected
+    try_reading cover_rigid examples/swing.txt examples/swing.rigid
     for file in examples/*.txt; do
         with_pads "$file" >"$form"
         try rewrite "$file" "$file" "$form" "$file with its pads"
@@ -102,6 +127,9 @@ try_reading() { # PROGRAM FILE EXPECTED [WORDS FOR IT]
         try day "$file" "$file" "${file%.txt}.expected"
     done
     try_reading day examples/days/five_swings.txt examples/days/five_swings.expected
+    for program in cover cover_rigid rewrite stretch day; do
+        refuses_streams "$program"
+    done
 } 2>&1
 [ "$status" -ne 0 ] || echo "examples: $count runs on move files and day files, each with the expected output"
 exit "$status"

@@ -14,9 +14,14 @@ const DEPARTS: usize = usize::MAX;
 
 fn main() {
     let mut input = [0u8; 65537];
-    let read = io::read_full(libc::STDIN_FILENO, &mut input);
+    let read = standard_streams::read(&mut input);
+    if read.failed {
+        standard_streams::say_unread();
+        return;
+    }
+    let n = read.count;
     let mut out = [0u8; 256];
-    answer(part(&input, 0, read), &mut out);
+    answer(&input[..n], &mut out);
 }
 
 fn answer(text: &[u8], out: &mut [u8; 256]) {
@@ -26,7 +31,7 @@ fn answer(text: &[u8], out: &mut [u8; 256]) {
 
 // Writes the first bytes of a text to standard output.
 fn send(text: &[u8], size: usize) {
-    io::write_all(libc::STDOUT_FILENO, part(text, 0, size));
+    standard_streams::write(part(text, 0, size));
 }
 
 // The text that answers a file: a line of the name `start` and a line for each boom, or the line `refused` and one with the number.

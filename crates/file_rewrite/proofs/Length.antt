@@ -44,7 +44,7 @@ lists-count (l ∷ lists) = rw (lists-count lists)
 chain-length : (lists : List (List Float)) (c : Chain) (b : Bounds3f) → Chain·new false (Poses·ofLists lists) ≡ built c → length (Chain·text c b) ≤ longestText
 unfolding Chain·text
 chain-length lists c b s =
-    let few = built-count lists {r = 0} (sym (ap ChainAnswer·refusal s)) refl .1 in
+    let few = built-count false lists {r = 0} (sym (ap ChainAnswer·refusal s)) refl .1 in
     rw (built-poses false (Poses·ofLists lists) c s)
     (omega (arith, move-text-length (Poses·lists (Poses·ofLists lists)) (Bounds3f·list b) (each-long lists) refl, lists-count lists, few))
 
@@ -52,10 +52,10 @@ pub rewritten-length : (bytes : List ℕ) → length (rewrittenText bytes) ≤ l
 unfolding MoveFile·chain rewrittenText ChainAnswer·text boxedText
 rewritten-length bytes =
     cond-keeps (λ (text : List ℕ). length text ≤ longestText) (eqb (MoveFile·read bytes .refusal) 0)
-    (ChainAnswer·text (MoveFile·chain bytes) (MoveFile·box bytes)) (refusalText (MoveFile·read bytes .refusal))
-    (go (MoveFile·chain bytes) refl (MoveFile·box bytes)) (refusal-length (MoveFile·read bytes .refusal))
+    (ChainAnswer·text (MoveFile·chain false bytes) (MoveFile·box bytes)) (refusalText (MoveFile·read bytes .refusal))
+    (go (MoveFile·chain false bytes) refl (MoveFile·box bytes)) (refusal-length (MoveFile·read bytes .refusal))
   where
-    go : (a : ChainAnswer) → MoveFile·chain bytes ≡ a → (b : Bounds3f) → length (ChainAnswer·text a b) ≤ longestText
+    go : (a : ChainAnswer) → MoveFile·chain false bytes ≡ a → (b : Bounds3f) → length (ChainAnswer·text a b) ≤ longestText
     go (built c) e b =
         cond-keeps (λ (text : List ℕ). length text ≤ longestText) (eqb (Bounds3f·refusal b) 0) (Chain·text c b) (refusalText (Bounds3f·refusal b))
         (chain-length (MoveFile·poses bytes) c b e) (refusal-length (Bounds3f·refusal b))

@@ -1,7 +1,7 @@
 -- What the program `rewrite` prints for a move file: `rewrittenText`, the file's one form or its refusal. 11 "precedes all others" (document 01);
 -- then come building's numbers, then 6 and 7 of the box. Definitions only.
 use Prim.Native.Nat.{ℕ}
-use mathlib.Core.Bool.{cond}
+use mathlib.Core.Bool.{false, cond}
 use mathlib.Core.List.{List}
 use lib.Dec.{eqb}
 use Rattle.bounds3.specs.declared.Bounds3f.{Bounds3f}
@@ -22,8 +22,8 @@ unfoldable pub ChainAnswer·text : ChainAnswer → Bounds3f → List ℕ
 ChainAnswer·text (built c) b = boxedText b (Chain·text c b)
 ChainAnswer·text (refused n) b = refusalText n
 
--- the text that is printed for a file's bytes
+-- the text that is printed for a file's bytes; its chain is built as plain
 unfoldable pub rewrittenText : List ℕ → List ℕ
 rewrittenText bytes =
-    cond (eqb (MoveFile·read bytes .refusal) 0) (ChainAnswer·text (MoveFile·chain bytes) (MoveFile·box bytes))
+    cond (eqb (MoveFile·read bytes .refusal) 0) (ChainAnswer·text (MoveFile·chain false bytes) (MoveFile·box bytes))
     (refusalText (MoveFile·read bytes .refusal))

@@ -3,6 +3,7 @@
 -- of the start box.
 use Prim.Native.String.{String, _++_}
 use mathlib.Core.Path.{_≡_, refl}
+use mathlib.Core.Bool.{Bool, true, false}
 use mathlib.Core.List.{List, [], _∷_, map}
 use lib.Ieee.{ofBits, toBits}
 use Rattle.hexadecimal.specs.Digit.{digitValue}
@@ -48,14 +49,19 @@ abbrev file : String → String → String
 file poses c = "time m00 m01 m02 m03 m10 m11 m12 m13 m20 m21 m22 m23\n" ++ poses ++ "x0 y0 z0 x1 y1 z1\n" ++ c
 
 record Row : Type 0 where
+  rigid : Bool
   bytes : String
   text : String
 
 abbrev refused : String → String → Row
-refused number bytes = record { bytes = bytes; text = "refused\n" ++ number ++ "\n" }
+refused number bytes = record { rigid = false; bytes = bytes; text = "refused\n" ++ number ++ "\n" }
 
 abbrev covered : String → Row
-covered bytes = record { bytes = bytes; text = "x0 y0 z0 x1 y1 z1\n3f800000 40000000 40400000 40800000 40a00000 40c00000\n" }
+covered bytes = record { rigid = false; bytes = bytes; text = "x0 y0 z0 x1 y1 z1\n3f800000 40000000 40400000 40800000 40a00000 40c00000\n" }
+
+-- the same row of the file built as rigid
+abbrev asRigid : Row → Row
+asRigid row = record { rigid = true; bytes = row .bytes; text = row .text }
 
 rows : List Row
 rows =
@@ -83,6 +89,9 @@ rows =
     ∷ refused "6" (file (start ++ end) "3f800000 40000000 7f800000 00000000 40a00000 40c00000\n")
     -- twice the greatest float
     ∷ refused "5" (file (pose o two o ++ end) "3f800000 40000000 40400000 7f7fffff 40a00000 40c00000\n")
+    -- built as rigid: move B, and a boom that grows to twice its length
+    ∷ asRigid (covered (file (start ++ end) box))
+    ∷ asRigid (refused "17" (file (start ++ pose one two o) box))
     ∷ []
 
 unfoldable computing : Unit {0}
@@ -91,6 +100,6 @@ unfolding ascii split singleSpaced equal allValues fits valuesOf conforms keepsC
     answerText
 computing = tt
 
-all-answered : map (λ (row : Row). answerText (ascii (row .bytes))) rows ≡ map (λ (row : Row). ascii (row .text)) rows
+all-answered : map (λ (row : Row). answerText (row .rigid) (ascii (row .bytes))) rows ≡ map (λ (row : Row). ascii (row .text)) rows
 unfolding computing rows
 all-answered = refl

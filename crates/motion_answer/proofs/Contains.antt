@@ -32,10 +32,10 @@ use Rattle.motion_answer.proofs.Length.{answer-length}
 -- ---- where the number is 0
 
 -- the chain was built, and the answer is its cover
-pub record Accepted (bytes : List ℕ) : Type 0 where
+pub record Accepted (rigid : Bool) (bytes : List ℕ) : Type 0 where
   pub chain : Chain
-  pub from-file : MoveFile·chain bytes ≡ built chain
-  pub same : MoveFile·cover bytes ≡ Chain·cover chain (MoveFile·box bytes) coverDepth
+  pub from-file : MoveFile·chain rigid bytes ≡ built chain
+  pub same : MoveFile·cover rigid bytes ≡ Chain·cover chain (MoveFile·box bytes) coverDepth
 
 built-cover : (c : Chain) (b : Bounds3f) → ChainAnswer·cover (built c) b ≡ Chain·cover c b coverDepth
 unfolding ChainAnswer·cover
@@ -47,39 +47,39 @@ unfolding ChainAnswer·cover
 chain-none (built c) b h e = (c, refl)
 chain-none (refused n) b h e = h e
 
-pub file-accepted : (bytes : List ℕ) → BoundsAnswer·refusal (MoveFile·cover bytes) ≡ 0 → Accepted bytes
+pub file-accepted : (rigid : Bool) (bytes : List ℕ) → BoundsAnswer·refusal (MoveFile·cover rigid bytes) ≡ 0 → Accepted rigid bytes
 unfolding MoveFile·cover MoveFile·chain
-file-accepted bytes = go (eqb n 0) refl (eqb-false n 0)
+file-accepted rigid bytes = go (eqb n 0) refl (eqb-false n 0)
   where
     n : ℕ
     n = MoveFile·read bytes .refusal
 
     a : ChainAnswer
-    a = MoveFile·chain bytes
+    a = MoveFile·chain rigid bytes
 
     b : Bounds3f
     b = MoveFile·box bytes
 
-    go : (t : Bool) → eqb n 0 ≡ t → (t ≡ false → n ≡ 0 → ⊥) → BoundsAnswer·refusal (cond t (ChainAnswer·cover a b) (Refused n)) ≡ 0 → Accepted bytes
+    go : (t : Bool) → eqb n 0 ≡ t → (t ≡ false → n ≡ 0 → ⊥) → BoundsAnswer·refusal (cond t (ChainAnswer·cover a b) (Refused n)) ≡ 0 → Accepted rigid bytes
     go true t f e =
-        let (c, s) = chain-none a b (none-built false (Poses·ofLists (MoveFile·poses bytes))) e in
+        let (c, s) = chain-none a b (none-built rigid (Poses·ofLists (MoveFile·poses bytes))) e in
         record { chain = c; from-file = s; same = rw t (ap (λ (x : ChainAnswer). ChainAnswer·cover x b) s ∙ built-cover c b) }
     go false t f e = absurd (f refl e)
 
-pub file-answered : (bytes : List ℕ) → BoundsAnswer·refusal (MoveFile·cover bytes) ≡ 0
-    → MoveFile·cover bytes ≡ Bounds (BoundsAnswer·bounds (MoveFile·cover bytes))
-file-answered bytes e =
-    let r = file-accepted bytes e in
+pub file-answered : (rigid : Bool) (bytes : List ℕ) → BoundsAnswer·refusal (MoveFile·cover rigid bytes) ≡ 0
+    → MoveFile·cover rigid bytes ≡ Bounds (BoundsAnswer·bounds (MoveFile·cover rigid bytes))
+file-answered rigid bytes e =
+    let r = file-accepted rigid bytes e in
     rw (r .same) (chain-cover-answered (MoveFile·box bytes) coverDepth (r .chain) (rw (r .same) at e))
 
-file-built : (bytes : List ℕ) (c : Chain) → MoveFile·chain bytes ≡ built c → BuiltChain c
+file-built : (rigid : Bool) (bytes : List ℕ) (c : Chain) → MoveFile·chain rigid bytes ≡ built c → BuiltChain c
 unfolding MoveFile·chain
-file-built bytes c e = record { rigid = false; poses = Poses·ofLists (MoveFile·poses bytes); poses-binary32 = poses-binary32 bytes; accepted = e }
+file-built rigid bytes c e = record { rigid = rigid; poses = Poses·ofLists (MoveFile·poses bytes); poses-binary32 = poses-binary32 bytes; accepted = e }
 
-pub file-contains : (bytes : List ℕ) → BoundsAnswer·refusal (MoveFile·cover bytes) ≡ 0 → FileContainsMotion bytes (BoundsAnswer·bounds (MoveFile·cover bytes))
-file-contains bytes e =
-    let r = file-accepted bytes e in
-    let is-built = file-built bytes (r .chain) (r .from-file) in
+pub file-contains : (rigid : Bool) (bytes : List ℕ) → BoundsAnswer·refusal (MoveFile·cover rigid bytes) ≡ 0 → FileContainsMotion rigid bytes (BoundsAnswer·bounds (MoveFile·cover rigid bytes))
+file-contains rigid bytes e =
+    let r = file-accepted rigid bytes e in
+    let is-built = file-built rigid bytes (r .chain) (r .from-file) in
     record {
       chain = r .chain;
       from-file = r .from-file;
@@ -90,17 +90,17 @@ file-contains bytes e =
     }
 
 -- ---- the text
-text-contains : (bytes : List ℕ) → AnswerContainsMotion bytes (answerText bytes)
+text-contains : (rigid : Bool) (bytes : List ℕ) → AnswerContainsMotion rigid bytes (answerText rigid bytes)
 unfolding answerText BoundsAnswer·text
-text-contains bytes = go (eqb (BoundsAnswer·refusal r) 0) (eqb-true (BoundsAnswer·refusal r) 0) (eqb-false (BoundsAnswer·refusal r) 0)
+text-contains rigid bytes = go (eqb (BoundsAnswer·refusal r) 0) (eqb-true (BoundsAnswer·refusal r) 0) (eqb-false (BoundsAnswer·refusal r) 0)
   where
     r : BoundsAnswer
-    r = MoveFile·cover bytes
+    r = MoveFile·cover rigid bytes
 
-    go : (b : Bool) → (b ≡ true → BoundsAnswer·refusal r ≡ 0) → (b ≡ false → BoundsAnswer·refusal r ≡ 0 → ⊥) → AnswerContainsMotion bytes (BoundsAnswer·text r)
+    go : (b : Bool) → (b ≡ true → BoundsAnswer·refusal r ≡ 0) → (b ≡ false → BoundsAnswer·refusal r ≡ 0 → ⊥) → AnswerContainsMotion rigid bytes (BoundsAnswer·text r)
     go true f g =
         let e = f refl in
-        inr (record { accepted = e; printed = ap BoundsAnswer·text (file-answered bytes e); contains = file-contains bytes e })
+        inr (record { accepted = e; printed = ap BoundsAnswer·text (file-answered rigid bytes e); contains = file-contains rigid bytes e })
     go false f g = inl (record { refused = g refl; printed = ap BoundsAnswer·text (refused-number r (g refl)) })
 
 -- A text that fits stands whole in the front of the buffer.
@@ -108,18 +108,18 @@ front-text : (text buffer after : List ℕ) (r : ℕ) → length text ≤ length
 unfolding textLeft lengthIn
 front-text text buffer after r fits e f = rw (e, f, le-leb (length text) (length buffer) fits) (take-append-seam text (drop (length text) buffer))
 
-same-text : (bytes : List ℕ) (cover : BoundsAnswer) → cover ≡ MoveFile·cover bytes → BoundsAnswer·text cover ≡ answerText bytes
+same-text : (rigid : Bool) (bytes : List ℕ) (cover : BoundsAnswer) → cover ≡ MoveFile·cover rigid bytes → BoundsAnswer·text cover ≡ answerText rigid bytes
 unfolding answerText
-same-text bytes cover e = ap BoundsAnswer·text e
+same-text rigid bytes cover e = ap BoundsAnswer·text e
 
 -- The four clauses of `answer`, from what its two calls give.
-pub answer-clauses : (bytes buffer after : List ℕ) (r : ℕ) (cover : BoundsAnswer)
-    → cover ≡ MoveFile·cover bytes → Wrote (BoundsAnswer·text cover) buffer after r
-    → (r ≡ lengthIn (answerText bytes) buffer) × ((after ≡ textLeft (answerText bytes) buffer) × (((r ≤ length after) × (r ≡ length (take r after)))
-    × (longestText ≤ length buffer → AnswerContainsMotion bytes (take r after))))
-answer-clauses bytes buffer after r cover e w =
-    let text = same-text bytes cover e in
-    let (number, (left, counts)) : Wrote (answerText bytes) buffer after r = subst (λ (x : List ℕ). Wrote x buffer after r) text w in
-    let whole : longestText ≤ length buffer → take r after ≡ answerText bytes =
-    λ room. front-text (answerText bytes) buffer after r (omega (arith, answer-length bytes, room)) number left in
-    (number, (left, (counts, λ room. subst (AnswerContainsMotion bytes) (sym (whole room)) (text-contains bytes))))
+pub answer-clauses : (rigid : Bool) (bytes buffer after : List ℕ) (r : ℕ) (cover : BoundsAnswer)
+    → cover ≡ MoveFile·cover rigid bytes → Wrote (BoundsAnswer·text cover) buffer after r
+    → (r ≡ lengthIn (answerText rigid bytes) buffer) × ((after ≡ textLeft (answerText rigid bytes) buffer) × (((r ≤ length after) × (r ≡ length (take r after)))
+    × (longestText ≤ length buffer → AnswerContainsMotion rigid bytes (take r after))))
+answer-clauses rigid bytes buffer after r cover e w =
+    let text = same-text rigid bytes cover e in
+    let (number, (left, counts)) : Wrote (answerText rigid bytes) buffer after r = subst (λ (x : List ℕ). Wrote x buffer after r) text w in
+    let whole : longestText ≤ length buffer → take r after ≡ answerText rigid bytes =
+    λ room. front-text (answerText rigid bytes) buffer after r (omega (arith, answer-length rigid bytes, room)) number left in
+    (number, (left, (counts, λ room. subst (AnswerContainsMotion rigid bytes) (sym (whole room)) (text-contains rigid bytes))))

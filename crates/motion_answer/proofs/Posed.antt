@@ -2,7 +2,7 @@
 -- `file-cover`. A built chain has 2 to 32 poses (`built-count`), and what is put into an array's front leaves it no shorter (`moves-room`, `poses-room`).
 use Prim.Native.Nat.{ℕ, _≤_}
 use mathlib.Core.Path.{_≡_, refl, sym, ap, _∙_}
-use mathlib.Core.Bool.{false}
+use mathlib.Core.Bool.{Bool}
 use mathlib.Core.List.{List}
 use native.Mathlib.Omega.{arith}
 use lib.Ieee.{Float, binary32, ofBits}
@@ -31,19 +31,19 @@ unfolding ChainAnswer·cover
 refused-cover (built c) b e h = absurd (h e)
 refused-cover (refused n) b e h = ap Refused e
 
-module _ (lists : List (List Float)) {r : ℕ} (e : r ≡ ChainAnswer·refusal (Chain·new false (Poses·ofLists lists))) (h : r ≡ 0) where
-  chain-built : (c : Chain) × (Chain·new false (Poses·ofLists lists) ≡ built c)
-  chain-built = none-built false (Poses·ofLists lists) (sym e ∙ h)
+module _ (rigid : Bool) (lists : List (List Float)) {r : ℕ} (e : r ≡ ChainAnswer·refusal (Chain·new rigid (Poses·ofLists lists))) (h : r ≡ 0) where
+  chain-built : (c : Chain) × (Chain·new rigid (Poses·ofLists lists) ≡ built c)
+  chain-built = none-built rigid (Poses·ofLists lists) (sym e ∙ h)
 
   pub built-count : (2 ≤ length lists) × (length lists ≤ 32)
   built-count =
       let (c, s) = chain-built in
-      let passed = checks-passed false (Poses·ofLists lists) (new-built false (Poses·ofLists lists) c s .0) in
+      let passed = checks-passed rigid (Poses·ofLists lists) (new-built rigid (Poses·ofLists lists) c s .0) in
       let count = loops.poses-length lists in
       (omega (arith, passed .least, count), omega (arith, passed .greatest, count))
 
-  pub built-cover : (b : Bounds3f) (cover : BoundsAnswer) → ((c : Chain) → Chain·new false (Poses·ofLists lists) ≡ built c → cover ≡ Chain·cover c b coverDepth)
-      → cover ≡ ChainAnswer·cover (Chain·new false (Poses·ofLists lists)) b
+  pub built-cover : (b : Bounds3f) (cover : BoundsAnswer) → ((c : Chain) → Chain·new rigid (Poses·ofLists lists) ≡ built c → cover ≡ Chain·cover c b coverDepth)
+      → cover ≡ ChainAnswer·cover (Chain·new rigid (Poses·ofLists lists)) b
   unfolding ChainAnswer·cover
   built-cover b cover k = let (c, s) = chain-built in rw s (k c s)
 
@@ -62,14 +62,14 @@ pub poses-room : (poses left : List (List Float)) → left ≡ front poses (repl
 poses-room poses left e = rw e (front-room poses (replicate 559 (zeros 18)))
 
 -- ---- a file
-module _ (bytes : List ℕ) (file : MoveFile) (e : file ≡ MoveFile·read bytes) where
-  pub file-refused : (file .refusal ≡ 0 → ⊥) → Refused (file .refusal) ≡ MoveFile·cover bytes
+module _ (rigid : Bool) (bytes : List ℕ) (file : MoveFile) (e : file ≡ MoveFile·read bytes) where
+  pub file-refused : (file .refusal ≡ 0 → ⊥) → Refused (file .refusal) ≡ MoveFile·cover rigid bytes
   unfolding MoveFile·cover
   file-refused h = rw (← e, ne-eqb (file .refusal) 0 h)
 
   pub file-cover : (old left : List (List Float)) (b : Bounds3f) (cover : BoundsAnswer)
       → file .refusal ≡ 0 → left ≡ front (MoveFile·poses bytes) old → b ≡ Bounds3f·ofList (file .bounds)
-      → cover ≡ ChainAnswer·cover (Chain·new false (Poses·ofLists (take (file .count) left))) b → cover ≡ MoveFile·cover bytes
+      → cover ≡ ChainAnswer·cover (Chain·new rigid (Poses·ofLists (take (file .count) left))) b → cover ≡ MoveFile·cover rigid bytes
   unfolding MoveFile·cover MoveFile·chain
   file-cover old left b cover h el eb ec =
       let poses = MoveFile·poses bytes in

@@ -1,8 +1,9 @@
 -- What is answered to a move file: `MoveFile·cover`, the cover of its box under its chain, and `answerText`, the text that the program prints. Document 01,
--- "File and program"; document 02, "Poses in a chain": "A file's pose lines, however many, are a chain." 11 "precedes all others"; then come building's
--- numbers, then the query's. Definitions only.
+-- "File and program"; document 02, "Poses in a chain": "A file's pose lines, however many, are a chain." A file does not hold the kind, so that it is told
+-- whether the chain is built as rigid: the program `cover` builds plain, `cover_rigid` rigid. 11 "precedes all others"; then come building's numbers, then the
+-- query's. Definitions only.
 use Prim.Native.Nat.{ℕ}
-use mathlib.Core.Bool.{false, cond}
+use mathlib.Core.Bool.{Bool, cond}
 use mathlib.Core.List.{List}
 use lib.Dec.{eqb}
 use Rattle.bounds3.specs.declared.Bounds3f.{Bounds3f}
@@ -25,13 +26,13 @@ ChainAnswer·cover (built c) b = Chain·cover c b coverDepth
 ChainAnswer·cover (refused n) b = Refused n
 
 -- what building answers to a file's poses
-unfoldable pub MoveFile·chain : List ℕ → ChainAnswer
-MoveFile·chain bytes = Chain·new false (Poses·ofLists (MoveFile·poses bytes))
+unfoldable pub MoveFile·chain : Bool → List ℕ → ChainAnswer
+MoveFile·chain rigid bytes = Chain·new rigid (Poses·ofLists (MoveFile·poses bytes))
 
 -- the cover that a file asks for
-unfoldable pub MoveFile·cover : List ℕ → BoundsAnswer
-MoveFile·cover bytes =
-    cond (eqb (MoveFile·read bytes .refusal) 0) (ChainAnswer·cover (MoveFile·chain bytes) (MoveFile·box bytes)) (Refused (MoveFile·read bytes .refusal))
+unfoldable pub MoveFile·cover : Bool → List ℕ → BoundsAnswer
+MoveFile·cover rigid bytes =
+    cond (eqb (MoveFile·read bytes .refusal) 0) (ChainAnswer·cover (MoveFile·chain rigid bytes) (MoveFile·box bytes)) (Refused (MoveFile·read bytes .refusal))
 
 -- the text of a box or of a refusal
 unfoldable pub BoundsAnswer·text : BoundsAnswer → List ℕ
@@ -39,5 +40,5 @@ BoundsAnswer·text (Bounds b) = boundsText (Bounds3f·list b)
 BoundsAnswer·text (Refused n) = refusalText n
 
 -- the text that answers a file's bytes
-unfoldable pub answerText : List ℕ → List ℕ
-answerText bytes = BoundsAnswer·text (MoveFile·cover bytes)
+unfoldable pub answerText : Bool → List ℕ → List ℕ
+answerText rigid bytes = BoundsAnswer·text (MoveFile·cover rigid bytes)

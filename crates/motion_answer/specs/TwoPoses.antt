@@ -1,4 +1,4 @@
--- A file with two lines of poses is answered as by document 01, but for times that don't rise strictly: `TwoPoseFile`, the statement of `two-pose-file`.
+-- A file with two lines of poses, built as plain, is answered as by document 01, but for times that don't rise strictly: `TwoPoseFile`, the statement of `two-pose-file`.
 use Prim.Native.Nat.{ℕ}
 use mathlib.Core.Path.{_≡_}
 use mathlib.Core.Bool.{false, not, cond}
@@ -23,8 +23,8 @@ moveCover move b = cond (eqb (move .refusal) 0) (AnimatedTransform·cover (move 
 
 pub record TwoPoseFile (bytes : List ℕ) (start end : List Float) : Type 0 where
   pub rising : MoveFile·poses bytes ≡ start ∷ end ∷ [] → T (lt (Pose·ofList start .time) (Pose·ofList end .time))
-      → MoveFile·cover bytes ≡ moveCover (AnimatedTransform·new false (Pose·ofList start) (Pose·ofList end)) (MoveFile·box bytes)
+      → MoveFile·cover false bytes ≡ moveCover (AnimatedTransform·new false (Pose·ofList start) (Pose·ofList end)) (MoveFile·box bytes)
   -- "times that don't rise strictly are 12", once 1 and 16 are judged; a file's bottom rows are right
   pub not-rising : MoveFile·poses bytes ≡ start ∷ end ∷ [] → T (every Pose·isFinite (Pose·ofList start ∷ Pose·ofList end ∷ []))
       → T (every Pose·isPadded (Pose·ofList start ∷ Pose·ofList end ∷ []))
-      → T (not (lt (Pose·ofList start .time) (Pose·ofList end .time))) → MoveFile·cover bytes ≡ Refused 12
+      → T (not (lt (Pose·ofList start .time) (Pose·ofList end .time))) → MoveFile·cover false bytes ≡ Refused 12

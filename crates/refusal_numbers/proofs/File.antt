@@ -1,5 +1,5 @@
--- The numbers of the answer to a file: `file-numbered`. 11 is reading's (`read-refusals`); 1, 16, 12, 3, 4 and 5 are building's, which has no 2, since a file's
--- bottom rows are right (`chain-affine`); depth 10 is below the greatest, so that the cover gives no 8.
+-- The numbers of the answer to a file: `file-numbered`. 11 is reading's (`read-refusals`); 1, 16, 12, 3, 4 and 5 are building's, of a rigid chain 17 and 18 too.
+-- It has no 2, since a file's bottom rows are right (`chain-affine`); depth 10 is below the greatest, so that the cover gives no 8.
 use Prim.Native.Nat.{ℕ}
 use mathlib.Core.Path.{_≡_, refl, sym, ap, subst}
 use mathlib.Core.Bool.{Bool, true, false, not, _||_, cond}
@@ -25,10 +25,12 @@ use Rattle.bounds_query.proofs.Union.{union-keeps}
 use Rattle.bounds_query.proofs.Zeros.{zeros-refusal}
 use Rattle.pose_steps.specs.Promise.{SliceNumber}
 use Rattle.pose_pair.specs.declared.Pose.{Pose}
-use Rattle.pose_pair.specs.Pose.{Pose·isFinite, Pose·isAffine, Pose·isPadded, timesRefusal}
+use Rattle.pose_pair.specs.Pose.{Pose·isFinite, Pose·isAffine, Pose·isPadded, timesRefusal, Pose·kindNumber}
+use Rattle.pose_pair.proofs.Kind.{kind-each}
 use Rattle.animated_transform.specs.declared.AnimatedTransform.{AnimatedTransform}
 use Rattle.animated_transform.specs.declared.AnimatedTransformAnswer.{AnimatedTransformAnswer}
 use Rattle.animated_transform.specs.New.{AnimatedTransform·new}
+use Rattle.animated_transform.specs.Numbers.{kindNumbers}
 use Rattle.animated_transform.proofs.Numbers.{new-affine}
 use Rattle.motion_cover.specs.Cover.{AnimatedTransform·encloseMotion, AnimatedTransform·cover}
 use Rattle.motion_cover.specs.Answer.{BoundsAnswer·Numbered}
@@ -45,20 +47,14 @@ use Rattle.motion_answer.specs.Answer.{coverDepth, ChainAnswer·cover, MoveFile
 use Rattle.motion_answer.proofs.Built.{poses-affine}
 use Rattle.motion_answer.proofs.Contains.{file-answered}
 use Rattle.bounds_answers.proofs.UnionAll.{each-of}
+use Rattle.refusal_numbers.specs.Chain.{buildingNumbers}
 use Rattle.refusal_numbers.proofs.Chain.{building-numbered}
 
-abbrev numbers : List ℕ
-numbers = 0 ∷ 1 ∷ 3 ∷ 4 ∷ 5 ∷ 6 ∷ 7 ∷ 10 ∷ 11 ∷ 12 ∷ 16 ∷ []
+abbrev numbers : Bool → List ℕ
+numbers rigid = 0 ∷ 1 ∷ 3 ∷ 4 ∷ 5 ∷ 6 ∷ 7 ∷ 10 ∷ 11 ∷ 12 ∷ 16 ∷ kindNumbers rigid
 
-abbrev Number : ℕ → Type 0
-Number n = OneOf n numbers
-
-read-number : (bytes : List ℕ) → Number (MoveFile·read bytes .refusal)
-read-number bytes = go (read-refusals bytes)
-  where
-    go : (MoveFile·read bytes .refusal ≡ 0) ⊎ (MoveFile·read bytes ≡ MoveFile·departs) → Number (MoveFile·read bytes .refusal)
-    go (inl e) = inl e
-    go (inr e) = inr (inr (inr (inr (inr (inr (inr (inr (inl (ap (λ (f : MoveFile). f .refusal) e)))))))))
+abbrev Number : Bool → ℕ → Type 0
+Number rigid n = OneOf n (numbers rigid)
 
 -- ---- a chain of poses whose bottom rows are right is not refused with 2
 abbrev pub Not2 : ℕ → Type 0
@@ -101,9 +97,16 @@ times-not : (pair : Pose × Pose) → Not2 (Pair·number 3 pair)
 unfolding Pair·number timesRefusal
 times-not (p, q) = cond-keeps Not2 (lt (q .time) (p .time) || not (finite (q .time ⊖ p .time))) 3 0 (λ e. absurd (omega (arith, e))) zero-not
 
-checks-not : (poses : List Pose) → Each (λ p. Pose·isAffine p ≡ true) poses → Not2 (chainRefusal false poses)
-unfolding chainRefusal kindStage
-checks-not poses h =
+kind-not : (rigid : Bool) (poses : List Pose) → Not2 (kindStage rigid poses)
+unfolding kindStage Pose·number
+kind-not true poses =
+    stage-not (Pose·kindNumber true) poses
+    (each-of (λ p. kind-each Not2 true p zero-not (λ t e. absurd (omega (arith, e))) (λ t e. absurd (omega (arith, e)))) poses)
+kind-not false poses = zero-not
+
+checks-not : (rigid : Bool) (poses : List Pose) → Each (λ p. Pose·isAffine p ≡ true) poses → Not2 (chainRefusal rigid poses)
+unfolding chainRefusal
+checks-not rigid poses h =
     let pairs = neighbours poses in
     let count = cond-keeps Not2 (ltb (length poses) minPoses || ltb maxPoses (length poses)) 12 0 twelve-not zero-not in
     let rise = stage-not (Pair·number 12) pairs (each-of rise-not pairs) in
@@ -111,14 +114,14 @@ checks-not poses h =
     let finite = stage-not (Pose·number 1) poses (each-of finite-not poses) in
     let affine = stage-not (Pose·number 2) poses (affine-not poses h) in
     let padded = stage-not (Pose·number 16) poses (each-of padded-not poses) in
-    number-keeps Not2 zero-not (chainStages false poses) (finite, (affine, (padded, (count, (rise, (times, (zero-not, tt)))))))
+    number-keeps Not2 zero-not (chainStages rigid poses) (finite, (affine, (padded, (count, (rise, (times, (kind-not rigid poses, tt)))))))
 
-moves-not : (poses : List Pose) → Each (λ p. Pose·isAffine p ≡ true) poses
-    → Each (λ a. Not2 (a .refusal)) (map (λ (p, q). AnimatedTransform·new false p q) (neighbours poses))
+moves-not : (rigid : Bool) (poses : List Pose) → Each (λ p. Pose·isAffine p ≡ true) poses
+    → Each (λ a. Not2 (a .refusal)) (map (λ (p, q). AnimatedTransform·new rigid p q) (neighbours poses))
 unfolding neighbours
-moves-not [] h = tt
-moves-not (p ∷ []) h = tt
-moves-not (p ∷ q ∷ poses) (h, (k, hs)) = (new-affine false p q h k, moves-not (q ∷ poses) (k, hs))
+moves-not rigid [] h = tt
+moves-not rigid (p ∷ []) h = tt
+moves-not rigid (p ∷ q ∷ poses) (h, (k, hs)) = (new-affine rigid p q h k, moves-not rigid (q ∷ poses) (k, hs))
 
 tested-not : (n : ℕ) (a : ChainAnswer) → Not2 n → Not2 (ChainAnswer·refusal a) → Not2 (ChainAnswer·refusal (cond (eqb n 0) a (refused n)))
 tested-not n a h k = go (eqb n 0)
@@ -132,60 +135,69 @@ unfolding ChainAnswer·fromMoves
 from-moves-not [] h = twelve-not
 from-moves-not (a ∷ answers) h = tested-not (stage (λ x. x .refusal) (a ∷ answers)) _ (stage-not (λ x. x .refusal) (a ∷ answers) h) zero-not
 
-pub chain-affine : (poses : List Pose) → T (every Pose·isAffine poses) → Not2 (ChainAnswer·refusal (Chain·new false poses))
+pub chain-affine : (rigid : Bool) (poses : List Pose) → T (every Pose·isAffine poses) → Not2 (ChainAnswer·refusal (Chain·new rigid poses))
 unfolding Chain·new
-chain-affine poses h = let each = affine-each poses h in
-    tested-not (chainRefusal false poses) _ (checks-not poses each) (from-moves-not _ (moves-not poses each))
+chain-affine rigid poses h = let each = affine-each poses h in
+    tested-not (chainRefusal rigid poses) _ (checks-not rigid poses each) (from-moves-not _ (moves-not rigid poses each))
 
-building-number : {n : ℕ} → OneOf n (0 ∷ 1 ∷ 2 ∷ 3 ∷ 4 ∷ 5 ∷ 12 ∷ 16 ∷ []) → Not2 n → Number n
-building-number (inl e) h = inl e
-building-number (inr (inl e)) h = inr (inl e)
-building-number (inr (inr (inl e))) h = absurd (h e)
-building-number (inr (inr (inr (inl e)))) h = inr (inr (inl e))
-building-number (inr (inr (inr (inr (inl e))))) h = inr (inr (inr (inl e)))
-building-number (inr (inr (inr (inr (inr (inl e)))))) h = inr (inr (inr (inr (inl e))))
-building-number (inr (inr (inr (inr (inr (inr (inl e))))))) h = inr (inr (inr (inr (inr (inr (inr (inr (inr (inl e)))))))))
-building-number (inr (inr (inr (inr (inr (inr (inr (inl e)))))))) h = inr (inr (inr (inr (inr (inr (inr (inr (inr (inr (inl e))))))))))
+module _ (rigid : Bool) where
+  read-number : (bytes : List ℕ) → Number rigid (MoveFile·read bytes .refusal)
+  read-number bytes = go (read-refusals bytes)
+    where
+      go : (MoveFile·read bytes .refusal ≡ 0) ⊎ (MoveFile·read bytes ≡ MoveFile·departs) → Number rigid (MoveFile·read bytes .refusal)
+      go (inl e) = inl e
+      go (inr e) = inr (inr (inr (inr (inr (inr (inr (inr (inl (ap (λ (f : MoveFile). f .refusal) e)))))))))
 
--- ---- the cover at depth 10
-abbrev CoverNumber : BoundsAnswer → Type 0
-CoverNumber r = Number (BoundsAnswer·refusal r)
+  building-number : {n : ℕ} → OneOf n (buildingNumbers rigid) → Not2 n → Number rigid n
+  building-number (inl e) h = inl e
+  building-number (inr (inl e)) h = inr (inl e)
+  building-number (inr (inr (inl e))) h = absurd (h e)
+  building-number (inr (inr (inr (inl e)))) h = inr (inr (inl e))
+  building-number (inr (inr (inr (inr (inl e))))) h = inr (inr (inr (inl e)))
+  building-number (inr (inr (inr (inr (inr (inl e)))))) h = inr (inr (inr (inr (inl e))))
+  building-number (inr (inr (inr (inr (inr (inr (inl e))))))) h = inr (inr (inr (inr (inr (inr (inr (inr (inr (inl e)))))))))
+  building-number (inr (inr (inr (inr (inr (inr (inr (inl e)))))))) h = inr (inr (inr (inr (inr (inr (inr (inr (inr (inr (inl e))))))))))
+  building-number (inr (inr (inr (inr (inr (inr (inr (inr e)))))))) h = inr (inr (inr (inr (inr (inr (inr (inr (inr (inr (inr e))))))))))
 
-asked-number : (b : Bounds3f) → Number (coverRefusal b coverDepth)
-unfolding coverRefusal
-asked-number b =
-    box-keeps (λ (n : ℕ). Number (cond (eqb n 0) (cond (ltb maxDepth coverDepth) 8 0) n)) b
-    (inl refl) (inr (inr (inr (inr (inr (inl refl)))))) (inr (inr (inr (inr (inr (inr (inl refl)))))))
+  -- ---- the cover at depth 10
+  abbrev CoverNumber : BoundsAnswer → Type 0
+  CoverNumber r = Number rigid (BoundsAnswer·refusal r)
 
-slice-number : {n : ℕ} → SliceNumber n → Number n
-slice-number (inl e) = inl e
-slice-number (inr (inl e)) = inr (inr (inr (inr (inl e))))
-slice-number (inr (inr e)) = inr (inr (inr (inr (inr (inr (inr (inl e)))))))
+  asked-number : (b : Bounds3f) → Number rigid (coverRefusal b coverDepth)
+  unfolding coverRefusal
+  asked-number b =
+      box-keeps (λ (n : ℕ). Number rigid (cond (eqb n 0) (cond (ltb maxDepth coverDepth) 8 0) n)) b
+      (inl refl) (inr (inr (inr (inr (inr (inl refl)))))) (inr (inr (inr (inr (inr (inr (inl refl)))))))
 
-move-number : (m : AnimatedTransform) (b : Bounds3f) → CoverNumber (AnimatedTransform·cover m b coverDepth)
-unfolding AnimatedTransform·cover
-move-number m b =
-    cond-keeps CoverNumber (eqb (coverRefusal b coverDepth) 0) (BoundsAnswer·positiveZeros (AnimatedTransform·encloseMotion m b coverDepth)) _
-    (subst Number (sym (zeros-refusal (AnimatedTransform·encloseMotion m b coverDepth))) (slice-number (motion-number m b coverDepth))) (asked-number b)
+  slice-number : {n : ℕ} → SliceNumber n → Number rigid n
+  slice-number (inl e) = inl e
+  slice-number (inr (inl e)) = inr (inr (inr (inr (inl e))))
+  slice-number (inr (inr e)) = inr (inr (inr (inr (inr (inr (inr (inl e)))))))
 
-covers-number : (b : Bounds3f) (r : BoundsAnswer) (moves : List AnimatedTransform) → CoverNumber r → CoverNumber (unionCovers b coverDepth r moves)
-unfolding unionCovers
-covers-number b r [] h = h
-covers-number b r (m ∷ moves) h =
-    let s = AnimatedTransform·cover m b coverDepth in
-    covers-number b (BoundsAnswer·unionBounds r s) moves (union-keeps Number (inl refl) r s h (move-number m b))
+  move-number : (m : AnimatedTransform) (b : Bounds3f) → CoverNumber (AnimatedTransform·cover m b coverDepth)
+  unfolding AnimatedTransform·cover
+  move-number m b =
+      cond-keeps CoverNumber (eqb (coverRefusal b coverDepth) 0) (BoundsAnswer·positiveZeros (AnimatedTransform·encloseMotion m b coverDepth)) _
+      (subst (Number rigid) (sym (zeros-refusal (AnimatedTransform·encloseMotion m b coverDepth))) (slice-number (motion-number m b coverDepth))) (asked-number b)
 
-chain-number : (a : ChainAnswer) (b : Bounds3f) → Number (ChainAnswer·refusal a) → CoverNumber (ChainAnswer·cover a b)
-unfolding ChainAnswer·cover Chain·cover
-chain-number (built c) b h = covers-number b (AnimatedTransform·cover (c .first) b coverDepth) (c .rest) (move-number (c .first) b)
-chain-number (refused n) b h = h
+  covers-number : (b : Bounds3f) (r : BoundsAnswer) (moves : List AnimatedTransform) → CoverNumber r → CoverNumber (unionCovers b coverDepth r moves)
+  unfolding unionCovers
+  covers-number b r [] h = h
+  covers-number b r (m ∷ moves) h =
+      let s = AnimatedTransform·cover m b coverDepth in
+      covers-number b (BoundsAnswer·unionBounds r s) moves (union-keeps (Number rigid) (inl refl) r s h (move-number m b))
 
-file-number : (bytes : List ℕ) → CoverNumber (MoveFile·cover bytes)
-unfolding MoveFile·cover MoveFile·chain
-file-number bytes =
-    let poses = Poses·ofLists (MoveFile·poses bytes) in
-    let building = building-number (building-numbered false poses .number) (chain-affine poses (poses-affine bytes)) in
-    cond-keeps CoverNumber (eqb (MoveFile·read bytes .refusal) 0) _ _ (chain-number (Chain·new false poses) (MoveFile·box bytes) building) (read-number bytes)
+  chain-number : (a : ChainAnswer) (b : Bounds3f) → Number rigid (ChainAnswer·refusal a) → CoverNumber (ChainAnswer·cover a b)
+  unfolding ChainAnswer·cover Chain·cover
+  chain-number (built c) b h = covers-number b (AnimatedTransform·cover (c .first) b coverDepth) (c .rest) (move-number (c .first) b)
+  chain-number (refused n) b h = h
 
-pub file-numbered : (bytes : List ℕ) → BoundsAnswer·Numbered numbers (MoveFile·cover bytes)
-file-numbered bytes = record { number = file-number bytes; none = file-answered bytes }
+  file-number : (bytes : List ℕ) → CoverNumber (MoveFile·cover rigid bytes)
+  unfolding MoveFile·cover MoveFile·chain
+  file-number bytes =
+      let poses = Poses·ofLists (MoveFile·poses bytes) in
+      let building = building-number (building-numbered rigid poses .number) (chain-affine rigid poses (poses-affine bytes)) in
+      cond-keeps CoverNumber (eqb (MoveFile·read bytes .refusal) 0) _ _ (chain-number (Chain·new rigid poses) (MoveFile·box bytes) building) (read-number bytes)
+
+  pub file-numbered : (bytes : List ℕ) → BoundsAnswer·Numbered (numbers rigid) (MoveFile·cover rigid bytes)
+  file-numbered bytes = record { number = file-number bytes; none = file-answered rigid bytes }

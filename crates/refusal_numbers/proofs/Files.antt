@@ -108,7 +108,7 @@ module _ (bytes : List ℕ) where
   refused-numbered z n e =
       let h = building-numbered false (Poses·ofLists (MoveFile·poses bytes)) in
       let not-none : n ≡ 0 → ⊥ = λ k. let (c, s) = h .none (ap ChainAnswer·refusal e ∙ k) in absurd (refused-built (sym e ∙ s)) in
-      let not-two = rw e at (chain-affine (Poses·ofLists (MoveFile·poses bytes)) (poses-affine bytes)) in
+      let not-two = rw e at (chain-affine false (Poses·ofLists (MoveFile·poses bytes)) (poses-affine bytes)) in
       number n (of-building (rw e at (h .number)) not-none not-two) (kept z ∙ refused-text n e)
 
   built-numbered : MoveFile·read bytes .refusal ≡ 0 → (c : Chain) → answer ≡ built c → Printed bytes

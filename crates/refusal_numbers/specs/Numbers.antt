@@ -71,4 +71,5 @@ pub record EveryAnswer : Type 0 where
   pub cover : (m : AnimatedTransform) (b : Bounds3f) (depth : ℕ) → BoundsAnswer·Numbered (0 ∷ 5 ∷ 6 ∷ 7 ∷ 8 ∷ 10 ∷ []) (AnimatedTransform·cover m b depth)
   -- a file, whatever its bytes: its poses are a chain, its bottom rows are 0 0 0 1, it is asked at depth 10 and searches for no zeros, so that 2, 8 and 9 are
   -- not among its numbers
-  pub file : (bytes : List ℕ) → BoundsAnswer·Numbered (0 ∷ 1 ∷ 3 ∷ 4 ∷ 5 ∷ 6 ∷ 7 ∷ 10 ∷ 11 ∷ 12 ∷ 16 ∷ []) (MoveFile·cover bytes)
+  pub file : (rigid : Bool) (bytes : List ℕ)
+      → BoundsAnswer·Numbered (0 ∷ 1 ∷ 3 ∷ 4 ∷ 5 ∷ 6 ∷ 7 ∷ 10 ∷ 11 ∷ 12 ∷ 16 ∷ kindNumbers rigid) (MoveFile·cover rigid bytes)

@@ -92,13 +92,13 @@ unfolding ChainAnswer·cover
 answer-equal (built c) b h = h c refl
 answer-equal (refused n) b h = refl
 
-pub file-unpadded : (bytes : List ℕ) → FileUnpadded bytes
+pub file-unpadded : (rigid : Bool) (bytes : List ℕ) → FileUnpadded rigid bytes
 unfolding MoveFile·cover MoveFile·chain
-file-unpadded bytes h =
+file-unpadded rigid bytes h =
     let poses = Poses·ofLists (MoveFile·poses bytes) in
     let b = MoveFile·box bytes in
     let n = MoveFile·read bytes .refusal in
-    let same = answer-equal (MoveFile·chain bytes) b (λ c e. chain-unpadded false poses c b coverDepth (poses-binary32 bytes) h e) in
+    let same = answer-equal (MoveFile·chain rigid bytes) b (λ c e. chain-unpadded rigid poses c b coverDepth (poses-binary32 bytes) h e) in
     λ i. cond (eqb n 0) (same i) (Refused n)
 
 -- ---- points

@@ -35,10 +35,10 @@ abbrev pub ChainAnswer·coverUnpadded : ChainAnswer → Bounds3f → BoundsAnswe
 ChainAnswer·coverUnpadded (built c) b = Chain·coverUnpadded c b coverDepth
 ChainAnswer·coverUnpadded (refused n) b = Refused n
 
-abbrev pub MoveFile·coverUnpadded : List ℕ → BoundsAnswer
-MoveFile·coverUnpadded bytes =
+abbrev pub MoveFile·coverUnpadded : Bool → List ℕ → BoundsAnswer
+MoveFile·coverUnpadded rigid bytes =
     let n = MoveFile·read bytes .refusal in
-    cond (eqb n 0) (ChainAnswer·coverUnpadded (MoveFile·chain bytes) (MoveFile·box bytes)) (Refused n)
+    cond (eqb n 0) (ChainAnswer·coverUnpadded (MoveFile·chain rigid bytes) (MoveFile·box bytes)) (Refused n)
 
 -- ---- pads of +0
 
@@ -55,8 +55,8 @@ ChainUnpadded rigid poses =
     → Chain·cover c b d ≡ Chain·coverUnpadded c b d
 
 -- a file with either names whose pads are +0
-abbrev pub FileUnpadded : List ℕ → Type 0
-FileUnpadded bytes = Unpadded (Poses·ofLists (MoveFile·poses bytes)) → MoveFile·cover bytes ≡ MoveFile·coverUnpadded bytes
+abbrev pub FileUnpadded : Bool → List ℕ → Type 0
+FileUnpadded rigid bytes = Unpadded (Poses·ofLists (MoveFile·poses bytes)) → MoveFile·cover rigid bytes ≡ MoveFile·coverUnpadded rigid bytes
 
 -- document 02: "A file with the old thirteen names has pads of +0"
 abbrev pub ThirteenUnpadded : List ℕ → Type 0

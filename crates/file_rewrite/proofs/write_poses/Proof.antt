@@ -34,14 +34,14 @@ sub-n : tie.Need-sub-n
 sub-n c =
     let c1 = c .before in let c2 = c1 .before in let c3 = c2 .before in let c4 = c3 .before in
     let build = c1 .build in
-    omega (arith, built-count (c4 .args .poses .now) (build .ensures .0) (c .if1 .left) .0)
+    omega (arith, built-count false (c4 .args .poses .now) (build .ensures .0) (c .if1 .left) .0)
 
 array-share-prefix-moves : tie.Need-array-share-prefix-moves
 array-share-prefix-moves c =
     let c1 = c .before in let c2 = c1 .before in let c3 = c2 .before in let c4 = c3 .before in
     let build = c1 .build in
     let lists = c4 .args .poses .now in
-    let few = built-count lists (build .ensures .0) (c .if1 .left) in
+    let few = built-count false lists (build .ensures .0) (c .if1 .left) in
     omega (arith, few .1, moves-room (Chain·new false (Poses·ofLists lists)) _ (build .ensures .1 .0))
 
 slice-aggregate-write-moves : tie.Need-slice-aggregate-write-moves
@@ -49,7 +49,7 @@ slice-aggregate-write-moves c =
     let c1 = c .before in let c2 = c1 .before in let c3 = c2 .before in let c4 = c3 .before in let c5 = c4 .before in
     let build = c2 .build in
     let lists = c5 .args .poses .now in
-    let few = built-count lists (build .ensures .0) (c1 .if1 .left) in
+    let few = built-count false lists (build .ensures .0) (c1 .if1 .left) in
     sym (length-take-le _ _ (omega (arith, few .1, moves-room (Chain·new false (Poses·ofLists lists)) _ (build .ensures .1 .0))))
 
 write-moves-requires : tie.Need-write-moves-requires

@@ -19,7 +19,7 @@ returns c =
     let c5 = c4 .before in let c6 = c5 .before in let c7 = c6 .before in
     let cover = c4 in
     let a = c7 .args in
-    answer-clauses (a .bytes .now) (a .out .now) _ _ (cover .file-cover .result) (cover .file-cover .ensures) (c2 .write .ensures)
+    answer-clauses (a .rigid) (a .bytes .now) (a .out .now) _ _ (cover .file-cover .result) (cover .file-cover .ensures) (c2 .write .ensures)
 
 pub answer-spec : {M : Type 1} → statement M
 answer-spec = tie.close (tie.spec file-cover-requires write-requires same-length returns)

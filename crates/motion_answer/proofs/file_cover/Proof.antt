@@ -15,7 +15,7 @@ returns : tie.Need-returns
 returns c =
     let c1 = c .before in let c2 = c1 .before in let c3 = c2 .before in let c4 = c3 .before in let c5 = c4 .before in
     let read = c2 .read in
-    file-refused (c5 .args .bytes .now) (read .result) (read .ensures .0) (c .if1 .taken)
+    file-refused (c5 .args .rigid) (c5 .args .bytes .now) (read .result) (read .ensures .0) (c .if1 .taken)
 
 array-share-prefix-poses : tie.Need-array-share-prefix-poses
 array-share-prefix-poses c =
@@ -45,7 +45,7 @@ returns-2 c =
     let bytes = c10 .args .bytes .now in
     let read = c7 .read in
     let none = c5 .if1 .left in
-    file-cover bytes (read .result) (read .ensures .0) _ _ _ (c .poses-cover .result) none (read .ensures .1 .0)
+    file-cover (c10 .args .rigid) bytes (read .result) (read .ensures .0) _ _ _ (c .poses-cover .result) none (read .ensures .1 .0)
     (c1 .bounds .ensures) (c .poses-cover .ensures)
 
 pub file-cover-spec : {M : Type 1} → statement M
