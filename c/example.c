@@ -7,6 +7,14 @@
 
 #include "jellyplain.h"
 
+/* Boxes that are proved are printed by this, and not by %g: rounded outward, to six digits behind the point. */
+static void print_box(const char *what, const float box[6])
+{
+    char text[6][JELLYPLAIN_DECIMAL];
+    jellyplain_decimals(box, 6, text);
+    printf("%s: %s %s %s to %s %s %s\n", what, text[0], text[1], text[2], text[3], text[4], text[5]);
+}
+
 int main(void)
 {
     const jellyplain_pose start = {0, {{1, 0, 0, 0}, {0, 1, 0, 0}, {0, 0, 1, 0}, {0, 0, 0, 1}}, 0};
@@ -23,7 +31,7 @@ int main(void)
     static jellyplain_pose poses[JELLYPLAIN_FILE_POSES];
     static uint8_t text[JELLYPLAIN_TEXT];
     jellyplain_move move, spraying;
-    float moved[3], pad[1], transform[2][4][4], bounds[6], points[9], covers[JELLYPLAIN_BOXES][6];
+    float moved[3], pad[1] = {0}, transform[2][4][4], bounds[6], points[9], covers[JELLYPLAIN_BOXES][6];
     uint32_t examined[3], starts[JELLYPLAIN_BOOMS];
 
     if (!jellyplain_compatible()) {
@@ -44,14 +52,16 @@ int main(void)
     if (jellyplain_bound_point_motion(&move, origin, bounds, examined) == JELLYPLAIN_NONE)
         printf("its motion box: x from %g to %g, %u interval examined on x\n", bounds[0], bounds[3], (unsigned)examined[0]);
     if (jellyplain_cover(&move, boom, 10, bounds) == JELLYPLAIN_NONE)
-        printf("reserved: %g %g %g to %g %g %g\n", bounds[0], bounds[1], bounds[2], bounds[3], bounds[4], bounds[5]);
+        print_box("reserved", bounds);
     if (jellyplain_build_chain(false, there_and_back, 3, &chain) == JELLYPLAIN_NONE
         && jellyplain_chain_points(&chain, times, 3, origin, points, 9) == JELLYPLAIN_NONE)
         printf("there and back: x is %g, %g and %g\n", points[0], points[3], points[6]);
     if (jellyplain_chain_cover(&chain, boom, 10, bounds) == JELLYPLAIN_NONE)
-        printf("reserved for both: %g %g %g to %g %g %g\n", bounds[0], bounds[1], bounds[2], bounds[3], bounds[4], bounds[5]);
-    if (jellyplain_chain_covers(&chain, mast_and_arm, 2, 10, covers, bounds) == JELLYPLAIN_NONE)
-        printf("a mast and an arm: x from %g to %g and from %g to %g\n", covers[0][0], covers[0][3], covers[1][0], covers[1][3]);
+        print_box("reserved for both", bounds);
+    if (jellyplain_chain_covers(&chain, mast_and_arm, 2, 10, covers, bounds) == JELLYPLAIN_NONE) {
+        print_box("a mast", covers[0]);
+        print_box("and an arm", covers[1]);
+    }
     jellyplain_written written = jellyplain_chain_write(&chain, boom, text, sizeof text);
     if (written.refusal == JELLYPLAIN_NONE)
         printf("as a move file: %zu bytes, ", written.length);
@@ -60,15 +70,16 @@ int main(void)
         printf("in which %zu poses are read, the last at %g\n", read.count, poses[read.count - 1].time);
     if (jellyplain_build(false, &start, &wide_spray, &spraying) == JELLYPLAIN_NONE && jellyplain_pad(&spraying, 0.5f, pad) == JELLYPLAIN_NONE
         && jellyplain_cover(&spraying, boom, 12, bounds) == JELLYPLAIN_NONE)
-        printf("with a pad from 0 to 2, %g at 0.5: x from %g to %g\n", pad[0], bounds[0], bounds[3]);
+        print_box("with a pad from 0 to 2", bounds);
     if (jellyplain_chain_try(&chain, 1, &wide_spray, boom, 10, bounds) == JELLYPLAIN_NONE)
-        printf("with that pad tried at the pose between: x from %g to %g; at a fourth pose: refused with %d\n", bounds[0], bounds[3],
-               jellyplain_chain_try(&chain, 3, &wide_spray, boom, 10, bounds));
+        print_box("with that pad tried at the pose between", bounds);
+    printf("tried at a fourth pose: refused with %d; a pad at 0.5: %g\n", jellyplain_chain_try(&chain, 3, &wide_spray, boom, 10, bounds), pad[0]);
     if (jellyplain_build_chain(false, there_and_back, 2, &there) == JELLYPLAIN_NONE && jellyplain_build_chain(false, there_and_back + 1, 2, &back) == JELLYPLAIN_NONE
         && jellyplain_chain_join(&there, &back, &joined) == JELLYPLAIN_NONE && jellyplain_chain_cover(&joined, boom, 10, bounds) == JELLYPLAIN_NONE)
-        printf("handed over in two files: %zu moves, x from %g to %g", joined.count, bounds[0], bounds[3]);
+        print_box("handed over in two files", bounds);
+    size_t moves = joined.count;
     refusal = jellyplain_chain_join(&back, &there, &joined);
-    printf("; the other way round: refused with %d, and %zu moves\n", refusal, joined.count);
+    printf("%zu moves; the other way round: refused with %d, and %zu moves\n", moves, refusal, joined.count);
     const float ticks[4] = {0, 0.5f, 1.5f, 2};
     const float gate[6] = {0.75f, 0, 0, 3, 2, 0};
     uint32_t places[JELLYPLAIN_WINDOWS];
@@ -86,7 +97,7 @@ int main(void)
     if (run.refusal == JELLYPLAIN_NONE)
         printf("the poses that are refused: %zu from place %zu on\n", run.length, run.place);
     if (jellyplain_build_chain(true, there_and_back, 3, &chain) == JELLYPLAIN_NONE && jellyplain_chain_cover(&chain, boom, 10, bounds) == JELLYPLAIN_NONE)
-        printf("reserved as rigid: %g %g %g to %g %g %g\n", bounds[0], bounds[1], bounds[2], bounds[3], bounds[4], bounds[5]);
+        print_box("reserved as rigid", bounds);
     if (jellyplain_day(day_boxes, lengths, 3, starts) == JELLYPLAIN_NONE)
         printf("three booms start in ticks %u, %u and %u\n", (unsigned)starts[0], (unsigned)starts[1], (unsigned)starts[2]);
     const float rows[4][6] = {{-1, -5, -1, -0.25f, 5, 1}, {0, -5, -1, 0.5f, 5, 1}, {1, -5, -1, 1.5f, 5, 1}, {2, -5, -1, 2.5f, 5, 1}};

@@ -2,7 +2,7 @@
  * caller, and asked many times. `make` proves it and writes target/lib/libjellyplain.a and libjellyplain.so;
  * `pkg-config jellyplain` says how to link it where it is installed. The functions' contracts are proved in crates/api,
  * whose specs/ say what each returns and leaves for all arguments; this header itself is not checked against them, nor
- * are its inline functions, each of which makes at most one call, jellyplain_compatible two.
+ * are its inline functions, each of which makes at most one call, jellyplain_compatible two, jellyplain_decimal none.
  *
  * Each function answers a refusal number, 0 for none (the enum below), some of them in a struct. Where nothing is
  * refused it writes what it is lent for its answer, the arguments that are not const, whole (those of move files the
@@ -41,6 +41,7 @@
 #include <stdbool.h>
 #include <stddef.h>
 #include <stdint.h>
+#include <string.h>
 
 #ifdef __cplusplus
 extern "C" {
@@ -508,6 +509,66 @@ JELLYPLAIN_CHECKED static inline jellyplain_written jellyplain_chain_write(
     const jellyplain_chain *chain, const float b[6], uint8_t *JELLYPLAIN_RESTRICT out, size_t size)
 {
     return jellyplain_write_file(chain->moves, jellyplain_chain_count(chain), b, out, size);
+}
+
+/* ---- a box in decimals. printf's %g and %f round to the nearest, which may be inward: the text then names a smaller
+ * box than the one that is proved. These round outward, by whole numbers, whatever the thread's rounding is. */
+
+/* How many chars hold any of these texts, its end included. */
+#define JELLYPLAIN_DECIMAL 52
+
+/* A float as a decimal with `places` digits behind the point, 9 where it asks for more, rounded up or down. A zero has
+ * no sign. What is no number is "nan", "inf" or "-inf". */
+static inline void jellyplain_decimal(float value, bool up, uint32_t places, char text[JELLYPLAIN_DECIMAL])
+{
+    uint8_t digits[JELLYPLAIN_DECIMAL]; /* of the whole number |value| * 10^places, rounded; the last digit first */
+    uint32_t bits, exponent, count = 0, length = 0, sum, i, k;
+    uint64_t n;
+    bool negative, zero = true;
+    memcpy(&bits, &value, sizeof bits);
+    negative = bits >> 31 != 0;
+    exponent = bits >> 23 & 255;
+    if (exponent == 255) {
+        memcpy(text, (bits & 0x7fffff) != 0 ? "nan\0" : negative ? "-inf" : "inf\0", 5);
+        return;
+    }
+    places = places < 9 ? places : 9;
+    n = (bits & 0x7fffff) | (exponent != 0 ? 0x800000u : 0);
+    exponent = exponent != 0 ? exponent : 1; /* |value| is n * 2^(exponent - 150) */
+    for (k = 0; k < places; k++)
+        n *= 10;
+    if (exponent < 150) {
+        uint32_t down = 150 - exponent < 63 ? 150 - exponent : 63; /* n is below 2^54 */
+        n = (n >> down) + ((n & (((uint64_t)1 << down) - 1)) != 0 && up != negative ? 1 : 0);
+    }
+    for (; n != 0 || count <= places; n /= 10)
+        digits[count++] = (uint8_t)(n % 10);
+    for (k = 150; k < exponent; k++) { /* twice the number */
+        for (i = 0, sum = 0; i < count; i++, sum /= 10) {
+            sum += 2u * digits[i];
+            digits[i] = (uint8_t)(sum % 10);
+        }
+        if (sum != 0)
+            digits[count++] = (uint8_t)sum;
+    }
+    for (i = 0; i < count; i++)
+        zero = zero && digits[i] == 0;
+    if (negative && !zero)
+        text[length++] = '-';
+    while (count != 0) {
+        count--;
+        text[length++] = (char)('0' + digits[count]);
+        if (count == places && places != 0)
+            text[length++] = '.';
+    }
+    text[length] = '\0';
+}
+
+/* The six numbers of a box: its least corner rounded down, its greatest up. */
+static inline void jellyplain_decimals(const float box[6], uint32_t places, char text[6][JELLYPLAIN_DECIMAL])
+{
+    for (uint32_t k = 0; k < 6; k++)
+        jellyplain_decimal(box[k], k >= 3, places, text[k]);
 }
 
 #ifdef __cplusplus

@@ -4,7 +4,7 @@
 #   tools/boundary.sh --built    takes target/lib as it stands
 # One version everywhere; the names that the libraries export and need; the header without warnings, and a warning wherever a refusal is passed over, an array handed over twice or a number left out of a
 # switch; every function, called from C and from C++,
-# with either library (c/tests/calls.c); what is asked of the thread (c/tests/thread.c); the stack (c/tests/stack.c, tools/stack); any numbers, lengths and bytes for every function (c/tests/fuzz.c); an installed library, found by pkg-config, and taken away again,
+# with either library (c/tests/calls.c); decimals that are rounded outward (c/tests/decimals.c); what is asked of the thread (c/tests/thread.c); the stack (c/tests/stack.c, tools/stack); any numbers, lengths and bytes for every function (c/tests/fuzz.c); an installed library, found by pkg-config, and taken away again,
 # with the program of docs/for-engineers.md;
 # the Rust package's tests, optimized and not, its documentation and clippy, and a program without std. What needs a command that isn't here is skipped, and said to be.
 # Exit status 1 where something is otherwise than it has to be, 2 where the library isn't there or isn't built. Nothing is written but below target/ and to a temporary folder.
@@ -70,7 +70,7 @@ for standard in c99 c11 c17; do
 done
 checked() { # COMPILER WORDS..: each function of the header but those that have nothing to refuse is warned of in c/tests/dropped.c
     local every warned
-    every=$(sed -n 's/^[A-Za-z_].*[ *]\(jellyplain_[a-z_]*\)(.*/\1/p' c/jellyplain.h | grep -vxE 'jellyplain_(layout|version|compatible|refusal_text|chain_count)' | sort)
+    every=$(sed -n 's/^[A-Za-z_].*[ *]\(jellyplain_[a-z_]*\)(.*/\1/p' c/jellyplain.h | grep -vxE 'jellyplain_(layout|version|compatible|refusal_text|chain_count|decimals?)' | sort)
     warned=$("$@" -I c -c c/tests/dropped.c -o "$made/dropped.o" 2>&1 | sed -n 's/^[^:]*dropped\.c:\([0-9]*\):.*warn_unused_result.*/\1/p' | sort -nu |
         while read -r line; do sed -n "${line}s/^ *\(jellyplain_[a-z_]*\)(.*/\1/p" c/tests/dropped.c; done | sort)
     [ "$warned" = "$every" ] || { fail "$1 warns of other passed over refusals than the header's functions have:"; diff <(echo "$every") <(echo "$warned"); }
@@ -108,6 +108,8 @@ quiet "$made/calls" "${files[@]}" || fail "c/tests/calls.c, compiled as C, with 
 [ "$failed" -ne 0 ] || cat "$made/said"
 quiet "$CC" -std=c99 "${warnings[@]}" -I c c/tests/calls.c -L "$library" -ljellyplain -lm -o "$made/calls" || fail "c/tests/calls.c does not link the shared library"
 LD_LIBRARY_PATH=$library quiet "$made/calls" "${files[@]}" || fail "c/tests/calls.c, with the shared library"
+quiet "$CC" -std=c99 "${warnings[@]}" -I c c/tests/decimals.c -o "$made/decimals" || fail "c/tests/decimals.c does not compile as C"
+quiet "$made/decimals" <c/tests/decimals.txt || fail "c/tests/decimals.c: a decimal is rounded inward"
 quiet "$CC" -std=c99 "${warnings[@]}" -frounding-math -I c c/tests/thread.c "$library/libjellyplain.a" -o "$made/thread" || fail "c/tests/thread.c does not compile"
 quiet "$made/thread" || fail "c/tests/thread.c: what the header says of the thread is not shown"
 quiet "$CC" -std=c99 "${warnings[@]}" -I c c/tests/stack.c "$library/libjellyplain.a" -pthread -o "$made/stack" || fail "c/tests/stack.c does not compile"
@@ -146,6 +148,8 @@ if here "$CXX"; then
     checked "$CXX" -x c++ -std=c++11
     quiet "$CXX" -x c++ -std=c++11 "${warnings[@]}" -I c c/tests/calls.c -x none "$library/libjellyplain.a" -o "$made/calls" || fail "c/tests/calls.c does not compile as C++"
     quiet "$made/calls" "${files[@]}" || fail "c/tests/calls.c, compiled as C++"
+    quiet "$CXX" -x c++ -std=c++11 "${warnings[@]}" -I c c/tests/decimals.c -o "$made/decimals" || fail "c/tests/decimals.c does not compile as C++"
+    quiet "$made/decimals" <c/tests/decimals.txt || fail "c/tests/decimals.c, compiled as C++: a decimal is rounded inward"
     passed "the library in C++: as expected"
 else
     skipped "the library's tests in C++" "C++ compiler"

@@ -1,7 +1,9 @@
 """What goes in and comes out: poses, boxes and answers, none of which can be changed."""
 from __future__ import annotations
 
+import math
 from dataclasses import dataclass
+from decimal import ROUND_CEILING, ROUND_FLOOR, Context, Decimal
 from typing import Any, Iterable, Sequence, Tuple
 
 from ._buffers import above, at_most, below, exactly, rounded
@@ -56,6 +58,16 @@ def pose_structs(poses: Sequence[Pose]) -> Any:
     return structs
 
 
+def _decimal(value: float, places: int, rounding: str) -> str:
+    """A number exactly, and then rounded; a zero has no sign."""
+    if places < 0:
+        raise ValueError("a decimal has no fewer digits behind its point than none, and not %d" % places)
+    if not math.isfinite(value):
+        return str(value)
+    rounded = Decimal(value).quantize(Decimal(1).scaleb(-places), rounding, Context(prec=60 + places))
+    return format(rounded if rounded else abs(rounded), "f")
+
+
 @dataclass(frozen=True)
 class Bounds:
     """A box: its least corner and its greatest.
@@ -76,6 +88,14 @@ class Bounds:
     def outward(cls, p_min: Iterable[float], p_max: Iterable[float]) -> Bounds:
         """The smallest box of 32-bit floats that holds a box of any numbers: the least corner rounded down, the greatest up."""
         return cls(tuple(map(below, p_min)), tuple(map(above, p_max)))  # type: ignore[arg-type]
+
+    def decimals(self, places: int = 3) -> Tuple[str, str, str, str, str, str]:
+        """The six numbers as decimals with that many digits behind the point: the least corner rounded down, the greatest up, so that the
+        text names no smaller box. `%g`, `%f` and `round` go to the nearest, which may be inward. ValueError for fewer digits than none.
+        """
+        x0, y0, z0 = (_decimal(value, places, ROUND_FLOOR) for value in self.p_min)
+        x1, y1, z1 = (_decimal(value, places, ROUND_CEILING) for value in self.p_max)
+        return x0, y0, z0, x1, y1, z1
 
     def contains(self, p: Sequence[float]) -> bool:
         """Whether a point, whose numbers are not rounded, is inside on all three axes, the faces included. ValueError for another count of

@@ -52,12 +52,14 @@ extern crate std;
 #[doc = include_str!("../README.md")]
 struct Readme;
 
+mod decimal;
 mod library;
 mod list;
 mod refusal;
 
 use core::mem::MaybeUninit;
 use core::ops::Range;
+pub use decimal::Decimal;
 pub use library::{BOOMS, BOXES, FILE_POSES, MOVES, POSES, ROWS, TICKS, WINDOWS};
 pub use list::List;
 pub use refusal::Refusal;
@@ -129,6 +131,13 @@ impl Bounds {
     #[must_use]
     pub fn contains(&self, p: [f32; 3]) -> bool {
         (0..3).all(|i| self.p_min[i] <= p[i] && p[i] <= self.p_max[i])
+    }
+
+    /// The six numbers as decimals with `places` digits behind the point, 9 at most: the least corner rounded down, the greatest up, so that the text names no smaller box.
+    #[must_use]
+    pub fn decimals(&self, places: u32) -> [Decimal; 6] {
+        let ([x0, y0, z0], [x1, y1, z1]) = (self.p_min.map(|x| Decimal::below(x, places)), self.p_max.map(|x| Decimal::above(x, places)));
+        [x0, y0, z0, x1, y1, z1]
     }
 
     fn to_array(self) -> [f32; 6] {
