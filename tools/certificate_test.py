@@ -23,7 +23,7 @@ printf '%s' "{box}"
 """
 RT = """#!/bin/sh
 case $1 in
-version) echo a-toolchain ;;
+version) echo a-toolchain logic 097e4c862dff5811 ;;
 check) [ -f "target/stamp/$2" ] || { mkdir -p target/stamp target/bin; printf '#!/bin/sh\\necho proved\\n' >"target/bin/$2"; chmod +x "target/bin/$2"; : >"target/stamp/$2"; } ;;
 esac
 """
@@ -110,7 +110,7 @@ class Certificates(unittest.TestCase):
             status, said, reason = self.page(log, kind=kind)
             self.assertEqual((status, reason), (0, ""))
             flat = " ".join(said.split())
-            for words in ("answers for this file built as " + kind, "SHA-256 " + hashlib.sha256(FILE).hexdigest(), self.git("rev-parse", "HEAD"), "(%s, 0.100, 0.000) to (1.000, 0.101, 2.000)" % least, VERDICT,
+            for words in ("answers for this file built as " + kind, "SHA-256 " + hashlib.sha256(FILE).hexdigest(), self.git("rev-parse", "HEAD"), "(%s, 0.100, 0.000) to (1.000, 0.101, 2.000)" % least, VERDICT, "over all crates: libraries-built=trusted logic-built=trusted",
                           "definitions SHA-256 " + "d" * 64, "commanded places alone", "run them again", "A file that is refused reserves nothing", "libjellyplain.a"):
                 self.assertIn(words, flat)
 
@@ -154,6 +154,8 @@ class Certificates(unittest.TestCase):
         self.refused("is not known in this repository", self.log(forged=lambda text: text.replace(self.git("rev-parse", "HEAD"), "f" * 40)))
         self.refused("'definitions' is", self.log(forged=lambda text: text.replace("d" * 64, "e" * 64)))
         self.refused("it does not say that cover was proved", self.log(forged=lambda text: text.replace(VERDICT + "\nrt: cover ", "\nrt: cover ")))
+
+        self.refused("laws was proved by another logic", self.log(forged=lambda text: text.replace("sum=097e4c862dff5811", "sum=0123456789abcdef", 1)))
 
     # ---- trees
     def test_changed_tree(self):
