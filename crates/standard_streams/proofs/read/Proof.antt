@@ -1,6 +1,7 @@
 -- `read` holds at most as many bytes as there is room for: the invariant of its loop. Each turn reads one byte or more, so that it ends.
 use Prim.Native.Nat.{_-_, _≤_}
-use mathlib.Core.Path.{_≡_, sym}
+use native.Mathlib.Omega.{arith}
+use mathlib.Core.Path.{_≡_, refl, sym}
 use lib.ListN.{length}
 use lib.Seq.{length-take-le}
 use borrow.Author.Needs.{needs}
@@ -14,7 +15,7 @@ abbrev μ-loop : tie.MeasureT-loop
 μ-loop buf₀ count₀ buf count = length buf₀ - count
 
 loop-holds : tie.Need-loop-holds Inv-loop μ-loop
-loop-holds c = search needs
+loop-holds c = (refl, omega arith)
 
 sub-read : tie.Need-sub-read Inv-loop μ-loop
 sub-read c = search needs
