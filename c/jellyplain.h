@@ -244,9 +244,8 @@ JELLYPLAIN_CHECKED uint8_t jellyplain_cover(const jellyplain_move *motion, const
 
 /* ---- chains, by their moves; the inline functions below take the struct
  *
- * `count` is how many moves there are, 1 to JELLYPLAIN_MOVES. 0 is refused before a move is read. More than
- * JELLYPLAIN_MOVES are no chain: jellyplain_moves_try refuses them with 12 before it reads one, jellyplain_moves_join
- * once it has read them; the other functions read as many as `count` says, and answer for them. */
+ * `count` is how many moves there are, 1 to JELLYPLAIN_MOVES. 0 and more than JELLYPLAIN_MOVES are no chain, which is
+ * refused with 12 before a move is read: `no chain` below. jellyplain_moves_try judges its place before that. */
 
 /* The moves of a chain of poses whose times rise strictly, one fewer than poses, into the front of `moves`; those
  * behind them stay. All `count` poses are read before their number is judged.
@@ -278,25 +277,53 @@ typedef struct {
 JELLYPLAIN_CHECKED jellyplain_run jellyplain_refused_run(bool rigid, const jellyplain_pose *poses, size_t count);
 
 /* Where the point p stands at a time: a time equal to an inner pose's belongs to the earlier move.
- * Refused with 12 for no moves; 6, 5. */
+ * Refused with 12 for no chain; 6, 5. */
 JELLYPLAIN_CHECKED uint8_t jellyplain_moves_point(const jellyplain_move *moves, size_t count, float time,
                                                   const float p[3], float moved[JELLYPLAIN_RESTRICT 3]);
 
 /* The pad at a time, of the move that the time belongs to.
- * Refused with 12 for no moves; 6, 5. */
+ * Refused with 12 for no chain; 6, 5. */
 JELLYPLAIN_CHECKED uint8_t jellyplain_moves_pad(const jellyplain_move *moves, size_t count, float time,
                                                 float pad[JELLYPLAIN_RESTRICT 1]);
 
+/* The transform at a time, of the move that the time belongs to: its matrix, and then its inverse. A boom that is driven
+ * to it stands where jellyplain_moves_point says: the matrix applied to a point, each row's products with x, y, z and 1
+ * added from the left in floats, is the point query's answer bit for bit. It may be refused where points are answered:
+ * between two poses the scale on the way may have no inverse, 4, or the inverse may leave the range of floats, 5, and a
+ * point needs no inverse.
+ * Refused with 12 for no chain; 6; 4 or 5. */
+JELLYPLAIN_CHECKED uint8_t jellyplain_moves_interpolate(const jellyplain_move *moves, size_t count, float time,
+                                                        float transform[JELLYPLAIN_RESTRICT 2][4][4]);
+
+/* What a chain holds: how many poses, the times of the first and of the last, whether it was built as rigid, and
+ * JELLYPLAIN_NONE; or 0, +0, +0, false and a refusal. */
+typedef struct {
+    size_t poses;
+    float first;
+    float last;
+    bool rigid;
+    uint8_t refusal;
+} jellyplain_held;
+
+/* What a chain holds.
+ * Refused with 12 for no chain. */
+JELLYPLAIN_CHECKED jellyplain_held jellyplain_moves_held(const jellyplain_move *moves, size_t count);
+
+/* The pose of a chain at a place, counted from 0, as it was set, bit by bit.
+ * Refused with 12 for no chain; 19 for a place beyond the last pose. */
+JELLYPLAIN_CHECKED uint8_t jellyplain_moves_pose(const jellyplain_move *moves, size_t count, size_t place,
+                                                 jellyplain_pose *JELLYPLAIN_RESTRICT pose);
+
 /* Where the point p stands at each time of a list that never falls, three places a time. All times are read before
  * `places` is judged, and of `answers` nothing is read; all places stay after a refusal.
- * Refused with 12 for no moves; 6, 13, 5. */
+ * Refused with 12 for no chain; 6, 13, 5. */
 JELLYPLAIN_CHECKED uint8_t jellyplain_moves_points(const jellyplain_move *moves, size_t count, const float *times,
                                                    size_t times_count, const float p[3],
                                                    float *JELLYPLAIN_RESTRICT answers, size_t places);
 
 /* A box that holds every point of the box b at every time but NaN, less and plus its pad as above, from 2^depth slices
  * of each move; greater depths and zeros as above.
- * Refused with 12 for no moves; 6, 7, 8; 5 or 10. */
+ * Refused with 12 for no chain; 6, 7, 8; 5 or 10. */
 JELLYPLAIN_CHECKED uint8_t jellyplain_moves_cover(const jellyplain_move *moves, size_t count, const float b[6],
                                                   uint32_t depth, float bounds[JELLYPLAIN_RESTRICT 6]);
 
@@ -311,7 +338,7 @@ JELLYPLAIN_CHECKED uint8_t jellyplain_moves_try(const jellyplain_move *moves, si
 /* A box for each of 1 to 16 boxes that holds every point of it at every time but NaN, as jellyplain_moves_cover does,
  * in order, the places behind them +0; and the union of them. It costs far less than that query for each box.
  * `boxes_count` is judged before a box is read; `covers` and `all` stay after a refusal.
- * Refused with 12 for no moves; 14; as jellyplain_moves_cover is of the first refused box. */
+ * Refused with 12 for no chain; 14; as jellyplain_moves_cover is of the first refused box. */
 JELLYPLAIN_CHECKED uint8_t jellyplain_moves_covers(const jellyplain_move *moves, size_t count, const float (*boxes)[6],
                                                    size_t boxes_count, uint32_t depth,
                                                    float covers[JELLYPLAIN_RESTRICT JELLYPLAIN_BOXES][6],
@@ -332,7 +359,7 @@ typedef struct {
 /* A box that holds every point of the box b at every time from one tick to a later one, both included, less and plus
  * its pad as above; each move's share of the window is cut depth times. Greater depths and zeros as above. Ticks may be
  * infinite.
- * Refused with 12 for no moves; 21 where the ticks don't rise; 6, 7, 8; 5 or 10. */
+ * Refused with 12 for no chain; 21 where the ticks don't rise; 6, 7, 8; 5 or 10. */
 JELLYPLAIN_CHECKED uint8_t jellyplain_moves_window_cover(const jellyplain_move *moves, size_t count, const float b[6],
                                                          uint32_t depth, float earlier, float later,
                                                          float bounds[JELLYPLAIN_RESTRICT 6]);
@@ -341,7 +368,7 @@ JELLYPLAIN_CHECKED uint8_t jellyplain_moves_window_cover(const jellyplain_move *
  * into the front of `places`, 0 behind them. In any other window, ticks included, no point of b and no point of
  * `other`, each less or plus its pad or anything between, are ever at the same place. A greater depth, up to 12, lists
  * no other. `ticks_count` is judged before a tick is read; all places stay after a refusal.
- * Refused with 12 where a chain has no moves; 21 of the ticks; 6, 7 of b; 6, 7 of `other`; 8; 5 or 10, the earlier
+ * Refused with 12 where either is no chain; 21 of the ticks; 6, 7 of b; 6, 7 of `other`; 8; 5 or 10, the earlier
  * window first, then the first chain. */
 JELLYPLAIN_CHECKED jellyplain_windows jellyplain_moves_windows(const jellyplain_move *moves, size_t count,
                                                                const jellyplain_move *others, size_t others_count,
@@ -378,7 +405,7 @@ JELLYPLAIN_CHECKED jellyplain_file_read jellyplain_read_file(
 /* The poses of a chain and the box b as a move file, in the one way that it is written: fourteen names, lower-case
  * digits, single spaces, line feeds, no space at a line's end. The text goes into the front of `out`, and the bytes
  * behind it stay; all bytes do after a refusal. `size` is judged before a byte is written, and none is read.
- * Refused with 12 for no moves; 6, 7; 15 where `size` is too small. */
+ * Refused with 12 for no chain; 6, 7; 15 where `size` is too small. */
 JELLYPLAIN_CHECKED jellyplain_written jellyplain_write_file(const jellyplain_move *moves, size_t count,
                                                             const float b[6], uint8_t *JELLYPLAIN_RESTRICT out,
                                                             size_t size);
@@ -456,6 +483,23 @@ JELLYPLAIN_CHECKED static inline uint8_t jellyplain_chain_pad(const jellyplain_c
                                                               float pad[JELLYPLAIN_RESTRICT 1])
 {
     return jellyplain_moves_pad(chain->moves, jellyplain_chain_count(chain), time, pad);
+}
+
+JELLYPLAIN_CHECKED static inline uint8_t jellyplain_chain_interpolate(const jellyplain_chain *chain, float time,
+                                                                      float transform[JELLYPLAIN_RESTRICT 2][4][4])
+{
+    return jellyplain_moves_interpolate(chain->moves, jellyplain_chain_count(chain), time, transform);
+}
+
+JELLYPLAIN_CHECKED static inline jellyplain_held jellyplain_chain_held(const jellyplain_chain *chain)
+{
+    return jellyplain_moves_held(chain->moves, jellyplain_chain_count(chain));
+}
+
+JELLYPLAIN_CHECKED static inline uint8_t jellyplain_chain_pose(const jellyplain_chain *chain, size_t place,
+                                                               jellyplain_pose *JELLYPLAIN_RESTRICT pose)
+{
+    return jellyplain_moves_pose(chain->moves, jellyplain_chain_count(chain), place, pose);
 }
 
 JELLYPLAIN_CHECKED static inline uint8_t jellyplain_chain_points(const jellyplain_chain *chain, const float *times,

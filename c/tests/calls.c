@@ -329,6 +329,47 @@ static void chains(void)
     REFUSED(6, jellyplain_chain_pad(&first, nan_value, lent.pad));
     REFUSED(12, jellyplain_moves_pad(first.moves, 0, 0, lent.pad));
 
+    /* The transform of a chain is its move's; at a border that of the earlier move. Applied to a point it is the point query's answer, bit for bit. */
+    float own_transform[2][4][4];
+    for (int k = -1; k <= 9; k++) {
+        float time = 0.25f * (float)k;
+        ACCEPTED(jellyplain_interpolate(&chain.moves[time <= 1 ? 0 : 1], time, own_transform));
+        ACCEPTED(jellyplain_chain_interpolate(&chain, time, lent.transform));
+        EXPECT(memcmp(lent.transform, own_transform, sizeof own_transform) == 0);
+        ACCEPTED(jellyplain_chain_point(&chain, time, boxes[1], lent.moved));
+        for (int i = 0; i < 3; i++) {
+            const float *row = own_transform[0][i];
+            float x = boxes[1][0] * row[0], y = boxes[1][1] * row[1], z = boxes[1][2] * row[2];
+            EXPECT(bits_of(lent.moved[i]) == bits_of(x + y + z + row[3]));
+        }
+    }
+    REFUSED(6, jellyplain_chain_interpolate(&chain, nan_value, lent.transform));
+    REFUSED(12, jellyplain_moves_interpolate(chain.moves, 0, nan_value, lent.transform));
+    jellyplain_pose far_off[2] = {still(0), still(1)}; /* half way the inverse leaves the range of floats, and a point needs none */
+    far_off[0].matrix[0][3] = far_off[0].matrix[1][3] = far_off[1].matrix[0][3] = float_of(0x7f7e486f);
+    far_off[1].matrix[0][0] = far_off[1].matrix[1][1] = float_of(0x3f7f8a12);
+    far_off[1].matrix[0][1] = float_of(0xbd759cd1);
+    far_off[1].matrix[1][0] = float_of(0x3d759cd1);
+    ACCEPTED(jellyplain_build_chain(false, far_off, 2, &second));
+    ACCEPTED(jellyplain_chain_point(&second, 0.5f, origin, lent.moved));
+    REFUSED(5, jellyplain_chain_interpolate(&second, 0.5f, lent.transform));
+
+    /* What a chain holds. */
+    jellyplain_held held = jellyplain_chain_held(&whole);
+    EXPECT(held.refusal == JELLYPLAIN_NONE && held.poses == JELLYPLAIN_POSES && held.first == poses[0].time && held.last == poses[JELLYPLAIN_POSES - 1].time && !held.rigid);
+    for (size_t k = 0; k < JELLYPLAIN_POSES; k++) {
+        ACCEPTED(jellyplain_chain_pose(&whole, k, lent.poses));
+        EXPECT(memcmp(lent.poses, &poses[k], sizeof poses[k]) == 0 && untouched(&lent.poses[1], sizeof lent.poses[1]));
+    }
+    REFUSED(19, jellyplain_chain_pose(&whole, JELLYPLAIN_POSES, lent.poses));
+    REFUSED(19, jellyplain_moves_pose(whole.moves, 1, 2, lent.poses));
+    REFUSED(12, jellyplain_moves_pose(whole.moves, 0, 9, lent.poses));
+    ACCEPTED(jellyplain_build_chain(true, trip, 2, &second));
+    held = jellyplain_moves_held(second.moves, 1);
+    EXPECT(held.refusal == JELLYPLAIN_NONE && held.poses == 2 && held.first == trip[0].time && held.last == trip[1].time && held.rigid);
+    held = jellyplain_moves_held(second.moves, 0);
+    EXPECT(held.refusal == 12 && held.poses == 0 && bits_of(held.first) == 0 && bits_of(held.last) == 0 && !held.rigid);
+
     /* Two chains made one. */
     ACCEPTED(jellyplain_build_chain(false, trip, 2, &first));
     ACCEPTED(jellyplain_build_chain(false, trip + 1, 2, &second));
@@ -423,6 +464,9 @@ static void asked_unbuilt(const jellyplain_chain *chain, const jellyplain_chain 
     EXPECT(jellyplain_chain_count(chain) == 0);
     REFUSED(12, jellyplain_chain_point(chain, 0, origin, lent.moved));
     REFUSED(12, jellyplain_chain_pad(chain, 0, lent.pad));
+    REFUSED(12, jellyplain_chain_interpolate(chain, 0, lent.transform));
+    REFUSED(12, jellyplain_chain_held(chain).refusal);
+    REFUSED(12, jellyplain_chain_pose(chain, 0, lent.poses));
     REFUSED(12, jellyplain_chain_points(chain, times, 2, origin, lent.points, 6));
     REFUSED(12, jellyplain_chain_cover(chain, unit_box, 4, lent.bounds));
     REFUSED(12, jellyplain_chain_try(chain, 0, &pose, unit_box, 4, lent.bounds));
@@ -535,6 +579,9 @@ static void lists(void)
     REFUSED(12, jellyplain_moves_join(chain.moves, 1, NULL, 0, lent.chain.moves));
     REFUSED(12, jellyplain_moves_point(NULL, 0, 0, origin, lent.moved));
     REFUSED(12, jellyplain_moves_pad(NULL, 0, 0, lent.pad));
+    REFUSED(12, jellyplain_moves_interpolate(NULL, 0, 0, lent.transform));
+    REFUSED(12, jellyplain_moves_held(NULL, 0).refusal);
+    REFUSED(12, jellyplain_moves_pose(NULL, 0, 0, lent.poses));
     REFUSED(12, jellyplain_moves_points(NULL, 0, NULL, 0, origin, NULL, 0));
     ACCEPTED(jellyplain_moves_points(chain.moves, 1, NULL, 0, origin, NULL, 0));
     REFUSED(12, jellyplain_moves_cover(NULL, 0, unit_box, 4, lent.bounds));
@@ -555,6 +602,24 @@ static void lists(void)
     REFUSED(21, jellyplain_moves_windows(chain.moves, 1, chain.moves, 1, unit_box, unit_box, 4, NULL, JELLYPLAIN_TICK_COUNT + 1, lent.places).refusal);
     REFUSED(14, jellyplain_reached_rows(unit_box, NULL, JELLYPLAIN_ROWS + 1, lent.rows).refusal);
     REFUSED(12, jellyplain_moves_try(NULL, JELLYPLAIN_MOVES + 1, 0, trip, unit_box, 4, lent.bounds));
+    static const size_t too_many[] = {JELLYPLAIN_MOVES + 1, 40, SIZE_MAX / sizeof(jellyplain_move)};
+    for (size_t i = 0; i < sizeof too_many / sizeof too_many[0]; i++) {
+        size_t many = too_many[i];
+        REFUSED(12, jellyplain_moves_point(NULL, many, 0, origin, lent.moved));
+        REFUSED(12, jellyplain_moves_pad(NULL, many, 0, lent.pad));
+        REFUSED(12, jellyplain_moves_interpolate(NULL, many, 0, lent.transform));
+        REFUSED(12, jellyplain_moves_held(NULL, many).refusal);
+        REFUSED(12, jellyplain_moves_pose(NULL, many, 0, lent.poses));
+        REFUSED(12, jellyplain_moves_points(NULL, many, times, 2, origin, lent.points, 6));
+        REFUSED(12, jellyplain_moves_cover(NULL, many, unit_box, 4, lent.bounds));
+        REFUSED(12, jellyplain_moves_covers(NULL, many, &unit_box, 1, 4, lent.covers, lent.bounds));
+        REFUSED(12, jellyplain_moves_window_cover(NULL, many, unit_box, 4, 0, 1, lent.bounds));
+        REFUSED(12, jellyplain_moves_windows(NULL, many, chain.moves, 1, unit_box, unit_box, 4, times, 2, lent.places).refusal);
+        REFUSED(12, jellyplain_moves_windows(chain.moves, 1, NULL, many, unit_box, unit_box, 4, times, 2, lent.places).refusal);
+        REFUSED(12, jellyplain_write_file(NULL, many, unit_box, lent.text, sizeof lent.text).refusal);
+        REFUSED(12, jellyplain_moves_join(NULL, many, chain.moves, 1, lent.chain.moves));
+        REFUSED(12, jellyplain_moves_join(chain.moves, 1, NULL, many, lent.chain.moves));
+    }
     REFUSED(13, jellyplain_moves_points(chain.moves, 1, times, 2, origin, NULL, 5));
     REFUSED(15, jellyplain_write_file(chain.moves, 1, unit_box, NULL, 129 + 2 * 126 - 1).refusal);
 }

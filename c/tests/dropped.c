@@ -2,10 +2,10 @@
 #include "jellyplain.h"
 
 extern void dropped(const jellyplain_pose *poses, jellyplain_move *moves, jellyplain_chain *chain, jellyplain_chain *joined, float *floats, uint32_t *words, uint8_t *bytes, const float (*boxes)[6],
-                    float (*covers)[6], float (*transform)[4][4]);
+                    float (*covers)[6], float (*transform)[4][4], jellyplain_pose *pose);
 
 void dropped(const jellyplain_pose *poses, jellyplain_move *moves, jellyplain_chain *chain, jellyplain_chain *joined, float *floats, uint32_t *words, uint8_t *bytes, const float (*boxes)[6],
-             float (*covers)[6], float (*transform)[4][4])
+             float (*covers)[6], float (*transform)[4][4], jellyplain_pose *pose)
 {
     jellyplain_build(false, poses, poses, moves);
     jellyplain_point(moves, 0, floats, floats);
@@ -19,6 +19,9 @@ void dropped(const jellyplain_pose *poses, jellyplain_move *moves, jellyplain_ch
     jellyplain_refused_run(false, poses, 2);
     jellyplain_moves_point(moves, 1, 0, floats, floats);
     jellyplain_moves_pad(moves, 1, 0, floats);
+    jellyplain_moves_interpolate(moves, 1, 0, transform);
+    jellyplain_moves_held(moves, 1);
+    jellyplain_moves_pose(moves, 1, 0, pose);
     jellyplain_moves_points(moves, 1, floats, 1, floats, floats, 3);
     jellyplain_moves_cover(moves, 1, floats, 0, floats);
     jellyplain_moves_try(moves, 1, 0, poses, floats, 0, floats);
@@ -32,6 +35,9 @@ void dropped(const jellyplain_pose *poses, jellyplain_move *moves, jellyplain_ch
     jellyplain_chain_join(chain, chain, joined);
     jellyplain_chain_point(chain, 0, floats, floats);
     jellyplain_chain_pad(chain, 0, floats);
+    jellyplain_chain_interpolate(chain, 0, transform);
+    jellyplain_chain_held(chain);
+    jellyplain_chain_pose(chain, 0, pose);
     jellyplain_chain_points(chain, floats, 1, floats, floats, 3);
     jellyplain_chain_cover(chain, floats, 0, floats);
     jellyplain_chain_try(chain, 0, poses, floats, 0, floats);

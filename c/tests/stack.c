@@ -13,7 +13,7 @@
 #define PAINT 0x5a
 
 static unsigned char *stack;
-static jellyplain_pose poses[JELLYPLAIN_FILE_POSES];
+static jellyplain_pose poses[JELLYPLAIN_FILE_POSES], set;
 static jellyplain_chain chain, second, joined;
 static float bounds[6], moved[3], pad[1], transform[2][4][4], covers[JELLYPLAIN_BOXES][6], points[64 * 3], times[64];
 static float boxes[JELLYPLAIN_BOXES][6], day_boxes[JELLYPLAIN_BOOMS][6];
@@ -36,6 +36,9 @@ static unsigned build_chain(void) { return jellyplain_build_chain(false, poses, 
 static unsigned refused_run(void) { return jellyplain_refused_run(true, poses, JELLYPLAIN_POSES).refusal; }
 static unsigned chain_point(void) { return jellyplain_chain_point(&chain, 10.4f, p, moved); }
 static unsigned chain_pad(void) { return jellyplain_chain_pad(&chain, 10.4f, pad); }
+static unsigned chain_interpolate(void) { return jellyplain_chain_interpolate(&chain, 10.4f, transform); }
+static unsigned chain_held(void) { return jellyplain_chain_held(&chain).refusal; }
+static unsigned chain_pose(void) { return jellyplain_chain_pose(&chain, 5, &set); }
 static unsigned chain_points(void) { return jellyplain_chain_points(&chain, times, 64, p, points, 64 * 3); }
 static unsigned chain_cover(void) { return jellyplain_chain_cover(&chain, box, 6, bounds); }
 static unsigned chain_try(void) { return jellyplain_chain_try(&chain, 5, &poses[5], box, 6, bounds); }
@@ -93,6 +96,7 @@ int main(void)
         {"jellyplain_compatible", version}, {"jellyplain_build", build}, {"jellyplain_build, rigid", build_rigid}, {"jellyplain_point", point}, {"jellyplain_pad", pad_at},
         {"jellyplain_interpolate", interpolate}, {"jellyplain_bound_point_motion", point_motion}, {"jellyplain_motion_bounds", motion_bounds}, {"jellyplain_cover", cover},
         {"jellyplain_build_moves", build_chain}, {"jellyplain_refused_run", refused_run}, {"jellyplain_moves_point", chain_point}, {"jellyplain_moves_pad", chain_pad},
+        {"jellyplain_moves_interpolate", chain_interpolate}, {"jellyplain_moves_held", chain_held}, {"jellyplain_moves_pose", chain_pose},
         {"jellyplain_moves_points", chain_points}, {"jellyplain_moves_cover", chain_cover}, {"jellyplain_moves_try", chain_try}, {"jellyplain_moves_covers", chain_covers},
         {"jellyplain_moves_join", chain_join}, {"jellyplain_moves_window_cover", window_cover}, {"jellyplain_moves_windows", windows}, {"jellyplain_write_file", write_file},
         {"jellyplain_read_file", read_file}, {"jellyplain_day", day},

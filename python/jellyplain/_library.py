@@ -33,6 +33,10 @@ class Run(ctypes.Structure):
     _fields_ = [("place", ctypes.c_size_t), ("length", ctypes.c_size_t), ("refusal", ctypes.c_uint8)]
 
 
+class Held(ctypes.Structure):
+    _fields_ = [("poses", ctypes.c_size_t), ("first", ctypes.c_float), ("last", ctypes.c_float), ("rigid", ctypes.c_bool), ("refusal", ctypes.c_uint8)]
+
+
 class Count(ctypes.Structure):
     """jellyplain_windows, jellyplain_file_read, jellyplain_written and jellyplain_reached: a count or a length, and a refusal."""
 
@@ -56,6 +60,9 @@ FUNCTIONS: Dict[str, Tuple[Any, List[Any]]] = {
     "refused_run": (Run, [RIGID, ARRAY, SIZE]),
     "moves_point": (NUMBER, [ARRAY, SIZE, FLOAT, ARRAY, ARRAY]),
     "moves_pad": (NUMBER, [ARRAY, SIZE, FLOAT, ARRAY]),
+    "moves_interpolate": (NUMBER, [ARRAY, SIZE, FLOAT, ARRAY]),
+    "moves_held": (Held, [ARRAY, SIZE]),
+    "moves_pose": (NUMBER, [ARRAY, SIZE, SIZE, ARRAY]),
     "moves_points": (NUMBER, [ARRAY, SIZE, ARRAY, SIZE, ARRAY, ARRAY, SIZE]),
     "moves_cover": (NUMBER, [ARRAY, SIZE, ARRAY, DEPTH, ARRAY]),
     "moves_try": (NUMBER, [ARRAY, SIZE, SIZE, ARRAY, ARRAY, DEPTH, ARRAY]),

@@ -204,6 +204,17 @@ class Chain(_Built):
         checked(functions().moves_pad(self._moves, self._count, _time(time), ctypes.byref(pad)))
         return pad.value
 
+    def interpolate(self, time: float) -> Transform:
+        """The transform at a time, of the move that the time belongs to. Its matrix applied to a point, in 32-bit floats and from the left,
+        is what `point` answers, bit for bit.
+
+        Refused with 6, then 4 or 5, also where points are answered: between two poses the scale on the way may have no inverse, or its
+        inverse may leave the range of floats, and a point needs none.
+        """
+        halves = Halves()
+        checked(functions().moves_interpolate(self._moves, self._count, _time(time), halves))
+        return transform_of(halves[:])
+
     @overload
     def points(self, times: Floats, p: Sequence[float]) -> array[float]: ...
 

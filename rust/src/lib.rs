@@ -260,6 +260,19 @@ impl Move {
     }
 }
 
+/// What a chain holds beside its poses.
+#[derive(Clone, Copy, Debug, PartialEq)]
+pub struct Held {
+    /// How many poses.
+    pub poses: usize,
+    /// The time of the first pose.
+    pub first: f32,
+    /// The time of the last pose.
+    pub last: f32,
+    /// Whether it was built as rigid.
+    pub rigid: bool,
+}
+
 /// The answer to a set of boxes: a cover for each, in their order, and the union of them.
 #[derive(Clone, Copy, Debug, PartialEq)]
 pub struct Covers {
@@ -423,6 +436,30 @@ impl Chain {
         let (moves, mut pad) = (self.built()?, [0.0]);
         let number = unsafe { library::jellyplain_moves_pad(moves.as_ptr(), moves.len(), time, &mut pad) };
         answered(number, pad[0])
+    }
+
+    /// The transform at a time, of the move that the time belongs to. Its matrix applied to a point, each row's products with x, y, z and 1 added from the left, is what [`Chain::point`] answers, bit
+    /// for bit. Refused with [`Refusal::Query`], then with [`Refusal::ZeroPivot`] or [`Refusal::NotFinite`], also where points are answered: between two poses the scale on the way may have no
+    /// inverse, or its inverse may leave the range of floats, and a point needs none.
+    pub fn interpolate(&self, time: f32) -> Result<Transform, Refusal> {
+        let (moves, mut halves) = (self.built()?, [[[0.0; 4]; 4]; 2]);
+        let number = unsafe { library::jellyplain_moves_interpolate(moves.as_ptr(), moves.len(), time, &mut halves) };
+        let [matrix, inverse] = halves;
+        answered(number, Transform { matrix, inverse })
+    }
+
+    /// What the chain holds: the number of its poses, the times of the first and the last, its kind. Refused with [`Refusal::Chain`] where it is empty.
+    pub fn held(&self) -> Result<Held, Refusal> {
+        let moves = self.built()?;
+        let held = unsafe { library::jellyplain_moves_held(moves.as_ptr(), moves.len()) };
+        answered(held.refusal, Held { poses: held.poses, first: held.first, last: held.last, rigid: held.rigid })
+    }
+
+    /// The pose at a place, counted from 0, as it was set, bit by bit. Refused with [`Refusal::Chain`] where the chain is empty, then with [`Refusal::Place`] for a place beyond the last pose.
+    pub fn pose(&self, place: usize) -> Result<Pose, Refusal> {
+        let (moves, mut pose) = (self.built()?, Pose { time: 0.0, matrix: IDENTITY, pad: 0.0 });
+        let number = unsafe { library::jellyplain_moves_pose(moves.as_ptr(), moves.len(), place, &mut pose) };
+        answered(number, pose)
     }
 
     /// Where a point stands at each time of a list that never falls, into as many lent places, which a refusal leaves as they were. Refused with [`Refusal::Query`], [`Refusal::TimeList`], for another

@@ -51,6 +51,17 @@ pub struct Run {
     pub refusal: u8,
 }
 
+/// How many poses a chain has, the times of its first and its last, and whether it is rigid; or the number of a refusal.
+#[derive(Debug, PartialEq)]
+#[repr(C)]
+pub struct Held {
+    pub poses: usize,
+    pub first: f32,
+    pub last: f32,
+    pub rigid: bool,
+    pub refusal: u8,
+}
+
 /// How many windows are listed, or the number of a refusal.
 #[derive(Debug, PartialEq)]
 #[repr(C)]
@@ -87,6 +98,9 @@ extern "C" {
     pub fn jellyplain_refused_run(rigid: bool, poses: *const Pose, count: usize) -> Run;
     pub fn jellyplain_moves_point(moves: *const Rows, count: usize, time: f32, p: &[f32; 3], moved: &mut [f32; 3]) -> u8;
     pub fn jellyplain_moves_pad(moves: *const Rows, count: usize, time: f32, pad: &mut [f32; 1]) -> u8;
+    pub fn jellyplain_moves_interpolate(moves: *const Rows, count: usize, time: f32, transform: &mut [Matrix; 2]) -> u8;
+    pub fn jellyplain_moves_held(moves: *const Rows, count: usize) -> Held;
+    pub fn jellyplain_moves_pose(moves: *const Rows, count: usize, place: usize, pose: &mut Pose) -> u8;
     pub fn jellyplain_moves_points(
         moves: *const Rows,
         count: usize,

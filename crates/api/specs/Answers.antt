@@ -7,12 +7,10 @@ use mathlib.Core.List.{List}
 use lib.Ieee.{Float}
 use Rattle.matrix4x4.specs.Rows.{Rows}
 use Rattle.bounds3.specs.List.{Point3f·ofList, Bounds3f·ofList}
-use Rattle.transform.specs.declared.TransformAnswer.{TransformAnswer}
 use Rattle.transform.specs.declared.PointAnswer.{PointAnswer}
 use Rattle.transform.specs.declared.BoundsAnswer.{BoundsAnswer}
 use Rattle.animated_transform.specs.declared.AnimatedTransformAnswer.{AnimatedTransformAnswer}
 use Rattle.animated_transform.specs.New.{AnimatedTransform·new}
-use Rattle.interpolation.specs.Interpolate.{AnimatedTransform·interpolate}
 use Rattle.motion_bounds.specs.declared.MotionBoundsAnswer.{MotionBoundsAnswer}
 use Rattle.motion_bounds.specs.Answer.{AnimatedTransform·boundPointMotion, AnimatedTransform·motionBounds}
 use Rattle.motion_cover.specs.Cover.{AnimatedTransform·cover}
@@ -25,9 +23,6 @@ Rows·new rigid start end = AnimatedTransform·new rigid (Pose·ofList start) (P
 
 abbrev pub Rows·point : Rows → Float → List Float → PointAnswer
 Rows·point rows time p = Rows·transformPoint rows time (Point3f·ofList p)
-
-abbrev pub Rows·interpolate : Rows → Float → TransformAnswer
-Rows·interpolate rows time = AnimatedTransform·interpolate (AnimatedTransform·fromRows rows) time
 
 abbrev pub Rows·boundPointMotion : Rows → List Float → MotionBoundsAnswer
 Rows·boundPointMotion rows p = AnimatedTransform·boundPointMotion (AnimatedTransform·fromRows rows) (Point3f·ofList p)

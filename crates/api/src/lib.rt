@@ -3,6 +3,7 @@
 // refused it writes what it is lent for its answer; after a refusal that is as it was. Any floats may be handed in,
 // and any rows may be asked, but the guarantee is for rows that building has written.
 use animated_transform::AnimatedTransform;
+use chain_held::ChainHeld;
 use chain_text::Written;
 use motion_bounds::MotionBoundsAnswer;
 use reached_rows::Reached;
@@ -19,7 +20,8 @@ ghost use Rattle.motion_point.specs.TransformPoint.{AnimatedTransform·transfor
 ghost use Rattle.motion_bounds.specs.Answer.{MotionBoundsAnswer·refusal};
 ghost use Rattle.lent_arrays.specs.Arrays.{Pose·ofList, PointAnswer·left, TransformAnswer·left, BoundsAnswer·left};
 ghost use Rattle.matrix4x4.specs.Rows.{Rows};
-ghost use Rattle.motion_rows.specs.Rows.{AnimatedTransform·toRows, AnimatedTransformAnswer·left};
+ghost use Rattle.interpolation.specs.Interpolate.{AnimatedTransform·interpolate};
+ghost use Rattle.motion_rows.specs.Rows.{AnimatedTransform·toRows, AnimatedTransformAnswer·left, transformAt};
 ghost use Rattle.motion_rows.specs.Holds.{Rows·Holds};
 ghost use Rattle.pad_query.specs.PadQuery.{AnimatedTransform·pad, Rows·pad, PadAnswer·refusal, PadAnswer·left};
 ghost use Rattle.motion_chain.specs.Chain.{Chain, built, ChainAnswer·refusal, Chain·new, Chain·transformPoint};
@@ -28,6 +30,10 @@ ghost use Rattle.chain_poses.specs.Poses.{Poses·ofLists};
 ghost use Rattle.chain_rows.specs.Kept.{Chain·toRows, Chain·pad, Moves·pad};
 ghost use Rattle.chain_rows.specs.Theorem.{Moves·Holds, KeptChainContainsMotion};
 ghost use Rattle.chain_rows.specs.Finer.{KeptChainFiner};
+ghost use Rattle.interpolate_kept.specs.Kept.{Rows·interpolate, Chain·interpolate, Moves·interpolate};
+ghost use Rattle.interpolate_kept.specs.Theorem.{MovesPoints};
+ghost use Rattle.chain_held.specs.Held.{Moves·held, Moves·poseRefusal, Moves·poseLeft};
+ghost use Rattle.chain_held.specs.Theorem.{HeldAsSet, PoseAsSet};
 ghost use Rattle.changed_chain.specs.Trial.{Chain·try};
 ghost use Rattle.chain_trial.specs.Theorem.{TrialContainsMotion};
 ghost use Rattle.chain_build.specs.Build.{ChainAnswer·left};
@@ -54,7 +60,7 @@ ghost use Rattle.window_pairs.specs.Kept.{KeptWindows, KeptWindowsApart, KeptWi
 ghost use Rattle.window_cover.specs.Kept.{KeptWindowContainsMotion, KeptWindowFiner};
 ghost use Rattle.api.specs.Chains.{layoutNumber, versionNumber, Moves·point, Moves·points};
 ghost use Rattle.api.specs.Chains.{Moves·coverOf, Moves·tryOf, Moves·windowCoverOf, Moves·windowsOf};
-ghost use Rattle.api.specs.Answers.{Rows·new, Rows·point, Rows·interpolate, Rows·boundPointMotion, Rows·motionBounds, Rows·cover};
+ghost use Rattle.api.specs.Answers.{Rows·new, Rows·point, Rows·boundPointMotion, Rows·motionBounds, Rows·cover};
 ghost use Rattle.api.specs.Examined.{MotionBoundsAnswer·left, MotionBoundsAnswer·examinedLeft};
 ghost use Rattle.api.specs.Kept.{KeptCoverContainsMotion, KeptCoverFiner, KeptCover, KeptWindowCover};
 
@@ -130,7 +136,7 @@ pub extern "C" fn jellyplain_pad(motion: &[[f32; 4]; 45], time: f32, pad: &mut [
 }
 
 // The transform at a time: the rows of its matrix, and then those of its inverse. Refused with 4, 5 or 6.
-// Accuracy: each operation but sine, cosine and arc cosine is correctly rounded.
+// Accuracy: each operation but sine and cosine is correctly rounded.
 #[no_mangle]
 pub extern "C" fn jellyplain_interpolate(
     motion: &[[f32; 4]; 45],
@@ -139,11 +145,10 @@ pub extern "C" fn jellyplain_interpolate(
 ) -> u8
     ensures refusal { λ r. ⌜ r ≡ Rows·interpolate (now (motion .entry)) time .refusal ⌝ }
     ensures left { λ _. ⌜ now (transform .exit) ≡ TransformAnswer·left (Rows·interpolate (now (motion .entry)) time) (now (transform .entry)) ⌝ }
+    ensures built { λ _. ⌜ ((m : AnimatedTransform) → now (motion .entry) ≡ AnimatedTransform·toRows m
+        → Rows·interpolate (now (motion .entry)) time ≡ AnimatedTransform·interpolate m time) ⌝ }
 {
-    lent_arrays::put_transform(
-        interpolation::interpolate(motion_rows::from_rows(motion), time),
-        transform,
-    )
+    lent_arrays::put_transform(interpolate_kept::interpolate(motion, time), transform)
 }
 
 // pbrt's motion box of a point: no cover; how many intervals its search examined on x, y and z, each at most 511. Refused with 5, 6 or 9. Accuracy: heuristic.
@@ -307,6 +312,47 @@ pub extern "C" fn jellyplain_moves_pad(
     ensures kept { λ _. ⌜ ((c : Chain) → now (moves .entry) ≡ Chain·toRows c → Moves·pad (now (moves .entry)) time ≡ Chain·pad c time) ⌝ }
 {
     pad_query::put_pad(chain_rows::pad(moves, time), pad)
+}
+
+// The transform at a time of a chain, that of the move to which the time belongs: the rows of its matrix, and then those of its inverse. Where it is answered,
+// it moves a point as the point query does. Refused with 4, 5 or 6, and with 12 where there are no moves.
+// Accuracy: each operation but sine and cosine is correctly rounded.
+#[no_mangle]
+pub extern "C" fn jellyplain_moves_interpolate(
+    moves: &[[[f32; 4]; 45]],
+    time: f32,
+    transform: &mut [[f32; 4]; 8],
+) -> u8
+    ensures refusal { λ r. ⌜ r ≡ Moves·interpolate (now (moves .entry)) time .refusal ⌝ }
+    ensures left { λ _. ⌜ now (transform .exit) ≡ TransformAnswer·left (Moves·interpolate (now (moves .entry)) time) (now (transform .entry)) ⌝ }
+    ensures kept { λ _. ⌜ ((c : Chain) → now (moves .entry) ≡ Chain·toRows c → Moves·interpolate (now (moves .entry)) time ≡ Chain·interpolate c time) ⌝ }
+    ensures moves_points { λ r. ⌜ (r ≡ 0 → MovesPoints (now (moves .entry)) time (transformAt (now (transform .exit)) 0)) ⌝ }
+{
+    lent_arrays::put_transform(interpolate_kept::interpolate_chain(moves, time), transform)
+}
+
+// How many poses a chain has, the times of its first and its last, and its kind. Refused with 12 where there are no moves. Accuracy: exact.
+#[no_mangle]
+pub extern "C" fn jellyplain_moves_held(moves: &[[[f32; 4]; 45]]) -> ChainHeld
+    ensures value { λ r. ⌜ r ≡ Moves·held (now (moves .entry)) ⌝ }
+    ensures as_set { λ r. ⌜ HeldAsSet (now (moves .entry)) r ⌝ }
+{
+    chain_held::held(moves)
+}
+
+// The pose of a chain at a place, counted from 0, as it was set: 18 floats. Refused with 12 where there are no moves, then with 19 for a place beyond the last
+// pose. Accuracy: exact.
+#[no_mangle]
+pub extern "C" fn jellyplain_moves_pose(
+    moves: &[[[f32; 4]; 45]],
+    place: usize,
+    pose: &mut [f32; 18],
+) -> u8
+    ensures refusal { λ r. ⌜ r ≡ Moves·poseRefusal (now (moves .entry)) place ⌝ }
+    ensures left { λ _. ⌜ now (pose .exit) ≡ Moves·poseLeft (now (moves .entry)) place (now (pose .entry)) ⌝ }
+    ensures as_set { λ r. ⌜ (r ≡ 0 → PoseAsSet (now (moves .entry)) place (now (pose .exit))) ⌝ }
+{
+    chain_held::pose(moves, place, pose)
 }
 
 // Where a point stands at each time of a list that never falls, three places a time. Refused with 6, 13 or 5, and with 12 where there are no moves.

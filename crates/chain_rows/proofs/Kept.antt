@@ -51,7 +51,7 @@ rows-at (m ∷ moves) zero d h = refl
 rows-at (m ∷ moves) (suc i) d h = rows-at moves i d (omega (arith, h))
 
 -- The rows at the place of a time are those of the time's move.
-move-kept : (c : Chain) (time : Float) → getD (Chain·toRows c) (Chain·indexAt c time) [] ≡ AnimatedTransform·toRows (Chain·moveAt c time)
+pub move-kept : (c : Chain) (time : Float) → getD (Chain·toRows c) (Chain·indexAt c time) [] ≡ AnimatedTransform·toRows (Chain·moveAt c time)
 move-kept c time = let h = move-index c in rw (h .move time) (rows-at (Chain·moves c) (Chain·indexAt c time) (c .first) (h .below time))
 
 pub kept-point : (rows : List Rows) (c : Chain) (time : Float) (p : Point3f) → rows ≡ Chain·toRows c

@@ -107,7 +107,7 @@ pose-at-finite m x h =
 pub interpolate-finite : (m : AnimatedTransform) (time : Float) → AnimatedTransform·interpolate m time .refusal ≡ 0
     → T (Transform·isFinite (AnimatedTransform·interpolate m time .transform))
 interpolate-finite m time =
-    interpolate-cases FiniteAnswer m time
+    interpolate-cases FiniteAnswer m (AnimatedTransform·poseAt m) time
     (λ h. absurd (omega arith))
     (judged-finite (m .«start_transform»))
     (judged-finite (m .«end_transform»))

@@ -1,5 +1,6 @@
 -- The numbers that `interpolate` can give are 0, 4, 5 and 6 (`interpolate-refusal`), and after a refusal every entry is +0 (`interpolate-refused`).
--- What holds of each answer that its tests choose from holds of the answer (`interpolate-cases`).
+-- What holds of each answer that its tests choose from holds of the answer (`interpolate-cases`). The same where the angle is at hand
+-- (`interpolate-by-refusal`, `interpolate-by-refused`).
 use mathlib.Core.Path.{_≡_, refl}
 use mathlib.Core.Bool.{Bool, true, false, _&&_, cond}
 use mathlib.Core.Logic.{_⊎_, inl, inr}
@@ -7,6 +8,7 @@ use Prim.Native.Nat.{ℕ}
 use lib.Dec.{eqb}
 use lib.Ieee.{Float, isNan}
 use Rattle.control_flow.proofs.Choice.{cond-keeps}
+use Rattle.matrix4x4.specs.declared.Matrix4x4.{Matrix4x4}
 use Rattle.matrix4x4.specs.Rows.{Rows, Matrix4x4·toRows}
 use Rattle.matrix4x4.specs.IsFinite.{Matrix4x4·isFinite}
 use Rattle.vector3.specs.declared.Vector3f.{Vector3f}
@@ -19,18 +21,23 @@ use Rattle.transform.specs.Transform.{TransformAnswer·refused, Transform·from
 use Rattle.transform.proofs.FromMatrix.{from-matrix-numbers}
 use Rattle.rotation.specs.FromQuaternion.{Transform·fromQuaternion}
 use Rattle.unit_interval.specs.Unit.{dt}
+use Rattle.pose_steps.specs.declared.PoseConstants.{PoseConstants}
+use Rattle.pose_steps.specs.Pose.{Pose·slerp}
 use Rattle.pose_steps.specs.Composition.{lerpTranslation, lerpScaleBy}
 use Rattle.animated_transform.specs.declared.AnimatedTransform.{AnimatedTransform}
 use Rattle.animated_transform.specs.AtTime.{atStart, atEnd}
 use Rattle.interpolation.specs.Interpolate.{Transform·isFinite, TransformAnswer·accepted, TransformAnswer·judged}
-use Rattle.interpolation.specs.Interpolate.{scaled, composed, AnimatedTransform·poseAt, AnimatedTransform·interpolate}
+use Rattle.interpolation.specs.Interpolate.{scaled, composed, AnimatedTransform·poseAt, Pose·transform}
+use Rattle.interpolation.specs.Interpolate.{AnimatedTransform·interpolateBy, AnimatedTransform·interpolate}
 use Rattle.interpolation.specs.Promise.{InterpolationNumber}
 
-pub interpolate-cases : (P : TransformAnswer → Type 0) (m : AnimatedTransform) (time : Float) → P (TransformAnswer·refused 6)
+pub interpolate-cases : (P : TransformAnswer → Type 0) (m : AnimatedTransform) (between : Float → TransformAnswer) (time : Float)
+    → P (TransformAnswer·refused 6)
     → P (TransformAnswer·judged (m .«start_transform»)) → P (TransformAnswer·judged (m .«end_transform»))
-    → P (AnimatedTransform·poseAt m (dt (m .«start_time») (m .«end_time») time)) → P (AnimatedTransform·interpolate m time)
-unfolding AnimatedTransform·interpolate
-interpolate-cases P m time p q r s = cond-keeps P (isNan time) _ _ p (cond-keeps P (atStart m time) _ _ q (cond-keeps P (atEnd m time) _ _ r s))
+    → P (between (dt (m .«start_time») (m .«end_time») time)) → P (AnimatedTransform·interpolateBy m between time)
+unfolding AnimatedTransform·interpolateBy
+interpolate-cases P m between time p q r s =
+    cond-keeps P (isNan time) _ _ p (cond-keeps P (atStart m time) _ _ q (cond-keeps P (atEnd m time) _ _ r s))
 
 -- An answer has one of the numbers, and is +0 throughout where that isn't 0.
 record Answered (a : TransformAnswer) : Type 0 where
@@ -75,17 +82,33 @@ unfolding AnimatedTransform·poseAt
 pose-at-answered m x = composed-answered (lerpTranslation (m .t0) (m .t1) x) (Quaternion·slerp (m .r0) (m .r1) x)
     (lerpScaleBy (m .rigid) (Matrix4x4·toRows (m .s0)) (Matrix4x4·toRows (m .s1)) x)
 
-interpolate-answered : (m : AnimatedTransform) (time : Float) → Answered (AnimatedTransform·interpolate m time)
-interpolate-answered m time =
-    interpolate-cases Answered m time
+transform-answered : (a : PoseConstants) (s0 s1 : Matrix4x4) (x : Float) → Answered (Pose·transform a s0 s1 x)
+unfolding Pose·transform
+transform-answered a s0 s1 x =
+    composed-answered (lerpTranslation (a .t0) (a .t1) x) (Pose·slerp a x) (lerpScaleBy (a .rigid) (Matrix4x4·toRows s0) (Matrix4x4·toRows s1) x)
+
+by-answered : (m : AnimatedTransform) (between : Float → TransformAnswer) (time : Float) → Answered (between (dt (m .«start_time») (m .«end_time») time))
+    → Answered (AnimatedTransform·interpolateBy m between time)
+by-answered m between time h =
+    interpolate-cases Answered m between time
     (refused-answered 6 (inr (inr (inr refl))))
     (judged-answered (m .«start_transform»))
     (judged-answered (m .«end_transform»))
-    (pose-at-answered m _)
+    h
 
-pub interpolate-refusal : (m : AnimatedTransform) (time : Float) → InterpolationNumber (AnimatedTransform·interpolate m time .refusal)
-interpolate-refusal m time = interpolate-answered m time .number
+module _ (m : AnimatedTransform) (time : Float) where
+  pub interpolate-refusal : InterpolationNumber (AnimatedTransform·interpolate m time .refusal)
+  interpolate-refusal = by-answered m (AnimatedTransform·poseAt m) time (pose-at-answered m _) .number
 
-pub interpolate-refused : (m : AnimatedTransform) (time : Float) → (AnimatedTransform·interpolate m time .refusal ≡ 0 → ⊥)
-    → AnimatedTransform·interpolate m time ≡ TransformAnswer·refused (AnimatedTransform·interpolate m time .refusal)
-interpolate-refused m time = interpolate-answered m time .zero
+  pub interpolate-refused : (AnimatedTransform·interpolate m time .refusal ≡ 0 → ⊥)
+      → AnimatedTransform·interpolate m time ≡ TransformAnswer·refused (AnimatedTransform·interpolate m time .refusal)
+  interpolate-refused = by-answered m (AnimatedTransform·poseAt m) time (pose-at-answered m _) .zero
+
+module _ (m : AnimatedTransform) (a : PoseConstants) (s0 s1 : Matrix4x4) (time : Float) where
+  pub interpolate-by-refusal : InterpolationNumber (AnimatedTransform·interpolateBy m (Pose·transform a s0 s1) time .refusal)
+  interpolate-by-refusal = by-answered m (Pose·transform a s0 s1) time (transform-answered a s0 s1 _) .number
+
+  pub interpolate-by-refused : (AnimatedTransform·interpolateBy m (Pose·transform a s0 s1) time .refusal ≡ 0 → ⊥)
+      → AnimatedTransform·interpolateBy m (Pose·transform a s0 s1) time
+      ≡ TransformAnswer·refused (AnimatedTransform·interpolateBy m (Pose·transform a s0 s1) time .refusal)
+  interpolate-by-refused = by-answered m (Pose·transform a s0 s1) time (transform-answered a s0 s1 _) .zero

@@ -4,6 +4,7 @@
 use mathlib.Core.Bool.{Bool, _&&_, cond}
 use lib.Dec.{eqb}
 use lib.Ieee.{Float, isNan}
+use Rattle.matrix4x4.specs.declared.Matrix4x4.{Matrix4x4}
 use Rattle.matrix4x4.specs.Rows.{Rows, Matrix4x4·toRows}
 use Rattle.matrix4x4.specs.IsFinite.{Matrix4x4·isFinite}
 use Rattle.vector3.specs.declared.Vector3f.{Vector3f}
@@ -15,6 +16,8 @@ use Rattle.transform.specs.declared.TransformAnswer.{TransformAnswer}
 use Rattle.transform.specs.Transform.{TransformAnswer·refused, Transform·fromMatrix, Transform·translate, Transform·mul}
 use Rattle.rotation.specs.FromQuaternion.{Transform·fromQuaternion}
 use Rattle.unit_interval.specs.Unit.{dt}
+use Rattle.pose_steps.specs.declared.PoseConstants.{PoseConstants}
+use Rattle.pose_steps.specs.Pose.{Pose·slerp}
 use Rattle.pose_steps.specs.Composition.{lerpTranslation, lerpScaleBy}
 use Rattle.animated_transform.specs.declared.AnimatedTransform.{AnimatedTransform}
 use Rattle.animated_transform.specs.AtTime.{atStart, atEnd}
@@ -54,10 +57,22 @@ AnimatedTransform·poseAt m dt =
     (Quaternion·slerp (m .r0) (m .r1) dt)
     (lerpScaleBy (m .rigid) (Matrix4x4·toRows (m .s0)) (Matrix4x4·toRows (m .s1)) dt)
 
--- `AnimatedTransform::interpolate`; document 01, Refusals: 6 where "the time is NaN"
-unfoldable pub AnimatedTransform·interpolate : AnimatedTransform → Float → TransformAnswer
-AnimatedTransform·interpolate m time =
+-- The same where the dot product of the rotations and the angle between them are at hand, which `slerp` works out anew at each call. Of a move's own
+-- constants it is `AnimatedTransform·poseAt` (`transform-same`).
+unfoldable pub Pose·transform : PoseConstants → Matrix4x4 → Matrix4x4 → Float → TransformAnswer
+Pose·transform a s0 s1 dt =
+    composed
+    (lerpTranslation (a .t0) (a .t1) dt)
+    (Pose·slerp a dt)
+    (lerpScaleBy (a .rigid) (Matrix4x4·toRows s0) (Matrix4x4·toRows s1) dt)
+
+-- `AnimatedTransform::interpolate`, where `between` says what is answered at a dt between the poses; document 01, Refusals: 6 where "the time is NaN"
+unfoldable pub AnimatedTransform·interpolateBy : AnimatedTransform → (Float → TransformAnswer) → Float → TransformAnswer
+AnimatedTransform·interpolateBy m between time =
     cond (isNan time) (TransformAnswer·refused 6)
     (cond (atStart m time) (TransformAnswer·judged (m .«start_transform»))
     (cond (atEnd m time) (TransformAnswer·judged (m .«end_transform»))
-    (AnimatedTransform·poseAt m (dt (m .«start_time») (m .«end_time») time))))
+    (between (dt (m .«start_time») (m .«end_time») time))))
+
+abbrev pub AnimatedTransform·interpolate : AnimatedTransform → Float → TransformAnswer
+AnimatedTransform·interpolate m time = AnimatedTransform·interpolateBy m (AnimatedTransform·poseAt m) time

@@ -19,8 +19,8 @@ fn is_finite(t: Transform) -> bool
     matrix4x4::is_finite(t.m.to_rows()) & matrix4x4::is_finite(t.m_inv.to_rows())
 }
 
-// 5 where a half isn't finite.
-fn judged(transform: Transform) -> TransformAnswer
+// A transform as it is stored, refused with 5 where a half isn't finite. Accuracy: exact.
+pub fn judged(transform: Transform) -> TransformAnswer
     ensures value { λ r. ⌜ r ≡ TransformAnswer·judged transform ⌝ }
 {
     if is_finite(transform) {
@@ -45,8 +45,9 @@ fn scaled(first: Transform, scale: Matrix4x4) -> TransformAnswer
     }
 }
 
-// pbrt's last line: Transform::translate(&trans) * rotate.into() * Transform::from_matrix(&scale).
-fn composed(trans: Vector3f, rotate: Quaternion, scale: Matrix4x4) -> TransformAnswer
+// pbrt's last line: Transform::translate(&trans) * rotate.into() * Transform::from_matrix(&scale). Refused with 4 or 5, whichever is met first.
+// Accuracy: each operation is correctly rounded.
+pub fn composed(trans: Vector3f, rotate: Quaternion, scale: Matrix4x4) -> TransformAnswer
     ensures value { λ r. ⌜ r ≡ composed trans rotate (Matrix4x4·toRows scale) ⌝ }
 {
     let translation = Transform::translate(trans);

@@ -200,7 +200,8 @@ fn quaternion_at(rows: &[[f32; 4]; 45], i: usize) -> Quaternion
     Quaternion { v, w: r[3] }
 }
 
-fn matrix_at(rows: &[[f32; 4]; 45], i: usize) -> Matrix4x4
+// The matrix of four rows from a place on. Accuracy: exact.
+pub fn matrix_at(rows: &[[f32; 4]; 45], i: usize) -> Matrix4x4
     requires { ⌜ i + 3 < 45 ⌝ }
     ensures value { λ r. ⌜ r ≡ matrixAt (now (rows .entry)) i ⌝ }
 {
@@ -211,7 +212,8 @@ fn matrix_at(rows: &[[f32; 4]; 45], i: usize) -> Matrix4x4
     Matrix4x4 { r0, r1, r2, r3 }
 }
 
-fn transform_at(rows: &[[f32; 4]; 45], i: usize) -> Transform
+// The transform of eight rows from a place on. Accuracy: exact.
+pub fn transform_at(rows: &[[f32; 4]; 45], i: usize) -> Transform
     requires { ⌜ i + 7 < 45 ⌝ }
     ensures value { λ r. ⌜ r ≡ transformAt (now (rows .entry)) i ⌝ }
 {
@@ -292,8 +294,8 @@ pub fn from_rows(rows: &[[f32; 4]; 45]) -> AnimatedTransform
     }
 }
 
-// The constants of the pose between, which are kept beside the move.
-fn constants_from_rows(rows: &[[f32; 4]; 45]) -> PoseConstants
+// The constants of the pose between, which are kept beside the move. Accuracy: exact.
+pub fn constants_from_rows(rows: &[[f32; 4]; 45]) -> PoseConstants
     ensures value { λ r. ⌜ r ≡ PoseConstants·fromRows (now (rows .entry)) ⌝ }
 {
     let constants = rows[43];

@@ -17,6 +17,7 @@ use Rattle.run_schedule.proofs.Accepted.{day-number}
 use Rattle.refusal_numbers.specs.Chain.{EveryChainAnswer}
 use Rattle.refusal_numbers.proofs.Chain.{building-numbered}
 use Rattle.refusal_numbers.proofs.Pad.{chain-pad-numbered, kept-pad-numbered}
+use Rattle.refusal_numbers.proofs.Interpolate.{chain-interpolate-numbered, kept-interpolate-numbered, held-number, pose-number}
 use Rattle.refusal_numbers.proofs.KeptChain.{rows-point-numbered, rows-points-numbered, rows-cover-numbered}
 use Rattle.refusal_numbers.proofs.Trial.{trial-numbered, rows-trial-numbered}
 
@@ -25,6 +26,7 @@ every-chain-answer = record {
   building = building-numbered;
   point = chain-point-numbered;
   pad = chain-pad-numbered;
+  interpolate = chain-interpolate-numbered;
   points = λ c times p places. times-numbers c times p places .query;
   cover = chain-cover-numbered;
   proper = λ built b depth. chain-cover-proper b depth built;
@@ -35,6 +37,9 @@ every-chain-answer = record {
   windows = windows-numbered;
   rows-point = rows-point-numbered;
   rows-pad = kept-pad-numbered;
+  rows-interpolate = kept-interpolate-numbered;
+  rows-held = held-number;
+  rows-pose = pose-number;
   rows-points = rows-points-numbered;
   rows-cover = rows-cover-numbered;
   rows-set = kept-set-numbered;

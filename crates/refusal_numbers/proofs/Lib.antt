@@ -8,3 +8,4 @@ pub mod KeptChain
 mod Trial
 pub mod EveryChain
 pub mod Files
+pub mod Interpolate

@@ -19,8 +19,6 @@ use Rattle.motion_point.proofs.NonZero.{point-numbered, transform-point-numbere
 use Rattle.motion_rows.specs.Rows.{AnimatedTransform·fromRows, PoseConstants·fromRows}
 use Rattle.motion_rows.specs.TransformPoint.{Rows·transformPoint}
 use Rattle.motion_rows.proofs.NonZero.{rows-point-nonzero}
-use Rattle.interpolation.specs.Promise.{InterpolationNumber}
-use Rattle.interpolation.proofs.Numbers.{interpolate-refusal, interpolate-refused}
 use Rattle.motion_bounds_laws.proofs.Numbers.{bound-point-motion-numbers, motion-bounds-numbers}
 use Rattle.motion_cover.proofs.Number.{cover-numbered}
 use Rattle.refusal_numbers.specs.Numbers.{EveryAnswer}
@@ -28,12 +26,7 @@ use Rattle.refusal_numbers.proofs.Building.{building-number}
 use Rattle.refusal_numbers.proofs.NonZero.{counted-numbered, point-motion-nonzero, motion-nonzero}
 use Rattle.refusal_numbers.proofs.File.{file-numbered}
 use Rattle.refusal_numbers.proofs.Pad.{pad-numbered, rows-pad-numbered}
-
-interpolate-number : {n : ℕ} → InterpolationNumber n → OneOf n (0 ∷ 4 ∷ 5 ∷ 6 ∷ [])
-interpolate-number (inl e) = inl e
-interpolate-number (inr (inl e)) = inr (inl e)
-interpolate-number (inr (inr (inl e))) = inr (inr (inl e))
-interpolate-number (inr (inr (inr e))) = inr (inr (inr (inl e)))
+use Rattle.refusal_numbers.proofs.Interpolate.{interpolate-numbered, rows-interpolate-numbered}
 
 rows-point-number : (rows : Rows) (time : Float) (p : Point3f) → OneOf (PointAnswer·refusal (Rows·transformPoint rows time p)) (0 ∷ 5 ∷ 6 ∷ [])
 unfolding Rows·transformPoint
@@ -53,7 +46,8 @@ every-answer = record {
   rows-point = λ rows time p. point-numbered (Rows·transformPoint rows time p) (rows-point-nonzero rows time p) (rows-point-number rows time p);
   pad = pad-numbered;
   rows-pad = rows-pad-numbered;
-  interpolate = λ m time. record { number = interpolate-number (interpolate-refusal m time); refused = interpolate-refused m time };
+  interpolate = interpolate-numbered;
+  rows-interpolate = rows-interpolate-numbered [];
   point-motion = λ m p. counted-numbered _ _ (point-motion-nonzero m p) (bound-point-motion-numbers m p .number);
   motion = λ m b. counted-numbered _ _ (motion-nonzero m b) (motion-bounds-numbers m b .number);
   cover = cover-numbered;

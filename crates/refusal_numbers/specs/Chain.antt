@@ -1,5 +1,5 @@
--- What is promised of every answer about a chain: which numbers building, the point query, also with a list of times, the pad query and the cover query,
--- also of a set of boxes, of a pose that is tried and of a window, give, joining two kept chains, and the windows of two, 0 being none, and that an
+-- What is promised of every answer about a chain: which numbers building, the point query, also with a list of times, the pad query, the transform's and the cover
+-- query, also of a set of boxes, of a pose that is tried and of a window, give, joining two kept chains, and the windows of two, 0 being none, and that an
 -- accepted cover's corners are finite and in order; and the same of a kept chain, whatever its rows. The statement of `every-chain-answer`.
 use Prim.Native.Nat.{ℕ}
 use mathlib.Core.Path.{_≡_}
@@ -34,7 +34,9 @@ use Rattle.window_cover.specs.Kept.{Moves·windowCover}
 use Rattle.window_meetings.specs.Windows.{Chain·windows}
 use Rattle.window_meetings.specs.Numbers.{WindowsAnswer·Numbered}
 use Rattle.window_pairs.specs.Kept.{Moves·windows}
-use Rattle.refusal_numbers.specs.Numbers.{PadAnswer·Numbered}
+use Rattle.interpolate_kept.specs.Kept.{Chain·interpolate, Moves·interpolate}
+use Rattle.chain_held.specs.Held.{Moves·held, Moves·poseRefusal}
+use Rattle.refusal_numbers.specs.Numbers.{PadAnswer·Numbered, TransformAnswer·Numbered}
 use Rattle.run_schedule.specs.Day.{Boom, dayRefusal}
 
 -- The number is one of those listed, and an answer whose number is 0 is a chain.
@@ -56,6 +58,7 @@ pub record EveryChainAnswer : Type 0 where
   pub building : (rigid : Bool) (poses : List Pose) → ChainAnswer·Numbered (buildingNumbers rigid) (Chain·new rigid poses)
   pub point : (c : Chain) (time : Float) (p : Point3f) → PointAnswer·Numbered (0 ∷ 5 ∷ 6 ∷ []) (Chain·transformPoint c time p)
   pub pad : (c : Chain) (time : Float) → PadAnswer·Numbered (0 ∷ 5 ∷ 6 ∷ []) (Chain·pad c time)
+  pub interpolate : (c : Chain) (time : Float) → TransformAnswer·Numbered (0 ∷ 4 ∷ 5 ∷ 6 ∷ []) (Chain·interpolate c time)
   pub points : (c : Chain) (times : List Float) (p : Point3f) (places : ℕ)
       → PointsAnswer·Numbered (0 ∷ 5 ∷ 6 ∷ 13 ∷ []) (Chain·transformPoints c times p places)
   pub cover : (c : Chain) (b : Bounds3f) (depth : ℕ) → BoundsAnswer·Numbered (0 ∷ 5 ∷ 6 ∷ 7 ∷ 8 ∷ 10 ∷ []) (Chain·cover c b depth)
@@ -72,6 +75,10 @@ pub record EveryChainAnswer : Type 0 where
   -- the same queries of a kept chain, whatever its rows: no moves are 12
   pub rows-point : (rows : List Rows) (time : Float) (p : Point3f) → PointAnswer·Numbered (0 ∷ 5 ∷ 6 ∷ 12 ∷ []) (Moves·transformPoint rows time p)
   pub rows-pad : (rows : List Rows) (time : Float) → PadAnswer·Numbered (0 ∷ 5 ∷ 6 ∷ 12 ∷ []) (Moves·pad rows time)
+  pub rows-interpolate : (rows : List Rows) (time : Float) → TransformAnswer·Numbered (0 ∷ 4 ∷ 5 ∷ 6 ∷ 12 ∷ []) (Moves·interpolate rows time)
+  -- what it holds
+  pub rows-held : (rows : List Rows) → OneOf (Moves·held rows .refusal) (0 ∷ 12 ∷ [])
+  pub rows-pose : (rows : List Rows) (place : ℕ) → OneOf (Moves·poseRefusal rows place) (0 ∷ 12 ∷ 19 ∷ [])
   pub rows-points : (rows : List Rows) (times : List Float) (p : Point3f) (places : ℕ)
       → PointsAnswer·Numbered (0 ∷ 5 ∷ 6 ∷ 12 ∷ 13 ∷ []) (Moves·transformPoints rows times p places)
   pub rows-cover : (rows : List Rows) (b : Bounds3f) (depth : ℕ) → BoundsAnswer·Numbered (0 ∷ 5 ∷ 6 ∷ 7 ∷ 8 ∷ 10 ∷ 12 ∷ []) (Moves·cover rows b depth)

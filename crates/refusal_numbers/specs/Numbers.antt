@@ -25,6 +25,7 @@ use Rattle.pad_query.specs.declared.PadAnswer.{PadAnswer}
 use Rattle.pad_query.specs.declared.PadAnswer.the-variants.{Pad}
 use Rattle.pad_query.specs.PadQuery.{PadAnswer·refusal, PadAnswer·pad, AnimatedTransform·pad, Rows·pad}
 use Rattle.interpolation.specs.Interpolate.{AnimatedTransform·interpolate}
+use Rattle.interpolate_kept.specs.Kept.{Rows·interpolate}
 use Rattle.motion_bounds.specs.declared.MotionBoundsAnswer.{MotionBoundsAnswer}
 use Rattle.motion_bounds.specs.declared.MotionBoundsAnswer.the-variants.{Bounds}
 use Rattle.motion_bounds.specs.Answer.{MotionBoundsAnswer·refusal, MotionBoundsAnswer·bounds, MotionBoundsAnswer·examined}
@@ -66,6 +67,7 @@ pub record EveryAnswer : Type 0 where
   pub pad : (m : AnimatedTransform) (time : Float) → PadAnswer·Numbered (0 ∷ 5 ∷ 6 ∷ []) (AnimatedTransform·pad m time)
   pub rows-pad : (rows : Rows) (time : Float) → PadAnswer·Numbered (0 ∷ 5 ∷ 6 ∷ []) (Rows·pad rows time)
   pub interpolate : (m : AnimatedTransform) (time : Float) → TransformAnswer·Numbered (0 ∷ 4 ∷ 5 ∷ 6 ∷ []) (AnimatedTransform·interpolate m time)
+  pub rows-interpolate : (rows : Rows) (time : Float) → TransformAnswer·Numbered (0 ∷ 4 ∷ 5 ∷ 6 ∷ []) (Rows·interpolate rows time)
   pub point-motion : (m : AnimatedTransform) (p : Point3f) → MotionBoundsAnswer·Numbered (0 ∷ 5 ∷ 6 ∷ 9 ∷ []) (AnimatedTransform·boundPointMotion m p)
   pub motion : (m : AnimatedTransform) (b : Bounds3f) → MotionBoundsAnswer·Numbered (0 ∷ 5 ∷ 6 ∷ 7 ∷ 9 ∷ []) (AnimatedTransform·motionBounds m b)
   pub cover : (m : AnimatedTransform) (b : Bounds3f) (depth : ℕ) → BoundsAnswer·Numbered (0 ∷ 5 ∷ 6 ∷ 7 ∷ 8 ∷ 10 ∷ []) (AnimatedTransform·cover m b depth)

@@ -7,7 +7,7 @@ use Rattle.transform.specs.declared.TransformAnswer.{TransformAnswer}
 use Rattle.unit_interval.specs.Unit.{dt}
 use Rattle.animated_transform.specs.declared.AnimatedTransform.{AnimatedTransform}
 use Rattle.animated_transform.specs.AtTime.{atEnd}
-use Rattle.interpolation.specs.Interpolate.{TransformAnswer·judged, AnimatedTransform·poseAt, AnimatedTransform·interpolate}
+use Rattle.interpolation.specs.Interpolate.{TransformAnswer·judged, AnimatedTransform·poseAt, AnimatedTransform·interpolateBy}
 use borrow.Author.Needs.{needs}
 use Rattle.interpolation.proofs.interpolate.Statement.{statement}
 use Rattle.interpolation.proofs.interpolate.Tie as tie
@@ -22,14 +22,14 @@ refused-requires : tie.Need-refused-requires
 refused-requires c κs = search needs
 
 returns : tie.Need-returns
-unfolding AnimatedTransform·interpolate
+unfolding AnimatedTransform·interpolateBy
 returns c = rw (← differs-nan (c .before .before .args .time), c .before .if1 .taken, c .refused .ensures)
 
 judged-requires : tie.Need-judged-requires
 judged-requires c κs = search needs
 
 returns-2 : tie.Need-returns-2
-unfolding AnimatedTransform·interpolate
+unfolding AnimatedTransform·interpolateBy
 returns-2 c =
     let c1 = c .before in let c2 = c1 .before in let c3 = c2 .before in let c4 = c3 .before in let c5 = c4 .before in
     let args = c5 .args in
@@ -39,7 +39,7 @@ judged-requires-2 : tie.Need-judged-requires-2
 judged-requires-2 c κs = search needs
 
 returns-3 : tie.Need-returns-3
-unfolding AnimatedTransform·interpolate
+unfolding AnimatedTransform·interpolateBy
 returns-3 c =
     let c1 = c .before in let c2 = c1 .before in let c3 = c2 .before in let c4 = c3 .before in
     let c5 = c4 .before in let c6 = c5 .before in let c7 = c6 .before in
@@ -52,7 +52,7 @@ pose-at-requires : tie.Need-pose-at-requires
 pose-at-requires c κs = search needs
 
 returns-4 : tie.Need-returns-4
-unfolding AnimatedTransform·interpolate
+unfolding AnimatedTransform·interpolateBy
 returns-4 c =
     let c1 = c .before in let c2 = c1 .before in let c3 = c2 .before in let c4 = c3 .before in
     let c5 = c4 .before in let c6 = c5 .before in let c7 = c6 .before in let c8 = c7 .before in

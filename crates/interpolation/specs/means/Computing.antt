@@ -5,9 +5,9 @@ use Rattle.unit_interval.specs.means.Computing as unit
 use Rattle.rotation.specs.means.Computing as rotation
 use Rattle.animated_transform.specs.means.Computing as animated
 use Rattle.interpolation.specs.Interpolate.{Transform·isFinite, TransformAnswer·judged, scaled, composed}
-use Rattle.interpolation.specs.Interpolate.{AnimatedTransform·poseAt, AnimatedTransform·interpolate}
+use Rattle.interpolation.specs.Interpolate.{AnimatedTransform·poseAt, AnimatedTransform·interpolateBy}
 
 unfoldable pub computing : Unit {0}
 unfolding lerp lerpScaleBy unit.computing rotation.computing animated.computing Transform·isFinite TransformAnswer·judged scaled composed
-    AnimatedTransform·poseAt AnimatedTransform·interpolate
+    AnimatedTransform·poseAt AnimatedTransform·interpolateBy
 computing = tt

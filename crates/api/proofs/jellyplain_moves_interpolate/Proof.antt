@@ -1,0 +1,33 @@
+-- `jellyplain_moves_interpolate` meets its contract: the transform of the chain in the rows, which is the chain's own where it was built
+-- (`chain-interpolate-kept`); the array holds it, so that it moves points as the point query does (`left-moves`).
+use Rattle.motion_chain.specs.Chain.{Chain}
+use Rattle.interpolate_kept.proofs.Kept.{chain-interpolate-kept}
+use Rattle.api.proofs.Interpolate.{left-moves}
+use borrow.Author.Needs.{needs}
+use Rattle.api.proofs.jellyplain_moves_interpolate.Statement.{statement}
+use Rattle.api.proofs.jellyplain_moves_interpolate.Tie as tie
+
+interpolate-chain-requires : tie.Need-interpolate-chain-requires
+interpolate-chain-requires c κs = search needs
+
+put-transform-requires : tie.Need-put-transform-requires
+put-transform-requires c κs = search needs
+
+returns : tie.Need-returns
+returns c =
+    let c1 = c .before in let c2 = c1 .before in let c3 = c2 .before in
+    let a = c3 .args in
+    let asked = c2 .interpolate-chain in (
+      rw (c .put-transform .ensures .0, asked .ensures .0),
+      (
+        rw (c .put-transform .ensures .1, asked .ensures .0),
+        (
+          λ (k : Chain). chain-interpolate-kept (a .moves .now) k (a .time),
+          left-moves (a .moves .now) (a .time) (asked .result) (a .transform .now) (asked .ensures .1 .1) (c .put-transform .ensures .0) (c .put-transform .ensures .1),
+        ),
+      ),
+    )
+
+pub jellyplain-moves-interpolate-spec : {M : Type 1} → statement M
+jellyplain-moves-interpolate-spec =
+    tie.close (tie.spec interpolate-chain-requires put-transform-requires returns)
