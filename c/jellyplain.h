@@ -135,7 +135,7 @@ typedef enum jellyplain_refusal {
     JELLYPLAIN_PAD = 16,            /* a pad is below zero */
     JELLYPLAIN_NOT_RIGID = 17,      /* a pose of a rigid move or chain scales or shears */
     JELLYPLAIN_DETERMINANT = 18,    /* a pose of a rigid move or chain mirrors: its determinant isn't above zero */
-    JELLYPLAIN_PLACE = 19,          /* a pose is tried at a place beyond the last */
+    JELLYPLAIN_PLACE = 19,          /* a place is beyond the last pose */
     JELLYPLAIN_MISMATCH = 20,       /* two chains to be joined differ in a bit of the pose that they share, a zero's
                                      * sign too, or in their kind */
     JELLYPLAIN_TICKS = 21,          /* a tick is NaN, there are fewer than 2 or more than 64, or they don't rise
@@ -186,7 +186,7 @@ static inline const char *jellyplain_refusal_text(uint32_t number)
     case JELLYPLAIN_DETERMINANT:
         return "a pose of a rigid move or chain mirrors: its determinant isn't above zero";
     case JELLYPLAIN_PLACE:
-        return "a pose is tried at a place beyond the last";
+        return "a place is beyond the last pose";
     case JELLYPLAIN_MISMATCH:
         return "two chains to be joined differ in a bit of the pose that they share, a zero's sign too, or in their "
                "kind";

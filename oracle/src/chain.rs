@@ -2,7 +2,7 @@
 //! lists of times, the union of covers, sets of boxes, the shortest refused stretch) is written from document 02.
 
 use crate::core::geometry::point::Point3f;
-use crate::core::transform::Matrix4x4;
+use crate::core::transform::{Matrix4x4, Transform};
 use crate::cover;
 use crate::judged::{self, check_bottom_row, check_rigid, finite, finite_matrix, point_values, Judged, Kind, Move};
 use crate::refusal::*;
@@ -106,6 +106,10 @@ impl Chain {
 
     pub fn pad(&self, time: f32) -> Judged<f32> {
         self.move_at(time).pad(time)
+    }
+
+    pub fn interpolate(&self, time: f32) -> Judged<Transform> {
+        self.move_at(time).interpolate(time)
     }
 
     /// A point at each time of a list that never falls, three places a time: 6 of the point and of every time, 13, then the first time's number that is refused.

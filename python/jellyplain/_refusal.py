@@ -38,7 +38,7 @@ class Refusal(enum.IntEnum):
     PAD = 16, "a pad is below zero", "set a pad of zero or more"
     NOT_RIGID = 17, "a pose of a rigid move or chain scales or shears", "build it as plain, or set a pose that only turns and shifts"
     DETERMINANT = 18, "a pose of a rigid move or chain mirrors: its determinant isn't above zero", "set a pose that doesn't mirror"
-    PLACE = 19, "a pose is tried at a place beyond the last", "count the places from 0"
+    PLACE = 19, "a place is beyond the last pose", "count the places from 0"
     MISMATCH = 20, "two chains to be joined differ in a bit of the pose that they share, a zero's sign too, or in their kind", "hand over both with the very same pose, at its time and with its pad"
     TICKS = 21, "a tick is NaN, there are fewer than 2 or more than 64, or they don't rise strictly", "sort the ticks, each once, or ask in parts"
     DAY = 22, "a day has no boom or more than 8, or a run length outside 1 to 1,000 ticks", "ask with 1 to 8 booms; count in longer ticks"

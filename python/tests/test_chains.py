@@ -1,4 +1,5 @@
 """Chains: each question answered and refused, the guarantee tested from outside, and covers beside those of C."""
+import ctypes
 import glob
 import os
 import pickle
@@ -11,6 +12,7 @@ import unittest
 
 from common import BOOM, CROSSED, INFINITY, NAN, NO_NUMBERS, ROOT, UNIT, TestCase, bits_of, bytes_of, four_poses, random_point, random_poses, scaled, single, translation
 from jellyplain import IDENTITY, Bounds, Chain, Move, MoveFile, Pose, Refused
+from jellyplain._library import PoseStruct, functions
 
 C_PROGRAM = r"""
 #include "jellyplain.h"
@@ -97,6 +99,38 @@ class Questions(TestCase):
     def test_moves_outlive_their_chain(self):
         moves = [move for _ in range(50) for move in Chain(four_poses()).moves]
         self.assertEqual({move.point(1, (3, 0.5, -1)) for move in moves[::3]}, {Chain(four_poses()).point(1, (3, 0.5, -1))})
+
+    def test_transforms(self):
+        chain = Chain(four_poses())
+        p = (3, 0.5, -1)
+        for place, times in [(0, (-INFINITY, -1, 1.25, 2)), (1, (2.25, 3)), (2, (4, 5, INFINITY))]:
+            for time in times:
+                transform = chain.interpolate(time)
+                self.assertEqual(transform, chain.moves[place].interpolate(time))
+                moved = []
+                for row in transform.matrix[:3]:
+                    total = single(p[0] * row[0])
+                    for product in (single(p[1] * row[1]), single(p[2] * row[2]), row[3]):
+                        total = single(total + product)
+                    moved.append(total)
+                self.assertEqual(tuple(moved), chain.point(time, p))
+        with self.refused(6):
+            chain.interpolate(NAN)
+
+    def test_what_the_library_holds(self):
+        """The poses and the kind that a chain has in Python are those that the library gives back."""
+        poses = four_poses()
+        poses[1] = Pose(2, poses[1].matrix, 0.25)
+        for rigid in (False, True):
+            chain = Chain(poses, rigid=rigid)
+            held = functions().moves_held(chain._moves, 3)
+            self.assertEqual((held.poses, held.first, held.last, held.rigid, held.refusal), (4, 0, 5, rigid, 0))
+            for place, pose in enumerate(chain.poses):
+                kept = PoseStruct()
+                self.assertEqual(functions().moves_pose(chain._moves, 3, place, ctypes.byref(kept)), 0)
+                self.assertEqual((kept.time, tuple(kept.matrix), kept.pad), (pose.time, tuple(single(x) for row in pose.matrix for x in row), pose.pad))
+            self.assertEqual(functions().moves_pose(chain._moves, 3, 4, ctypes.byref(PoseStruct())), 19)
+            self.assertEqual(functions().moves_held(chain._moves, 32).refusal, 12)
 
     def test_pads(self):
         chain = Chain([Pose(0, IDENTITY, 1), Pose(1, translation(1), 3), Pose(2, translation(1), 2)])

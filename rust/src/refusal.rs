@@ -42,7 +42,7 @@ pub enum Refusal {
     NotRigid = 17,
     /// A pose of a rigid move or chain mirrors: its determinant isn't above zero. What to do: set a pose that doesn't mirror.
     Determinant = 18,
-    /// A pose is tried at a place beyond the last. What to do: count the places from 0.
+    /// A place is beyond the last pose. What to do: count the places from 0.
     Place = 19,
     /// Two chains to be joined differ in a bit of the pose that they share, a zero's sign too, or in their kind. What to do: hand over both with the very same pose, at its time and with its pad.
     Mismatch = 20,
@@ -100,7 +100,7 @@ impl Refusal {
             Refusal::Pad => "a pad is below zero",
             Refusal::NotRigid => "a pose of a rigid move or chain scales or shears",
             Refusal::Determinant => "a pose of a rigid move or chain mirrors: its determinant isn't above zero",
-            Refusal::Place => "a pose is tried at a place beyond the last",
+            Refusal::Place => "a place is beyond the last pose",
             Refusal::Mismatch => "two chains to be joined differ in a bit of the pose that they share, a zero's sign too, or in their kind",
             Refusal::Ticks => "a tick is NaN, there are fewer than 2 or more than 64, or they don't rise strictly",
             Refusal::Day => "a day has no boom or more than 8, or a run length outside 1 to 1,000 ticks",

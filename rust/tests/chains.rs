@@ -1,6 +1,6 @@
 //! Chains of poses: which move a time belongs to, lists of times, covers, sets of boxes, pads, rigid chains and refusals.
 
-use jellyplain::{Bounds, Chain, Covers, Matrix, Move, Pose, Refusal, IDENTITY, TEXT};
+use jellyplain::{Bounds, Chain, Covers, Held, Matrix, Move, Pose, Refusal, IDENTITY, TEXT};
 
 fn translation(x: f32) -> Matrix {
     let mut m = IDENTITY;
@@ -39,6 +39,45 @@ fn each_time_belongs_to_its_move() {
         }
     }
     assert_eq!(chain.point(f32::NAN, p), Err(Refusal::Query));
+}
+
+/// pbrt's `transform_point` of a matrix whose bottom row is 0 0 0 1.
+fn applied(m: &Matrix, p: [f32; 3]) -> [f32; 3] {
+    std::array::from_fn(|i| p[0] * m[i][0] + p[1] * m[i][1] + p[2] * m[i][2] + m[i][3])
+}
+
+#[test]
+fn transforms() {
+    let (poses, p) = (poses(), [3.0, 0.5, -1.0]);
+    let chain = Chain::new(&poses).unwrap();
+    for (place, times) in [(0, [f32::NEG_INFINITY, -1.0, 1.25, 2.0]), (1, [next_up(2.0), 2.25, 2.75, 3.0]), (2, [next_up(3.0), 4.0, 5.0, f32::INFINITY])] {
+        for time in times {
+            let transform = chain.interpolate(time).unwrap();
+            assert_eq!(Ok(transform), chain.moves().nth(place).unwrap().interpolate(time));
+            assert_eq!(applied(&transform.matrix, p).map(f32::to_bits), chain.point(time, p).unwrap().map(f32::to_bits));
+        }
+    }
+    assert_eq!(chain.interpolate(f32::NAN), Err(Refusal::Query));
+    assert_eq!(Chain::EMPTY.interpolate(f32::NAN), Err(Refusal::Chain));
+}
+
+#[test]
+fn what_a_chain_holds() {
+    let mut poses = poses();
+    poses[1].pad = 0.25;
+    poses[2].matrix[2][0] = -0.0;
+    for rigid in [false, true] {
+        let chain = if rigid { Chain::rigid(&poses) } else { Chain::new(&poses) }.unwrap();
+        assert_eq!(chain.held(), Ok(Held { poses: 4, first: 0.0, last: 5.0, rigid }));
+        for (place, pose) in poses.iter().enumerate() {
+            let (kept, flat) = (chain.pose(place).unwrap(), |p: &Pose| p.matrix.as_flattened().iter().map(|x| x.to_bits()).collect::<Vec<u32>>());
+            assert_eq!((kept.time, flat(&kept), kept.pad), (pose.time, flat(pose), pose.pad));
+        }
+        assert_eq!(chain.pose(4), Err(Refusal::Place));
+        assert_eq!(chain.pose(usize::MAX), Err(Refusal::Place));
+    }
+    assert_eq!(Chain::EMPTY.held(), Err(Refusal::Chain));
+    assert_eq!(Chain::EMPTY.pose(0), Err(Refusal::Chain));
 }
 
 #[test]

@@ -1,5 +1,5 @@
 // The library that Rust and C link: a move is built once, kept by its caller as 45 rows of four floats, and asked many times; a chain is kept as the rows of
-// its moves, one block for each. Each function returns the number of a refusal, 0 for none, those over move files beside a length or a count. Where nothing is
+// its moves, one block for each; no moves and more than 31 are no chain. Each function returns the number of a refusal, 0 for none, those over move files beside a length or a count. Where nothing is
 // refused it writes what it is lent for its answer; after a refusal that is as it was. Any floats may be handed in,
 // and any rows may be asked, but the guarantee is for rows that building has written.
 use animated_transform::AnimatedTransform;
@@ -28,6 +28,7 @@ ghost use Rattle.motion_chain.specs.Chain.{Chain, built, ChainAnswer·refusal, 
 ghost use Rattle.motion_chain.specs.Times.{PointsAnswer·refusal, PointsAnswer·left, Chain·transformPoints};
 ghost use Rattle.chain_poses.specs.Poses.{Poses·ofLists};
 ghost use Rattle.chain_rows.specs.Kept.{Chain·toRows, Chain·pad, Moves·pad};
+ghost use Rattle.moves_asked.specs.Asked.{Moves·asked};
 ghost use Rattle.chain_rows.specs.Theorem.{Moves·Holds, KeptChainContainsMotion};
 ghost use Rattle.chain_rows.specs.Finer.{KeptChainFiner};
 ghost use Rattle.interpolate_kept.specs.Kept.{Rows·interpolate, Chain·interpolate, Moves·interpolate};
@@ -251,7 +252,7 @@ pub extern "C" fn jellyplain_build_moves(
 }
 
 // Makes one chain of two, with the pose that they share once; the rows of the first's moves and then of the second's stand in the front blocks.
-// Refused with 12 where either has no moves, then with 20 where the last pose of the first and the first of the second differ in a bit, or the
+// Refused with 12 where either is no chain, then with 20 where the last pose of the first and the first of the second differ in a bit, or the
 // chains in their kind, then with 12 for more than 32 poses or times that don't rise strictly, as in blocks of a move by itself. Accuracy: exact.
 #[no_mangle]
 pub extern "C" fn jellyplain_moves_join(
@@ -259,12 +260,12 @@ pub extern "C" fn jellyplain_moves_join(
     second: &[[[f32; 4]; 45]],
     moves: &mut [[[f32; 4]; 45]; 31],
 ) -> u8
-    ensures refusal { λ r. ⌜ r ≡ Moves·joinRefusal (now (first .entry)) (now (second .entry)) ⌝ }
-    ensures left { λ _. ⌜ now (moves .exit) ≡ Moves·joinLeft (now (first .entry)) (now (second .entry)) (now (moves .entry)) ⌝ }
-    ensures kept { λ r. ⌜ ((c d : Chain) → Moves·Holds (now (first .entry)) c → Moves·Holds (now (second .entry)) d
-        → Joined (now (first .entry)) (now (second .entry)) (now (moves .entry)) (now (moves .exit)) r c d) ⌝ }
+    ensures refusal { λ r. ⌜ r ≡ Moves·joinRefusal (Moves·asked (now (first .entry))) (Moves·asked (now (second .entry))) ⌝ }
+    ensures left { λ _. ⌜ now (moves .exit) ≡ Moves·joinLeft (Moves·asked (now (first .entry))) (Moves·asked (now (second .entry))) (now (moves .entry)) ⌝ }
+    ensures kept { λ r. ⌜ ((c d : Chain) → Moves·Holds (Moves·asked (now (first .entry))) c → Moves·Holds (Moves·asked (now (second .entry))) d
+        → Joined (Moves·asked (now (first .entry))) (Moves·asked (now (second .entry))) (now (moves .entry)) (now (moves .exit)) r c d) ⌝ }
 {
-    chain_join::join(first, second, moves)
+    chain_join::join(moves_asked::asked(first), moves_asked::asked(second), moves)
 }
 
 // The shortest run of neighbouring poses that is refused with the number of their chain, the leftmost among equals: its first place,
@@ -277,7 +278,7 @@ pub extern "C" fn jellyplain_refused_run(rigid: bool, poses: &[[f32; 18]]) -> Ru
     refused_run::shortest_run(rigid, poses)
 }
 
-// Where a point stands at a time of a chain. Refused with 5 or 6, and with 12 where there are no moves.
+// Where a point stands at a time of a chain. Refused with 5 or 6, and with 12 where they are no chain.
 // Accuracy: each operation but sine and cosine is correctly rounded.
 #[no_mangle]
 pub extern "C" fn jellyplain_moves_point(
@@ -286,20 +287,20 @@ pub extern "C" fn jellyplain_moves_point(
     p: &[f32; 3],
     moved: &mut [f32; 3],
 ) -> u8
-    ensures refusal { λ r. ⌜ r ≡ PointAnswer·refusal (Moves·point (now (moves .entry)) time (now (p .entry))) ⌝ }
-    ensures left { λ _. ⌜ now (moved .exit) ≡ PointAnswer·left (Moves·point (now (moves .entry)) time (now (p .entry))) (now (moved .entry)) ⌝ }
-    ensures kept { λ _. ⌜ ((c : Chain) → now (moves .entry) ≡ Chain·toRows c
-        → Moves·point (now (moves .entry)) time (now (p .entry)) ≡ Chain·transformPoint c time (Point3f·ofList (now (p .entry)))) ⌝ }
-    ensures lone { λ _. ⌜ ((block : Rows) → now (moves .entry) ≡ block ∷ []
-        → Moves·point (now (moves .entry)) time (now (p .entry)) ≡ Rows·point block time (now (p .entry))) ⌝ }
+    ensures refusal { λ r. ⌜ r ≡ PointAnswer·refusal (Moves·point (Moves·asked (now (moves .entry))) time (now (p .entry))) ⌝ }
+    ensures left { λ _. ⌜ now (moved .exit) ≡ PointAnswer·left (Moves·point (Moves·asked (now (moves .entry))) time (now (p .entry))) (now (moved .entry)) ⌝ }
+    ensures kept { λ _. ⌜ ((c : Chain) → Moves·asked (now (moves .entry)) ≡ Chain·toRows c
+        → Moves·point (Moves·asked (now (moves .entry))) time (now (p .entry)) ≡ Chain·transformPoint c time (Point3f·ofList (now (p .entry)))) ⌝ }
+    ensures lone { λ _. ⌜ ((block : Rows) → Moves·asked (now (moves .entry)) ≡ block ∷ []
+        → Moves·point (Moves·asked (now (moves .entry))) time (now (p .entry)) ≡ Rows·point block time (now (p .entry))) ⌝ }
 {
     lent_arrays::put_point(
-        chain_rows::transform_point(moves, time, lent_arrays::point(p)),
+        chain_rows::transform_point(moves_asked::asked(moves), time, lent_arrays::point(p)),
         moved,
     )
 }
 
-// The pad at a time of a chain, that of the move to which the time belongs. Refused with 5 or 6, and with 12 where there are no moves.
+// The pad at a time of a chain, that of the move to which the time belongs. Refused with 5 or 6, and with 12 where they are no chain.
 // Accuracy: each operation is correctly rounded.
 #[no_mangle]
 pub extern "C" fn jellyplain_moves_pad(
@@ -307,15 +308,15 @@ pub extern "C" fn jellyplain_moves_pad(
     time: f32,
     pad: &mut [f32; 1],
 ) -> u8
-    ensures refusal { λ r. ⌜ r ≡ PadAnswer·refusal (Moves·pad (now (moves .entry)) time) ⌝ }
-    ensures left { λ _. ⌜ now (pad .exit) ≡ PadAnswer·left (Moves·pad (now (moves .entry)) time) (now (pad .entry)) ⌝ }
-    ensures kept { λ _. ⌜ ((c : Chain) → now (moves .entry) ≡ Chain·toRows c → Moves·pad (now (moves .entry)) time ≡ Chain·pad c time) ⌝ }
+    ensures refusal { λ r. ⌜ r ≡ PadAnswer·refusal (Moves·pad (Moves·asked (now (moves .entry))) time) ⌝ }
+    ensures left { λ _. ⌜ now (pad .exit) ≡ PadAnswer·left (Moves·pad (Moves·asked (now (moves .entry))) time) (now (pad .entry)) ⌝ }
+    ensures kept { λ _. ⌜ ((c : Chain) → Moves·asked (now (moves .entry)) ≡ Chain·toRows c → Moves·pad (Moves·asked (now (moves .entry))) time ≡ Chain·pad c time) ⌝ }
 {
-    pad_query::put_pad(chain_rows::pad(moves, time), pad)
+    pad_query::put_pad(chain_rows::pad(moves_asked::asked(moves), time), pad)
 }
 
 // The transform at a time of a chain, that of the move to which the time belongs: the rows of its matrix, and then those of its inverse. Where it is answered,
-// it moves a point as the point query does. Refused with 4, 5 or 6, and with 12 where there are no moves.
+// it moves a point as the point query does. Refused with 4, 5 or 6, and with 12 where they are no chain.
 // Accuracy: each operation but sine and cosine is correctly rounded.
 #[no_mangle]
 pub extern "C" fn jellyplain_moves_interpolate(
@@ -323,24 +324,27 @@ pub extern "C" fn jellyplain_moves_interpolate(
     time: f32,
     transform: &mut [[f32; 4]; 8],
 ) -> u8
-    ensures refusal { λ r. ⌜ r ≡ Moves·interpolate (now (moves .entry)) time .refusal ⌝ }
-    ensures left { λ _. ⌜ now (transform .exit) ≡ TransformAnswer·left (Moves·interpolate (now (moves .entry)) time) (now (transform .entry)) ⌝ }
-    ensures kept { λ _. ⌜ ((c : Chain) → now (moves .entry) ≡ Chain·toRows c → Moves·interpolate (now (moves .entry)) time ≡ Chain·interpolate c time) ⌝ }
-    ensures moves_points { λ r. ⌜ (r ≡ 0 → MovesPoints (now (moves .entry)) time (transformAt (now (transform .exit)) 0)) ⌝ }
+    ensures refusal { λ r. ⌜ r ≡ Moves·interpolate (Moves·asked (now (moves .entry))) time .refusal ⌝ }
+    ensures left { λ _. ⌜ now (transform .exit) ≡ TransformAnswer·left (Moves·interpolate (Moves·asked (now (moves .entry))) time) (now (transform .entry)) ⌝ }
+    ensures kept { λ _. ⌜ ((c : Chain) → Moves·asked (now (moves .entry)) ≡ Chain·toRows c → Moves·interpolate (Moves·asked (now (moves .entry))) time ≡ Chain·interpolate c time) ⌝ }
+    ensures moves_points { λ r. ⌜ (r ≡ 0 → MovesPoints (Moves·asked (now (moves .entry))) time (transformAt (now (transform .exit)) 0)) ⌝ }
 {
-    lent_arrays::put_transform(interpolate_kept::interpolate_chain(moves, time), transform)
+    lent_arrays::put_transform(
+        interpolate_kept::interpolate_chain(moves_asked::asked(moves), time),
+        transform,
+    )
 }
 
-// How many poses a chain has, the times of its first and its last, and its kind. Refused with 12 where there are no moves. Accuracy: exact.
+// How many poses a chain has, the times of its first and its last, and its kind. Refused with 12 where they are no chain. Accuracy: exact.
 #[no_mangle]
 pub extern "C" fn jellyplain_moves_held(moves: &[[[f32; 4]; 45]]) -> ChainHeld
-    ensures value { λ r. ⌜ r ≡ Moves·held (now (moves .entry)) ⌝ }
-    ensures as_set { λ r. ⌜ HeldAsSet (now (moves .entry)) r ⌝ }
+    ensures value { λ r. ⌜ r ≡ Moves·held (Moves·asked (now (moves .entry))) ⌝ }
+    ensures as_set { λ r. ⌜ HeldAsSet (Moves·asked (now (moves .entry))) r ⌝ }
 {
-    chain_held::held(moves)
+    chain_held::held(moves_asked::asked(moves))
 }
 
-// The pose of a chain at a place, counted from 0, as it was set: 18 floats. Refused with 12 where there are no moves, then with 19 for a place beyond the last
+// The pose of a chain at a place, counted from 0, as it was set: 18 floats. Refused with 12 where they are no chain, then with 19 for a place beyond the last
 // pose. Accuracy: exact.
 #[no_mangle]
 pub extern "C" fn jellyplain_moves_pose(
@@ -348,14 +352,14 @@ pub extern "C" fn jellyplain_moves_pose(
     place: usize,
     pose: &mut [f32; 18],
 ) -> u8
-    ensures refusal { λ r. ⌜ r ≡ Moves·poseRefusal (now (moves .entry)) place ⌝ }
-    ensures left { λ _. ⌜ now (pose .exit) ≡ Moves·poseLeft (now (moves .entry)) place (now (pose .entry)) ⌝ }
-    ensures as_set { λ r. ⌜ (r ≡ 0 → PoseAsSet (now (moves .entry)) place (now (pose .exit))) ⌝ }
+    ensures refusal { λ r. ⌜ r ≡ Moves·poseRefusal (Moves·asked (now (moves .entry))) place ⌝ }
+    ensures left { λ _. ⌜ now (pose .exit) ≡ Moves·poseLeft (Moves·asked (now (moves .entry))) place (now (pose .entry)) ⌝ }
+    ensures as_set { λ r. ⌜ (r ≡ 0 → PoseAsSet (Moves·asked (now (moves .entry))) place (now (pose .exit))) ⌝ }
 {
-    chain_held::pose(moves, place, pose)
+    chain_held::pose(moves_asked::asked(moves), place, pose)
 }
 
-// Where a point stands at each time of a list that never falls, three places a time. Refused with 6, 13 or 5, and with 12 where there are no moves.
+// Where a point stands at each time of a list that never falls, three places a time. Refused with 6, 13 or 5, and with 12 where they are no chain.
 // Accuracy: each operation but sine and cosine is correctly rounded.
 #[no_mangle]
 pub extern "C" fn jellyplain_moves_points(
@@ -365,17 +369,22 @@ pub extern "C" fn jellyplain_moves_points(
     answers: &mut [f32],
 ) -> u8
     ensures refusal { λ r. ⌜ r ≡ PointsAnswer·refusal
-        (Moves·points (now (moves .entry)) (now (times .entry)) (now (p .entry)) (length (now (answers .entry)))) ⌝ }
+        (Moves·points (Moves·asked (now (moves .entry))) (now (times .entry)) (now (p .entry)) (length (now (answers .entry)))) ⌝ }
     ensures left { λ _. ⌜ now (answers .exit)
-        ≡ PointsAnswer·left (Moves·points (now (moves .entry)) (now (times .entry)) (now (p .entry)) (length (now (answers .entry)))) (now (answers .entry)) ⌝ }
-    ensures kept { λ _. ⌜ ((c : Chain) → now (moves .entry) ≡ Chain·toRows c → Moves·points (now (moves .entry)) (now (times .entry)) (now (p .entry))
+        ≡ PointsAnswer·left (Moves·points (Moves·asked (now (moves .entry))) (now (times .entry)) (now (p .entry)) (length (now (answers .entry)))) (now (answers .entry)) ⌝ }
+    ensures kept { λ _. ⌜ ((c : Chain) → Moves·asked (now (moves .entry)) ≡ Chain·toRows c → Moves·points (Moves·asked (now (moves .entry))) (now (times .entry)) (now (p .entry))
         (length (now (answers .entry))) ≡ Chain·transformPoints c (now (times .entry)) (Point3f·ofList (now (p .entry))) (length (now (answers .entry)))) ⌝ }
 {
-    chain_times::transform_points(moves, times, lent_arrays::point(p), answers)
+    chain_times::transform_points(
+        moves_asked::asked(moves),
+        times,
+        lent_arrays::point(p),
+        answers,
+    )
 }
 
 // A box that holds the box b at every time of a chain, from 2^depth slices of each move; where 0 is returned it stands in `bounds`. Refused with 5, 6, 7, 8 or
-// 10, and with 12 where there are no moves. Accuracy: encloses.
+// 10, and with 12 where they are no chain. Accuracy: encloses.
 #[no_mangle]
 pub extern "C" fn jellyplain_moves_cover(
     moves: &[[[f32; 4]; 45]],
@@ -383,15 +392,15 @@ pub extern "C" fn jellyplain_moves_cover(
     depth: u32,
     bounds: &mut [f32; 6],
 ) -> u8
-    ensures refusal { λ r. ⌜ r ≡ BoundsAnswer·refusal (Moves·coverOf (now (moves .entry)) (now (b .entry)) depth) ⌝ }
-    ensures left { λ _. ⌜ now (bounds .exit) ≡ BoundsAnswer·left (Moves·coverOf (now (moves .entry)) (now (b .entry)) depth) (now (bounds .entry)) ⌝ }
-    ensures kept { λ r. ⌜ KeptCover (now (moves .entry)) (now (b .entry)) depth r (now (bounds .entry)) (now (bounds .exit)) ⌝ }
-    ensures contains_motion { λ r. ⌜ (r ≡ 0 → KeptChainContainsMotion (now (moves .entry))
+    ensures refusal { λ r. ⌜ r ≡ BoundsAnswer·refusal (Moves·coverOf (Moves·asked (now (moves .entry))) (now (b .entry)) depth) ⌝ }
+    ensures left { λ _. ⌜ now (bounds .exit) ≡ BoundsAnswer·left (Moves·coverOf (Moves·asked (now (moves .entry))) (now (b .entry)) depth) (now (bounds .entry)) ⌝ }
+    ensures kept { λ r. ⌜ KeptCover (Moves·asked (now (moves .entry))) (now (b .entry)) depth r (now (bounds .entry)) (now (bounds .exit)) ⌝ }
+    ensures contains_motion { λ r. ⌜ (r ≡ 0 → KeptChainContainsMotion (Moves·asked (now (moves .entry)))
         (Bounds3f·ofList (now (b .entry))) (Bounds3f·ofList (now (bounds .exit)))) ⌝ }
-    ensures finer { λ r. ⌜ (r ≡ 0 → KeptChainFiner (now (moves .entry)) (Bounds3f·ofList (now (b .entry))) depth (Bounds3f·ofList (now (bounds .exit)))) ⌝ }
+    ensures finer { λ r. ⌜ (r ≡ 0 → KeptChainFiner (Moves·asked (now (moves .entry))) (Bounds3f·ofList (now (b .entry))) depth (Bounds3f·ofList (now (bounds .exit)))) ⌝ }
 {
     lent_arrays::put_bounds(
-        chain_cover::cover(moves, lent_arrays::bounds(b), depth),
+        chain_cover::cover(moves_asked::asked(moves), lent_arrays::bounds(b), depth),
         bounds,
     )
 }
@@ -424,7 +433,7 @@ pub extern "C" fn jellyplain_moves_try(
 }
 
 // Boxes that hold 1 to 16 boxes at every time of a chain, each in a place of its own, and their union; unused places are +0. Refused with 14,
-// then with 5, 6, 7, 8 or 10 of the first refused box in order, and with 12 where there are no moves. Accuracy: encloses.
+// then with 5, 6, 7, 8 or 10 of the first refused box in order, and with 12 where they are no chain. Accuracy: encloses.
 #[no_mangle]
 pub extern "C" fn jellyplain_moves_covers(
     moves: &[[[f32; 4]; 45]],
@@ -433,13 +442,13 @@ pub extern "C" fn jellyplain_moves_covers(
     covers: &mut [[f32; 6]; 16],
     union: &mut [f32; 6],
 ) -> u8
-    ensures refusal { λ r. ⌜ r ≡ SetAnswer·refusal (Moves·covers (now (moves .entry)) (now (boxes .entry)) depth) ⌝ }
-    ensures covers { λ _. ⌜ now (covers .exit) ≡ SetAnswer·coversLeft (Moves·covers (now (moves .entry)) (now (boxes .entry)) depth) (now (covers .entry)) ⌝ }
-    ensures union { λ _. ⌜ now (union .exit) ≡ SetAnswer·unionLeft (Moves·covers (now (moves .entry)) (now (boxes .entry)) depth) (now (union .entry)) ⌝ }
-    ensures contains_motion { λ r. ⌜ (r ≡ 0 → KeptSetContainsMotion (now (moves .entry)) (now (boxes .entry)) (now (covers .exit)) (now (union .exit))) ⌝ }
-    ensures finer { λ r. ⌜ (r ≡ 0 → KeptSetFiner (now (moves .entry)) (now (boxes .entry)) depth (now (covers .exit)) (now (union .exit))) ⌝ }
+    ensures refusal { λ r. ⌜ r ≡ SetAnswer·refusal (Moves·covers (Moves·asked (now (moves .entry))) (now (boxes .entry)) depth) ⌝ }
+    ensures covers { λ _. ⌜ now (covers .exit) ≡ SetAnswer·coversLeft (Moves·covers (Moves·asked (now (moves .entry))) (now (boxes .entry)) depth) (now (covers .entry)) ⌝ }
+    ensures union { λ _. ⌜ now (union .exit) ≡ SetAnswer·unionLeft (Moves·covers (Moves·asked (now (moves .entry))) (now (boxes .entry)) depth) (now (union .entry)) ⌝ }
+    ensures contains_motion { λ r. ⌜ (r ≡ 0 → KeptSetContainsMotion (Moves·asked (now (moves .entry))) (now (boxes .entry)) (now (covers .exit)) (now (union .exit))) ⌝ }
+    ensures finer { λ r. ⌜ (r ≡ 0 → KeptSetFiner (Moves·asked (now (moves .entry))) (now (boxes .entry)) depth (now (covers .exit)) (now (union .exit))) ⌝ }
 {
-    chain_covers::covers(moves, boxes, depth, covers, union)
+    chain_covers::covers(moves_asked::asked(moves), boxes, depth, covers, union)
 }
 
 // How many poses a move file holds, and 0; or 0 and the number of a refusal.
@@ -473,25 +482,25 @@ pub extern "C" fn jellyplain_read_file(
 }
 
 // The poses of a chain and the box b as a move file, in the front bytes; those behind it stay. Gives the length of the text. Refused with 6 or 7,
-// then with 15 where the bytes are too few, and with 12 where there are no moves; all bytes then stay. Accuracy: exact.
+// then with 15 where the bytes are too few, and with 12 where they are no chain; all bytes then stay. Accuracy: exact.
 #[no_mangle]
 pub extern "C" fn jellyplain_write_file(
     moves: &[[[f32; 4]; 45]],
     b: &[f32; 6],
     out: &mut [u8],
 ) -> Written
-    ensures refusal { λ r. ⌜ r .refusal ≡ TextAnswer·refusal (Moves·written (now (moves .entry)) (now (b .entry)) (length (now (out .entry)))) ⌝ }
-    ensures length { λ r. ⌜ r .length ≡ TextAnswer·length (Moves·written (now (moves .entry)) (now (b .entry)) (length (now (out .entry)))) ⌝ }
+    ensures refusal { λ r. ⌜ r .refusal ≡ TextAnswer·refusal (Moves·written (Moves·asked (now (moves .entry))) (now (b .entry)) (length (now (out .entry)))) ⌝ }
+    ensures length { λ r. ⌜ r .length ≡ TextAnswer·length (Moves·written (Moves·asked (now (moves .entry))) (now (b .entry)) (length (now (out .entry)))) ⌝ }
     ensures left { λ _. ⌜ now (out .exit)
-        ≡ TextAnswer·left (Moves·written (now (moves .entry)) (now (b .entry)) (length (now (out .entry)))) (now (out .entry)) ⌝ }
+        ≡ TextAnswer·left (Moves·written (Moves·asked (now (moves .entry))) (now (b .entry)) (length (now (out .entry)))) (now (out .entry)) ⌝ }
     ensures written_back { λ r. ⌜ (r .refusal ≡ 0
-        → WrittenBack (now (moves .entry)) (Bounds3f·ofList (now (b .entry))) (take (r .length) (now (out .exit)))) ⌝ }
+        → WrittenBack (Moves·asked (now (moves .entry))) (Bounds3f·ofList (now (b .entry))) (take (r .length) (now (out .exit)))) ⌝ }
 {
-    chain_text::write(moves, lent_arrays::bounds(b), out)
+    chain_text::write(moves_asked::asked(moves), lent_arrays::bounds(b), out)
 }
 
 // A box that holds the box b at every time of a window of a chain, from one tick to a later one, both included.
-// Refused with 21, then 6, 7 or 8, then 5 or 10, and with 12 where there are no moves. Accuracy: encloses.
+// Refused with 21, then 6, 7 or 8, then 5 or 10, and with 12 where they are no chain. Accuracy: encloses.
 #[no_mangle]
 pub extern "C" fn jellyplain_moves_window_cover(
     moves: &[[[f32; 4]; 45]],
@@ -501,25 +510,25 @@ pub extern "C" fn jellyplain_moves_window_cover(
     later: f32,
     bounds: &mut [f32; 6],
 ) -> u8
-    ensures refusal { λ r. ⌜ r ≡ BoundsAnswer·refusal (Moves·windowCoverOf (now (moves .entry)) (now (b .entry)) depth earlier later) ⌝ }
+    ensures refusal { λ r. ⌜ r ≡ BoundsAnswer·refusal (Moves·windowCoverOf (Moves·asked (now (moves .entry))) (now (b .entry)) depth earlier later) ⌝ }
     ensures left { λ _. ⌜ now (bounds .exit)
-        ≡ BoundsAnswer·left (Moves·windowCoverOf (now (moves .entry)) (now (b .entry)) depth earlier later) (now (bounds .entry)) ⌝ }
-    ensures kept { λ r. ⌜ KeptWindowCover (now (moves .entry)) (now (b .entry)) depth (record { earlier = earlier; later = later })
+        ≡ BoundsAnswer·left (Moves·windowCoverOf (Moves·asked (now (moves .entry))) (now (b .entry)) depth earlier later) (now (bounds .entry)) ⌝ }
+    ensures kept { λ r. ⌜ KeptWindowCover (Moves·asked (now (moves .entry))) (now (b .entry)) depth (record { earlier = earlier; later = later })
         r (now (bounds .entry)) (now (bounds .exit)) ⌝ }
-    ensures contains_motion { λ r. ⌜ (r ≡ 0 → KeptWindowContainsMotion (now (moves .entry)) (Bounds3f·ofList (now (b .entry)))
+    ensures contains_motion { λ r. ⌜ (r ≡ 0 → KeptWindowContainsMotion (Moves·asked (now (moves .entry))) (Bounds3f·ofList (now (b .entry)))
         (record { earlier = earlier; later = later }) (Bounds3f·ofList (now (bounds .exit)))) ⌝ }
-    ensures finer { λ r. ⌜ (r ≡ 0 → KeptWindowFiner (now (moves .entry)) (Bounds3f·ofList (now (b .entry))) depth
+    ensures finer { λ r. ⌜ (r ≡ 0 → KeptWindowFiner (Moves·asked (now (moves .entry))) (Bounds3f·ofList (now (b .entry))) depth
         (record { earlier = earlier; later = later }) (Bounds3f·ofList (now (bounds .exit)))) ⌝ }
 {
     let w = Window { earlier, later };
     lent_arrays::put_bounds(
-        window_cover::cover(moves, lent_arrays::bounds(b), depth, w),
+        window_cover::cover(moves_asked::asked(moves), lent_arrays::bounds(b), depth, w),
         bounds,
     )
 }
 
 // Puts the windows between neighbouring ticks, counted from 0, in which the covers of two chains meet into the first places, 0 into the others, and gives
-// how many there are. Refused with 21 of the ticks, 6 and 7 of each box, 8, then 5 or 10, and with 12 where a chain has no moves. Accuracy: encloses.
+// how many there are. Refused with 21 of the ticks, 6 and 7 of each box, 8, then 5 or 10, and with 12 where either is no chain. Accuracy: encloses.
 #[no_mangle]
 pub extern "C" fn jellyplain_moves_windows(
     moves: &[[[f32; 4]; 45]],
@@ -531,21 +540,21 @@ pub extern "C" fn jellyplain_moves_windows(
     places: &mut [u32; 63],
 ) -> Windows
     ensures refusal { λ r. ⌜ r .refusal ≡ WindowsAnswer·refusal
-        (Moves·windowsOf (now (moves .entry)) (now (others .entry)) (now (b .entry)) (now (other .entry)) depth (now (ticks .entry))) ⌝ }
+        (Moves·windowsOf (Moves·asked (now (moves .entry))) (Moves·asked (now (others .entry))) (now (b .entry)) (now (other .entry)) depth (now (ticks .entry))) ⌝ }
     ensures count { λ r. ⌜ r .count ≡ length (WindowsAnswer·windows
-        (Moves·windowsOf (now (moves .entry)) (now (others .entry)) (now (b .entry)) (now (other .entry)) depth (now (ticks .entry)))) ⌝ }
+        (Moves·windowsOf (Moves·asked (now (moves .entry))) (Moves·asked (now (others .entry))) (now (b .entry)) (now (other .entry)) depth (now (ticks .entry)))) ⌝ }
     ensures left { λ _. ⌜ now (places .exit) ≡ WindowsAnswer·left
-        (Moves·windowsOf (now (moves .entry)) (now (others .entry)) (now (b .entry)) (now (other .entry)) depth (now (ticks .entry))) (now (places .entry)) ⌝ }
-    ensures kept { λ r. ⌜ KeptWindows (now (moves .entry)) (now (others .entry)) (Bounds3f·ofList (now (b .entry))) (Bounds3f·ofList (now (other .entry)))
+        (Moves·windowsOf (Moves·asked (now (moves .entry))) (Moves·asked (now (others .entry))) (now (b .entry)) (now (other .entry)) depth (now (ticks .entry))) (now (places .entry)) ⌝ }
+    ensures kept { λ r. ⌜ KeptWindows (Moves·asked (now (moves .entry))) (Moves·asked (now (others .entry))) (Bounds3f·ofList (now (b .entry))) (Bounds3f·ofList (now (other .entry)))
         depth (now (ticks .entry)) (r .refusal) (r .count) (now (places .entry)) (now (places .exit)) ⌝ }
-    ensures apart { λ r. ⌜ (r .refusal ≡ 0 → KeptWindowsApart (now (moves .entry)) (now (others .entry)) (Bounds3f·ofList (now (b .entry)))
+    ensures apart { λ r. ⌜ (r .refusal ≡ 0 → KeptWindowsApart (Moves·asked (now (moves .entry))) (Moves·asked (now (others .entry))) (Bounds3f·ofList (now (b .entry)))
         (Bounds3f·ofList (now (other .entry))) (now (ticks .entry)) (take (r .count) (now (places .exit)))) ⌝ }
-    ensures finer { λ r. ⌜ (r .refusal ≡ 0 → KeptWindowsFiner (now (moves .entry)) (now (others .entry)) (Bounds3f·ofList (now (b .entry)))
+    ensures finer { λ r. ⌜ (r .refusal ≡ 0 → KeptWindowsFiner (Moves·asked (now (moves .entry))) (Moves·asked (now (others .entry))) (Bounds3f·ofList (now (b .entry)))
         (Bounds3f·ofList (now (other .entry))) depth (now (ticks .entry)) (take (r .count) (now (places .exit)))) ⌝ }
 {
     window_pairs::list_windows(
-        moves,
-        others,
+        moves_asked::asked(moves),
+        moves_asked::asked(others),
         lent_arrays::bounds(b),
         lent_arrays::bounds(other),
         depth,
