@@ -3,3 +3,4 @@ pub mod Stored
 pub mod Finite
 pub mod Pose
 pub mod Cases
+pub mod Operands

@@ -45,9 +45,8 @@ fn scaled(first: Transform, scale: Matrix4x4) -> TransformAnswer
     }
 }
 
-// pbrt's last line: Transform::translate(&trans) * rotate.into() * Transform::from_matrix(&scale). Refused with 4 or 5, whichever is met first.
-// Accuracy: each operation is correctly rounded.
-pub fn composed(trans: Vector3f, rotate: Quaternion, scale: Matrix4x4) -> TransformAnswer
+// Each thing that is finished is judged before the next, so that the first refusal stands.
+fn composed_in_order(trans: Vector3f, rotate: Quaternion, scale: Matrix4x4) -> TransformAnswer
     ensures value { λ r. ⌜ r ≡ composed trans rotate (Matrix4x4·toRows scale) ⌝ }
 {
     let translation = Transform::translate(trans);
@@ -63,6 +62,26 @@ pub fn composed(trans: Vector3f, rotate: Quaternion, scale: Matrix4x4) -> Transf
     } else {
         transform::refused(5)
     }
+}
+
+// pbrt's last line: Transform::translate(&trans) * rotate.into() * Transform::from_matrix(&scale). Refused with 4 or 5, whichever is met first.
+// What isn't finite stays so in sums and products: where the last product is finite and the scale has its inverse, all that stands before is finite.
+// Accuracy: each operation is correctly rounded.
+pub fn composed(trans: Vector3f, rotate: Quaternion, scale: Matrix4x4) -> TransformAnswer
+    ensures value { λ r. ⌜ r ≡ composed trans rotate (Matrix4x4·toRows scale) ⌝ }
+{
+    let translation = Transform::translate(trans);
+    let rotation = rotation::transform_from_quaternion(rotate);
+    let first = translation.mul(rotation);
+    let s = Transform::from_matrix(scale.to_rows());
+    let last = first.mul(s.transform);
+    if (s.refusal == 0) & is_finite(last) {
+        return TransformAnswer {
+            transform: last,
+            refusal: 0,
+        };
+    }
+    composed_in_order(trans, rotate, scale)
 }
 
 // The transform between the two poses: dt runs from 0 to 1.
