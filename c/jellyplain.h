@@ -286,11 +286,11 @@ JELLYPLAIN_CHECKED uint8_t jellyplain_moves_point(const jellyplain_move *moves, 
 JELLYPLAIN_CHECKED uint8_t jellyplain_moves_pad(const jellyplain_move *moves, size_t count, float time,
                                                 float pad[JELLYPLAIN_RESTRICT 1]);
 
-/* The transform at a time, of the move that the time belongs to: its matrix, and then its inverse. A boom that is driven
- * to it stands where jellyplain_moves_point says: the matrix applied to a point, each row's products with x, y, z and 1
- * added from the left in floats, is the point query's answer bit for bit. It may be refused where points are answered:
- * between two poses the scale on the way may have no inverse, 4, or the inverse may leave the range of floats, 5, and a
- * point needs no inverse.
+/* The transform at a time, of the move that the time belongs to: its matrix, and then its inverse. A boom that is
+ * driven to it stands where jellyplain_moves_point says: the matrix applied to a point, each row's products with x, y,
+ * z and 1 added from the left in floats, is the point query's answer bit for bit. It may be refused where points are
+ * answered: between two poses the scale on the way may have no inverse, 4, or the inverse may leave the range of
+ * floats, 5, and a point needs no inverse.
  * Refused with 12 for no chain; 6; 4 or 5. */
 JELLYPLAIN_CHECKED uint8_t jellyplain_moves_interpolate(const jellyplain_move *moves, size_t count, float time,
                                                         float transform[JELLYPLAIN_RESTRICT 2][4][4]);
