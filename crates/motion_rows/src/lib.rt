@@ -315,6 +315,19 @@ pub fn constants_from_rows(rows: &[[f32; 4]; 45]) -> PoseConstants
     }
 }
 
+// The scale of a kept move's first pose, and of its second. Accuracy: exact.
+pub fn start_scale(rows: &[[f32; 4]; 45]) -> Matrix4x4
+    ensures value { λ r. ⌜ r ≡ AnimatedTransform·fromRows (now (rows .entry)) .s0 ⌝ }
+{
+    matrix_at(rows, 20)
+}
+
+pub fn end_scale(rows: &[[f32; 4]; 45]) -> Matrix4x4
+    ensures value { λ r. ⌜ r ≡ AnimatedTransform·fromRows (now (rows .entry)) .s1 ⌝ }
+{
+    matrix_at(rows, 24)
+}
+
 // `motion_point::moved_point` of a kept move, which reads the rows that it needs and no others; refused with 5 where a finished value isn't finite.
 // Accuracy: each operation but sine and cosine is correctly rounded.
 pub fn moved_point(rows: &[[f32; 4]; 45], time: f32, p: Point3f) -> PointAnswer

@@ -1,3 +1,4 @@
 mod Combination
 pub mod Near
 pub mod Far
+pub mod Arc

@@ -6,7 +6,7 @@ ghost use mathlib.Core.Path.{_≡_};
 ghost use Rattle.pose_steps.specs.Pose.{PoseConstants·new, Pose·slerpNear, Pose·slerpFar, Pose·slerp};
 ghost use Rattle.pose_steps.specs.Enclose.{IntervalQuaternion·point, Pose·encloseSlerpNear, Pose·encloseSlerpFar, Pose·encloseSlerp};
 ghost use Rattle.interval.specs.Interval.{Interval·point};
-ghost use Rattle.pose_slerp.specs.means.Unjudged.{Perpendicular·of, IntervalQuaternion·combination};
+ghost use Rattle.pose_slerp.specs.means.Unjudged.{Perpendicular·of, Quaternion·turned, IntervalQuaternion·combination};
 ghost use Rattle.pose_slerp.specs.means.Unjudged.{IntervalQuaternion·squared, IntervalQuaternion·quotient};
 use interval::Interval;
 use interval_unjudged::ends_sum;
@@ -65,28 +65,28 @@ pub fn slerp_near(q1: Quaternion, q2: Quaternion, t: f32) -> Quaternion
     Quaternion { v, w: w / n }
 }
 
+// p cos + q sin. Accuracy: each operation is correctly rounded.
+pub fn turned(p: Quaternion, q: Quaternion, sin: f32, cos: f32) -> Quaternion
+    ensures value { λ r. ⌜ r ≡ Quaternion·turned p q sin cos ⌝ }
+{
+    let v = Vector3f {
+        x: p.v.x * cos + q.v.x * sin,
+        y: p.v.y * cos + q.v.y * sin,
+        z: p.v.z * cos + q.v.z * sin,
+    };
+    Quaternion {
+        v,
+        w: p.w * cos + q.w * sin,
+    }
+}
+
 // pbrt's `slerp` where it isn't linear: the arc from q1 towards q2, through theta t. Accuracy: each operation but sine and cosine is correctly rounded.
 pub fn slerp_far(q1: Quaternion, q2: Quaternion, cos_theta: f32, theta: f32, t: f32) -> Quaternion
     ensures value { λ r. ⌜ r ≡ Pose·slerpFar q1 q2 «cos_theta» theta t ⌝ }
 {
-    let thetap = theta * t;
-    let x = q2.v.x - q1.v.x * cos_theta;
-    let y = q2.v.y - q1.v.y * cos_theta;
-    let z = q2.v.z - q1.v.z * cos_theta;
-    let w = q2.w - q1.w * cos_theta;
-    let n = square_root::sqrt(x * x + y * y + z * z + w * w);
-    let angle = trig::sin_cos(thetap);
-    let c = angle.cos;
-    let s = angle.sin;
-    let v = Vector3f {
-        x: q1.v.x * c + x / n * s,
-        y: q1.v.y * c + y / n * s,
-        z: q1.v.z * c + z / n * s,
-    };
-    Quaternion {
-        v,
-        w: q1.w * c + w / n * s,
-    }
+    let perp = perpendicular_to(q1, q2, cos_theta);
+    let angle = trig::sin_cos(theta * t);
+    turned(q1, perp.q, angle.sin, angle.cos)
 }
 
 // pbrt's `slerp` of a move's two rotations, linear where their dot product is above 0.9995. Accuracy: each operation but sine and cosine is correctly rounded.

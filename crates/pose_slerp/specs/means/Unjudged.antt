@@ -1,5 +1,5 @@
 -- The parts of `slerp` with no interval judged: a combination of two quaternions, a squared length, a quotient;
--- and the quaternion that far slerp turns the first one to, in floats. Definitions only.
+-- and in floats the quaternion that far slerp turns the first one to, and the first one turned. Definitions only.
 use lib.Ieee.{Float, binary32}
 use Rattle.square_root.specs.SquareRoot.{sqrt}
 use Rattle.float32.specs.Operators.{_⊕_, _⊖_, _⊗_, _⊘_}
@@ -43,3 +43,11 @@ Perpendicular·of q1 q2 cosTheta =
     let w = q2 .w ⊖ q1 .w ⊗ cosTheta in
     let n = length x y z w in
     record { q = record { v = record { x = x ⊘ n; y = y ⊘ n; z = z ⊘ n }; w = w ⊘ n }; length = n }
+
+-- q1 * thetap.cos() + qperp * thetap.sin()
+abbrev pub Quaternion·turned : Quaternion → Quaternion → Float → Float → Quaternion
+Quaternion·turned p q sin cos =
+    record {
+      v = record { x = p .v .x ⊗ cos ⊕ q .v .x ⊗ sin; y = p .v .y ⊗ cos ⊕ q .v .y ⊗ sin; z = p .v .z ⊗ cos ⊕ q .v .z ⊗ sin };
+      w = p .w ⊗ cos ⊕ q .w ⊗ sin;
+    }
