@@ -1,6 +1,6 @@
 -- The guarantee for a window, `window-contains`. A time of the window belongs to one of the chain's moves (`chosen`), and
 -- by where it lies in that move one of the window's boxes holds the moved point, less and plus its pad too (`some-box`):
--- the box of equal poses, a pose's box, or the piece of the share that dt lies in.
+-- the box of equal poses, a pose's box, or the piece of the share that dt lies in (`window-box`, with that it lies in the cover).
 use Prim.Native.Nat.{ℕ}
 use mathlib.Core.Path.{_≡_, refl, sym, subst, _∙_}
 use mathlib.Core.Bool.{Bool, true, false, not, cond, _&&_, _||_, true≢false}
@@ -13,7 +13,7 @@ use borrow.Author.Tests.{eqb-true}
 use Rattle.refusal.proofs.First.{first-zero}
 use Rattle.refusal.specs.First.{firstRefusal}
 use Rattle.rounding.specs.Order.{_≼_, Number}
-use Rattle.rounding.proofs.Order.{≼-trans, number-left, number-right, finite-number, not-lt-≼, or-left, or-right}
+use Rattle.rounding.proofs.Order.{≼-trans, lt-≼, number-left, number-right, finite-number, not-lt-≼, or-left, or-right}
 use Rattle.bounds3.specs.declared.Point3f.{Point3f}
 use Rattle.bounds3.specs.declared.Bounds3f.{Bounds3f}
 use Rattle.bounds3.specs.Bounds3f.{Bounds3f·default}
@@ -24,7 +24,7 @@ use Rattle.bounds3.proofs.Union.{subset-trans}
 use Rattle.transform.specs.declared.PointAnswer.{PointAnswer}
 use Rattle.transform.specs.declared.BoundsAnswer.{BoundsAnswer}
 use Rattle.transform.specs.declared.BoundsAnswer.the-variants.{Bounds, Refused}
-use Rattle.transform.specs.Answer.{BoundsAnswer·bounds}
+use Rattle.transform.specs.Answer.{BoundsAnswer·refusal, BoundsAnswer·bounds}
 use Rattle.bounds_query.specs.Query.{coverRefusal}
 use Rattle.bounds_query.specs.Zeros.{BoundsAnswer·positiveZeros}
 use Rattle.bounds_query.proofs.Accepted.{refusal-accepted}
@@ -36,7 +36,7 @@ use Rattle.pose_steps.specs.Pose.{Pose·movedPoint}
 use Rattle.pose_steps.specs.Enclose.{Bounds3f·intervals}
 use Rattle.pose_steps.proofs.Box.{inside-encloses, point-finite}
 use Rattle.animated_transform.specs.declared.AnimatedTransform.{AnimatedTransform}
-use Rattle.animated_transform.specs.Built.{AnimatedTransform·Judged}
+use Rattle.animated_transform.specs.Built.{Built, AnimatedTransform·Judged}
 use Rattle.animated_transform.proofs.Built.{built-judged}
 use Rattle.motion_point.specs.TransformPoint.{AnimatedTransform·constants, AnimatedTransform·movedPoint}
 use Rattle.motion_point.proofs.Built.{built-valid, built-scales}
@@ -45,6 +45,7 @@ use Rattle.motion_point.proofs.PadAt.{pad-at-equal, pad-at-start, pad-at-end, p
 use Rattle.motion_pad.specs.Pad.{Pad·at}
 use Rattle.motion_point.proofs.Query.{moved-point-start, moved-point-end, moved-point-between, transform-point-accepted}
 use Rattle.motion_cover.specs.Cover.{AnimatedTransform·encloseBounds}
+use Rattle.motion_cover.specs.Theorem.{MovedInside}
 use Rattle.motion_cover.proofs.Contains.{Holds, moved-wider, piece-contains, stored-contains, larger-judged, cover-box}
 use Rattle.motion_cover.proofs.Zeros.{zeros-around}
 use Rattle.bounds_answers.specs.UnionAll.{Each}
@@ -57,10 +58,10 @@ use Rattle.window_times.specs.declared.Window.{Window}
 use Rattle.window_times.specs.Window.{Window·refusal, Window·contains, Window·overlaps, Window·asksFirst, Window·asksEnd, Window·belongs}
 use Rattle.chain_window.specs.Cover.{movesIn, staysIn, sliceBoxes, firstPoseBoxes, endPoseBoxes, equalPoseBoxes, startBox}
 use Rattle.chain_window.specs.Cover.{endBox, equalBox, boxesFrom, windowBoxes, Chain·encloseWindow, Chain·windowCover}
-use Rattle.chain_window.specs.Theorem.{InWindow, WindowContainsMotion}
+use Rattle.chain_window.specs.Theorem.{InWindow, BuiltMoves, built-chain, built-move, WindowContainsMotion}
 use Rattle.chain_window.proofs.Members.{member-if}
 use Rattle.chain_window.proofs.Parts.{default-valued, union-parts}
-use Rattle.chain_window.proofs.Boxes.{Rising, chain-rising, move-part, boxes-valued, window-valued}
+use Rattle.chain_window.proofs.Boxes.{Rising, move-part, boxes-valued, window-valued}
 use Rattle.chain_window.proofs.Numbers.{window-numbered}
 
 -- ---- comparisons
@@ -84,10 +85,10 @@ record Chosen (time : Float) (from-first : Bool) (m : AnimatedTransform) (moves 
   is-first : first ≡ true → (from-first ≡ true) × (moveFrom m moves time ≡ m)
   after : first ≡ false → le time (moveFrom m moves time .«start_time») ≡ false
   until : last ≡ false → le time (moveFrom m moves time .«end_time») ≡ true
-  rising : Rising (moveFrom m moves time)
+  built : Built (moveFrom m moves time)
 
 module _ (time : Float) where
-  chosen : (from-first : Bool) (s : Float) (m : AnimatedTransform) (moves : List AnimatedTransform) → Each Rising (m ∷ moves) → Contiguous s (m ∷ moves)
+  chosen : (from-first : Bool) (s : Float) (m : AnimatedTransform) (moves : List AnimatedTransform) → Each Built (m ∷ moves) → Contiguous s (m ∷ moves)
       → (from-first ≡ false → le time (m .«start_time») ≡ false) → Chosen time from-first m moves
   unfolding moveFrom boxesFrom
   chosen f s m [] (h, _) c a = record {
@@ -97,7 +98,7 @@ module _ (time : Float) where
     is-first = λ e. (e, refl);
     after = a;
     until = λ e. absurd (true≢false e);
-    rising = h;
+    built = h;
   }
   chosen f s m (next ∷ moves) (h, hs) (e, r, c) a = go (le time (m .«end_time»)) refl (λ k. chosen false (m .«end_time») next moves hs c (λ _. rw (c .0) k))
     where
@@ -112,7 +113,7 @@ module _ (time : Float) where
             is-first = λ q. (q, x);
             after = λ q. rw x (a q);
             until = λ _. rw x k;
-            rising = rw x h;
+            built = rw x h;
           }
       go false k later =
           let x : moveFrom m (next ∷ moves) time ≡ moveFrom next moves time = unfold moveFrom in rw k in
@@ -126,8 +127,25 @@ module _ (time : Float) where
             is-first = λ q. absurd (true≢false (sym (l .is-first q .0)));
             after = λ q. rw x (l .after q);
             until = λ q. rw x (l .until q);
-            rising = rw x (l .rising);
+            built = rw x (l .built);
           }
+
+  moves-chosen : {c : Chain} → BuiltMoves c → Chosen time true (c .first) (c .rest)
+  unfolding moveFrom boxesFrom
+  moves-chosen {c} (built-chain b) =
+      let k = built-moves b in
+      chosen true (c .first .«start_time») (c .first) (c .rest) (k .each) (k .contiguous) (λ e. absurd (true≢false e))
+  moves-chosen (built-move m e h) =
+      let own : Chosen time true m [] = record {
+        first = true;
+        last = true;
+        member = λ boxes r i. Memᴰ·append-left [] i;
+        is-first = λ q. (q, refl);
+        after = λ q. absurd (true≢false q);
+        until = λ q. absurd (true≢false q);
+        built = h;
+      } in
+      subst (λ (x : Chain). Chosen time true (x .first) (x .rest)) (sym e) own
 
 -- ---- a box of the window that holds the moved point, with its pad
 record SomeBox (answers : List BoundsAnswer) (pad : Float) (point : PointAnswer) : Type 0 where
@@ -161,7 +179,7 @@ module _ (c : Chain) (b : Bounds3f) (d : ℕ) (w : Window) (r : BoundsAnswer) wh
   unfolding windowBoxes
   in-equals m = Memᴰ·append-right (slices ++ firstPoseBoxes b w (c .first) ++ ends) m
 
-module _ {c : Chain} (built : BuiltChain c) (b : Bounds3f) (fb : T (Bounds3f·isFinite b)) (d : ℕ)
+module _ {c : Chain} (built : BuiltMoves c) (b : Bounds3f) (fb : T (Bounds3f·isFinite b)) (d : ℕ)
     (w : Window) (time : Float) (t : InWindow w time) (p : Point3f) (i : Inside b p) where
   abbrev x : AnimatedTransform
   x = moveFrom (c .first) (c .rest) time
@@ -173,13 +191,13 @@ module _ {c : Chain} (built : BuiltChain c) (b : Bounds3f) (fb : T (Bounds3f·is
   here = AnimatedTransform·padAt x time
 
   h : Chosen time true (c .first) (c .rest)
-  h = chosen time true (c .first .«start_time») (c .first) (c .rest) (chain-rising built) (built-moves built .contiguous) (λ e. absurd (true≢false e))
+  h = moves-chosen time built
 
   start-number : Number (x .«start_time»)
-  start-number = finite-number (x .«start_time») (built-judged (h .rising .built) .start-time)
+  start-number = finite-number (x .«start_time») (built-judged (h .built) .start-time)
 
   end-number : Number (x .«end_time»)
-  end-number = finite-number (x .«end_time») (built-judged (h .rising .built) .end-time)
+  end-number = finite-number (x .«end_time») (built-judged (h .built) .end-time)
 
   starts-before : le time (x .«start_time») ≡ false → T (lt (x .«start_time») (w .later))
   starts-before e = above (w .later) (x .«start_time») (number-right (t .until)) start-number (λ k. not-below e (≼-trans (t .until) k))
@@ -247,17 +265,19 @@ module _ {c : Chain} (built : BuiltChain c) (b : Bounds3f) (fb : T (Bounds3f·is
       (Pose·movedPoint (AnimatedTransform·constants x) (x .s0) (x .s1) (dt (x .«start_time») (x .«end_time») time) p)
   unfolding sliceBoxes
   during-box a e f =
-      let r = h .rising in
-      let j = built-judged (r .built) in
+      let j = built-judged (h .built) in
       let n = number-right (t .from) in
+      let since = above time (x .«start_time») n start-number (not-below e) in
+      let before = above (x .«end_time») time end-number n (not-below f) in
+      let rise = above (x .«end_time») (x .«start_time») end-number start-number (λ k. not-below f (≼-trans k (lt-≼ (x .«start_time») time since))) in
+      let r : Rising x = record { built = h .built; rises = rise } in
       let part = move-part r w (≼-trans (t .from) (t .until)) in
       let inShare =
       share-contains (x .«start_time») (x .«end_time») (j .start-time) (j .start-binary32)
       (j .end-time) (j .end-binary32) (j .duration) (r .rises) (w .earlier) (w .later)
-      (≼-trans (t .from) (t .until)) time (t .from) (t .until)
-      (above time (x .«start_time») n start-number (not-below e)) (above (x .«end_time») time end-number n (not-below f)) in
+      (≼-trans (t .from) (t .until)) time (t .from) (t .until) since before in
       let q = pieces-cover d part inShare in
-      let (s0, s1) = built-scales (r .built) in
+      let (s0, s1) = built-scales (h .built) in
       let box : Interval → BoundsAnswer = λ D. AnimatedTransform·encloseBounds x (AnimatedTransform·constants x) D b in
       let test : T (movesIn w x) =
       and-i (x .«actually_animated») (Window·overlaps w (x .«start_time») (x .«end_time»)) (rw a tt)
@@ -265,7 +285,7 @@ module _ {c : Chain} (built : BuiltChain c) (b : Bounds3f) (fb : T (Bounds3f·is
       record {
         answer = box (q .piece);
         member = member-if (movesIn w x) test (Memᴰ·map box (q .member));
-        holds = piece-contains x (AnimatedTransform·constants x) (built-valid (r .built)) s0 s1
+        holds = piece-contains x (AnimatedTransform·constants x) (built-valid (h .built)) s0 s1
             (j .pad0) (j .pad1) b p fb i (q .piece) (dt (x .«start_time») (x .«end_time») time)
             (pieces-part d part (q .piece) (q .member) .unit .subset) (q .contains);
       }
@@ -274,7 +294,7 @@ module _ {c : Chain} (built : BuiltChain c) (b : Bounds3f) (fb : T (Bounds3f·is
   some-box = go (x .«actually_animated») (le time (x .«start_time»)) (le (x .«end_time») time) refl refl refl
     where
       j : AnimatedTransform·Judged x
-      j = built-judged (h .rising .built)
+      j = built-judged (h .built)
 
       same : {pad : Float} {q : PointAnswer} {r : BoundsAnswer} → here ≡ pad → point ≡ q → Holds r pad q → Holds r here point
       same {pad} {q} {r} f e k = subst (λ (y : Float). Holds r y point) (sym f) (subst (Holds r pad) (sym e) k)
@@ -335,9 +355,18 @@ window-accepted c b d w box = go (eqb n 0) (eqb-true n 0)
         record { window = k; arguments = a; worked = z .before; work = z .worked; around = subst (Subset (z .before)) (z .zeros) (zeros-around v) }
     go false f e = absurd (refused-bounds n box e)
 
-pub window-contains : (c : Chain) (b : Bounds3f) (d : ℕ) (w : Window) → WindowContainsMotion c b w (Chain·windowCover c b d w)
+-- A box of the window, of those whose union is its cover, that holds the moved point, less and plus its pad too.
+pub record WindowBox (c : Chain) (b : Bounds3f) (d : ℕ) (w : Window) (pad : Float) (point : PointAnswer) : Type 0 where
+  pub box : Bounds3f
+  pub member : List·Memᴰ (Bounds box) (windowBoxes c b d w)
+  pub subset : Subset box (BoundsAnswer·bounds (Chain·windowCover c b d w))
+  pub moved : MovedInside box pad point
+
+pub window-box : (c : Chain) (b : Bounds3f) (d : ℕ) (w : Window) (time : Float) (p : Point3f)
+    → BuiltMoves c → BoundsAnswer·refusal (Chain·windowCover c b d w) ≡ 0 → InWindow w time → Inside b p
+    → WindowBox c b d w (Chain·padAt c time) (Chain·transformPoint c time p)
 unfolding Chain·transformPoint Chain·padAt Chain·moveAt Chain·encloseWindow
-window-contains c b d w time p built e t i =
+window-box c b d w time p built e t i =
     let box = BoundsAnswer·bounds (Chain·windowCover c b d w) in
     let a = window-accepted c b d w box (window-numbered c b d w .none e) in
     let B = cover-box b d (a .arguments) in
@@ -349,4 +378,12 @@ window-contains c b d w time p built e t i =
     let q = s .holds .holds (v .box) (v .accepted) in
     let finite = finite-test (point-finite (Bounds3f·intervals b) p (inside-encloses b f i)) in
     let same = transform-point-accepted m time p (is-false (isNan time) (number-right (t .from))) (is-true (Point3f·isFinite p) finite) in
-    rw same (moved-wider (subset-trans (v .subset) (a .around)) q)
+    record {
+      box = v .box;
+      member = subst (λ (r : BoundsAnswer). List·Memᴰ r (windowBoxes c b d w)) (v .accepted) (s .member);
+      subset = subset-trans (v .subset) (a .around);
+      moved = rw same q;
+    }
+
+pub window-contains : (c : Chain) (b : Bounds3f) (d : ℕ) (w : Window) → WindowContainsMotion c b w (Chain·windowCover c b d w)
+window-contains c b d w time p built e t i = let s = window-box c b d w time p (built-chain built) e t i in moved-wider (s .subset) (s .moved)

@@ -1,5 +1,6 @@
 -- A finer cover of a window is never a wider one: `window-finer`. Only slices depend on the depth,
--- and a piece of a deeper cut lies in a piece of the shallower one.
+-- and a piece of a deeper cut lies in a piece of the shallower one: where each box at a depth lies in a box of some kind, so does each at a greater
+-- depth, `boxes-finer`.
 use Prim.Native.Nat.{ℕ, _+_, _≤_}
 use mathlib.Core.Logic.{inl, inr}
 use mathlib.Core.Path.{_≡_, refl, subst, _∙_}
@@ -43,23 +44,33 @@ use Rattle.chain_window.proofs.Boxes.{Rising, chain-rising, move-part, 
 use Rattle.chain_window.proofs.Contains.{in-slices, in-first, in-ends, in-equals, window-accepted}
 use Rattle.chain_window.proofs.Numbers.{window-numbered}
 
-module _ (b : Bounds3f) (ok : BoxRefines b) (w : Window) (rise : w .earlier ≼ w .later) (d n : ℕ) (box : Bounds3f) where
-  slices-finer : (first last : Bool) (m : AnimatedTransform) → Rising m → ((r : BoundsAnswer) → List·Memᴰ r (sliceBoxes b d w m) → BoxWithin r box)
-      → (r : BoundsAnswer) → List·Memᴰ r (sliceBoxes b (d + n) w m) → BoxWithin r box
+-- The answer is a box and lies in a box of a kind: in one box alone, or in one of the boxes at the lesser depth.
+pub record WithinSome (Kind : Bounds3f → Type 0) (r : BoundsAnswer) : Type 0 where
+  pub whole : Bounds3f
+  pub kind : Kind whole
+  pub within : BoxWithin r whole
+
+module _ (b : Bounds3f) (ok : BoxRefines b) (w : Window) (rise : w .earlier ≼ w .later) (d n : ℕ) (Kind : Bounds3f → Type 0) where
+  slices-finer : (first last : Bool) (m : AnimatedTransform) → Rising m → ((r : BoundsAnswer) → List·Memᴰ r (sliceBoxes b d w m) → WithinSome Kind r)
+      → (r : BoundsAnswer) → List·Memᴰ r (sliceBoxes b (d + n) w m) → WithinSome Kind r
   unfolding sliceBoxes
   slices-finer first last m h coarse r i =
       let f : Interval → BoundsAnswer = λ D. AnimatedTransform·encloseBounds m (AnimatedTransform·constants m) D b in
       let part = move-part h w rise in
       let (t, k) = member-only (map f (pieces (d + n) (shareIn w m))) (movesIn w m) i in
       let (D, j, e) = Memᴰ·of-map f (pieces (d + n) (shareIn w m)) k in
-      let whole = pieces-finer d n part D j in
-      let u = pieces-part d part (whole .piece) (whole .member) .unit .subset in
-      subst (λ (x : BoundsAnswer). BoxWithin x box) e
-      (piece-isotone (h .built) b ok D (whole .piece) box (whole .subset) u
-      (coarse (f (whole .piece)) (member-if (movesIn w m) t (Memᴰ·map f (whole .member)))))
+      let cut = pieces-finer d n part D j in
+      let u = pieces-part d part (cut .piece) (cut .member) .unit .subset in
+      let v = coarse (f (cut .piece)) (member-if (movesIn w m) t (Memᴰ·map f (cut .member))) in
+      record {
+        whole = v .whole;
+        kind = v .kind;
+        within = subst (λ (x : BoundsAnswer). BoxWithin x (v .whole)) e
+            (piece-isotone (h .built) b ok D (cut .piece) (v .whole) (cut .subset) u (v .within));
+      }
 
-  boxes-finer : {c : Chain} → BuiltChain c → ((r : BoundsAnswer) → List·Memᴰ r (windowBoxes c b d w) → BoxWithin r box)
-      → (r : BoundsAnswer) → List·Memᴰ r (windowBoxes c b (d + n) w) → BoxWithin r box
+  pub boxes-finer : {c : Chain} → BuiltChain c → ((r : BoundsAnswer) → List·Memᴰ r (windowBoxes c b d w) → WithinSome Kind r)
+      → (r : BoundsAnswer) → List·Memᴰ r (windowBoxes c b (d + n) w) → WithinSome Kind r
   unfolding windowBoxes
   boxes-finer {c} built coarse r i =
       let slices = boxesFrom (λ first last m. sliceBoxes b (d + n) w m) true (Chain·moves c) in
@@ -69,7 +80,7 @@ module _ (b : Bounds3f) (ok : BoxRefines b) (w : Window) (rise : w .earlier ≼ 
         | inl j ↦ elim (List·Memᴰ·append-cases poses j) [
           | inl k ↦ elim (List·Memᴰ·append-cases slices k) [
             | inl l ↦
-                boxes-along Rising (λ s. BoxWithin s box) (λ first last m. sliceBoxes b d w m)
+                boxes-along Rising (WithinSome Kind) (λ first last m. sliceBoxes b d w m)
                 (λ first last m. sliceBoxes b (d + n) w m) slices-finer true (Chain·moves c)
                 (chain-rising built) (λ s m. coarse s (in-slices c b d w s m)) r l
             | inr l ↦ coarse r (in-first c b d w r l)
@@ -87,7 +98,10 @@ window-box-finer {c} built b w d n box rise l e =
     let B = cover-box b d (a .arguments) in
     let ok = box-refines b B in
     let (empty, coarse) = union-parts (Bounds Bounds3f·default) (windowBoxes c b d w) (a .worked) default-valued (boxes-valued c b d w) (a .work) in
-    let fine = boxes-finer b ok w rise d n (a .worked) built coarse in
+    let whole : (r : BoundsAnswer) → List·Memᴰ r (windowBoxes c b d w) → WithinSome (λ (x : Bounds3f). x ≡ a .worked) r =
+    λ r m. record { whole = a .worked; kind = refl; within = coarse r m } in
+    let fine : (r : BoundsAnswer) → List·Memᴰ r (windowBoxes c b (d + n) w) → BoxWithin r (a .worked) =
+    λ r m. let v = boxes-finer b ok w rise d n (λ (x : Bounds3f). x ≡ a .worked) built whole r m in subst (BoxWithin r) (v .kind) (v .within) in
     let f = union-all-within (a .worked) (Bounds Bounds3f·default) (windowBoxes c b (d + n) w) empty (each-member (windowBoxes c b (d + n) w) fine) in
     let v = window-valued c b (d + n) w .values (f .box) (f .accepted) in
     record {

@@ -18,10 +18,13 @@ use Rattle.bounds3.specs.Inside.{Inside}
 use Rattle.transform.specs.declared.BoundsAnswer.{BoundsAnswer}
 use Rattle.transform.specs.Answer.{BoundsAnswer·refusal, BoundsAnswer·bounds}
 use Rattle.bounds_query.specs.Query.{maxDepth}
+use Rattle.animated_transform.specs.declared.AnimatedTransform.{AnimatedTransform}
+use Rattle.animated_transform.specs.Built.{Built}
 use Rattle.motion_cover.specs.Theorem.{MovedInside}
 use Rattle.cover_depth.specs.Finer.{Within}
 use Rattle.motion_chain.specs.Chain.{Chain, Chain·transformPoint, Chain·padAt}
 use Rattle.motion_chain.specs.Built.{BuiltChain}
+use Rattle.motion_chain.specs.TwoPoses.{Chain·single}
 use Rattle.window_times.specs.declared.Window.{Window}
 use Rattle.chain_window.specs.Cover.{Chain·windowCover}
 
@@ -29,6 +32,11 @@ use Rattle.chain_window.specs.Cover.{Chain·windowCover}
 pub record InWindow (w : Window) (time : Float) : Type 0 where
   pub from : w .earlier ≼ time
   pub until : time ≼ w .later
+
+-- What building leaves: a chain, or a move by itself, whose two times may be equal.
+pub data BuiltMoves (c : Chain) : Type 0 where
+  built-chain : BuiltChain c → BuiltMoves c
+  built-move : (m : AnimatedTransform) → c ≡ Chain·single m → Built m → BuiltMoves c
 
 -- c is the chain, b the box of points, w the window, r what the query of its cover answered.
 abbrev pub WindowContainsMotion : Chain → Bounds3f → Window → BoundsAnswer → Type 0

@@ -12,18 +12,16 @@ use lib.Seq.{take-append-seam}
 use lib.Ieee.{Float}
 use Rattle.bounds3.specs.declared.Point3f.{Point3f}
 use Rattle.bounds3.specs.declared.Bounds3f.{Bounds3f}
-use Rattle.bounds3.specs.Inside.{Subset}
 use Rattle.bounds3.proofs.Union.{subset-inside}
 use Rattle.transform.specs.declared.PointAnswer.the-variants.{Moved}
 use Rattle.transform.specs.Answer.{OneOf, PointAnswer·point}
 use Rattle.transform.proofs.Answer.{one-of-cond}
 use Rattle.bounds_overlap.specs.Meets.{Bounds3f·meets}
 use Rattle.bounds_overlap.proofs.Overlap.{apart-inside}
-use Rattle.motion_pad.specs.Grow.{PaddedInside}
 use Rattle.motion_cover.specs.Theorem.{MovedInside}
 use Rattle.chain_rows.specs.Kept.{Moves·transformPoint, Moves·padAt}
 use Rattle.chain_rows.proofs.Contains.{kept-contains}
-use Rattle.window_meetings.specs.Theorem.{padded}
+use Rattle.window_meetings.proofs.Apart.{padded-subset}
 use Rattle.reached_rows.specs.Rows.{maxRows, rowsRefusal, metFrom, reachedRows, rowsLeft}
 use Rattle.reached_rows.specs.means.Named.{Named·Holds}
 use Rattle.reached_rows.specs.Theorem.{rowAt, RowsApart, KeptRowsApart}
@@ -50,15 +48,9 @@ not-met cover rows k h off = go (Bounds3f·meets cover (rowAt rows k)) refl
     go false e = refl
 
 -- ---- the two statements
-padded-subset : (cover : Bounds3f) (pad : Float) (q : Point3f) → PaddedInside cover pad q → Subset (padded pad (Moved q)) cover
-padded-subset cover pad q i =
-    let low = i .less in
-    let high = i .plus in
-    record { x = (low .x .0, high .x .1); y = (low .y .0, high .y .1); z = (low .z .0, high .z .1) }
-
 pub rows-apart : (cover : Bounds3f) (rows : List Bounds3f) → RowsApart cover rows (metFrom cover 0 rows)
 rows-apart cover rows k pad q p h off i at =
-    apart-inside cover (rowAt rows k) p (not-met cover rows k h off) (subset-inside (padded-subset cover pad q i) at)
+    apart-inside cover (rowAt rows k) p (not-met cover rows k h off) (subset-inside (padded-subset pad (Moved q) i) at)
 
 pub kept-rows-apart : (cover : Bounds3f) (rows : List Bounds3f) → KeptRowsApart cover rows (metFrom cover 0 rows)
 kept-rows-apart cover rows moves b depth k time p built none same h off number i =

@@ -12,16 +12,18 @@ use Rattle.bounds3.specs.declared.Point3f.{Point3f}
 use Rattle.bounds3.specs.declared.Bounds3f.{Bounds3f}
 use Rattle.bounds3.specs.Inside.{Subset}
 use Rattle.bounds3.proofs.Union.{subset-inside}
-use Rattle.transform.specs.Answer.{OneOf, BoundsAnswer·bounds}
+use Rattle.transform.specs.declared.PointAnswer.{PointAnswer}
+use Rattle.transform.specs.Answer.{OneOf, PointAnswer·point, BoundsAnswer·bounds}
 use Rattle.bounds_overlap.specs.Meets.{Bounds3f·meets}
 use Rattle.bounds_overlap.proofs.Overlap.{apart-inside}
+use Rattle.motion_pad.specs.Grow.{PaddedInside}
 use Rattle.motion_cover.specs.Theorem.{MovedInside}
 use Rattle.motion_chain.specs.Chain.{Chain, Chain·transformPoint, Chain·padAt}
 use Rattle.chain_window.specs.Cover.{Chain·windowCover}
 use Rattle.chain_window.proofs.Contains.{window-contains}
 use Rattle.window_meetings.specs.Windows.{windowsOf, windowsRefusal, WindowsAnswer, listed, refused}
 use Rattle.window_meetings.specs.Windows.{WindowsAnswer·refusal, WindowsAnswer·windows, windowsFrom, Chain·windows}
-use Rattle.window_meetings.specs.Theorem.{reached, Apart, tickWindow, WindowsApart}
+use Rattle.window_meetings.specs.Theorem.{padded, reached, Apart, tickWindow, WindowsApart}
 use Rattle.window_meetings.proofs.Listed.{window-listed}
 use Rattle.window_meetings.proofs.Numbers.{windows-numbered}
 
@@ -50,12 +52,15 @@ windows-accepted c c' b b' d ticks = go (eqb n 0) (eqb-true n 0) (eqb-false n 0)
     go false f g e h = absurd (g refl (rw (same false e) at h))
 
 -- ---- where a boom's point may be
-moved-reached : (c : Chain) (time : Float) (p : Point3f) {box : Bounds3f}
-    → MovedInside box (Chain·padAt c time) (Chain·transformPoint c time p) → Subset (reached c time p) box
-moved-reached c time p m =
-    let low = m .inside .less in
-    let high = m .inside .plus in
+pub padded-subset : {box : Bounds3f} (pad : Float) (answer : PointAnswer) → PaddedInside box pad (PointAnswer·point answer) → Subset (padded pad answer) box
+padded-subset pad answer m =
+    let low = m .less in
+    let high = m .plus in
     record { x = (low .x .0, high .x .1); y = (low .y .0, high .y .1); z = (low .z .0, high .z .1) }
+
+pub moved-reached : (c : Chain) (time : Float) (p : Point3f) {box : Bounds3f}
+    → MovedInside box (Chain·padAt c time) (Chain·transformPoint c time p) → Subset (reached c time p) box
+moved-reached c time p m = padded-subset (Chain·padAt c time) (Chain·transformPoint c time p) (m .inside)
 
 pub windows-apart : (c c' : Chain) (b b' : Bounds3f) (d : ℕ) (ticks : List Float) → WindowsApart c c' b b' d ticks
 windows-apart c c' b b' d ticks k time p p' built built' e l off t i i' =

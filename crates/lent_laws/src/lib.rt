@@ -1,0 +1,1 @@
+// No code: laws of lent places of which the first are written.
