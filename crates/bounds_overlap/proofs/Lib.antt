@@ -1,2 +1,3 @@
 -- Laws of boxes that meet.
 pub mod Overlap
+pub mod Wider

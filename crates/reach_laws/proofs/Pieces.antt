@@ -32,11 +32,12 @@ use Rattle.chain_window.proofs.Boxes.{boxes-valued}
 use Rattle.chain_window.proofs.Contains.{window-accepted, window-box}
 use Rattle.chain_window.proofs.Numbers.{window-numbered}
 use Rattle.chain_window.proofs.Finer.{window-rises, WithinSome, boxes-finer}
-use Rattle.window_meetings.proofs.Meets.{meets-mono}
+use Rattle.bounds_overlap.proofs.Wider.{meets-mono}
 use Rattle.window_meetings.proofs.Apart.{moved-reached}
-use Rattle.reach_laws.specs.Reach.{some, meetsRow}
+use Rattle.reach_laws.specs.Reach.{meetsRow}
 use Rattle.reach_laws.specs.Theorem.{Dry}
-use Rattle.reach_laws.proofs.Some.{some-of, some-found}
+use Rattle.reach_rows.specs.Named.{some}
+use Rattle.reach_rows.proofs.Some.{some-of, some-found}
 
 -- ---- dry
 pub row-dry : (c : Chain) (b : Bounds3f) (d : ℕ) (w : Window) (row : Bounds3f) (time : Float) (p : Point3f)

@@ -17,13 +17,9 @@ use Rattle.tick_list.specs.Ticks.{Ticks·refusal}
 use Rattle.window_times.specs.declared.Window.{Window}
 use Rattle.chain_window.specs.Cover.{windowBoxes, Chain·windowCover}
 use Rattle.window_meetings.specs.Windows.{windowsOf}
+use Rattle.reach_rows.specs.Named.{some, maxRows}
 
 -- ---- a row in a window
-
--- The test holds of some item.
-unfoldable pub some : {A : Type 0} → (A → Bool) → List A → Bool
-some test [] = false
-some test (x ∷ xs) = test x || some test xs
 
 -- "meets it on all three axes, touching included"; what is refused meets nothing
 abbrev pub meetsRow : Bounds3f → BoundsAnswer → Bool
@@ -50,9 +46,6 @@ maskOf test (w ∷ ws) = maskOf test ws * 2 + cond (test w) 1 0
 
 abbrev pub maxBoxes : ℕ
 maxBoxes = 16
-
-abbrev pub maxRows : ℕ
-maxRows = 256
 
 -- "14 no boxes or more than 16; 14 no rows or more than 256"
 unfoldable pub countRefusal : ℕ → ℕ → ℕ

@@ -25,7 +25,7 @@ use Rattle.chain_window.proofs.Finer.{window-finer}
 use Rattle.window_meetings.specs.Windows.{windowsOf, windowsRefusal, WindowsAnswer, listed, WindowsAnswer·refusal}
 use Rattle.window_meetings.specs.Windows.{WindowsAnswer·windows, windowsFrom, Chain·windows}
 use Rattle.window_meetings.specs.Theorem.{NoneAdded, WindowsFiner}
-use Rattle.window_meetings.proofs.Meets.{meets-mono}
+use Rattle.bounds_overlap.proofs.Wider.{meets-mono}
 use Rattle.window_meetings.proofs.Listed.{cons-listed, first-taken}
 use Rattle.window_meetings.proofs.Apart.{windows-accepted}
 

@@ -1,4 +1,3 @@
-pub mod Meets
 pub mod Listed
 pub mod Numbers
 pub mod Apart

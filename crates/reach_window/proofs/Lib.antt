@@ -1,0 +1,4 @@
+pub mod Poses
+pub mod Walk
+pub mod Number
+pub mod Names
