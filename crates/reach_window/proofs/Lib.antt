@@ -2,3 +2,4 @@ pub mod Poses
 pub mod Walk
 pub mod Number
 pub mod Names
+pub mod Clauses

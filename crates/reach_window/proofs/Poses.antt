@@ -3,11 +3,11 @@
 use Prim.Native.Nat.{ℕ, zero, suc, _+_, _-_, _*_, _^_, _≤_, _<_}
 use mathlib.Core.Path.{_≡_, refl, sym, ap, subst, _∙_}
 use mathlib.Core.Bool.{Bool, true, false, cond}
-use mathlib.Core.List.{List, [], _∷_, _++_, map, map-append}
+use mathlib.Core.List.{List, [], _∷_, _++_, map, map-append, append-assoc, append-nil}
 use native.Mathlib.Nat.{pow-suc}
 use native.Mathlib.Omega.{arith}
 use native.Mathlib.Numerals.{add-one}
-use borrow.Author.Tests.{ltb-true, ltb-false, lt-ltb, le-ltb}
+use borrow.Author.Tests.{ltb-true, ltb-false, lt-ltb, le-ltb, ne-eqb}
 use lib.Dec.{eqb, ltb}
 use lib.ListN.{length, getD, take, drop, length-append, length-map, List·getD-append, List·getD-map, drop-of-length-le}
 use lib.Seq.{getD-append-add, take-suc, take-all, drop-cons}
@@ -29,6 +29,9 @@ use Rattle.dt_share.specs.Share.{lowerHalf, upperHalf, pieces}
 use Rattle.window_times.specs.declared.Window.{Window}
 use Rattle.window_times.specs.Window.{Window·asksFirst, Window·asksEnd}
 use Rattle.chain_window.specs.Cover.{movesIn, shareIn, staysIn, sliceBoxes, firstPoseBoxes, endPoseBoxes, equalPoseBoxes, boxesFrom, windowBoxes, isNil}
+use Rattle.motion_rows.specs.Rows.{AnimatedTransform·fromRows}
+use Rattle.chain_rows.specs.Kept.{Moves·chain}
+use Rattle.window_cover.proofs.Union.{last-at, moves-all}
 use Rattle.reach_window.specs.means.Poses.{pieceAt, poseOver, piecePoses, slicePoses, storedPoses, stagePoses, posesFrom, windowPoses}
 
 -- ---- poses and boxes
@@ -157,7 +160,7 @@ module _ {d k : ℕ} {i : Interval} {n rest : ℕ} {part : Interval} (h : Halvin
       let below = h .below in
       record {
         below = upper-below n rest some below (omega (arith, l, e)) e;
-        same = rw (s, e) (sym (halve n rest part some ∙ rw (le-ltb (2 ^ (n - 1)) rest (omega (arith, l, e)))) ∙ h .same);
+        same = rw (s, e) (sym (halve n rest part some ∙ rw (le-ltb rest (2 ^ (n - 1)) (omega (arith, l, e)))) ∙ h .same);
       }
     where
       upper-below : (n rest : ℕ) → (n ≡ 0 → ⊥) → rest < 2 ^ n → 2 ^ (n - 1) ≤ rest → half ≡ 2 ^ (n - 1) → rest - half < 2 ^ (n - 1)
@@ -187,3 +190,56 @@ pieces-all m d k i h =
     let l = pieces-length d i in
     let s = length-map (pieces d i) (poseOver m) in
     take-all k (piecePoses m d i) (omega (arith, h, l, s))
+
+-- ---- the slices of a move
+module _ (d : ℕ) (w : Window) (m : AnimatedTransform) where
+  pub slices-asked : movesIn w m ≡ true → slicePoses d w m ≡ piecePoses m d (shareIn w m)
+  unfolding slicePoses
+  slices-asked e = rw e
+
+  pub slices-none : movesIn w m ≡ false → slicePoses d w m ≡ []
+  unfolding slicePoses
+  slices-none e = rw e
+
+-- ---- a pass over the moves
+module _ (poses : Bool → Bool → AnimatedTransform → List PaddedPose) (moves : List Rows) where
+  -- What the moves from a place on bring.
+  abbrev pub restFrom : ℕ → List PaddedPose
+  restFrom i = posesFrom poses (eqb i 0) (map AnimatedTransform·fromRows (drop i moves))
+
+  -- What the move at a place brings.
+  abbrev pub ownAt : ℕ → List PaddedPose
+  ownAt i = poses (eqb i 0) (eqb (i + 1) (length moves)) (AnimatedTransform·fromRows (getD moves i []))
+
+  rest-split : (i : ℕ) (first : Bool) → i < length moves
+      → posesFrom poses first (map AnimatedTransform·fromRows (drop i moves))
+      ≡ poses first (isNil (map AnimatedTransform·fromRows (drop (suc i) moves))) (AnimatedTransform·fromRows (getD moves i []))
+      ++ posesFrom poses false (map AnimatedTransform·fromRows (drop (suc i) moves))
+  unfolding posesFrom
+  rest-split i first h = rw (drop-cons moves i [] h)
+
+  pub rest-next : (i : ℕ) → i < length moves → restFrom i ≡ ownAt i ++ restFrom (i + 1)
+  rest-next i h =
+      let n : i + 1 ≡ suc i = omega arith in
+      let z : eqb (suc i) 0 ≡ false = ne-eqb (suc i) 0 (λ k. absurd (omega (arith, k))) in
+      let rest = posesFrom poses false (map AnimatedTransform·fromRows (drop (suc i) moves)) in
+      let later : restFrom (i + 1) ≡ rest =
+      ap restFrom n ∙ ap (λ (f : Bool). posesFrom poses f (map AnimatedTransform·fromRows (drop (suc i) moves))) z in
+      rest-split i (eqb i 0) h
+      ∙ ap (λ (l : Bool). poses (eqb i 0) l (AnimatedTransform·fromRows (getD moves i [])) ++ rest) (last-at moves i h)
+      ∙ ap (λ (l : List PaddedPose). ownAt i ++ l) (sym later)
+
+  pub rest-last : (i : ℕ) → length moves ≤ i → restFrom i ≡ []
+  unfolding posesFrom
+  rest-last i h = rw (drop-of-length-le moves {i = i} h)
+
+-- ---- the passes in a row
+pub window-passes : (moves : List Rows) (d : ℕ) (w : Window) → (length moves ≡ 0 → ⊥)
+    → windowPoses (Moves·chain moves) d w
+    ≡ posesFrom (stagePoses d w 0) true (map AnimatedTransform·fromRows moves)
+    ++ storedPoses (Window·asksFirst w (AnimatedTransform·fromRows (getD moves 0 []) .«start_time»)) (AnimatedTransform·fromRows (getD moves 0 []) .pad0)
+    (AnimatedTransform·fromRows (getD moves 0 []) .«start_transform»)
+    ++ posesFrom (stagePoses d w 1) true (map AnimatedTransform·fromRows moves)
+    ++ posesFrom (stagePoses d w 2) true (map AnimatedTransform·fromRows moves)
+unfolding windowPoses Moves·chain
+window-passes moves d w some = rw (moves-all moves some)

@@ -56,16 +56,12 @@ fn piece(dt: Interval, d: u32, k: u64) -> Interval
         n -= 1;
         let half = 1u64 << n;
         let mid = part.midpoint();
+        let low = part.low;
+        let high = part.high;
         if rest < half {
-            part = Interval {
-                low: part.low,
-                high: mid,
-            };
+            part = Interval { low, high: mid };
         } else {
-            part = Interval {
-                low: mid,
-                high: part.high,
-            };
+            part = Interval { low: mid, high };
             rest -= half;
         }
     }
@@ -264,7 +260,10 @@ pub fn name_rows(
     ensures names { λ r. ⌜ r .names ≡ Moves·windowNames (now (moves .entry)) (map Bounds3f·ofList (now (boxes .entry))) depth w (map Bounds3f·ofList (now (rows .entry))) ⌝ }
 {
     let n = boxes.len();
-    if (n == 0) | (n > MAX_BOXES) | (rows.len() > MAX_ROWS) {
+    if (n == 0) | (n > MAX_BOXES) {
+        return none(14);
+    }
+    if rows.len() > MAX_ROWS {
         return none(14);
     }
     if moves.len() == 0 {

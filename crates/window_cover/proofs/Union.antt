@@ -30,7 +30,7 @@ eqb-suc i n = go (eqb (i + 1) n) (eqb-true (i + 1) n) (eqb-false (i + 1) n)
     go true f g = let e = f refl in sym (eq-eqb (suc i + 1) (suc n) (omega (arith, e)))
     go false f g = sym (ne-eqb (suc i + 1) (suc n) (λ e. g refl (omega (arith, e))))
 
-last-at : (moves : List Rows) (i : ℕ) → i < length moves → isNil (map AnimatedTransform·fromRows (drop (suc i) moves)) ≡ eqb (i + 1) (length moves)
+pub last-at : (moves : List Rows) (i : ℕ) → i < length moves → isNil (map AnimatedTransform·fromRows (drop (suc i) moves)) ≡ eqb (i + 1) (length moves)
 last-at [] i h = absurd (omega (arith, h))
 last-at (m ∷ []) zero h = sym (eq-eqb (0 + 1) (length (m ∷ [])) refl)
 last-at (m ∷ x ∷ moves) zero h = sym (ne-eqb (0 + 1) (length (m ∷ x ∷ moves)) (λ e. absurd (omega (arith, e))))
@@ -72,7 +72,7 @@ module _ (boxes : Bool → Bool → AnimatedTransform → List BoundsAnswer) whe
   pass-end r moves i h = rw (drop-of-length-le moves {i = i} h)
 
 -- ---- the passes in a row
-moves-all : (rows : List Rows) → (length rows ≡ 0 → ⊥) → Chain·moves (Moves·chain rows) ≡ map AnimatedTransform·fromRows rows
+pub moves-all : (rows : List Rows) → (length rows ≡ 0 → ⊥) → Chain·moves (Moves·chain rows) ≡ map AnimatedTransform·fromRows rows
 unfolding Moves·chain
 moves-all [] h = absurd (h refl)
 moves-all (m ∷ rows) h = refl
