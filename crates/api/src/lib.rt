@@ -40,6 +40,9 @@ ghost use Rattle.chain_trial.specs.Theorem.{TrialContainsMotion};
 ghost use Rattle.chain_build.specs.Build.{ChainAnswer·left};
 ghost use Rattle.chain_join.specs.Rows.{Moves·joinRefusal, Moves·joinLeft};
 ghost use Rattle.chain_join.specs.Theorem.{Joined};
+ghost use Rattle.cut_laws.specs.Cut.{cutRefusal, Bounds3f·cut};
+ghost use Rattle.cut_laws.specs.Theorem.{PartsWithin, PartsCover};
+ghost use Rattle.reach_kept.specs.Kept.{Moves·reachRefusal, Moves·reachLeft, KeptReachDry, KeptReachDryAlways, KeptReachFiner, KeptReachCovered};
 ghost use Rattle.reached_rows.specs.Rows.{rowsRefusal, reachedRows, rowsLeft};
 ghost use Rattle.reached_rows.specs.Theorem.{RowsApart, KeptRowsApart};
 ghost use Rattle.refused_run.specs.Run.{shortestRun};
@@ -599,4 +602,45 @@ pub extern "C" fn jellyplain_reached_rows(
         → KeptRowsApart (Bounds3f·ofList (now (cover .entry))) (map Bounds3f·ofList (now (rows .entry))) (take (r .count) (now (places .exit)))) ⌝ }
 {
     reached_rows::list_rows(lent_arrays::bounds(cover), rows, places)
+}
+
+// Puts the n parts of a box, 1 to 16, along its longest axis into the first places; those behind them stay as they came. Each part lies in the box, and every point
+// of the box is inside one. Refused with 14 for no parts or more than 16, then with 6 and 7 of the box. Accuracy: each operation is correctly rounded.
+#[no_mangle]
+pub extern "C" fn jellyplain_cut(b: &[f32; 6], n: u32, parts: &mut [[f32; 6]; 16]) -> u8
+    ensures refusal { λ r. ⌜ r ≡ cutRefusal (Bounds3f·ofList (now (b .entry))) n ⌝ }
+    ensures left { λ _. ⌜ now (parts .exit) ≡ Bounds3f·cut (Bounds3f·ofList (now (b .entry))) n (now (parts .entry)) ⌝ }
+    ensures parts_within { λ r. ⌜ (r ≡ 0 → PartsWithin (Bounds3f·ofList (now (b .entry))) n (now (parts .exit))) ⌝ }
+    ensures parts_cover { λ r. ⌜ (r ≡ 0 → PartsCover (Bounds3f·ofList (now (b .entry))) n (now (parts .exit))) ⌝ }
+{
+    cut_parts::cut(lent_arrays::bounds(b), n, parts)
+}
+
+// Puts one mask a row into the first places: bit w is 1 exactly when the row is named in window w between neighbouring ticks, counted from 0, that is where one of
+// the boxes whose union is the window's cover, for one of 1 to 16 boxes, meets it, touching included. Places behind the rows' stay as they came. In a window in
+// which a row isn't named no padded point of the boom is in it. Refused with 12 for no moves, 14 for no boxes or more than 16, 14 for no rows or more than 256, 21
+// of the ticks, 6 and 7 of the boxes, 6 and 7 of the rows, 8, then window by window and box by box with the number of that window's cover. Accuracy: encloses.
+#[no_mangle]
+pub extern "C" fn jellyplain_moves_reach(
+    moves: &[[[f32; 4]; 45]],
+    boxes: &[[f32; 6]],
+    depth: u32,
+    ticks: &[f32],
+    rows: &[[f32; 6]],
+    masks: &mut [u64; 256],
+) -> u8
+    ensures refusal { λ r. ⌜ r ≡ Moves·reachRefusal (now (moves .entry)) (map Bounds3f·ofList (now (boxes .entry))) depth
+        (now (ticks .entry)) (map Bounds3f·ofList (now (rows .entry))) ⌝ }
+    ensures left { λ _. ⌜ now (masks .exit) ≡ Moves·reachLeft (now (moves .entry)) (map Bounds3f·ofList (now (boxes .entry))) depth
+        (now (ticks .entry)) (map Bounds3f·ofList (now (rows .entry))) (now (masks .entry)) ⌝ }
+    ensures dry { λ r. ⌜ (r ≡ 0 → KeptReachDry (now (moves .entry)) (map Bounds3f·ofList (now (boxes .entry)))
+        (now (ticks .entry)) (map Bounds3f·ofList (now (rows .entry))) (now (masks .exit))) ⌝ }
+    ensures dry_always { λ r. ⌜ (r ≡ 0 → KeptReachDryAlways (now (moves .entry)) (map Bounds3f·ofList (now (boxes .entry)))
+        (now (ticks .entry)) (map Bounds3f·ofList (now (rows .entry))) (now (masks .exit))) ⌝ }
+    ensures finer { λ r. ⌜ (r ≡ 0 → KeptReachFiner (now (moves .entry)) (map Bounds3f·ofList (now (boxes .entry))) depth
+        (now (ticks .entry)) (map Bounds3f·ofList (now (rows .entry))) (now (masks .exit))) ⌝ }
+    ensures covered { λ r. ⌜ (r ≡ 0 → KeptReachCovered (now (moves .entry)) (map Bounds3f·ofList (now (boxes .entry))) depth
+        (now (ticks .entry)) (map Bounds3f·ofList (now (rows .entry))) (now (masks .exit))) ⌝ }
+{
+    reach_kept::reach(moves, boxes, depth, ticks, rows, masks)
 }

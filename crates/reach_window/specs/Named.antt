@@ -24,13 +24,13 @@ Moves·coverNumber moves boxes depth w = stage (λ b. BoundsAnswer·refusal (Cha
 unfoldable pub Moves·windowRefusal : List Rows → List Bounds3f → ℕ → Window → List Bounds3f → ℕ
 Moves·windowRefusal moves boxes depth w rows =
     firstNumber (
-      countRefusal maxBoxes (length boxes)
-      ∷ cond (ltb maxRows (length rows)) 14 0
-      ∷ cond (eqb (length moves) 0) 12 0
-      ∷ Window·refusal w
-      ∷ stage (λ b. coverRefusal b depth) boxes
-      ∷ Moves·coverNumber moves boxes depth w
-      ∷ [])
+    countRefusal maxBoxes (length boxes)
+    ∷ cond (ltb maxRows (length rows)) 14 0
+    ∷ cond (eqb (length moves) 0) 12 0
+    ∷ Window·refusal w
+    ∷ stage (λ b. coverRefusal b depth) boxes
+    ∷ Moves·coverNumber moves boxes depth w
+    ∷ [])
 
 -- Which rows are named, false behind them.
 abbrev pub windowNames : List Rows → List Bounds3f → ℕ → Window → List Bounds3f → List Bool

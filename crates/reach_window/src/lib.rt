@@ -108,8 +108,7 @@ fn take_pieces(
     let mut reached = front;
     let mut k = 0u64;
     while k < pieces {
-        let pose =
-            motion_piece::padded_enclosure(a, m.s0, m.s1, m.pad0, m.pad1, piece(dt, d, k));
+        let pose = motion_piece::padded_enclosure(a, m.s0, m.s1, m.pad0, m.pad1, piece(dt, d, k));
         let next = take_pose(pose, boxes, rows, reached, names);
         reached = next;
         k += 1;
@@ -156,7 +155,13 @@ fn take_stored(
     if !asked {
         return front;
     }
-    take_pose(motion_piece::stored_enclosure(pad, t), boxes, rows, front, names)
+    take_pose(
+        motion_piece::stored_enclosure(pad, t),
+        boxes,
+        rows,
+        front,
+        names,
+    )
 }
 
 // What the move at a place brings in a stage of the work, 0 slices, 1 the pose at its end, 2 equal poses. Accuracy: encloses.

@@ -13,6 +13,9 @@ use Rattle.window_cover.proofs.Kept.{kept-window-numbered}
 use Rattle.window_meetings.proofs.Numbers.{windows-numbered}
 use Rattle.window_pairs.proofs.Kept.{kept-windows-numbered}
 use Rattle.reached_rows.proofs.Numbers.{rows-number}
+use Rattle.cut_laws.proofs.Numbers.{cut-number}
+use Rattle.reach_laws.proofs.Numbers.{reach-numbers}
+use Rattle.reach_kept.proofs.Numbers.{kept-reach-number}
 use Rattle.run_schedule.proofs.Accepted.{day-number}
 use Rattle.refusal_numbers.specs.Chain.{EveryChainAnswer}
 use Rattle.refusal_numbers.proofs.Chain.{building-numbered}
@@ -49,4 +52,7 @@ every-chain-answer = record {
   rows-windows = kept-windows-numbered;
   day = day-number;
   reached = rows-number;
+  reach = reach-numbers;
+  rows-reach = kept-reach-number;
+  cut = cut-number;
 }

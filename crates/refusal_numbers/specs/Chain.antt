@@ -27,6 +27,9 @@ use Rattle.changed_chain.specs.Trial.{Chain·try}
 use Rattle.chain_trial.specs.Try.{Moves·try}
 use Rattle.chain_join.specs.Rows.{Moves·joinRefusal}
 use Rattle.reached_rows.specs.Rows.{rowsRefusal}
+use Rattle.cut_laws.specs.Cut.{cutRefusal}
+use Rattle.reach_laws.specs.Reach.{Chain·reachRefusal}
+use Rattle.reach_kept.specs.Kept.{Moves·reachRefusal}
 use Rattle.refused_run.specs.Run.{shortestRun}
 use Rattle.window_times.specs.declared.Window.{Window}
 use Rattle.chain_window.specs.Cover.{Chain·windowCover}
@@ -53,7 +56,7 @@ abbrev pub trialNumbers : Bool → List ℕ
 trialNumbers rigid = 0 ∷ 1 ∷ 2 ∷ 3 ∷ 4 ∷ 5 ∷ 6 ∷ 7 ∷ 8 ∷ 10 ∷ 12 ∷ 16 ∷ 19 ∷ kindNumbers rigid
 
 -- document 01's numbers, and document 02's: 12 and 16 of building, 17 and 18 of building as rigid, 13 of a list of times,
--- 14 of a set and of rows, 19 of a place, 20 of joining, 21 of ticks, 22 of a day
+-- 14 of a set, of rows and of parts, 19 of a place, 20 of joining, 21 of ticks, 22 of a day
 pub record EveryChainAnswer : Type 0 where
   pub building : (rigid : Bool) (poses : List Pose) → ChainAnswer·Numbered (buildingNumbers rigid) (Chain·new rigid poses)
   pub point : (c : Chain) (time : Float) (p : Point3f) → PointAnswer·Numbered (0 ∷ 5 ∷ 6 ∷ []) (Chain·transformPoint c time p)
@@ -95,3 +98,9 @@ pub record EveryChainAnswer : Type 0 where
   pub day : (booms : List Boom) → OneOf (dayRefusal booms) (0 ∷ 6 ∷ 7 ∷ 22 ∷ [])
   -- the rows that a boom reaches
   pub reached : (cover : Bounds3f) (rows : List Bounds3f) → OneOf (rowsRefusal cover rows) (0 ∷ 6 ∷ 7 ∷ 14 ∷ [])
+  -- which rows, and when, of a chain and of a kept one, whatever its rows; a box in parts
+  pub reach : (c : Chain) (boxes : List Bounds3f) (depth : ℕ) (ticks : List Float) (rows : List Bounds3f)
+      → OneOf (Chain·reachRefusal c boxes depth ticks rows) (0 ∷ 5 ∷ 6 ∷ 7 ∷ 8 ∷ 10 ∷ 14 ∷ 21 ∷ [])
+  pub rows-reach : (moves : List Rows) (boxes : List Bounds3f) (depth : ℕ) (ticks : List Float) (rows : List Bounds3f)
+      → OneOf (Moves·reachRefusal moves boxes depth ticks rows) (0 ∷ 5 ∷ 6 ∷ 7 ∷ 8 ∷ 10 ∷ 12 ∷ 14 ∷ 21 ∷ [])
+  pub cut : (b : Bounds3f) (n : ℕ) → OneOf (cutRefusal b n) (0 ∷ 6 ∷ 7 ∷ 14 ∷ [])

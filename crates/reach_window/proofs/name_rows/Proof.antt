@@ -80,9 +80,14 @@ take-window-requires c κs =
     let c5 = c4 .before in let c6 = c5 .before in let c7 = c6 .before in let c8 = c7 .before in
     let a = c8 .before .args in
     let ticks = sym (c5 .refusal .ensures) ∙ c4 .if4 .left in
-    let (some, few) = boxes-counted (length (a .boxes .now)) (c8 .if1 .left) in
-    (c6 .if3 .left, (depth-passed (a .moves .now) (a .boxes .now) (a .depth) (a .w) (a .rows .now) (c8 .if1 .left) (c7 .if2 .left) (c6 .if3 .left)
-    ticks (c3 .judged .ensures) (c1 .if5 .left) some, few))
+    let (some, few) = boxes-counted (length (a .boxes .now)) (c8 .if1 .left) in (
+      c6 .if3 .left,
+      (
+        depth-passed (a .moves .now) (a .boxes .now) (a .depth) (a .w) (a .rows .now) (c8 .if1 .left) (c7 .if2 .left) (c6 .if3 .left)
+            ticks (c3 .judged .ensures) (c1 .if5 .left) some,
+        few,
+      ),
+    )
 
 none-requires-6 : tie.Need-none-requires-6
 none-requires-6 c κs = search needs
