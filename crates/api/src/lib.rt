@@ -618,7 +618,7 @@ pub extern "C" fn jellyplain_cut(b: &[f32; 6], n: u32, parts: &mut [[f32; 6]; 16
 
 // Puts one mask a row into the first places: bit w is 1 exactly when the row is named in window w between neighbouring ticks, counted from 0, that is where one of
 // the boxes whose union is the window's cover, for one of 1 to 16 boxes, meets it, touching included. Places behind the rows' stay as they came. In a window in
-// which a row isn't named no padded point of the boom is in it. Refused with 12 for no moves, 14 for no boxes or more than 16, 14 for no rows or more than 256, 21
+// which a row isn't named no padded point of the boom is in it. Refused with 12 for no chain, 14 for no boxes or more than 16, 14 for no rows or more than 256, 21
 // of the ticks, 6 and 7 of the boxes, 6 and 7 of the rows, 8, then window by window and box by box with the number of that window's cover. Accuracy: encloses.
 #[no_mangle]
 pub extern "C" fn jellyplain_moves_reach(
@@ -629,18 +629,18 @@ pub extern "C" fn jellyplain_moves_reach(
     rows: &[[f32; 6]],
     masks: &mut [u64; 256],
 ) -> u8
-    ensures refusal { λ r. ⌜ r ≡ Moves·reachRefusal (now (moves .entry)) (map Bounds3f·ofList (now (boxes .entry))) depth
+    ensures refusal { λ r. ⌜ r ≡ Moves·reachRefusal (Moves·asked (now (moves .entry))) (map Bounds3f·ofList (now (boxes .entry))) depth
         (now (ticks .entry)) (map Bounds3f·ofList (now (rows .entry))) ⌝ }
-    ensures left { λ _. ⌜ now (masks .exit) ≡ Moves·reachLeft (now (moves .entry)) (map Bounds3f·ofList (now (boxes .entry))) depth
+    ensures left { λ _. ⌜ now (masks .exit) ≡ Moves·reachLeft (Moves·asked (now (moves .entry))) (map Bounds3f·ofList (now (boxes .entry))) depth
         (now (ticks .entry)) (map Bounds3f·ofList (now (rows .entry))) (now (masks .entry)) ⌝ }
-    ensures dry { λ r. ⌜ (r ≡ 0 → KeptReachDry (now (moves .entry)) (map Bounds3f·ofList (now (boxes .entry)))
+    ensures dry { λ r. ⌜ (r ≡ 0 → KeptReachDry (Moves·asked (now (moves .entry))) (map Bounds3f·ofList (now (boxes .entry)))
         (now (ticks .entry)) (map Bounds3f·ofList (now (rows .entry))) (now (masks .exit))) ⌝ }
-    ensures dry_always { λ r. ⌜ (r ≡ 0 → KeptReachDryAlways (now (moves .entry)) (map Bounds3f·ofList (now (boxes .entry)))
+    ensures dry_always { λ r. ⌜ (r ≡ 0 → KeptReachDryAlways (Moves·asked (now (moves .entry))) (map Bounds3f·ofList (now (boxes .entry)))
         (now (ticks .entry)) (map Bounds3f·ofList (now (rows .entry))) (now (masks .exit))) ⌝ }
-    ensures finer { λ r. ⌜ (r ≡ 0 → KeptReachFiner (now (moves .entry)) (map Bounds3f·ofList (now (boxes .entry))) depth
+    ensures finer { λ r. ⌜ (r ≡ 0 → KeptReachFiner (Moves·asked (now (moves .entry))) (map Bounds3f·ofList (now (boxes .entry))) depth
         (now (ticks .entry)) (map Bounds3f·ofList (now (rows .entry))) (now (masks .exit))) ⌝ }
-    ensures covered { λ r. ⌜ (r ≡ 0 → KeptReachCovered (now (moves .entry)) (map Bounds3f·ofList (now (boxes .entry))) depth
+    ensures covered { λ r. ⌜ (r ≡ 0 → KeptReachCovered (Moves·asked (now (moves .entry))) (map Bounds3f·ofList (now (boxes .entry))) depth
         (now (ticks .entry)) (map Bounds3f·ofList (now (rows .entry))) (now (masks .exit))) ⌝ }
 {
-    reach_kept::reach(moves, boxes, depth, ticks, rows, masks)
+    reach_kept::reach(moves_asked::asked(moves), boxes, depth, ticks, rows, masks)
 }
