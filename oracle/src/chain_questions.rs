@@ -7,6 +7,7 @@ use crate::day::{starting_ticks, Boom};
 use crate::file::File;
 use crate::judged::{point_values, Judged, Kind, Move};
 use crate::lines::{bounds, bytes, counted, float, floats, matrix, matrix_floats, parts, read, whole, Answer, Session, Values};
+use crate::reach::cut;
 use crate::rows::reached_rows;
 use crate::windows::Window;
 
@@ -39,6 +40,8 @@ const QUESTIONS: &[(&str, Question)] = &[
     ("wcover", window_cover),
     ("day", day),
     ("rows", rows),
+    ("reach", reach),
+    ("cut", parts_of_box),
 ];
 
 const SLOTS: usize = 4;
@@ -338,6 +341,32 @@ fn rows(_: &mut Slots, words: Words) -> Answer {
     Some(reached_rows(cover, rows).map(|met| met.iter().fold(Values::default().number(met.len()), |values, place| values.number(*place))))
 }
 
+/// So many things of so many floats each, and the floats behind them.
+fn counted_floats(values: &[f32], count: u64, size: usize) -> Option<(&[f32], &[f32])> {
+    values.split_at_checked(usize::try_from(count).ok()?.checked_mul(size)?)
+}
+
+/// reach S D NB NT NR, then the boxes, the ticks and the rows
+fn reach(slots: &mut Slots, words: Words) -> Answer {
+    let (slot, words) = slot(words)?;
+    let (depth, words) = first(words)?;
+    let (boxes_count, words) = first(words)?;
+    let (ticks_count, words) = first(words)?;
+    let (rows_count, words) = first(words)?;
+    let values = list(words)?;
+    let (boxes, values) = counted_floats(&values, boxes_count, 6)?;
+    let (ticks, values) = counted_floats(values, ticks_count, 1)?;
+    let (rows, []) = counted_floats(values, rows_count, 6)? else { return None };
+    let masks = slots.any(slot)?.reach(boxes.as_chunks().0, depth, ticks, rows.as_chunks().0);
+    Some(masks.map(|masks| masks.iter().fold(Values::default(), |values, mask| values.mask(*mask))))
+}
+
+/// cut N BOX
+fn parts_of_box(_: &mut Slots, words: Words) -> Answer {
+    let (count, words) = first(words)?;
+    Some(cut(&read(words)?, count).map(|parts| floats(parts.as_flattened())))
+}
+
 #[cfg(test)]
 mod tests {
     use super::*;
@@ -396,6 +425,13 @@ mod tests {
         assert_eq!(answers(&[&build, "cset 2 3"])[1], "refused 14");
         assert_eq!(words(&format!("day{}", format!(" {ORIGIN} {ORIGIN} 5").repeat(8))), 1 + 8);
         assert_eq!(answers(&["day", &format!("day {ORIGIN} {ORIGIN} 007 {ORIGIN} {ORIGIN} 1")]), ["refused 22", "ok 0 7"]);
+        assert_eq!(
+            words(&format!("reach 2 1 2 3 4{} 00000000 3f800000 40000000{}", format!(" {ORIGIN} {ORIGIN}").repeat(2), format!(" {ORIGIN} {ORIGIN}").repeat(4))),
+            1 + 4
+        );
+        assert_eq!(answers(&[&build, &format!("reach 2 1 1 2 1 {ORIGIN} {ORIGIN} 00000000 3f800000 {ORIGIN} {ORIGIN}")])[1], "ok 0000000000000001");
+        assert_eq!(answers(&[&build, "reach 2 1 0 0 0"])[1], "refused 14");
+        assert_eq!(words(&format!("cut 5 {ORIGIN} {ORIGIN}")), 1 + 5 * 6);
         assert_eq!(words(&format!("ctimes 2 6 {ORIGIN} 3f000000 3f800000")), 1 + 6);
         assert_eq!(words(&format!("ctimes 2 0 {ORIGIN}")), 1);
         assert_eq!(answers(&[&build, &format!("ctimes 2 18446744073709551615 {ORIGIN}")])[1], "refused 13");
@@ -474,6 +510,16 @@ mod tests {
             "rows 0",
             "rows 00000000 00000000 00000000 00000000 00000000",
             "rows 00000000 00000000 00000000 00000000 00000000 00000000 00000000",
+            "reach",
+            "reach 0 1 0 0",
+            "reach 0 1 0 0 1",
+            "reach 1 1 0 0 0",
+            "reach 0 1 1 0 0 00000000 00000000 00000000 00000000 00000000",
+            "reach 0 1 18446744073709551615 0 0",
+            "cut",
+            "cut 1",
+            "cut 1 00000000 00000000 00000000 00000000 00000000",
+            "cut x 00000000 00000000 00000000 00000000 00000000 00000000",
             "sin 00000000",
             "acosn",
             "acosn 0",

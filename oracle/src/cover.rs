@@ -27,7 +27,7 @@ const ONE: Interval = constant(1.0);
 const TWO: Interval = constant(2.0);
 
 /// Least and greatest of two: the first unless the other is strictly beyond it. No NaN comes here unless a refusal was met before.
-fn least(a: f32, b: f32) -> f32 {
+pub fn least(a: f32, b: f32) -> f32 {
     if b < a {
         b
     } else {

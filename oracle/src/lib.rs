@@ -1,5 +1,5 @@
 //! The oracle: pbrt-rust's `AnimatedTransform` and what it rests on, taken from the three source files by build.rs; around them document 01's numbers (`judged`),
-//! a second implementation of the cover (`cover`), document 02's chains (`chain`) and windows of times (`windows`), move files (`file`), days of booms (`day`), rows that a boom reaches (`rows`), and the questions of the programs `answers` (`move_questions`) and
+//! a second implementation of the cover (`cover`), document 02's chains (`chain`) and windows of times (`windows`), move files (`file`), days of booms (`day`), rows that a boom reaches (`rows`), boxes in parts and rows window by window (`reach`), and the questions of the programs `answers` (`move_questions`) and
 //! `chain_answers` (`chain_questions`), line by line (`lines`).
 
 /// pbrt-rust's own module tree, so that the paths in the three files hold: `transform`, `quaternion` and `geometry::bounds` are the originals, the rest is the shim.
@@ -36,6 +36,7 @@ pub mod lines;
 pub mod log;
 pub mod move_questions;
 pub mod num;
+pub mod reach;
 pub mod refusal;
 pub mod rows;
 pub mod windows;

@@ -68,6 +68,12 @@ impl Values {
         self
     }
 
+    /// A mask, sixteen hexadecimal digits.
+    pub fn mask(mut self, mask: u64) -> Values {
+        write!(self.0, " {mask:016x}").unwrap();
+        self
+    }
+
     /// Bytes, two hexadecimal digits each.
     pub fn bytes(mut self, bytes: &[u8]) -> Values {
         self.0.push(' ');

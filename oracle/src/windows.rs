@@ -14,6 +14,15 @@ pub struct Window {
     pub later: f32,
 }
 
+/// The windows between neighbouring ticks: 21 where a tick is NaN, there are too few, too many, or they don't rise.
+pub fn windows_of(ticks: &[f32]) -> Judged<Vec<Window>> {
+    let windows: Vec<Window> = ticks.windows(2).map(|pair| Window { earlier: pair[0], later: pair[1] }).collect();
+    if ticks.len() < 2 || ticks.len() > MOST_TICKS || !windows.iter().all(|w| w.earlier < w.later) {
+        return Err(TICKS);
+    }
+    Ok(windows)
+}
+
 /// Where a tick lies in a move, by the original's own formula, limited to 0 and 1.
 fn share_end(m: &Move, tick: f32) -> f32 {
     let f = &m.fields;
@@ -40,7 +49,7 @@ fn cut(low: f32, high: f32, times: u64, pieces: &mut Vec<[f32; 2]>) {
 
 impl Chain {
     /// The boxes of a window in working order: slices of all moves, poses, moves with equal poses.
-    fn window_boxes(&self, b: &[f32; 6], depth: u64, w: Window) -> Judged<Vec<[f32; 6]>> {
+    pub fn window_boxes(&self, b: &[f32; 6], depth: u64, w: Window) -> Judged<Vec<[f32; 6]>> {
         let mut boxes = Vec::new();
         let is_equal = |m: &Move| m.fields.start == m.fields.end;
         let last = self.moves.len() - 1;
@@ -83,10 +92,7 @@ impl Chain {
 
     /// The windows, from 0, in which the covers of two chains meet: 21, 6 and 7 of each box, 8, then each window's covers, this chain's first.
     pub fn windows(&self, other: &Chain, b: &[f32; 6], c: &[f32; 6], depth: u64, ticks: &[f32]) -> Judged<Vec<usize>> {
-        let windows: Vec<Window> = ticks.windows(2).map(|pair| Window { earlier: pair[0], later: pair[1] }).collect();
-        if ticks.len() < 2 || ticks.len() > MOST_TICKS || !windows.iter().all(|w| w.earlier < w.later) {
-            return Err(TICKS);
-        }
+        let windows = windows_of(ticks)?;
         cover::check_box(b)?;
         cover::check_box(c)?;
         if depth > MAX_DEPTH {

@@ -31,6 +31,15 @@ pub fn of_move(m: &Move) -> Chain {
     at_times(&m.times, &m.poses)
 }
 
+/// What a question that hands in poses builds of them.
+pub fn built(kind: Kind, question: &str, poses: &[Pose]) -> Option<chain::Chain> {
+    let poses: Vec<chain::Pose> = poses.iter().map(|p| chain::Pose { time: p.time, matrix: Matrix4x4::from_row_slice(&p.matrix), pad: p.pad }).collect();
+    match (question, <[chain::Pose; 2]>::try_from(poses.as_slice())) {
+        ("lone", Ok(pair)) => chain::Chain::lone(kind, &pair).ok(),
+        _ => chain::Chain::build(kind, &poses).ok(),
+    }
+}
+
 impl<W: Write> Questions<W> {
     /// The question that hands in poses. Tells whether they are built, so that there is something to ask of them.
     pub fn ask_poses(&mut self, question: &str, slot: usize, poses: &[Pose]) -> bool {
@@ -44,11 +53,7 @@ impl<W: Write> Questions<W> {
             Kind::Rigid => "rigid",
         };
         self.ask(&format!("{question} {slot} {word}"), &[&values]);
-        let poses: Vec<chain::Pose> = poses.iter().map(|p| chain::Pose { time: p.time, matrix: Matrix4x4::from_row_slice(&p.matrix), pad: p.pad }).collect();
-        match (question, <[chain::Pose; 2]>::try_from(poses.as_slice())) {
-            ("lone", Ok(pair)) => chain::Chain::lone(kind, &pair).is_ok(),
-            _ => chain::Chain::build(kind, &poses).is_ok(),
-        }
+        built(kind, question, poses).is_some()
     }
 
     pub fn ask_chain(&mut self, slot: usize, poses: &[Pose]) -> bool {

@@ -5,6 +5,7 @@
 mod chains;
 mod days;
 mod joins;
+mod reach;
 mod rigid;
 mod rows;
 mod sets;
@@ -576,6 +577,7 @@ const KINDS: &[&str] = &[
     "windows",
     "days",
     "rows",
+    "reach",
 ];
 
 /// A box that a matrix carries: turned about, mirrored, carried to infinity, with wp of zero and a bottom row that isn't 0 0 0 1.
@@ -1206,6 +1208,7 @@ fn main() {
         "stretches" => (stretches::fixed, stretches::random),
         "days" => (days::fixed, days::random),
         "rows" => (rows::fixed, rows::random),
+        "reach" => (reach::fixed, reach::random),
         _ => usage(),
     };
     // Each kind has numbers of its own, whatever the seed. A kind more leaves those of the others as they are.

@@ -25,7 +25,7 @@ fn shifted(chain: &[Pose], x: f32, y: f32, z: f32) -> Chain {
 }
 
 /// A swing with a rest in it, whose pads at the rest differ, so that the larger holds at its end too.
-fn padded_swing() -> Chain {
+pub fn padded_swing() -> Chain {
     let mut chain = swing_of_six();
     chain.iter_mut().zip([0.0, 2.0, -0.0, 1.5, 0.25, 3.0]).for_each(|(pose, pad)| pose.pad = pad);
     chain
@@ -162,7 +162,7 @@ pub fn fixed<W: Write>(q: &mut Questions<W>) {
 
 impl Random {
     /// Ticks of one chain or the other, mostly rising and few.
-    fn ticks(&mut self, chains: [&Chain; 2]) -> Vec<f32> {
+    pub fn ticks(&mut self, chains: [&Chain; 2]) -> Vec<f32> {
         let count = match self.below(24) {
             0 => self.pick(&[0, 1, MOST_TICKS, MOST_TICKS + 1]),
             1 | 2 => 10 + self.below(20),
@@ -178,7 +178,7 @@ impl Random {
     }
 
     /// A plain or a rigid chain, with rests in it at times.
-    fn either_chain(&mut self) -> (Kind, Chain) {
+    pub fn either_chain(&mut self) -> (Kind, Chain) {
         let (kind, mut chain) = if self.one_in(3) { (Kind::Rigid, self.rigid_chain()) } else { (Kind::Plain, self.chain()) };
         if chain.len() > 1 && self.one_in(3) {
             for _ in 0..1 + self.below(2) {
