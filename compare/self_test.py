@@ -35,6 +35,7 @@ WORDS = {
     "joins": "chain join ctimes",
     "stretches": "stretch",
     "arcs": "acosn",
+    "reach": "chain cut",
 }
 
 
@@ -75,6 +76,10 @@ def boxes_in(answer):
 
 def answer_of(boxes):
     return b" ".join([b"ok"] + [word for box in boxes for word in box])
+
+
+def masks_answer(masks):
+    return b" ".join([b"ok"] + [b"%016x" % mask for mask in masks])
 
 
 def union(boxes):
@@ -169,6 +174,33 @@ def changed(change, question, answer):
     if change == "row_left_off" and word == "rows" and answer.startswith(b"ok "):
         places = answer.split()[2:]
         return b" ".join([b"ok", b"%d" % (len(places) - 1)] + places[:-1]) if places else answer
+    if word == "reach" and answer.startswith(b"ok "):
+        masks, depth, windows = [int(mask, 16) for mask in answer.split()[1:]], int(values[2]), int(values[4]) - 1
+        every = 2 ** windows - 1
+        if change == "row_dry":
+            return masks_answer(mask & (mask - 1) for mask in masks)
+        if change == "next_window":
+            return masks_answer(mask << 1 & every for mask in masks)
+        if change == "every_window":
+            return masks_answer(every if mask else 0 for mask in masks)
+        if change == "rows_added" and depth > 2:
+            return masks_answer(every for mask in masks)
+        if change == "deep_refused" and depth > 2:
+            return b"refused 10"
+        if change == "one_row_short" and len(masks) > 1:
+            return masks_answer(masks[:-1])
+    if change == "windows_passed_over" and word == "reach" and answer in (b"refused 5", b"refused 10"):
+        return masks_answer([0] * int(values[5]))
+    if change == "other_refusal" and word == "reach" and answer in (b"refused 5", b"refused 10"):
+        return b"refused 5" if answer == b"refused 10" else b"refused 10"
+    if word == "cut" and answer.startswith(b"ok "):
+        parts = boxes_in(answer)
+        if change == "part_missing" and len(parts) > 1:
+            return answer_of(parts[:-2] + [parts[-2]] * 2)
+        if change == "parts_apart" and len(parts) > 1:
+            return answer_of([parts[0][:3] * 2] + parts[1:])
+        if change == "parts_wider":
+            return answer_of([box[:5] + [float_bits(min(float_of(box[5]) + 1 + abs(float_of(box[5])), 3.4e38))] for box in parts])
     if word == "day" and answer.startswith(b"ok"):
         if change == "all_at_once":
             return b"ok" + b" 0" * (len(answer.split()) - 1)
@@ -202,12 +234,20 @@ def asked_otherwise(changes, asked, given):
             words[1] = b"4"
         if "last_refused" in changes and words[0] == b"cset" and answer.startswith(b"refused"):
             words[3:] = [word for i in range(len(words) - 6, 2, -6) for word in words[i:i + 6]]
+        if words[0] == b"reach" and answer.startswith(b"ok"):
+            boxes, ticks = int(words[3]), int(words[4])
+            if "first_box" in changes:
+                words[3:6 + 6 * boxes] = [b"1"] + words[4:6] + words[6:12]
+            if "rows_shrunk" in changes:
+                # Touching is no meeting: each row without its faces, where it has an inside.
+                first = 6 + 6 * boxes + ticks
+                words[first:] = [word for i in range(first, len(words), 6) for word in shrunk(words[i:i + 6])]
         if "all_plain" in changes and words[0] in (b"chain", b"lone") and answer.startswith(b"ok"):
             words[2] = b"plain"
         if "one_slot" in changes and len(words) > 1 and words[1] in (b"0", b"1", b"2", b"3"):
             words[1] = b"0"
         question = b" ".join(words)
-        if chain and "covers_unpadded" in changes and words[0] in (b"ccover", b"cset", b"wcover"):
+        if chain and "covers_unpadded" in changes and words[0] in (b"ccover", b"cset", b"wcover", b"reach"):
             unpadded = [b"00000000" if i > 3 and (i - 3) % 18 == 17 else word for i, word in enumerate(chain)]
             stream += [b" ".join(unpadded), question, b" ".join(chain)]
             places.append(len(stream) - 2)
@@ -220,7 +260,22 @@ def asked_otherwise(changes, asked, given):
     return stream, places
 
 
-CHAIN_CHANGES = {"all_plain", "covers_unpadded", "slots_kept", "one_slot", "first_move_points", "first_move_covers", "last_refused"}
+def shrunk(box):
+    """A box with each face moved inwards by the least, where that leaves something of it."""
+    least, greatest = [stepped(word, True) for word in box[:3]], [stepped(word, False) for word in box[3:]]
+    return [word for words in zip(*[(low, high) if float_of(low) <= float_of(high) else (box[i], box[i + 3])
+                                    for i, (low, high) in enumerate(zip(least, greatest))]) for word in words]
+
+
+def stepped(word, up):
+    """The next float above or below."""
+    bits = int(word, 16)
+    if bits & 0x7fffffff == 0:
+        return b"00000001" if up else b"80000001"
+    return b"%08x" % (bits + (1 if (bits >> 31 == 0) == up else -1))
+
+
+CHAIN_CHANGES = {"first_box", "rows_shrunk", "all_plain", "covers_unpadded", "slots_kept", "one_slot", "first_move_points", "first_move_covers", "last_refused"}
 
 
 def answers_to(questions, arguments=()):
@@ -310,7 +365,7 @@ def trial(title, kind, changes, different, shown=(), sides=None, cases=40):
     """`different` is how many differences are to be told; None for some. The changes are on some sides, or on the project's alone."""
     if len(sys.argv) > 1 and not set(kind.split(",")) & set(sys.argv[1:]):
         return None
-    is_of_chains = kind in ("chains", "rigid", "sets", "texts", "trials", "joins", "stretches", "windows", "arcs", "days", "rows", "files")
+    is_of_chains = kind in ("chains", "rigid", "sets", "texts", "trials", "joins", "stretches", "windows", "arcs", "days", "rows", "reach", "files")
     sides = sides or ("--chain-answers" if is_of_chains else "--answers",)
     with tempfile.TemporaryDirectory() as folder:
         command = [os.path.join(HERE, "run"), "--no-build", "--kinds", kind, "--moves", str(cases), "--chains", str(cases), "--files", str(cases), "--show", "100"]
@@ -340,8 +395,8 @@ def main():
     results = [trial("nothing changed", "angles,moves,covers", [], 0)]
     for kind, words in WORDS.items():
         words = words.split()
-        # A text that was written otherwise is read otherwise too, and a joined chain is asked beside that of all poses.
-        results.append(trial("a digit of one answer to each of " + ", ".join(words), kind, words, len(words) + {"texts": 1, "joins": 2}.get(kind, 0), words))
+        # A text that was written otherwise is read otherwise too, a joined chain is asked beside that of all poses, and a part that is no part of its box is seen.
+        results.append(trial("a digit of one answer to each of " + ", ".join(words), kind, words, len(words) + {"texts": 1, "joins": 2, "reach": 1}.get(kind, 0), words))
     results += [
         trial("a built move refused", "bounds", ["built"], 1, ["move"]),
         trial("another number of one refusal", "moves", ["refusal"], 1),
@@ -428,6 +483,24 @@ def main():
         trial("rows as they are", "rows", [], 0, cases=200),
         trial("another number of one refusal of rows", "rows", ["refusal"], 1),
         trial("the last row that is reached left off", "rows", ["row_left_off"], None, ["rows"]),
+        trial("rows by windows as they are", "reach", [], 0, cases=200),
+        trial("a digit of one mask", "reach", ["reach"], None, ["reach"]),
+        trial("another number of one refusal of rows by windows", "reach", ["refusal"], 1),
+        trial("a row short in every answer", "reach", ["one_row_short"], None, ["reach"]),
+        trial("each row's first window left off, on both sides", "reach", ["row_dry"], None, ["a point in a row that isn't named"], BOTH_OF_CHAINS, 200),
+        trial("each row named a window late, on both sides", "reach", ["next_window"], None, ["a point in a row that isn't named"], BOTH_OF_CHAINS, 200),
+        trial("rows by the first box alone, on both sides", "reach", ["first_box"], None, ["a point in a row that isn't named", "rows by each box by itself"], BOTH_OF_CHAINS, 200),
+        trial("rows that touch not named, on both sides", "reach", ["rows_shrunk"], None, ["a point in a row that isn't named"], BOTH_OF_CHAINS, 200),
+        trial("pads left out of rows by windows, on both sides", "reach", ["covers_unpadded"], None, ["a point in a row that isn't named"], BOTH_OF_CHAINS, 200),
+        trial("points in rows refused, on both sides", "reach", ["unanswered"], None, ["a point in a row that isn't named"], BOTH_OF_CHAINS),
+        trial("a row named in every window or none, on both sides", "reach", ["every_window"], None, ["named rows, and the window's covers", "one row in one window"], BOTH_OF_CHAINS, 200),
+        trial("every row named above depth 2, on both sides", "reach", ["rows_added"], None, ["rows at a greater depth", "named rows, and the window's covers"], BOTH_OF_CHAINS),
+        trial("rows by windows refused above depth 2, on both sides", "reach", ["deep_refused"], None, ["rows at a greater depth"], BOTH_OF_CHAINS),
+        trial("refused windows passed over, on both sides", "reach", ["windows_passed_over"], None, ["named rows, and the window's covers"], BOTH_OF_CHAINS, 200),
+        trial("another number of every refused window, on both sides", "reach", ["other_refusal"], None, ["a refused window, and its covers"], BOTH_OF_CHAINS, 200),
+        trial("the last part left out, on both sides", "reach", ["part_missing"], None, ["the parts of a box"], BOTH_OF_CHAINS),
+        trial("the first part a corner, on both sides", "reach", ["parts_apart"], None, ["the parts of a box"], BOTH_OF_CHAINS),
+        trial("parts that leave their box, on both sides", "reach", ["parts_wider"], None, ["the parts of a box"], BOTH_OF_CHAINS),
         trial("files as they are", "files", ["file"], 0, cases=200),
         trial("a digit of one file's box and of one file's refusal", "files", ["wrong_file"], 2, ["cover, the program"], cases=200),
         trial("one zero of a file's cover with the other sign", "files", ["zero_file"], 1, ["cover, the program"], cases=200),

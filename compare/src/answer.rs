@@ -57,7 +57,7 @@ impl<'a> Kept<'a> {
             (
                 Some(
                     b"chain" | b"lone" | b"join" | b"cpoint" | b"ctimes" | b"ccover" | b"cset" | b"cpad" | b"cinterp" | b"cparts" | b"cmotion" | b"cpmotion"
-                    | b"write" | b"try" | b"wcover" | b"windows",
+                    | b"write" | b"try" | b"wcover" | b"windows" | b"reach",
                 ),
                 Some([slot @ b'0'..=b'3']),
             ) => 1 + usize::from(slot - b'0'),

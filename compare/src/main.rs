@@ -7,6 +7,7 @@ mod guarantee;
 mod joins;
 mod program;
 mod random;
+mod reach;
 mod report;
 mod texts;
 mod trials;
@@ -42,6 +43,7 @@ const KINDS: &[&str] = &[
     "windows",
     "days",
     "rows",
+    "reach",
     "files",
 ];
 
@@ -49,10 +51,10 @@ const HELP: &str = "\
 compare/run [--moves N] [--chains N] [--seed N] [--kinds A,B,..] [--files N] [--no-build] ..
 
   --moves N              cases of each kind beside the fixed ones                20000
-  --chains N             chains, with their questions, sets, texts, trials, joins, stretches, windows, days and rows   a quarter of the moves
+  --chains N             chains, with their questions, sets, texts, trials, joins, stretches, windows, days, rows and reach   a quarter of the moves
   --files N              files for the programs `cover`, `rewrite`, `stretch`    a tenth of the moves
   --seed N               the same seed makes the same cases                      7
-  --kinds A,B            some of: numbers angles matrices boxes moves bounds motion covers chains rigid sets texts trials arcs joins stretches windows days rows files; all of them without it
+  --kinds A,B            some of: numbers angles matrices boxes moves bounds motion covers chains rigid sets texts trials arcs joins stretches windows days rows reach files; all of them without it
   --show N               how many differences are printed                        10
   --workers N            batches worked at once                                  the number of processors
   --no-build             takes the project's programs as they stand
@@ -134,7 +136,7 @@ const BATCH_BYTES: usize = 1 << 18;
 const BATCH_FILES: u64 = 200;
 
 fn are_chains(kind: &str) -> bool {
-    matches!(kind, "chains" | "rigid" | "sets" | "texts" | "trials" | "joins" | "stretches" | "windows" | "days" | "rows")
+    matches!(kind, "chains" | "rigid" | "sets" | "texts" | "trials" | "joins" | "stretches" | "windows" | "days" | "rows" | "reach")
 }
 
 /// Cuts what `vectors` prints for a kind into batches: before a move, or anywhere as long as there was none; chains at the comment before a case.
@@ -199,6 +201,8 @@ fn compare(options: &Options, batch: &Batch, number: u64) -> Report {
                 trials::test(sides, questions, &runs[0].output, &mut report);
             } else if kind == "windows" {
                 windows::test(sides, questions, &runs[0].output, &mut Random::new(options.seed, number), &mut report);
+            } else if kind == "reach" {
+                reach::test(sides, questions, &runs[0].output, &mut Random::new(options.seed, number), &mut report);
             } else if kind == "days" {
                 day::test(questions, &runs[0].output, &mut report);
             } else if kind == "covers" || are_chains(kind) {

@@ -98,7 +98,7 @@ const NAMES: &[&str] = &[
     "move", "parts", "point", "interp", "motion", "pmotion", "cover", "zeros", "sin", "cos", "acos", "abs", "root", "least", "greatest", "lerp", "clamp", "whole",
     "inverse", "mul", "quat", "rotation", "dot", "normalize", "slerp", "decompose", "bounds",
     "chain", "lone", "join", "cpoint", "ctimes", "ccover", "cset", "cpad", "try", "cinterp", "cparts", "cmotion", "cpmotion", "acosn",
-    "write", "read", "stretch", "windows", "wcover", "day", "rows",
+    "write", "read", "stretch", "windows", "wcover", "day", "rows", "reach", "cut",
 ];
 
 /// The question's first word; every line that starts otherwise is `another line`.

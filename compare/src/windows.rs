@@ -6,8 +6,8 @@ use crate::program::{run, Sides};
 use crate::random::Random;
 use crate::report::Report;
 
-type Bounds = [f32; 6];
-type Point = [f32; 3];
+pub type Bounds = [f32; 6];
+pub type Point = [f32; 3];
 
 const MAX_DEPTH: u64 = 12;
 /// Times in a window, and windows of a list, of which points are asked.
@@ -44,10 +44,10 @@ fn listed(answer: &[u8]) -> Option<Vec<usize>> {
 
 /// What is asked besides, to be answered in order.
 #[derive(Default)]
-struct Text(Vec<u8>);
+pub struct Text(pub Vec<u8>);
 
 impl Text {
-    fn ask(&mut self, question: &str, values: &[&[f32]]) {
+    pub fn ask(&mut self, question: &str, values: &[&[f32]]) {
         self.0.extend_from_slice(question.as_bytes());
         values.iter().copied().flatten().for_each(|x| write_float(&mut self.0, *x));
         self.0.push(b'\n');
@@ -73,7 +73,7 @@ enum Group<'a> {
 }
 
 /// The ticks, their neighbours inside, a pose's time and others between.
-fn times(window: &[f32], poses: &[f32], random: &mut Random) -> Vec<f32> {
+pub fn times(window: &[f32], poses: &[f32], random: &mut Random) -> Vec<f32> {
     let (earlier, later) = (window[0], window[1]);
     let mut times = vec![earlier, later, random.pick(&[earlier.next_up(), later.next_down()])];
     let inside: Vec<f32> = poses.iter().copied().filter(|time| earlier <= *time && *time <= later).collect();
@@ -89,7 +89,7 @@ fn times(window: &[f32], poses: &[f32], random: &mut Random) -> Vec<f32> {
     times
 }
 
-fn point(b: &Bounds, random: &mut Random) -> Point {
+pub fn point(b: &Bounds, random: &mut Random) -> Point {
     std::array::from_fn(|axis| {
         let inside = random.unit();
         let part = random.pick(&[0.0, 1.0, 0.0, 1.0, inside]);
@@ -113,20 +113,20 @@ fn ask_again(out: &mut Text, name: &str, asked: &Asked, depth: u64) {
 }
 
 /// A greater depth, mostly not by much.
-fn greater(depth: u64, random: &mut Random) -> Option<u64> {
+pub fn greater(depth: u64, random: &mut Random) -> Option<u64> {
     let most = if random.below(32) == 0 { MAX_DEPTH } else { (depth + 2).min(MAX_DEPTH) };
     (depth < most).then(|| depth + 1 + random.below(most - depth))
 }
 
-fn is_inside(b: &Bounds, p: &Point) -> bool {
+pub fn is_inside(b: &Bounds, p: &Point) -> bool {
     (0..3).all(|axis| b[axis] <= p[axis] && p[axis] <= b[axis + 3])
 }
 
-fn meets(a: &Bounds, b: &Bounds) -> bool {
+pub fn meets(a: &Bounds, b: &Bounds) -> bool {
     (0..3).all(|axis| a[axis] <= b[axis + 3] && b[axis] <= a[axis + 3])
 }
 
-fn box_of(answer: &[u8]) -> Option<Bounds> {
+pub fn box_of(answer: &[u8]) -> Option<Bounds> {
     match accepted(answer)?.as_slice() {
         [b] => Some(*b),
         _ => None,
@@ -134,7 +134,7 @@ fn box_of(answer: &[u8]) -> Option<Bounds> {
 }
 
 /// From the moved point less its pad to the moved point plus its pad.
-fn padded(pad: &[u8], point: &[u8]) -> Option<(Point, Bounds)> {
+pub fn padded(pad: &[u8], point: &[u8]) -> Option<(Point, Bounds)> {
     let (pads, points) = (accepted::<1>(pad)?, accepted::<3>(point)?);
     let ([[pad]], [p]) = (pads.as_slice(), points.as_slice()) else { return None };
     Some((*p, std::array::from_fn(|i| if i < 3 { p[i] - pad } else { p[i - 3] + pad })))
@@ -238,7 +238,7 @@ pub fn test(sides: &Sides, asked_before: &[u8], answers: &[u8], random: &mut Ran
     }
 }
 
-fn check(report: &mut Report, row: &'static str, question: &[u8], answer: &[u8], expected: &[u8], is_right: bool) {
+pub fn check(report: &mut Report, row: &'static str, question: &[u8], answer: &[u8], expected: &[u8], is_right: bool) {
     report.compared(row, b"", is_right);
     if !is_right {
         report.found(row, &[("question:", question), ("project:", answer), ("beside:", expected)]);
