@@ -105,6 +105,11 @@ int main(void)
     jellyplain_reached reached = jellyplain_reached_rows(bounds, rows, 4, wet);
     if (reached.refusal == JELLYPLAIN_NONE && reached.count == 2)
         printf("of 4 rows the boom reaches numbers %u and %u\n", (unsigned)wet[0], (unsigned)wet[1]);
+    float parts[JELLYPLAIN_BOXES][6];
+    uint64_t masks[JELLYPLAIN_ROWS];
+    if (jellyplain_cut(boom, 4, parts) == JELLYPLAIN_NONE && jellyplain_chain_reach(&chain, (const float(*)[6])parts, 4, 8, ticks, 4, rows, 4, masks) == JELLYPLAIN_NONE)
+        for (int w = 0; w < 3; w++)
+            printf("from %g to %g: row 1 %s, row 2 %s\n", ticks[w], ticks[w + 1], masks[1] >> w & 1 ? "may be wet" : "is dry", masks[2] >> w & 1 ? "may be wet" : "is dry");
     printf("the library's version: %u\n", (unsigned)jellyplain_version());
     printf("at depth 13: refused with %d\n", jellyplain_cover(&move, boom, 13, bounds));
     return 0;

@@ -81,7 +81,7 @@ typedef struct {
 #define JELLYPLAIN_POSES 32
 #define JELLYPLAIN_MOVES 31
 
-/* The most boxes of a set. */
+/* The most boxes of a set, and the most parts of a box. */
 #define JELLYPLAIN_BOXES 16
 
 /* A built chain: its first `count` moves, one fewer than its poses. Any of them may be asked by itself. Leave it as
@@ -130,7 +130,8 @@ typedef enum jellyplain_refusal {
     JELLYPLAIN_CHAIN = 12,          /* a chain has fewer than 2 poses or more than 32, or its times don't rise
                                      * strictly */
     JELLYPLAIN_TIME_LIST = 13,      /* a list of times falls, or the answers lent for it aren't three places a time */
-    JELLYPLAIN_SET = 14,            /* a set has no box or more than 16, or a list of rows none or more than 256 */
+    JELLYPLAIN_SET = 14,            /* a set has no box or more than 16, a box is cut into no parts or more than 16,
+                                     * or a list of rows has none or more than 256 */
     JELLYPLAIN_ROOM = 15,           /* a buffer is too short for the text of a move file */
     JELLYPLAIN_PAD = 16,            /* a pad is below zero */
     JELLYPLAIN_NOT_RIGID = 17,      /* a pose of a rigid move or chain scales or shears */
@@ -176,7 +177,8 @@ static inline const char *jellyplain_refusal_text(uint32_t number)
     case JELLYPLAIN_TIME_LIST:
         return "a list of times falls, or the answers lent for it aren't three places a time";
     case JELLYPLAIN_SET:
-        return "a set has no box or more than 16, or a list of rows none or more than 256";
+        return "a set has no box or more than 16, a box is cut into no parts or more than 16, or a list of rows has "
+               "none or more than 256";
     case JELLYPLAIN_ROOM:
         return "a buffer is too short for the text of a move file";
     case JELLYPLAIN_PAD:
@@ -445,6 +447,31 @@ JELLYPLAIN_CHECKED jellyplain_reached jellyplain_reached_rows(const float cover[
                                                               size_t rows_count,
                                                               uint32_t places[JELLYPLAIN_RESTRICT JELLYPLAIN_ROWS]);
 
+/* A box in n parts along its longest axis, the first of equals, in order into the front of `parts`; those behind them
+ * stay. Each part lies in the box, and every point of the box is inside some part. For a boom in parts
+ * jellyplain_moves_reach names fewer rows than for the whole box. All parts stay after a refusal.
+ * Refused with 14 for n of 0 or above 16; 6, 7. */
+JELLYPLAIN_CHECKED uint8_t jellyplain_cut(const float b[6], uint32_t n,
+                                          float parts[JELLYPLAIN_RESTRICT JELLYPLAIN_BOXES][6]);
+
+/* Which of 1 to 256 rows, each a box, a boom of 1 to 16 boxes may wet, and in which of the windows between neighbouring
+ * ticks: one mask a row, in order into the front of `masks`; those behind them stay. Bit w of a mask is 1 exactly where
+ * the row is named in window w, counted from 0: it meets, touching included, one of the boxes whose union is
+ * jellyplain_moves_window_cover's answer for that window and one of the boom's boxes. So the rows whose mask isn't 0
+ * are the map, and their bits the schedule. Ticks may be infinite: with -infinity and +infinity alone there is one
+ * window, all time.
+ * In a row that isn't named in a window there is no point of any of the boxes at any time of the window, both ticks
+ * included, less or plus its pad or anything between. A greater depth, up to 12, is not refused where a lesser was
+ * accepted, and each of its masks is a part of the lesser's, bit by bit. A row that is named in a window meets that
+ * window's cover of one of the boxes. `boxes_count`, `rows_count` and `ticks_count` are judged before a box, a row or a
+ * tick is read; all masks stay after a refusal.
+ * Refused with 12 for no moves; 14 for no boxes or more than 16; 14 for no rows or more than 256; 21 of the ticks; 6, 7
+ * of the first refused box; 6, 7 of the first refused row; 8; 5 or 10, the earlier window first, then the first box. */
+JELLYPLAIN_CHECKED uint8_t jellyplain_moves_reach(const jellyplain_move *moves, size_t count, const float (*boxes)[6],
+                                                  size_t boxes_count, uint32_t depth, const float *ticks,
+                                                  size_t ticks_count, const float (*rows)[6], size_t rows_count,
+                                                  uint64_t masks[JELLYPLAIN_RESTRICT JELLYPLAIN_ROWS]);
+
 /* ---- chains, by the struct: each is refused as the function is that it calls */
 
 /* How many moves a chain has, and 0 where `count` is no chain's, so that asking it is refused with 12. */
@@ -547,6 +574,16 @@ JELLYPLAIN_CHECKED static inline jellyplain_windows jellyplain_chain_windows(
 {
     return jellyplain_moves_windows(chain->moves, jellyplain_chain_count(chain), others->moves,
                                     jellyplain_chain_count(others), b, other, depth, ticks, ticks_count, places);
+}
+
+JELLYPLAIN_CHECKED static inline uint8_t jellyplain_chain_reach(const jellyplain_chain *chain, const float (*boxes)[6],
+                                                                size_t boxes_count, uint32_t depth, const float *ticks,
+                                                                size_t ticks_count, const float (*rows)[6],
+                                                                size_t rows_count,
+                                                                uint64_t masks[JELLYPLAIN_RESTRICT JELLYPLAIN_ROWS])
+{
+    return jellyplain_moves_reach(chain->moves, jellyplain_chain_count(chain), boxes, boxes_count, depth, ticks,
+                                  ticks_count, rows, rows_count, masks);
 }
 
 JELLYPLAIN_CHECKED static inline jellyplain_written jellyplain_chain_write(

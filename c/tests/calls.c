@@ -43,6 +43,8 @@ static struct {
     jellyplain_pose poses[JELLYPLAIN_FILE_POSES];
     uint8_t text[JELLYPLAIN_TEXT];
     uint32_t rows[JELLYPLAIN_ROWS];
+    float parts[JELLYPLAIN_BOXES][6];
+    uint64_t masks[JELLYPLAIN_ROWS];
 } lent;
 
 #define FILLED 0xa5
@@ -474,6 +476,7 @@ static void asked_unbuilt(const jellyplain_chain *chain, const jellyplain_chain 
     REFUSED(12, jellyplain_chain_window_cover(chain, unit_box, 4, 0, 1, lent.bounds));
     REFUSED(12, jellyplain_chain_windows(chain, built, unit_box, unit_box, 4, times, 2, lent.places).refusal);
     REFUSED(12, jellyplain_chain_windows(built, chain, unit_box, unit_box, 4, times, 2, lent.places).refusal);
+    REFUSED(12, jellyplain_chain_reach(chain, &unit_box, 1, 4, times, 2, &unit_box, 1, lent.masks));
     REFUSED(12, jellyplain_chain_write(chain, unit_box, lent.text, sizeof lent.text).refusal);
     NOT_BUILT(12, jellyplain_chain_join(chain, built, &lent.chain));
     NOT_BUILT(12, jellyplain_chain_join(built, chain, &lent.chain));
@@ -565,6 +568,22 @@ static void orders(void)
     const uint32_t lengths[JELLYPLAIN_BOOMS] = {0};
     REFUSED(22, jellyplain_day(boxes, lengths, 1, lent.starts));
     REFUSED(14, jellyplain_reached_rows(nan_box, boxes, 0, lent.rows).refusal);
+    REFUSED(14, jellyplain_cut(nan_box, 0, lent.parts));
+    REFUSED(14, jellyplain_cut(nan_box, JELLYPLAIN_BOXES + 1, lent.parts));
+    REFUSED(6, jellyplain_cut(nan_box, 1, lent.parts));
+    REFUSED(7, jellyplain_cut(crossed, JELLYPLAIN_BOXES, lent.parts));
+    const float good_and_bad[3][6] = {{0, 0, 0, 1, 1, 1}, {1, 0, 0, 0, 0, 0}, {nan_value, 0, 0, 0, 0, 0}};
+    REFUSED(12, jellyplain_moves_reach(chain.moves, 0, boxes, 0, 13, times, 1, boxes, 0, lent.masks));
+    REFUSED(14, jellyplain_moves_reach(chain.moves, 1, boxes, 0, 13, times, 1, boxes, 1, lent.masks));
+    REFUSED(14, jellyplain_moves_reach(chain.moves, 1, boxes, 1, 13, times, 1, boxes, 0, lent.masks));
+    REFUSED(21, jellyplain_moves_reach(chain.moves, 1, boxes, 1, 13, times, 1, boxes, 1, lent.masks));
+    REFUSED(21, jellyplain_moves_reach(chain.moves, 1, boxes, 1, 13, times, 2, boxes, 1, lent.masks));
+    REFUSED(21, jellyplain_moves_reach(chain.moves, 1, boxes, 1, 13, falling, 2, boxes, 1, lent.masks));
+    REFUSED(7, jellyplain_moves_reach(chain.moves, 1, good_and_bad, 3, 13, ticks, 2, boxes, 1, lent.masks));
+    REFUSED(6, jellyplain_moves_reach(chain.moves, 1, &good_and_bad[2], 1, 13, ticks, 2, &good_and_bad[1], 1, lent.masks));
+    REFUSED(7, jellyplain_moves_reach(chain.moves, 1, good_and_bad, 1, 13, ticks, 2, good_and_bad, 3, lent.masks));
+    REFUSED(8, jellyplain_moves_reach(chain.moves, 1, good_and_bad, 1, 13, ticks, 2, good_and_bad, 1, lent.masks));
+    REFUSED(10, jellyplain_moves_reach(chain.moves, 1, good_and_bad, 1, 0, ticks, 2, good_and_bad, 1, lent.masks));
 }
 
 /* Of a list of length 0 nothing is read or written, so that its pointer may be NULL. */
@@ -595,12 +614,19 @@ static void lists(void)
     REFUSED(12, jellyplain_write_file(NULL, 0, unit_box, NULL, 0).refusal);
     REFUSED(15, jellyplain_write_file(chain.moves, 1, unit_box, NULL, 0).refusal);
     REFUSED(14, jellyplain_reached_rows(unit_box, NULL, 0, lent.rows).refusal);
+    REFUSED(12, jellyplain_moves_reach(NULL, 0, NULL, 0, 4, NULL, 0, NULL, 0, lent.masks));
+    REFUSED(14, jellyplain_moves_reach(chain.moves, 1, NULL, 0, 4, NULL, 0, NULL, 0, lent.masks));
+    REFUSED(14, jellyplain_moves_reach(chain.moves, 1, &unit_box, 1, 4, NULL, 0, NULL, 0, lent.masks));
+    REFUSED(21, jellyplain_moves_reach(chain.moves, 1, &unit_box, 1, 4, NULL, 0, &unit_box, 1, lent.masks));
 
     /* Lengths that are judged before anything is read or written. */
     const float times[2] = {0, 1};
     REFUSED(14, jellyplain_moves_covers(chain.moves, 1, NULL, JELLYPLAIN_BOXES + 1, 4, lent.covers, lent.bounds));
     REFUSED(21, jellyplain_moves_windows(chain.moves, 1, chain.moves, 1, unit_box, unit_box, 4, NULL, JELLYPLAIN_TICK_COUNT + 1, lent.places).refusal);
     REFUSED(14, jellyplain_reached_rows(unit_box, NULL, JELLYPLAIN_ROWS + 1, lent.rows).refusal);
+    REFUSED(14, jellyplain_moves_reach(chain.moves, 1, NULL, JELLYPLAIN_BOXES + 1, 4, times, 2, &unit_box, 1, lent.masks));
+    REFUSED(14, jellyplain_moves_reach(chain.moves, 1, &unit_box, 1, 4, times, 2, NULL, JELLYPLAIN_ROWS + 1, lent.masks));
+    REFUSED(21, jellyplain_moves_reach(chain.moves, 1, &unit_box, 1, 4, NULL, JELLYPLAIN_TICK_COUNT + 1, &unit_box, 1, lent.masks));
     REFUSED(12, jellyplain_moves_try(NULL, JELLYPLAIN_MOVES + 1, 0, trip, unit_box, 4, lent.bounds));
     static const size_t too_many[] = {JELLYPLAIN_MOVES + 1, 40, SIZE_MAX / sizeof(jellyplain_move)};
     for (size_t i = 0; i < sizeof too_many / sizeof too_many[0]; i++) {
@@ -645,6 +671,69 @@ static void rows(void)
     REFUSED(14, jellyplain_reached_rows(unit_box, boxes, 0, lent.rows).refusal);
     REFUSED(6, jellyplain_reached_rows(nan_box, boxes, 3, lent.rows).refusal);
     REFUSED(7, jellyplain_reached_rows(crossed, boxes, 3, lent.rows).refusal);
+}
+
+/* A box in parts: the longest axis, the first of equals; the places behind the parts stay. */
+static void parts(void)
+{
+    const float long_box[6] = {0, 0, 0, 1, 3, 3}, faces[4] = {0, 1, 2, 3};
+    ACCEPTED(jellyplain_cut(long_box, 3, lent.parts));
+    for (int i = 0; i < 3; i++) {
+        const float part[6] = {0, faces[i], 0, 1, faces[i + 1], 3};
+        EXPECT(same(lent.parts[i], part, 6));
+    }
+    EXPECT(untouched(lent.parts[3], sizeof lent.parts - sizeof lent.parts[0] * 3));
+    ACCEPTED(jellyplain_cut(unit_box, 1, lent.parts));
+    EXPECT(same(lent.parts[0], unit_box, 6) && untouched(lent.parts[1], sizeof lent.parts - sizeof lent.parts[0]));
+    ACCEPTED(jellyplain_cut(unit_box, JELLYPLAIN_BOXES, lent.parts));
+    for (int i = 0; i < JELLYPLAIN_BOXES; i++)
+        EXPECT(lent.parts[i][0] == (float)i / 16 && lent.parts[i][3] == (float)(i + 1) / 16 && lent.parts[i][1] == 0 && lent.parts[i][5] == 1);
+    /* The last face is the high end, though the rounded length misses it; and a length beyond the floats has no face above it. */
+    const float rounded[6] = {-1, 0, 0, 1e-8f, 0, 0}, huge[6] = {-3e38f, 0, 0, 3e38f, 0, 0};
+    ACCEPTED(jellyplain_cut(rounded, 2, lent.parts));
+    EXPECT(lent.parts[0][3] == -0.5f && lent.parts[1][0] == -0.5f && lent.parts[1][3] == 1e-8f);
+    ACCEPTED(jellyplain_cut(huge, 2, lent.parts));
+    EXPECT(lent.parts[0][0] == -3e38f && lent.parts[0][3] == 3e38f && lent.parts[1][0] == 3e38f && lent.parts[1][3] == 3e38f);
+}
+
+/* Rows by windows: along x to 8 and back, with a rest, rigid so that a shift's slices are as wide as the shift; a mask a row, the places behind them stay. */
+static void reach(void)
+{
+    static jellyplain_chain chain;
+    const float times[4] = {0, 8, 10, 18}, at[4] = {0, 8, 8, 0};
+    jellyplain_pose trip[4];
+    for (int i = 0; i < 4; i++)
+        trip[i] = shifted(times[i], at[i]);
+    ACCEPTED(jellyplain_build_chain(true, trip, 4, &chain));
+    const float boom[6] = {0, 0, 0, 0.5f, 1, 1}, ticks[7] = {-infinite, 2, 6, 9, 12, 16, infinite}, all_time[2] = {-infinite, infinite};
+    const float field[5][6] = {{1, 0, 0, 1.25f, 1, 1}, {4, 0, 0, 4.25f, 1, 1}, {8.5f, 0, 0, 9, 1, 1}, {8.75f, 0, 0, 9, 1, 1}, {1, 1, 1, 8, 2, 2}};
+    const uint64_t masks[5] = {0x21, 0x12, 0x0c, 0, 0x3f}, once[5] = {1, 1, 1, 0, 1};
+    ACCEPTED(jellyplain_chain_reach(&chain, &boom, 1, 6, ticks, 7, field, 5, lent.masks));
+    EXPECT(memcmp(lent.masks, masks, sizeof masks) == 0 && untouched(&lent.masks[5], sizeof lent.masks - sizeof masks));
+    ACCEPTED(jellyplain_moves_reach(chain.moves, chain.count, &boom, 1, 6, all_time, 2, field, 5, lent.masks));
+    EXPECT(memcmp(lent.masks, once, sizeof once) == 0);
+    /* The first move by itself never turns back, and after its end stands where it ended. */
+    ACCEPTED(jellyplain_moves_reach(chain.moves, 1, &boom, 1, 6, ticks, 7, field, 5, lent.masks));
+    const uint64_t alone[5] = {0x01, 0x02, 0x3c, 0, 0x3f};
+    EXPECT(memcmp(lent.masks, alone, sizeof alone) == 0);
+    /* Sixteen parts and 256 rows, 63 windows: what lies beside every part is in no mask, what lies under the mast in every one. */
+    static float many[JELLYPLAIN_ROWS][6], steps[JELLYPLAIN_TICK_COUNT];
+    for (int i = 0; i < JELLYPLAIN_ROWS; i++) {
+        const float row[6] = {0, i % 2 == 0 ? 0.0f : 2.0f, 0, 9, 3, 1};
+        memcpy(many[i], row, sizeof row);
+    }
+    for (int i = 0; i < JELLYPLAIN_TICK_COUNT; i++)
+        steps[i] = (float)i;
+    EXPECT(jellyplain_cut(boom, JELLYPLAIN_BOXES, lent.parts) == JELLYPLAIN_NONE);
+    EXPECT(jellyplain_chain_reach(&chain, (const float(*)[6])lent.parts, JELLYPLAIN_BOXES, 2, steps, JELLYPLAIN_TICK_COUNT, (const float(*)[6])many, JELLYPLAIN_ROWS, lent.masks) == JELLYPLAIN_NONE);
+    for (int i = 0; i < JELLYPLAIN_ROWS; i++)
+        EXPECT(lent.masks[i] == (i % 2 == 0 ? UINT64_MAX >> 1 : 0));
+    /* A later window that is refused leaves all masks as they were: the last pad overflows. */
+    trip[3].pad = 3e38f;
+    const float far_box[6] = {3e38f, 0, 0, 3e38f, 0, 0};
+    ACCEPTED(jellyplain_build_chain(true, trip, 4, &chain));
+    ACCEPTED(jellyplain_chain_reach(&chain, &far_box, 1, 3, ticks + 1, 3, field, 5, lent.masks));
+    REFUSED(5, jellyplain_chain_reach(&chain, &far_box, 1, 3, ticks, 7, field, 5, lent.masks));
 }
 
 /* ---- the files of examples/ */
@@ -771,6 +860,8 @@ int main(int count, char **files)
     lists();
     texts();
     rows();
+    parts();
+    reach();
     for (int i = 1; i < count; i++) {
         size_t size = read_whole(files[i], (uint8_t *)bytes, sizeof bytes - 1);
         bytes[size] = 0;

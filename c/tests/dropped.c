@@ -1,11 +1,11 @@
 /* Each function whose answer may be a refusal, one a line, with the answer passed over: the compiler has to warn of every one (tools/boundary.sh looks for them all). It is only compiled. */
 #include "jellyplain.h"
 
-extern void dropped(const jellyplain_pose *poses, jellyplain_move *moves, jellyplain_chain *chain, jellyplain_chain *joined, float *floats, uint32_t *words, uint8_t *bytes, const float (*boxes)[6],
-                    float (*covers)[6], float (*transform)[4][4], jellyplain_pose *pose);
+extern void dropped(const jellyplain_pose *poses, jellyplain_move *moves, jellyplain_chain *chain, jellyplain_chain *joined, float *floats, uint32_t *words, uint64_t *masks, uint8_t *bytes,
+                    const float (*boxes)[6], float (*covers)[6], float (*transform)[4][4], jellyplain_pose *pose);
 
-void dropped(const jellyplain_pose *poses, jellyplain_move *moves, jellyplain_chain *chain, jellyplain_chain *joined, float *floats, uint32_t *words, uint8_t *bytes, const float (*boxes)[6],
-             float (*covers)[6], float (*transform)[4][4], jellyplain_pose *pose)
+void dropped(const jellyplain_pose *poses, jellyplain_move *moves, jellyplain_chain *chain, jellyplain_chain *joined, float *floats, uint32_t *words, uint64_t *masks, uint8_t *bytes,
+             const float (*boxes)[6], float (*covers)[6], float (*transform)[4][4], jellyplain_pose *pose)
 {
     jellyplain_build(false, poses, poses, moves);
     jellyplain_point(moves, 0, floats, floats);
@@ -47,5 +47,8 @@ void dropped(const jellyplain_pose *poses, jellyplain_move *moves, jellyplain_ch
     jellyplain_chain_write(chain, floats, bytes, 0);
 #ifdef JELLYPLAIN_ROWS
     jellyplain_reached_rows(floats, boxes, 1, words);
+    jellyplain_cut(floats, 1, covers);
+    jellyplain_moves_reach(moves, 1, boxes, 1, 0, floats, 2, boxes, 1, masks);
+    jellyplain_chain_reach(chain, boxes, 1, 0, floats, 2, boxes, 1, masks);
 #endif
 }

@@ -503,6 +503,15 @@ static size_t judged_count(size_t most, size_t *there)
     return count;
 }
 
+/* Mostly few, so that a call is short. */
+static size_t few_count(size_t few, size_t most, size_t *there)
+{
+    size_t count = judged_count(most, there);
+    if (count <= most && !once_in(4))
+        *there = count = count % (few + 1);
+    return count;
+}
+
 static unsigned call_moves_covers(void)
 {
     static size_t count, boxes_count;
@@ -646,6 +655,47 @@ static unsigned call_reached_rows(void)
     return answer.refusal;
 }
 
+static unsigned call_cut(void)
+{
+    static float(*b)[6], (*parts)[6];
+    static uint32_t n;
+    if (used == 0) {
+        b = any_boxes(1);
+        n = once_in(20) ? (uint32_t)next() : (uint32_t)likely_count(JELLYPLAIN_BOXES);
+        parts = (float(*)[6])lent(JELLYPLAIN_BOXES * sizeof *parts);
+        written[1] = front_of(n * sizeof *parts);
+    }
+    return jellyplain_cut(*b, n, parts);
+}
+
+static unsigned call_moves_reach(void)
+{
+    static size_t count, boxes_count, ticks_count, rows_count;
+    static jellyplain_move *moves;
+    static float(*boxes)[6], *ticks, (*rows)[6];
+    static uint32_t depth;
+    static uint64_t *masks;
+    if (used == 0) {
+        size_t there;
+        count = moves_count();
+        moves = any_moves(count);
+        boxes_count = few_count(3, JELLYPLAIN_BOXES, &there);
+        boxes = any_boxes(there);
+        ticks_count = few_count(5, JELLYPLAIN_TICK_COUNT, &there);
+        ticks = any_times(there);
+        rows_count = few_count(20, JELLYPLAIN_ROWS, &there);
+        rows = any_boxes(there);
+        depth = once_in(30) ? (uint32_t)next() : any_depth() % 4;
+        masks = (uint64_t *)lent(JELLYPLAIN_ROWS * sizeof *masks);
+        written[4] = there * sizeof *masks;
+    }
+    unsigned number = jellyplain_moves_reach(moves, count, (const float(*)[6])boxes, boxes_count, depth, ticks, ticks_count, (const float(*)[6])rows, rows_count, masks);
+    for (size_t i = 0; number == JELLYPLAIN_NONE && i < rows_count; i++)
+        if (masks[i] >> (ticks_count - 1) != 0)
+            fault("names a row in a window that isn't there");
+    return number;
+}
+
 static unsigned call_layout(void)
 {
     return jellyplain_layout() == JELLYPLAIN_LAYOUT ? 0 : 255;
@@ -689,6 +739,8 @@ static const struct {
     {"jellyplain_write_file", call_write_file, N(12) | N(6) | N(7) | N(15)},
     {"jellyplain_day", call_day, N(22) | N(6) | N(7)},
     {"jellyplain_reached_rows", call_reached_rows, N(14) | N(6) | N(7)},
+    {"jellyplain_cut", call_cut, N(14) | N(6) | N(7)},
+    {"jellyplain_moves_reach", call_moves_reach, N(12) | N(14) | N(21) | COVER},
 };
 #define FUNCTIONS (sizeof functions / sizeof functions[0])
 

@@ -52,6 +52,9 @@ static unsigned day(void) { return jellyplain_day((const float(*)[6])day_boxes, 
 #ifdef JELLYPLAIN_ROWS
 static float rows[JELLYPLAIN_ROWS][6];
 static uint32_t reached[JELLYPLAIN_ROWS];
+static uint64_t masks[JELLYPLAIN_ROWS];
+static unsigned cut(void) { return jellyplain_cut(box, JELLYPLAIN_BOXES, covers); }
+static unsigned reach(void) { return jellyplain_chain_reach(&chain, (const float(*)[6])boxes, JELLYPLAIN_BOXES, 3, times, 64, (const float(*)[6])rows, JELLYPLAIN_ROWS, masks); }
 static unsigned reached_rows(void) { return jellyplain_reached_rows(box, (const float(*)[6])rows, JELLYPLAIN_ROWS, reached).refusal; }
 #endif
 
@@ -101,7 +104,7 @@ int main(void)
         {"jellyplain_moves_join", chain_join}, {"jellyplain_moves_window_cover", window_cover}, {"jellyplain_moves_windows", windows}, {"jellyplain_write_file", write_file},
         {"jellyplain_read_file", read_file}, {"jellyplain_day", day},
 #ifdef JELLYPLAIN_ROWS
-        {"jellyplain_reached_rows", reached_rows},
+        {"jellyplain_reached_rows", reached_rows}, {"jellyplain_cut", cut}, {"jellyplain_moves_reach", reach},
 #endif
     };
     void *memory = NULL;

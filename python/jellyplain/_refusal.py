@@ -33,7 +33,7 @@ class Refusal(enum.IntEnum):
     FILE = 11, "a file departs from its layout", "write it again; `tools/move_file` makes move files"
     CHAIN = 12, "a chain has fewer than 2 poses or more than 32, or its times don't rise strictly", "set the times again, or cut the chain in two"
     TIME_LIST = 13, "a list of times falls, or the answers lent for it aren't three places a time", "sort the times; lend as many places"
-    SET = 14, "a set has no box or more than 16, or a list of rows none or more than 256", "ask with 1 to 16 boxes, or 1 to 256 rows"
+    SET = 14, "a set has no box or more than 16, a box is cut into no parts or more than 16, or a list of rows has none or more than 256", "ask with 1 to 16 boxes or parts, and 1 to 256 rows"
     ROOM = 15, "a buffer is too short for the text of a move file", "lend 126 bytes for each pose and 129 more"
     PAD = 16, "a pad is below zero", "set a pad of zero or more"
     NOT_RIGID = 17, "a pose of a rigid move or chain scales or shears", "build it as plain, or set a pose that only turns and shifts"

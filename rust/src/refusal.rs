@@ -32,7 +32,7 @@ pub enum Refusal {
     Chain = 12,
     /// A list of times falls, or the answers lent for it aren't three places a time. What to do: sort the times; lend as many places.
     TimeList = 13,
-    /// A set has no box or more than 16, or a list of rows none or more than 256. What to do: ask with 1 to 16 boxes, or 1 to 256 rows.
+    /// A set has no box or more than 16, a box is cut into no parts or more than 16, or a list of rows has none or more than 256. What to do: ask with 1 to 16 boxes or parts, and 1 to 256 rows.
     Set = 14,
     /// A buffer is too short for the text of a move file. What to do: lend 126 bytes for each pose and 129 more.
     Room = 15,
@@ -95,7 +95,7 @@ impl Refusal {
             Refusal::File => "a file departs from its layout",
             Refusal::Chain => "a chain has fewer than 2 poses or more than 32, or its times don't rise strictly",
             Refusal::TimeList => "a list of times falls, or the answers lent for it aren't three places a time",
-            Refusal::Set => "a set has no box or more than 16, or a list of rows none or more than 256",
+            Refusal::Set => "a set has no box or more than 16, a box is cut into no parts or more than 16, or a list of rows has none or more than 256",
             Refusal::Room => "a buffer is too short for the text of a move file",
             Refusal::Pad => "a pad is below zero",
             Refusal::NotRigid => "a pose of a rigid move or chain scales or shears",
