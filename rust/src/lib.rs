@@ -21,7 +21,7 @@
 //! ```
 //!
 //! Any floats may be handed in, NaN and infinities included; what can't be worked with is refused. Some calls panic where the library that is linked is not [`compatible`], and nothing else panics:
-//! those that build from poses, [`Chain::refused_run`] and [`Chain::refused_rigid_run`], [`MoveFile::read_from`] and [`MoveFile::read`], [`starting_ticks`] and [`reached_rows`].
+//! those that build from poses, [`Chain::refused_run`] and [`Chain::refused_rigid_run`], [`MoveFile::read_from`] and [`MoveFile::read`], [`starting_ticks`], [`reached_rows`] and [`cut`].
 //!
 //! The package needs neither `std` nor an allocator: lists are kept in place ([`List`]), and what has no bound is lent by the caller ([`Chain::points`], [`Chain::write`]). A [`Chain`] takes 22 kB and a
 //! [`MoveFile`] 40 kB, wherever they are put, and both are built where they stand.
@@ -258,6 +258,23 @@ impl Move {
         let number = unsafe { library::jellyplain_cover(&self.rows, &b.to_array(), depth, &mut bounds) };
         answered(number, Bounds::from_array(bounds))
     }
+
+    /// Which rows the boxes may wet, and in which windows, as [`Chain::reach`] says of a chain.
+    pub fn reach(&self, boxes: &[Bounds], depth: u32, ticks: &[f32], rows: &[Bounds]) -> Result<List<u64, ROWS>, Refusal> {
+        reach(core::slice::from_ref(&self.rows), boxes, depth, ticks, rows)
+    }
+}
+
+/// What is asked about rows by windows, of the moves of a chain or of a move by itself.
+fn reach(moves: &[library::Rows], boxes: &[Bounds], depth: u32, ticks: &[f32], rows: &[Bounds]) -> Result<List<u64, ROWS>, Refusal> {
+    let mut masks = List::empty(0);
+    // A box and a row cross as their six floats.
+    let (asked, field) = (boxes.as_ptr().cast::<[f32; 6]>(), rows.as_ptr().cast::<[f32; 6]>());
+    let number = unsafe {
+        library::jellyplain_moves_reach(moves.as_ptr(), moves.len(), asked, boxes.len(), depth, ticks.as_ptr(), ticks.len(), field, rows.len(), masks.places())
+    };
+    masks.set_len(rows.len());
+    answered(number, masks)
 }
 
 /// What a chain holds beside its poses.
@@ -529,6 +546,35 @@ impl Chain {
         answered(windows.refusal, List::front(places, windows.count))
     }
 
+    /// Which of 1 to 256 rows a boom of 1 to 16 boxes may wet, and in which of the windows between 2 to 64 neighbouring ticks: a mask for each row, in their order. Bit w is 1 exactly where the row is named
+    /// in window w, counted from 0: it meets, touching included, one of the boxes whose union is [`Chain::window_cover`] of that window for one of the boom's boxes. So the rows whose mask isn't 0 are the
+    /// map, and their bits the schedule. Ticks may be infinite: with minus and plus infinity alone there is one window, all time.
+    ///
+    /// In a row that isn't named in a window there is no point of any of the boxes at any time of the window, both ticks included, less or plus its pad or anything between. A greater depth, up to 12, is
+    /// not refused where a lesser was accepted, and each of its masks is a part of the lesser's. A boom in parts, as [`cut`] makes them, has fewer rows named than the whole box. Refused with
+    /// [`Refusal::Set`] of the boxes, then of the rows, with [`Refusal::Ticks`], with [`Refusal::Query`] and [`Refusal::Corners`] of the first box in order that is refused, then of the first row, with
+    /// [`Refusal::Depth`], then with [`Refusal::NotFinite`] or [`Refusal::SquaredLength`] of the first window that is refused, and in it of the first box.
+    ///
+    /// ```
+    /// use jellyplain::{cut, Bounds, Chain, Pose, Refusal, IDENTITY};
+    ///
+    /// // Eight metres along x in eight seconds, and the boom is a metre across.
+    /// let mut end = IDENTITY;
+    /// end[0][3] = 8.0;
+    /// let chain = Chain::rigid(&[Pose { time: 0.0, matrix: IDENTITY, pad: 0.0 }, Pose { time: 8.0, matrix: end, pad: 0.0 }])?;
+    /// let parts = cut(&Bounds { p_min: [0.0; 3], p_max: [1.0, 4.0, 1.0] }, 4)?;
+    /// let row = |low: f32| Bounds { p_min: [low, 0.0, 0.0], p_max: [low + 0.5, 4.0, 1.0] };
+    ///
+    /// // Before 2 s, from 2 s to 4 s, and after.
+    /// let ticks = [f32::NEG_INFINITY, 2.0, 4.0, f32::INFINITY];
+    /// let masks = chain.reach(&parts, 8, &ticks, &[row(0.25), row(3.5), row(9.5)])?;
+    /// assert_eq!(masks, [0b001, 0b110, 0b000]);
+    /// # Ok::<(), Refusal>(())
+    /// ```
+    pub fn reach(&self, boxes: &[Bounds], depth: u32, ticks: &[f32], rows: &[Bounds]) -> Result<List<u64, ROWS>, Refusal> {
+        reach(self.built()?, boxes, depth, ticks, rows)
+    }
+
     /// The move file of the chain's poses and a box, in the one way that it is written, with fourteen names: [`MoveFile::read`] gives the same bits back, a bottom row's zeros as +0.
     /// The text stands in the front of the lent bytes, for any chain in [`TEXT`] of them. Refused with [`Refusal::Query`] and [`Refusal::Corners`], then with [`Refusal::Room`] for too few bytes,
     /// which a refusal leaves as they were.
@@ -686,4 +732,21 @@ pub fn reached_rows(cover: &Bounds, rows: &[Bounds]) -> Result<ReachedRows, Refu
     let (asked, mut places) = (rows.as_ptr().cast::<[f32; 6]>(), [0; ROWS]);
     let reached = unsafe { library::jellyplain_reached_rows(&cover.to_array(), asked, rows.len(), &mut places) };
     answered(reached.refusal, ReachedRows { places, count: reached.count })
+}
+
+/// A box in n parts, 1 to 16, along its longest axis, the first of equals. Each part lies in the box, and every point of the box is inside some part. A boom is asked about in parts so that
+/// [`Chain::reach`] names fewer rows. Refused with [`Refusal::Set`] for another number of parts, then with [`Refusal::Query`] and [`Refusal::Corners`].
+///
+/// ```
+/// use jellyplain::{cut, Bounds, Refusal};
+///
+/// let parts = cut(&Bounds { p_min: [0.0; 3], p_max: [1.0, 6.0, 1.0] }, 3)?;
+/// assert_eq!(parts[1], Bounds { p_min: [0.0, 2.0, 0.0], p_max: [1.0, 4.0, 1.0] });
+/// # Ok::<(), Refusal>(())
+/// ```
+pub fn cut(b: &Bounds, n: u32) -> Result<List<Bounds, BOXES>, Refusal> {
+    library::check();
+    let mut parts = [[0.0; 6]; BOXES];
+    let number = unsafe { library::jellyplain_cut(&b.to_array(), n, &mut parts) };
+    answered(number, List::front(parts.map(Bounds::from_array), n as usize))
 }

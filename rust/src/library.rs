@@ -14,7 +14,7 @@ pub const POSES: usize = 32;
 /// The most moves that a chain has.
 pub const MOVES: usize = 31;
 
-/// The most boxes of a set.
+/// The most boxes of a set, and the most parts of a box.
 pub const BOXES: usize = 16;
 
 /// The most ticks that are asked about.
@@ -139,6 +139,19 @@ extern "C" {
     pub fn jellyplain_write_file(moves: *const Rows, count: usize, b: &[f32; 6], out: *mut u8, size: usize) -> Written;
     pub fn jellyplain_day(boxes: &[[f32; 6]; BOOMS], lengths: &[u32; BOOMS], count: usize, starts: &mut [u32; BOOMS]) -> u8;
     pub fn jellyplain_reached_rows(cover: &[f32; 6], rows: *const [f32; 6], rows_count: usize, places: &mut [u32; ROWS]) -> Reached;
+    pub fn jellyplain_cut(b: &[f32; 6], n: u32, parts: &mut [[f32; 6]; BOXES]) -> u8;
+    pub fn jellyplain_moves_reach(
+        moves: *const Rows,
+        count: usize,
+        boxes: *const [f32; 6],
+        boxes_count: usize,
+        depth: u32,
+        ticks: *const f32,
+        ticks_count: usize,
+        rows: *const [f32; 6],
+        rows_count: usize,
+        masks: &mut [u64; ROWS],
+    ) -> u8;
 }
 
 /// The layout in which poses, moves and chains cross to the archive.
@@ -375,6 +388,65 @@ mod tests {
         let mut one = [0; ROWS];
         one[0] = 255;
         assert_eq!(ask(&unit, &last), (Reached { count: 1, refusal: 0 }, one));
+    }
+
+    #[test]
+    fn parts_in_their_places() {
+        let (nan, crossed) = ([f32::NAN; 6], [1.0f32, 0.0, 0.0, 0.0, 1.0, 1.0]);
+        let mut parts = [[7.0; 6]; BOXES];
+        let mut ask = |b: &[f32; 6], n: u32| {
+            let number = unsafe { jellyplain_cut(b, n, &mut parts) };
+            (number, parts)
+        };
+        for (n, b, number) in [(0, nan, 14), (17, nan, 14), (u32::MAX, nan, 14), (16, nan, 6), (1, crossed, 7)] {
+            assert_eq!(ask(&b, n), (number, [[7.0; 6]; BOXES]));
+        }
+        // Two places are written, and the others stay.
+        let mut expected = [[7.0; 6]; BOXES];
+        (expected[0], expected[1]) = ([0.0, 0.0, 0.0, 1.0, 1.0, 1.0], [1.0, 0.0, 0.0, 2.0, 1.0, 1.0]);
+        assert_eq!(ask(&[0.0, 0.0, 0.0, 2.0, 1.0, 1.0], 2), (0, expected));
+    }
+
+    #[test]
+    fn masks_in_their_places() {
+        let moves = [built()];
+        let (near, far) = ([0.0f32, 0.0, 0.0, 0.5, 0.5, 0.5], [3.0f32, 0.0, 0.0, 4.0, 1.0, 1.0]);
+        let (nan, crossed, ticks) = ([f32::NAN; 6], [1.0f32, 0.0, 0.0, 0.0, 1.0, 1.0], [0.0, 0.25, 1.0, 2.0]);
+        let mut masks = [7u64; ROWS];
+        let mut ask = |count: usize, boxes: &[[f32; 6]], depth: u32, ticks: &[f32], rows: &[[f32; 6]]| {
+            let number = unsafe {
+                jellyplain_moves_reach(
+                    moves.as_ptr(),
+                    count,
+                    boxes.as_ptr(),
+                    boxes.len(),
+                    depth,
+                    ticks.as_ptr(),
+                    ticks.len(),
+                    rows.as_ptr(),
+                    rows.len(),
+                    &mut masks,
+                )
+            };
+            (number, masks)
+        };
+        let refused = |number: u8| (number, [7; ROWS]);
+        assert_eq!(ask(0, &[], 13, &[], &[]), refused(12));
+        assert_eq!(ask(1, &[], 13, &[], &[nan]), refused(14));
+        assert_eq!(ask(1, &[nan; 17], 13, &[], &[nan]), refused(14));
+        assert_eq!(ask(1, &[nan; 16], 13, &[], &[]), refused(14));
+        assert_eq!(ask(1, &[nan], 13, &[], &[nan; 257]), refused(14));
+        assert_eq!(ask(1, &[nan], 13, &[0.0], &[nan; 256]), refused(21));
+        assert_eq!(ask(1, &[nan], 13, &[0.0; 65], &[nan]), refused(21));
+        assert_eq!(ask(1, &[nan], 13, &[0.0, f32::NAN], &[nan]), refused(21));
+        assert_eq!(ask(1, &[near, crossed, nan], 13, &ticks, &[nan]), refused(7));
+        assert_eq!(ask(1, &[near], 13, &ticks, &[near, nan, crossed]), refused(6));
+        assert_eq!(ask(1, &[near], 13, &ticks, &[near]), refused(8));
+        assert_eq!(ask(1, &[near], 0, &[-1.0, 0.0, 1.0], &[near]), refused(10));
+        // Two places are written, whatever stood there, and the others stay.
+        let mut expected = [7; ROWS];
+        (expected[0], expected[1]) = (0, 0b011);
+        assert_eq!(ask(1, &[near], 4, &ticks, &[far, [0.25, 0.0, 0.0, 0.5, 1.0, 1.0]]), (0, expected));
     }
 
     #[test]

@@ -1,7 +1,7 @@
 //! The limits that the package exports: what they name is accepted, and one more is refused.
 
 use jellyplain::{
-    reached_rows, starting_ticks, Boom, Bounds, Chain, Pose, Refusal, BOOMS, BOXES, DEPTH, IDENTITY, MOVES, POSES, ROWS, RUN_TICKS, TEXT, TICKS, WINDOWS,
+    cut, reached_rows, starting_ticks, Boom, Bounds, Chain, Pose, Refusal, BOOMS, BOXES, DEPTH, IDENTITY, MOVES, POSES, ROWS, RUN_TICKS, TEXT, TICKS, WINDOWS,
 };
 
 const UNIT: Bounds = Bounds { p_min: [0.0; 3], p_max: [1.0; 3] };
@@ -33,6 +33,12 @@ fn limits_are_the_librarys() {
 
     let reached = |count: usize| reached_rows(&UNIT, &vec![UNIT; count]).map(|rows| rows.places().len());
     assert_eq!((reached(ROWS), reached(ROWS + 1)), (Ok(ROWS), Err(Refusal::Set)));
+
+    let parts = |count: usize| cut(&UNIT, u32::try_from(count).unwrap()).map(|parts| parts.len());
+    assert_eq!((parts(BOXES), parts(BOXES + 1)), (Ok(BOXES), Err(Refusal::Set)));
+    let masks = |boxes: usize, ticks: usize, rows: usize| longest.reach(&vec![UNIT; boxes], 1, &times(ticks), &vec![UNIT; rows]).map(|masks| masks.len());
+    assert_eq!((masks(BOXES, TICKS, ROWS), masks(BOXES + 1, TICKS, ROWS)), (Ok(ROWS), Err(Refusal::Set)));
+    assert_eq!((masks(BOXES, TICKS, ROWS + 1), masks(BOXES, TICKS + 1, ROWS)), (Err(Refusal::Set), Err(Refusal::Ticks)));
 
     let written = |bytes: usize| longest.write(&UNIT, &mut vec![0; bytes]).map(str::len);
     assert_eq!((written(TEXT), written(TEXT - 1)), (Ok(TEXT), Err(Refusal::Room)));

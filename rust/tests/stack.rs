@@ -4,7 +4,7 @@
 //!
 //!     cargo test --test stack -- --nocapture    prints what each takes; with --release, where optimized
 
-use jellyplain::{reached_rows, starting_ticks, Boom, Bounds, Chain, Move, MoveFile, Pose, Refusal, BOOMS, BOXES, IDENTITY, POSES, ROWS, TEXT, TICKS};
+use jellyplain::{cut, reached_rows, starting_ticks, Boom, Bounds, Chain, Move, MoveFile, Pose, Refusal, BOOMS, BOXES, IDENTITY, POSES, ROWS, TEXT, TICKS};
 use std::fmt::Write;
 use std::hint::black_box;
 use std::mem::size_of;
@@ -57,7 +57,7 @@ fn accepted<T>(answer: &Result<T, Refusal>) {
 type Call = fn(&mut Given);
 
 /// By their names in the documentation's table, or as others.
-const CALLS: [(&str, Call); 33] = [
+const CALLS: [(&str, Call); 36] = [
     ("nothing", |_| ()),
     ("Move::new", |g| accepted(&Move::new(&g.poses[0], &g.poses[1]))),
     ("Move::rigid", |g| accepted(&Move::rigid(&g.poses[0], &g.poses[1]))),
@@ -67,6 +67,7 @@ const CALLS: [(&str, Call); 33] = [
     ("Move::bound_point_motion", |g| accepted(&g.first.bound_point_motion(POINT))),
     ("Move::motion_bounds", |g| accepted(&g.first.motion_bounds(&BOX))),
     ("Move::cover", |g| accepted(&g.first.cover(&BOX, 8))),
+    ("Move::reach", |g| accepted(&g.first.reach(&[BOX; BOXES], 3, &g.times, &[BOX; ROWS]))),
     ("Box::new(Chain::EMPTY)", |_| drop(black_box(Box::new(Chain::EMPTY)))),
     ("Box::new(MoveFile::EMPTY)", |_| drop(black_box(Box::new(MoveFile::EMPTY)))),
     ("Chain::empty_in", |_| assert_eq!(black_box(Chain::empty_in(&mut Box::new_uninit())).moves().len(), 0)),
@@ -86,11 +87,13 @@ const CALLS: [(&str, Call); 33] = [
     ("Chain::covers", |g| accepted(&g.chain.covers(&[BOX; BOXES], 6))),
     ("Chain::window_cover", |g| accepted(&g.chain.window_cover(&BOX, 6, 0.5, 2.5))),
     ("Chain::windows", |g| accepted(&g.chain.windows(&g.second, &BOX, &BOX, 2, &g.times))),
+    ("Chain::reach", |g| accepted(&g.chain.reach(&[BOX; BOXES], 3, &g.times, &[BOX; ROWS]))),
     ("Chain::write", |g| accepted(&g.chain.write(&BOX, &mut g.bytes))),
     ("MoveFile::read_from", |g| accepted(&g.file.read_from(&g.text))),
     ("MoveFile::read", |g| accepted(&MoveFile::read(&g.text))),
     ("starting_ticks", |_| accepted(&starting_ticks(&[Boom { cover: BOX, ticks: 1000 }; BOOMS]))),
     ("reached_rows", |_| accepted(&reached_rows(&BOX, &[BOX; ROWS]))),
+    ("cut", |_| accepted(&cut(&BOX, 16))),
 ];
 
 /// Goes down so many bytes below an address of the stack, and calls.
