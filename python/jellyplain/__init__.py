@@ -19,6 +19,14 @@ The box that is reserved: every point of `boom` is inside `cover` at every time.
     Traceback (most recent call last):
     jellyplain.Refused: refused with 8: the depth is above 12
 
+Which rows the boom may wet, and when: bit w of a row's mask stands for the window from tick w to the next.
+
+    >>> from jellyplain import cut
+    >>> inf = float("inf")
+    >>> rows = [Bounds((x, 0, 0), (x + 0.125, 2, 0)) for x in (0.0, 0.5, 2.0)]
+    >>> m.reach(cut(boom, 4), 8, [-inf, 0.25, inf], rows)
+    [1, 2, 0]
+
 What can't be worked with is refused: `Refused` has the number and its text, `Refusal` all of them. Any floats may be handed in, NaN and
 infinities included; they are rounded to the nearest of 32 bits, and to an infinity beyond the greatest. What the library has no number for
 is a ValueError, such as two coordinates or a depth of -1, or a TypeError, before any call.
@@ -29,18 +37,18 @@ is in c/jellyplain.h, and `thread_rounds_as_started` looks at it.
 """
 from ._library import LibraryError, load
 from ._moves import Chain, Move
-from ._questions import reached_rows, starting_ticks, thread_rounds_as_started, version
+from ._questions import cut, reached_rows, starting_ticks, thread_rounds_as_started, version
 from ._refusal import Refusal, Refused
 from ._values import IDENTITY, Boom, Bounds, Covers, Matrix, MotionBounds, MoveFile, Pose, Transform, Vector
 from ._version import __version__
 
 _CLASSES = (Boom, Bounds, Chain, Covers, LibraryError, MotionBounds, Move, MoveFile, Pose, Refusal, Refused, Transform)
-_FUNCTIONS = (load, reached_rows, starting_ticks, thread_rounds_as_started, version)
+_FUNCTIONS = (cut, load, reached_rows, starting_ticks, thread_rounds_as_started, version)
 # What is public is named by the package, in messages too, and not by the module that it stands in.
 for _public in _CLASSES + _FUNCTIONS:
     _public.__module__ = __name__
 
 __all__ = [
     "IDENTITY", "Boom", "Bounds", "Chain", "Covers", "LibraryError", "Matrix", "MotionBounds", "Move", "MoveFile", "Pose", "Refusal", "Refused",
-    "Transform", "Vector", "__version__", "load", "reached_rows", "starting_ticks", "thread_rounds_as_started", "version",
+    "Transform", "Vector", "__version__", "cut", "load", "reached_rows", "starting_ticks", "thread_rounds_as_started", "version",
 ]

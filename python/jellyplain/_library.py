@@ -73,6 +73,8 @@ FUNCTIONS: Dict[str, Tuple[Any, List[Any]]] = {
     "write_file": (Count, [ARRAY, SIZE, ARRAY, ARRAY, SIZE]),
     "day": (NUMBER, [ARRAY, ARRAY, SIZE, ARRAY]),
     "reached_rows": (Count, [ARRAY, ARRAY, SIZE, ARRAY]),
+    "cut": (NUMBER, [ARRAY, ctypes.c_uint32, ARRAY]),
+    "moves_reach": (NUMBER, [ARRAY, SIZE, ARRAY, SIZE, DEPTH, ARRAY, SIZE, ARRAY, SIZE, ARRAY]),
 }
 
 

@@ -3,10 +3,10 @@ from __future__ import annotations
 
 import ctypes
 from array import array
-from typing import TYPE_CHECKING, Any, Iterable, Optional, Sequence, Tuple, Type, TypeVar, final, overload
+from typing import TYPE_CHECKING, Any, Iterable, List, Optional, Sequence, Tuple, Type, TypeVar, final, overload
 
 from ._buffers import at_most, lent, lent_for_answers
-from ._library import BOXES, TEXT, WINDOWS, Box, Counts, Halves, Moves, Point, Rows, functions
+from ._library import BOXES, ROWS, TEXT, WINDOWS, Box, Counts, Halves, Moves, Point, Rows, functions
 from ._refusal import checked
 from ._values import Bounds, Covers, MotionBounds, Pose, Transform, Vector, bounds_of, box_array, box_arrays, point_array, pose_structs, transform_of
 
@@ -66,6 +66,13 @@ def _kept(kind: Type[Kind], moves: Any, poses: Tuple[Pose, ...], rigid: bool) ->
     for name, value in (("_moves", moves), ("poses", poses), ("rigid", rigid)):
         object.__setattr__(built, name, value)
     return built
+
+
+def _reach(moves: Any, count: int, boxes: Iterable[Bounds], depth: int, ticks: Floats, rows: Iterable[Bounds]) -> List[int]:
+    boom, given, field, masks = tuple(boxes), lent(ticks, "ticks"), tuple(rows), (ctypes.c_uint64 * ROWS)()
+    checked(functions().moves_reach(
+        moves, count, box_arrays(boom), len(boom), _depth(depth), given.address, given.count, box_arrays(field), len(field), masks))
+    return masks[:len(field)]
 
 
 @final
@@ -136,6 +143,10 @@ class Move(_Built):
         box = Box()
         checked(functions().cover(self._moves, box_array(b), _depth(depth), box))
         return bounds_of(box[:])
+
+    def reach(self, boxes: Iterable[Bounds], depth: int, ticks: Floats, rows: Iterable[Bounds]) -> List[int]:
+        """Which rows the boxes may wet, and in which windows, as `Chain.reach` says of a chain."""
+        return _reach(self._moves, 1, boxes, depth, ticks, rows)
 
 
 @final
@@ -295,6 +306,23 @@ class Chain(_Built):
             self._moves, self._count, other._moves, other._count, box_array(b), box_array(c), _depth(depth), given.address, given.count, places)
         checked(answer.refusal)
         return tuple(places[:answer.count])
+
+    def reach(self, boxes: Iterable[Bounds], depth: int, ticks: Floats, rows: Iterable[Bounds]) -> List[int]:
+        """Which of 1 to 256 rows a boom of 1 to 16 boxes may wet, and in which windows between neighbouring ticks: a mask for each row.
+
+        Bit w of a mask is 1 exactly where the row is named in window w, counted from 0: `mask >> w & 1`. A row is named where it meets,
+        touching included, one of the boxes whose union is `window_cover` of that window for one of `boxes`. So the rows whose mask isn't 0
+        are the map, and their bits the schedule. `ticks` are 2 to 64, as `times` of `points` are given, and may be infinite: minus and plus
+        infinity alone are one window, all time.
+
+        In a row that isn't named in a window there is no point of any of the boxes at any time of the window, both ticks included, less or
+        plus its pad or anything between. A greater depth, up to 12, is not refused where a lesser was accepted, and each of its masks is a
+        part of the lesser's. A boom in parts, as `cut` makes them, has fewer rows named than the whole box.
+
+        Refused with 14 of the boxes, 14 of the rows, 21 of the ticks, 6 and 7 of the first box in order that is refused, then of the first
+        row, 8, then 5 or 10 of the first window that is refused, and in it of the first box. ValueError for a depth below zero.
+        """
+        return _reach(self._moves, self._count, boxes, depth, ticks, rows)
 
     def write(self, b: Bounds) -> bytes:
         """The move file of the chain's poses and a box, in the one way that it is written: `MoveFile.read` gives the same bits back, a

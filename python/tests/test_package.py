@@ -142,6 +142,15 @@ class Documents(TestCase):
         answer = doctest.testmod(jellyplain)
         self.assertTrue(answer.attempted >= 8 and answer.failed == 0)
 
+    def test_the_lines_of_the_guide_and_of_the_readme(self):
+        # The guide's lines are run in the repository's root.
+        self.addCleanup(os.chdir, os.getcwd())
+        os.chdir(ROOT)
+        for path, least in [("docs/for-engineers.md", 8), ("python/README.md", 8)]:
+            lines = doctest.DocTestParser().get_doctest(bytes_of(path).decode(), {}, path, path, 0)
+            answer = doctest.DocTestRunner(verbose=False).run(lines)
+            self.assertTrue(answer.attempted >= least and answer.failed == 0, path)
+
     def test_everything_public_is_described(self):
         for name in jellyplain.__all__:
             value = getattr(jellyplain, name)
