@@ -4,6 +4,7 @@
 //!     bench                      every comparison, and how the cover's cost grows with its depth
 //!     bench rigid                rigid moves beside plain ones alone
 //!     bench boost                covers beside Boost.Interval alone
+//!     bench reach                rows by windows beside the covers of a set alone
 //!     bench worst                the slowest calls that a search finds
 //!     bench profile OP SECONDS   the port alone, for a profiler: OP is build, point, interpolate, motion or cover
 
@@ -11,6 +12,7 @@
 mod boost;
 mod chains;
 mod inputs;
+mod reach;
 mod rigid;
 mod worst;
 
@@ -79,7 +81,7 @@ fn compare(name: &str, rounds: usize, calls: usize, port: &mut dyn FnMut(), othe
     let mut times = measure(rounds, calls, &mut [port, other]);
     let mut ratios = ratios(&times[0], &times[1]);
     println!(
-        "{name:32} {:>12.0} {:>12.0} {:>8.2}   {:.2} to {:.2}",
+        "{name:40} {:>12.0} {:>12.0} {:>8.2}   {:.2} to {:.2}",
         median(&mut times[0]),
         median(&mut times[1]),
         median(&mut ratios),
@@ -184,7 +186,7 @@ fn compare_boost(kinds: &[(&str, &[Case])]) {
     let ratios = ["port/Boost", "port/affine", "Boost/second", "affine/second"].map(|ratio| format!("   {ratio:20}")).concat();
     println!("\n{:32}{columns}{}", "nanoseconds a call, medians", ratios.trim_end());
     kinds.iter().for_each(|(kind, cases)| boost::compare(kind, cases));
-    println!("\n{:32} {:>12} {:>12} {:>8}   quartiles", "rigid, nanoseconds a call", "port", "Boost", "ratio");
+    println!("\n{:40} {:>12} {:>12} {:>8}   quartiles", "rigid, nanoseconds a call", "port", "Boost", "ratio");
     kinds.iter().for_each(|(kind, cases)| boost::compare_rigid(kind, cases));
 }
 
@@ -243,25 +245,34 @@ fn main() {
     if arguments == ["chains"] {
         return compare_chains(&mut random);
     }
+    if arguments == ["reach"] {
+        return compare_reach(&turning);
+    }
     if arguments == ["worst"] {
         return worst::worst(&mut random);
     }
-    println!("{:32} {:>12} {:>12} {:>8}   quartiles", "nanoseconds a call, medians", "port", "other", "ratio");
+    println!("{:40} {:>12} {:>12} {:>8}   quartiles", "nanoseconds a call, medians", "port", "other", "ratio");
     compare_all("turning", &turning);
     compare_all("shifting", &shifting);
     compare_boost(&[("turning", &turning), ("shifting", &shifting)]);
     growth("turning", &turning[..2]);
     compare_chains(&mut random);
+    compare_reach(&turning);
     compare_rigid(&turning, &shifting);
 }
 
 fn compare_chains(random: &mut Random) {
-    println!("\n{:32} {:>12} {:>12} {:>8}   quartiles", "a chain, nanoseconds a call", "chain", "moves", "ratio");
+    println!("\n{:40} {:>12} {:>12} {:>8}   quartiles", "a chain, nanoseconds a call", "chain", "moves", "ratio");
     chains::compare_chains(random);
 }
 
+fn compare_reach(turning: &[Case]) {
+    println!("\n{:40} {:>12} {:>12} {:>8}   quartiles", "rows named, nanoseconds a call", "reach", "set", "ratio");
+    reach::compare_all(turning);
+}
+
 fn compare_rigid(turning: &[Case], shifting: &[Case]) {
-    println!("\n{:32} {:>12} {:>12} {:>8}   quartiles", "rigid, nanoseconds a call", "rigid", "plain", "ratio");
+    println!("\n{:40} {:>12} {:>12} {:>8}   quartiles", "rigid, nanoseconds a call", "rigid", "plain", "ratio");
     rigid::compare_kinds("turning", turning);
     rigid::compare_kinds("shifting", shifting);
     println!("\n{:32} {:>12} {:>12}   quartiles", "volume, rigid to plain", "moves", "median");
