@@ -1,6 +1,6 @@
 #!/usr/bin/env bash
 # Makes the fixed lists that the tests replay, questions in stdin and their expected answer lines in stdout: of crates/answers the groups below, in this order,
-# and of crates/chain_answers those of chains, sets, arcs, texts, rigid chains, poses that are tried, joined chains, refused stretches, windows of two, days and rows. Each group's expected values come from outside the libraries:
+# and of crates/chain_answers those of chains, sets, arcs, texts, rigid chains, poses that are tried, joined chains, refused stretches, windows of two, days, rows, and rows by windows with boxes in parts. Each group's expected values come from outside the libraries:
 #   numbers                                        hardware float arithmetic   tools/number_vectors.rs
 #   angles                                         exact fractions             tools/angle_vectors.py
 #   matrices, boxes, zeros, moves, their queries   the original Rust, and for covers a second implementation beside it   oracle/ (which says where it looks for pbrt-rust's sources)
@@ -14,6 +14,7 @@
 #   windows of two chains                          a second implementation, in oracle/
 #   days of booms                                  a second implementation, tick by tick
 #   rows that a boom reaches                       a second implementation, in oracle/
+#   rows by windows, boxes in parts                a second implementation, in oracle/
 set -eu
 cd "$(dirname "$0")/.."
 made=$(mktemp -d)
@@ -55,6 +56,8 @@ mkdir -p crates/chain_answers
     "$vectors" windows 40 1
     "$vectors" days 150 1
     "$vectors" rows 100 1
+    # Every third question of rows by windows: they are long, and neighbours differ by a depth or a row.
+    "$vectors" reach 40 1 | awk '!/^reach / || asked++ % 3 == 0'
 } >crates/chain_answers/stdin
 "$made/oracle/release/chain_answers" <crates/chain_answers/stdin >crates/chain_answers/stdout
 wc -l crates/answers/stdin crates/answers/stdout crates/chain_answers/stdin crates/chain_answers/stdout
