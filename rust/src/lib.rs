@@ -161,6 +161,7 @@ pub struct MotionBounds {
 
 /// A matrix and its inverse, the two halves of pbrt's `Transform`.
 #[derive(Clone, Copy, Debug, PartialEq)]
+#[repr(C)]
 pub struct Transform {
     /// The matrix.
     pub matrix: Matrix,
@@ -229,10 +230,9 @@ impl Move {
 
     /// The transform at a time. Refused with [`Refusal::Query`], [`Refusal::ZeroPivot`] and [`Refusal::NotFinite`].
     pub fn interpolate(&self, time: f32) -> Result<Transform, Refusal> {
-        let mut halves = [[[0.0; 4]; 4]; 2];
-        let number = unsafe { library::jellyplain_interpolate(&self.rows, time, &mut halves) };
-        let [matrix, inverse] = halves;
-        answered(number, Transform { matrix, inverse })
+        let mut transform = Transform { matrix: [[0.0; 4]; 4], inverse: [[0.0; 4]; 4] };
+        let number = unsafe { library::jellyplain_interpolate(&self.rows, time, &mut transform) };
+        answered(number, transform)
     }
 
     /// pbrt's motion box of a point: where the two poses take it, and where it is at the times that the zero search found. It is no cover.
@@ -459,10 +459,9 @@ impl Chain {
     /// for bit. Refused with [`Refusal::Query`], then with [`Refusal::ZeroPivot`] or [`Refusal::NotFinite`], also where points are answered: between two poses the scale on the way may have no
     /// inverse, or its inverse may leave the range of floats, and a point needs none.
     pub fn interpolate(&self, time: f32) -> Result<Transform, Refusal> {
-        let (moves, mut halves) = (self.built()?, [[[0.0; 4]; 4]; 2]);
-        let number = unsafe { library::jellyplain_moves_interpolate(moves.as_ptr(), moves.len(), time, &mut halves) };
-        let [matrix, inverse] = halves;
-        answered(number, Transform { matrix, inverse })
+        let (moves, mut transform) = (self.built()?, Transform { matrix: [[0.0; 4]; 4], inverse: [[0.0; 4]; 4] });
+        let number = unsafe { library::jellyplain_moves_interpolate(moves.as_ptr(), moves.len(), time, &mut transform) };
+        answered(number, transform)
     }
 
     /// What the chain holds: the number of its poses, the times of the first and the last, its kind. Refused with [`Refusal::Chain`] where it is empty.

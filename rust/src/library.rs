@@ -1,7 +1,7 @@
 //! The functions of the archive libjellyplain.a, as crates/api/src/lib.rt exports them and c/jellyplain.h declares them. A reference to an array crosses as a thin pointer, so that
 //! no length can be wrong, and a slice as a pointer and its length; references to be written are borrowed apart from all others.
 
-use crate::{Matrix, Pose};
+use crate::{Pose, Transform};
 
 /// A built move as its caller keeps it. What stands in it is the library's own business.
 pub type Rows = [[f32; 4]; 45];
@@ -88,7 +88,7 @@ extern "C" {
     pub fn jellyplain_build(rigid: bool, start: &Pose, end: &Pose, motion: &mut Rows) -> u8;
     pub fn jellyplain_point(motion: &Rows, time: f32, p: &[f32; 3], moved: &mut [f32; 3]) -> u8;
     pub fn jellyplain_pad(motion: &Rows, time: f32, pad: &mut [f32; 1]) -> u8;
-    pub fn jellyplain_interpolate(motion: &Rows, time: f32, transform: &mut [Matrix; 2]) -> u8;
+    pub fn jellyplain_interpolate(motion: &Rows, time: f32, transform: &mut Transform) -> u8;
     pub fn jellyplain_bound_point_motion(motion: &Rows, p: &[f32; 3], out: &mut [f32; 6], examined: &mut [u32; 3]) -> u8;
     pub fn jellyplain_motion_bounds(motion: &Rows, b: &[f32; 6], out: &mut [f32; 6], examined: &mut [u32; 3]) -> u8;
     pub fn jellyplain_cover(motion: &Rows, b: &[f32; 6], depth: u32, out: &mut [f32; 6]) -> u8;
@@ -98,7 +98,7 @@ extern "C" {
     pub fn jellyplain_refused_run(rigid: bool, poses: *const Pose, count: usize) -> Run;
     pub fn jellyplain_moves_point(moves: *const Rows, count: usize, time: f32, p: &[f32; 3], moved: &mut [f32; 3]) -> u8;
     pub fn jellyplain_moves_pad(moves: *const Rows, count: usize, time: f32, pad: &mut [f32; 1]) -> u8;
-    pub fn jellyplain_moves_interpolate(moves: *const Rows, count: usize, time: f32, transform: &mut [Matrix; 2]) -> u8;
+    pub fn jellyplain_moves_interpolate(moves: *const Rows, count: usize, time: f32, transform: &mut Transform) -> u8;
     pub fn jellyplain_moves_held(moves: *const Rows, count: usize) -> Held;
     pub fn jellyplain_moves_pose(moves: *const Rows, count: usize, place: usize, pose: &mut Pose) -> u8;
     pub fn jellyplain_moves_points(
@@ -209,11 +209,13 @@ mod tests {
         assert_eq!(unsafe { jellyplain_build(true, &end, &start, &mut kept) }, 3);
         assert_eq!(kept, rows);
 
-        let (origin, mut three, mut six, mut two, mut counts) = ([0.0; 3], [7.0; 3], [7.0; 6], [[[7.0; 4]; 4]; 2], [7; 3]);
+        let (origin, mut three, mut six, mut counts) = ([0.0; 3], [7.0; 3], [7.0; 6], [7; 3]);
+        let sevens = Transform { matrix: [[7.0; 4]; 4], inverse: [[7.0; 4]; 4] };
+        let mut transform = sevens;
         assert_eq!(unsafe { jellyplain_point(&rows, f32::NAN, &origin, &mut three) }, 6);
         assert_eq!(three, [7.0; 3]);
-        assert_eq!(unsafe { jellyplain_interpolate(&rows, f32::NAN, &mut two) }, 6);
-        assert_eq!(two, [[[7.0; 4]; 4]; 2]);
+        assert_eq!(unsafe { jellyplain_interpolate(&rows, f32::NAN, &mut transform) }, 6);
+        assert_eq!(transform, sevens);
         assert_eq!(unsafe { jellyplain_bound_point_motion(&rows, &[f32::INFINITY, 0.0, 0.0], &mut six, &mut counts) }, 6);
         assert_eq!(unsafe { jellyplain_motion_bounds(&rows, &[1.0, 0.0, 0.0, 0.0, 0.0, 0.0], &mut six, &mut counts) }, 7);
         assert_eq!(unsafe { jellyplain_cover(&rows, &[0.0; 6], 0, &mut six) }, 10);
