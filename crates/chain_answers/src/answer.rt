@@ -3,6 +3,7 @@
 use crate::chains;
 use crate::files;
 use crate::question;
+use crate::reach;
 use crate::rows;
 use answer_values::put_error;
 use question_reader::Question;
@@ -29,6 +30,9 @@ pub(crate) fn put_answer(
         return rows::reached(floats / 6, x, out, at);
     }
     let slot = wholes[0];
+    if kind == 19 {
+        return reach::put_cut(slot, x, out, at);
+    }
     match kind {
         0 => chains::build_chain(q.rigid, slot, floats / 18, x, out, at, kept, poses),
         1 => chains::build_lone(q.rigid, slot, x, out, at, kept, poses),

@@ -5,6 +5,7 @@ mod chains;
 mod day;
 mod files;
 mod question;
+mod reach;
 mod rows;
 
 use answer_values::put_error;
@@ -98,6 +99,9 @@ fn answer_line(
     }
     if is_named(line, b"day") {
         return day::put_day(line, out, at);
+    }
+    if is_named(line, b"reach") {
+        return reach::put_reach(line, out, at, kept, poses);
     }
     let mut wholes = [0u64; 4];
     let mut x = [0.0f32; 900];

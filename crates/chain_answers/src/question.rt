@@ -3,7 +3,7 @@ use question_reader::Question;
 
 // The shape of each question, in the order of the names: how many whole numbers follow its name, whether the word that says how a chain is built,
 // how many floats at least, and how many floats each thing has of which any number may follow, 0 for none.
-const SHAPES: [[usize; 4]; 19] = [
+const SHAPES: [[usize; 4]; 20] = [
     [1, 1, 0, 18], // chain S KIND P*
     [1, 1, 36, 0], // lone S KIND P P
     [1, 0, 4, 0], // cpoint S T X Y Z
@@ -23,10 +23,11 @@ const SHAPES: [[usize; 4]; 19] = [
     [3, 0, 12, 1], // windows A B D BOXA BOXB T*
     [2, 0, 8, 0], // wcover S D BOX T0 T1
     [0, 0, 6, 6], // rows BOX BOX*
+    [1, 0, 6, 0], // cut N BOX
 ];
 
 // How many poses the slot that a question asks must have, where a move by itself counts as one.
-const POSES: [usize; 19] = [
+const POSES: [usize; 20] = [
     0, // chain
     0, // lone
     1, // cpoint
@@ -46,6 +47,7 @@ const POSES: [usize; 19] = [
     2, // windows
     2, // wcover
     0, // rows
+    0, // cut
 ];
 
 // The question of a line, its whole numbers and floats put into `wholes` and x.
@@ -53,7 +55,7 @@ pub(crate) fn parse(line: &[u8], wholes: &mut [u64; 4], x: &mut [f32; 900]) -> Q
     question_reader::read_question(
         line,
         8000,
-        b"chain lone cpoint ctimes ccover cinterp cparts cmotion cpmotion cset acosn write cpad try join stretch windows wcover rows",
+        b"chain lone cpoint ctimes ccover cinterp cparts cmotion cpmotion cset acosn write cpad try join stretch windows wcover rows cut",
         &SHAPES,
         wholes,
         x,
@@ -62,5 +64,5 @@ pub(crate) fn parse(line: &[u8], wholes: &mut [u64; 4], x: &mut [f32; 900]) -> Q
 
 // How many poses the slot must have.
 pub(crate) fn poses_of(kind: usize) -> usize {
-    if kind < 19 { POSES[kind] } else { 0 }
+    if kind < 20 { POSES[kind] } else { 0 }
 }
