@@ -2,6 +2,7 @@
 use Prim.Native.Nat.{ℕ, _/_, _^_}
 use mathlib.Core.Path.{sym, ap, _∙_}
 use native.Mathlib.Nat.{min-eq-left}
+use native.Mathlib.Omega.{arith}
 use Rattle.bounds3.specs.declared.Bounds3f.{Bounds3f}
 use Rattle.transform.specs.declared.BoundsAnswer.the-variants.{Bounds}
 use Rattle.bounds_query.specs.Zeros.{BoundsAnswer·positiveZeros}
@@ -24,7 +25,7 @@ returns c =
     ∙ sym (groups-answer m (a .a) (a .b) (a .first) (c3 .is-lean .ensures (c2 .if1 .taken)) (a .h) (s .pre .1 .0) (s .pre .1 .1))
 
 union-judged-requires : tie.Need-union-judged-requires
-union-judged-requires c κs = c .before .before .pre .0
+union-judged-requires c κs = omega (arith, c .before .before .pre .0)
 
 returns-2 : tie.Need-returns-2
 returns-2 c = c .positive-zeros2 .ensures ∙ ap BoundsAnswer·positiveZeros (c .before .union-judged .ensures)
