@@ -7,6 +7,7 @@ The library is what JELLYPLAIN_LIBRARY names, or is made from target/staticlib/l
 """
 import contextlib
 import copy
+import ctypes
 import io
 import json
 import math
@@ -29,10 +30,13 @@ import move_files
 import pages
 from planning import answers, chains, command, files, groups, library, meetings, numbers, page, progress, reading, rows, scene, source
 
+import jellyplain                       # found by planning
+
 PLAN = os.path.join(pages.ROOT, "examples", "plan", "orchard.json")
 FOLDER = os.path.join(pages.ROOT, "examples", "plan", "orchard")
 PARKED = os.path.join(pages.ROOT, "examples", "plan", "parked.json")
 HUNDRED = os.path.join(pages.ROOT, "examples", "plan", "hundred.py")
+PROGRAM = os.path.join(pages.ROOT, "tools", "plan")
 QUESTIONS = ["covers", "nets", "rows", "windows", "day", "draw", "page"]
 SCRATCH = tempfile.mkdtemp()
 
@@ -100,7 +104,7 @@ def read(path=PLAN):
 
 
 def answered(path=PLAN):
-    return answers.Answers(library.Library(os.environ["JELLYPLAIN_LIBRARY"]), read(path))
+    return answers.Answers(read(path))
 
 
 class Numbers(unittest.TestCase):
@@ -113,12 +117,12 @@ class Numbers(unittest.TestCase):
             self.assertGreaterEqual(Fraction(high), exact)
             self.assertIn(near, (low, high))
             for value in (low, high):
-                self.assertEqual(value, library.floats([value])[0])
+                self.assertEqual(value, ctypes.c_float(value).value)
             self.assertTrue(low == high or abs(binary32.bits(low) - binary32.bits(high)) in (1, 0x80000000), (low, high))
 
     def test_nearest_is_that_of_the_machine(self):
         for value in (0.1, -0.1, 1e-45, 3e-46, 16777217, 16777219, 3.4028234e38):
-            self.assertEqual(binary32.nearest(Fraction(value)), library.floats([value])[0])
+            self.assertEqual(binary32.nearest(Fraction(value)), ctypes.c_float(value).value)
         with self.assertRaises(OverflowError):
             binary32.nearest(Fraction(10) ** 39)
 
@@ -187,7 +191,7 @@ class Reach(unittest.TestCase):
         mast = [1234567.1, -7654321.7, 3.3]
         boom = boom_of(mast=mast)
         found = json.loads(ask(plan_of(boom), "covers", "--format", "json")[1], parse_float=Fraction)["covers"][0]
-        answer = answers.Answers(library.Library(os.environ["JELLYPLAIN_LIBRARY"]), reading.plan(files.json_values(json.dumps(plan_of(boom))), "p")).booms[0]
+        answer = answers.Answers(reading.plan(files.json_values(json.dumps(plan_of(boom))), "p")).booms[0]
         exact = answer.covers_in_plan(False)[0]
         edge = numbers.exact_text(exact[3])
         text = json.dumps(plan_of(boom, rows=[{"name": "touching", "box": ["EDGE", -8e6, 2e6, 0]}, {"name": "beyond", "box": [1234600, -8e6, 2e6, 0]}])).replace('"EDGE"', edge)
@@ -226,7 +230,7 @@ class Reach(unittest.TestCase):
     def test_each_number_is_rounded_in_its_direction(self):
         plan = reading.plan(files.json_values(json.dumps(plan_of(
             boom_of(mast=[0.3, 0.3, 0.3], box=[0.1, 0.7, 0.1, 0.7, 0.7, 0.7], poses=[{"time": 0, "pad": 0.7}, {"time": 1, "pad": 0.1}]), rows=[{"name": "r", "box": [0.1, 0.7, 0.7, 0.1, 0.7, 0.7]}]))), "p")
-        answer = answers.Answers(library.Library(os.environ["JELLYPLAIN_LIBRARY"]), plan).booms[0]
+        answer = answers.Answers(plan).booms[0]
         row = plan.rows[0]
         exact_row = [row.area[0], row.area[1], row.heights[0], row.area[2], row.area[3], row.heights[1]]
         for exact, floats in ((plan.booms[0].boxes[0], answer.boxes[0]), ([v - Fraction(3, 10) for v in exact_row], rows.local_box(row, answer.origin))):
@@ -405,8 +409,8 @@ class Hundred(unittest.TestCase):
 
     def test_rows_are_those_of_asking_for_each(self):
         for answer in self.found.booms[::17]:
-            boxes = [rows.local_box(row, answer.origin) for row in self.found.plan.rows]
-            self.assertEqual(answer.rows, sorted({place for cover in answer.spray_covers for place in self.found.library.reached_rows(cover, boxes)}))
+            boxes = [library.bounds(rows.local_box(row, answer.origin)) for row in self.found.plan.rows]
+            self.assertEqual(answer.rows, sorted({place for cover in answer.spray_covers for place in library.reached_rows(library.bounds(cover), boxes)}))
             self.assertTrue(answer.rows)
 
     def test_windows(self):
@@ -422,7 +426,7 @@ class Hundred(unittest.TestCase):
         for _ in range(30):
             booms = [boom_of(name="b%d" % k, mast=[rng.uniform(0, 80), rng.uniform(0, 80), 0], run_ticks=rng.randrange(10, 30)) for k in range(rng.randrange(2, 9))]
             found = answered(written(json.dumps(plan_of(*booms))))
-            self.assertEqual([run.start for run in found.day], found.library.day(found.whole_boxes, [run.end - run.start for run in found.day]))
+            self.assertEqual([run.start for run in found.day], list(jellyplain.starting_ticks(jellyplain.Boom(library.bounds(box), run.end - run.start) for box, run in zip(found.whole_boxes, found.day))))
 
     def test_a_group_of_nine(self):
         near = [boom_of(name="b%d" % k, mast=[8 * k, 0, 0]) for k in range(9)]
@@ -754,7 +758,7 @@ class WrongUsage(unittest.TestCase):
         (["covers", SCRATCH], "there is no booms.csv"),
         (["covers", PLAN, "-o", "/nowhere/out"], "/nowhere/out: No such file"),
         (["covers", PLAN, "--library", "/nowhere/lib"], "run `make` first"),
-        (["covers", PLAN, "--library", PLAN], "can't be loaded"),
+        (["covers", PLAN, "--library", PLAN], "a process has one"),
         (["covers", "a\nb"], "a?b: No such file"),
     ]
 
@@ -766,8 +770,17 @@ class WrongUsage(unittest.TestCase):
             self.assertEqual((status, said.getvalue().count("\n")), (2, 1), (arguments, said.getvalue()))
             self.assertIn(part, said.getvalue())
 
+    def test_other_libraries(self):
+        """Each in a process of its own, since a process has one library."""
+        made = [(PLAN, "can't be loaded as a shared library"), (os.path.dirname(PLAN), "can't be loaded")]
+        made += [(path, "has no jellyplain_layout: it is another library, or an older one") for path in ["/lib/x86_64-linux-gnu/libc.so.6"] if os.path.exists(path)]
+        for path, part in made:
+            ended = subprocess.run([PROGRAM, "covers", PLAN, "--library", path], stdout=subprocess.PIPE, stderr=subprocess.PIPE, text=True)
+            self.assertEqual((ended.returncode, ended.stdout, ended.stderr.count("\n")), (2, "", 1), ended.stderr)
+            self.assertTrue(part in ended.stderr and ended.stderr.endswith("; run `make` again\n"), ended.stderr)
+
     def test_the_program(self):
-        program = os.path.join(pages.ROOT, "tools", "plan")
+        program = PROGRAM
         asked = subprocess.run([program, "covers", PLAN], stdout=subprocess.PIPE, text=True, check=True).stdout
         self.assertEqual(asked, run("covers", PLAN)[1])
         self.assertEqual(subprocess.run([program, "covers", "-"], input=bytes_of(PLAN), stdout=subprocess.PIPE, check=True).stdout.decode(), asked)
@@ -939,13 +952,13 @@ class LowDepthsFirst(unittest.TestCase):
         """By low depths first, and each box of one with each of the other at the depth itself."""
         booms, asked = [found.booms[i], found.booms[j]], []
         frame = chains.middle([answer.boom for answer in booms])
-        pair = [chains.build(found.library, answer.boom, frame, found.plan.start(), True) for answer in booms]
-        boxes = [answer.boxes for answer in booms]
-        plainly = lambda: sorted({k for a in boxes[0] for b in boxes[1] for k in found.library.windows(*pair, a, b, depth, ticks)})
-        for ask_them in (lambda: meetings.meeting_windows(found.library, pair, boxes, depth, ticks), plainly):
+        pair = [chains.build(answer.boom, frame, found.plan.start(), True) for answer in booms]
+        boxes = [list(map(library.bounds, answer.boxes)) for answer in booms]
+        plainly = lambda: sorted({k for a in boxes[0] for b in boxes[1] for k in pair[0].windows(pair[1], a, b, ticks, depth)})
+        for ask_them in (lambda: meetings.meeting_windows(pair, boxes, depth, ticks), plainly):
             try:
                 asked.append(ask_them())
-            except library.Refused as refusal:
+            except jellyplain.Refused as refusal:
                 asked.append(refusal.number)
         return asked
 
@@ -966,15 +979,15 @@ class LowDepthsFirst(unittest.TestCase):
             def __init__(self, least):
                 self.least = least
 
-            def windows(self, chain, other, box, other_box, depth, ticks):
+            def windows(self, other, box, other_box, ticks, depth):
                 if other_box == 1 and depth < self.least:
-                    raise library.Refused(10)
+                    raise jellyplain.Refused(10)
                 return [k for k, tick in enumerate(ticks[:-1]) if tick % 7 == 3 or depth < 3]
         ticks = [float(k) for k in range(150)]
         for least, depth, expected in ((0, 10, None), (2, 10, None), (6, 10, None), (6, 4, 10), (11, 10, 10)):
             try:
-                found = meetings.meeting_windows(Refusing(least), (0, 0), [[0], [0, 1]], depth, ticks)
-            except library.Refused as refusal:
+                found = meetings.meeting_windows((Refusing(least), None), [[0], [0, 1]], depth, ticks)
+            except jellyplain.Refused as refusal:
                 found = refusal.number
             self.assertEqual(found, expected or [k for k in range(149) if k % 7 == 3], (least, depth))
 
@@ -1176,6 +1189,7 @@ if __name__ == "__main__":
     os.environ["JELLYPLAIN_LIBRARY"] = made_library() or ""
     try:
         if os.environ["JELLYPLAIN_LIBRARY"]:
+            library.load(os.environ["JELLYPLAIN_LIBRARY"])
             unittest.main(verbosity=0)
         print("tools/plan_test.py: skipped, there is neither target/lib/libjellyplain.so.1 nor target/staticlib/libapi.a with a C compiler")
     finally:

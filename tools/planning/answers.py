@@ -5,11 +5,13 @@ from functools import cached_property
 from typing import NamedTuple, Optional
 
 import binary32
+import jellyplain
+from jellyplain import Boom, Refused
 from planning import chains, meetings
 from planning.chains import shifted
 from planning.ending import numbered, refused
 from planning.groups import groups
-from planning.library import BOOMS, Refused
+from planning.library import BOOMS, bounds, reached_rows, six
 from planning.numbers import shown
 from planning.progress import SILENT
 from planning.reading import at
@@ -41,30 +43,35 @@ def line_touches(line, area):
 class BoomAnswer:
     """A boom in a frame of its own: its chains with pads and without, their covers as floats of that frame, and the rows that it reaches."""
 
-    def __init__(self, library, boom, depth, rows):
-        self.library, self.boom, self.own, self.origin = library, boom, boom.poses[0].time, boom.origin()
+    def __init__(self, boom, depth, rows):
+        self.boom, self.own, self.origin = boom, boom.poses[0].time, boom.origin()
         self.boxes = [chains.outward(box) for box in boom.boxes]
         self.local_rows = LocalRows(rows, self.origin)
         self.sprays = any(pose.pad for pose in boom.poses)
-        self.bare = chains.build(library, boom, self.origin, self.own, False)
-        self.spray = chains.build(library, boom, self.origin, self.own, True) if self.sprays else self.bare
+        self.bare = chains.build(boom, self.origin, self.own, False)
+        self.spray = chains.build(boom, self.origin, self.own, True) if self.sprays else self.bare
         try:
-            self.bare_covers, self.bare_union = self.bare.covers(self.boxes, depth)
-            self.spray_covers, self.spray_union = self.spray.covers(self.boxes, depth) if self.sprays else (self.bare_covers, self.bare_union)
+            self.bare_covers, self.bare_union = self.covers(self.bare, depth)
+            self.spray_covers, self.spray_union = self.covers(self.spray, depth) if self.sprays else (self.bare_covers, self.bare_union)
         except Refused as refusal:
             raise numbered(refusal.number)
+
+    def covers(self, chain, depth):
+        """The cover of each box, and their union."""
+        found = chain.covers(map(bounds, self.boxes), depth)
+        return list(map(six, found.each)), six(found.union)
 
     @cached_property
     def rows(self):
         """The one answer from which the map, the table of rows and the schedule name rows."""
         try:
-            return self.reached(self.library, self.spray_covers)
+            return self.reached(self.spray_covers)
         except Refused as refusal:
             raise numbered(refusal.number, "boom '%s': " % self.boom.name)
 
-    def reached(self, library, covers):
+    def reached(self, covers):
         """The places of the plan's rows that any of the covers meets, as the library says."""
-        return sorted({place for cover in covers for place in self.local_rows.reached(library, cover)})
+        return sorted({place for cover in covers for place in self.local_rows.reached(cover)})
 
     def in_plan(self, cover):
         """A cover of the boom's frame in the plan's, exactly."""
@@ -95,13 +102,13 @@ class RunAnswer(NamedTuple):
 class Answers:
     """All answers to a plan; what isn't asked for isn't worked out."""
 
-    def __init__(self, library, plan, with_pads=True, warn=lambda text: None, progress=SILENT):
-        self.library, self.plan, self.with_pads, self.warn, self.progress = library, plan, with_pads, warn, progress
+    def __init__(self, plan, with_pads=True, warn=lambda text: None, progress=SILENT):
+        self.plan, self.with_pads, self.warn, self.progress = plan, with_pads, warn, progress
         self.booms, rows = [], Rows(plan.rows)
         for boom in progress.counted("covers of booms", plan.booms):
             with at("boom '%s'" % boom.name):
                 chains.look_at_times(boom, plan.start(), warn)
-                self.booms.append(BoomAnswer(library, boom, plan.depth, rows))
+                self.booms.append(BoomAnswer(boom, plan.depth, rows))
 
     # ---- which booms can meet at all
 
@@ -122,8 +129,8 @@ class Answers:
     @cached_property
     def meeting(self):
         """The pairs of booms, by their places, whose boxes meet, touching included, as the library says."""
-        boxes = self.whole_boxes
-        return {(i, i + 1 + k) for i, box in enumerate(boxes[:-1]) for k in self.library.reached_rows(box, boxes[i + 1:])}
+        boxes = list(map(bounds, self.whole_boxes))
+        return {(i, i + 1 + k) for i, box in enumerate(boxes[:-1]) for k in reached_rows(box, boxes[i + 1:])}
 
     @cached_property
     def groups(self):
@@ -203,9 +210,9 @@ class Answers:
         with at("booms '%s' and '%s'" % (one.boom.name, other.boom.name)):
             for answer in (one, other):
                 self.look_at_plan_clock(answer.boom)
-            built = [chains.build(self.library, answer.boom, frame, self.plan.start(), self.with_pads) for answer in (one, other)]
+            built = [chains.build(answer.boom, frame, self.plan.start(), self.with_pads) for answer in (one, other)]
             try:
-                return meetings.meeting_windows(self.library, built, [one.boxes, other.boxes], self.plan.depth, self.float_ticks)
+                return meetings.meeting_windows(built, [list(map(bounds, answer.boxes)) for answer in (one, other)], self.plan.depth, self.float_ticks)
             except Refused as refusal:
                 raise numbered(refusal.number)
 
@@ -220,9 +227,9 @@ class Answers:
         start, own = self.plan.start(), answer.own
         if start != own:
             self.look_at_plan_clock(answer.boom)
-        chain = chains.build(self.library, answer.boom, answer.origin, start, True)
+        chain = chains.build(answer.boom, answer.origin, start, True)
         try:
-            return [answer.reached(self.library, [chain.window_cover(box, self.plan.depth, a, b) for box in answer.boxes]) for a, b in zip(self.float_ticks, self.float_ticks[1:])]
+            return [answer.reached([six(chain.window_cover(bounds(box), a, b, self.plan.depth)) for box in answer.boxes]) for a, b in zip(self.float_ticks, self.float_ticks[1:])]
         except Refused as refusal:
             raise numbered(refusal.number)
 
@@ -250,7 +257,7 @@ class Answers:
     def group_day(self, group, lengths):
         """The tick in which each boom of a group starts, as the library says."""
         try:
-            return self.library.day([self.whole_boxes[i] for i in group], lengths)
+            return jellyplain.starting_ticks(Boom(bounds(self.whole_boxes[i]), length) for i, length in zip(group, lengths))
         except Refused as refusal:
             raise numbered(refusal.number, "%s, run lengths of %d to %d ticks of %s s: " % (self.group_text(group), min(lengths), max(lengths), shown(self.plan.tick_seconds)))
 

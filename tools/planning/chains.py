@@ -3,8 +3,8 @@ from dataclasses import replace
 from fractions import Fraction
 
 import binary32
+from jellyplain import Chain, Pose, Refused
 from planning.ending import numbered, refused
-from planning.library import Refused
 from planning.numbers import shown
 
 HALF_TURN, NEAR = 180, 0.1      # degrees: a turn this near to 180 counts as 180
@@ -95,13 +95,27 @@ def pose_floats(pose, frame, zero, with_pad):
     return binary32.nearest(pose.time - zero), entries + [0.0, 0.0, 0.0, 1.0], binary32.up(pose.pad) if with_pad else 0.0
 
 
-def build(library, boom, frame, zero, with_pads):
+def pose_of(pose, frame, zero, with_pad):
+    time, entries, pad = pose_floats(pose, frame, zero, with_pad)
+    return Pose(time, [entries[i:i + 4] for i in range(0, 16, 4)], pad)
+
+
+def build(boom, frame, zero, with_pads):
     """The boom's chain in a frame, on a clock that starts at zero."""
+    poses = [pose_of(pose, frame, zero, with_pads) for pose in boom.poses]
     try:
-        return library.build(boom.rigid, [pose_floats(pose, frame, zero, with_pads) for pose in boom.poses])
+        return Chain(poses, rigid=boom.rigid)
     except Refused as refusal:
-        which = " and ".join(map(str, refusal.poses))
-        raise numbered(refusal.number, "%s %s: " % ("pose" if len(refusal.poses) == 1 else "poses", which) if which else "")
+        raise numbered(refusal.number, refused_poses(poses, boom.rigid))
+
+
+def refused_poses(poses, rigid):
+    """Which of them to look at, counted from 1; none where the library names none."""
+    try:
+        run = Chain.refused_run(poses, rigid=rigid)
+    except Refused:
+        return ""
+    return "%s %s: " % ("pose" if len(run) == 1 else "poses", " and ".join(str(place + 1) for place in run)) if run else ""
 
 
 def middle(booms):

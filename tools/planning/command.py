@@ -7,7 +7,7 @@ from dataclasses import replace
 from planning import chains, drawing, files, geojson, moves, numbers, output, page, parked, reading, slips
 from planning.answers import Answers
 from planning.ending import Ending, bad, numbered, one_line, refused
-from planning.library import BOOMS, DEFAULT, Library
+from planning.library import BOOMS, DEFAULT, load
 from planning.progress import Progress
 
 ABOUT = """\
@@ -164,12 +164,12 @@ def tell_groups(answers, note):
 
 
 def answered(options, warn, note, progress):
-    library = Library(options.library or os.environ.get("JELLYPLAIN_LIBRARY") or DEFAULT)
+    load(options.library or os.environ.get("JELLYPLAIN_LIBRARY") or DEFAULT)
     with reading.at(one_line(options.plan)):
         plan = with_options(files.read_plan(options.plan, warn), options)
         options.used_depth = plan.depth
         try:
-            answers = Answers(library, with_short_turns(plan, options.split, warn), not options.without_pads, warn, progress)
+            answers = Answers(with_short_turns(plan, options.split, warn), not options.without_pads, warn, progress)
             text = text_of(answers, options)
             if options.question in ("day", "page"):
                 look_at_parked(answers, options, warn)

@@ -76,7 +76,7 @@ def cover_features(answers, question):
     for answer, more in zip(answers.booms, told(answers, question)):
         for sprays in [False] + [True] * answer.sprays:
             for k, (own, cover) in enumerate(zip(answer.spray_covers if sprays else answer.bare_covers, answer.covers_in_plan(sprays))):
-                rows = [answers.plan.rows[place].name for place in answer.reached(answers.library, [own])]
+                rows = [answers.plan.rows[place].name for place in answer.reached([own])]
                 yield feature(rectangle(area_of(cover)), what="cover", name=answer.boom.name, of="boom and spray" if sprays else "boom", box=k + 1,
                               z0=below(cover[2]), z1=above(cover[5]), rows=rows, **more)
 

@@ -4,7 +4,8 @@ A greater depth lists no other window, and none is refused where a lower one is 
 So what a low depth leaves off the list is answered, and the answer is that of the plan's depth."""
 import itertools
 
-from planning.library import TICKS, Refused
+from jellyplain import Refused
+from planning.library import TICKS
 from planning.output import stretches
 
 LOWER, MOST = (1, 4), 12        # depths to ask before, and the greatest that the library accepts
@@ -14,26 +15,26 @@ def lower_depths(depth):
     return [lower for lower in LOWER if lower < depth <= MOST]
 
 
-def listed(library, pair, boxes, depth, ticks, windows):
+def listed(pair, boxes, depth, ticks, windows):
     """Which of some windows the library lists; it takes 64 ticks at a time, and parts share a tick."""
     for first, last in stretches(windows):
         for k in range(first, last + 1, TICKS - 1):
             part = ticks[k:min(k + TICKS, last + 2)]
-            yield from (k + place for place in library.windows(*pair, *boxes, depth, part))
+            yield from (k + place for place in pair[0].windows(pair[1], *boxes, part, depth))
 
 
-def meeting_windows(library, pair, boxes, depth, ticks):
+def meeting_windows(pair, boxes, depth, ticks):
     """The windows in which any box of one chain and any of another may meet."""
     boxes, accepted = list(itertools.product(*boxes)), False
     left = {k: range(len(ticks) - 1) for k in range(len(boxes))}
     for lower in lower_depths(depth):
         try:
-            left = {k: list(listed(library, pair, two, lower, ticks, left[k])) for k, two in enumerate(boxes)}
+            left = {k: list(listed(pair, two, lower, ticks, left[k])) for k, two in enumerate(boxes)}
             accepted = True
         except Refused:
             pass                # the plan's depth may still be accepted, or has a refusal of its own
     found = set()
     for k, two in enumerate(boxes):
         # What is listed already need not be asked of other boxes, where it is known that none of them is refused.
-        found.update(listed(library, pair, two, depth, ticks, [w for w in left[k] if not (accepted and w in found)]))
+        found.update(listed(pair, two, depth, ticks, [w for w in left[k] if not (accepted and w in found)]))
     return sorted(found)

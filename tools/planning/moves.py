@@ -2,8 +2,9 @@
 import os
 import re
 
+from jellyplain import Refused
 from planning.ending import bad, numbered, one_line
-from planning.library import Refused
+from planning.library import bounds
 from planning.numbers import exact_text
 from planning.output import Plain
 
@@ -26,7 +27,7 @@ def write_moves(answers, folder):
         os.makedirs(folder, exist_ok=True)
         for answer, k, name in file_names(answers):
             with open(os.path.join(folder, name), "wb") as file:
-                file.write(answer.spray.file(answer.boxes[k]))
+                file.write(answer.spray.write(bounds(answer.boxes[k])))
             x, y, z = [Plain(exact_text(v)) for v in answer.origin]
             records.append({"file": name, "boom": answer.boom.name, "box": "box %d" % (k + 1), "kind": "rigid" if answer.boom.rigid else "plain",
                             "x": x, "y": y, "z": z, "clock": Plain(exact_text(answer.own))})

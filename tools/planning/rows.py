@@ -6,6 +6,7 @@ from typing import NamedTuple, Optional
 
 import binary32
 from planning.chains import outward, shifted
+from planning.library import bounds, reached_rows
 
 LARGEST = float(binary32.LARGEST)
 
@@ -65,14 +66,14 @@ class LocalRows:
     def box(self, bundle):
         """Its floats, worked out once."""
         if id(bundle) not in self.boxes:
-            self.boxes[id(bundle)] = local_box(bundle, self.origin)
+            self.boxes[id(bundle)] = bounds(local_box(bundle, self.origin))
         return self.boxes[id(bundle)]
 
-    def reached(self, library, cover):
+    def reached(self, cover):
         """The places of the rows that a cover meets, as the library says."""
         found, asked = [], self.rows.all
         while asked:
-            met = [asked[k] for k in library.reached_rows(cover, [self.box(bundle) for bundle in asked])]
+            met = [asked[k] for k in reached_rows(bounds(cover), [self.box(bundle) for bundle in asked])]
             found += [bundle.place for bundle in met if bundle.place is not None]
             asked = [part for bundle in met for part in bundle.parts]
         return found

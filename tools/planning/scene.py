@@ -4,8 +4,8 @@ from fractions import Fraction
 
 import binary32
 import svg
+from jellyplain import Refused
 from planning.ending import numbered
-from planning.library import Refused
 
 WIDTH = 860                             # pixels of a view
 LEFT, TOP = 64, 66                      # margins
@@ -26,12 +26,16 @@ def corners(box):
     return [[box[i + 3 * (corner >> i & 1)] for i in range(3)] for corner in range(8)]
 
 
+def in_threes(floats):
+    return [floats[i:i + 3] for i in range(0, len(floats), 3)]
+
+
 def places(answer, times):
     """For each time and each of a boom's boxes its eight corners where the point query says they are, in the plan's frame, for drawing."""
     floats = [binary32.nearest(time - answer.own) for time in times]
     origin = [float(v) for v in answer.origin]
     try:
-        paths = [[answer.bare.points(floats, corner) for corner in corners(box)] for box in answer.boxes]
+        paths = [[in_threes(answer.bare.points(floats, corner)) for corner in corners(box)] for box in answer.boxes]
     except Refused as refusal:
         raise numbered(refusal.number, "boom '%s': a corner: " % answer.boom.name)
     return [[[[o + v for o, v in zip(origin, path[k])] for path in box] for box in paths] for k in range(len(times))]
