@@ -63,3 +63,14 @@ def thousandths(exact, above):
 def decimal_text(whole):
     """So many thousandths as a decimal with three digits."""
     return "%s%d.%03d" % ("-" if whole < 0 else "", abs(whole) // 1000, abs(whole) % 1000)
+
+
+def order(value):
+    """A float's place among all of them, the zeros at 0, so that neighbours are one apart."""
+    found = bits(value)
+    return found if found < 2 ** 31 else 2 ** 31 - found
+
+
+def at_order(place):
+    """The float at a place; a zero is +0."""
+    return struct.unpack("<f", struct.pack("<I", place if place >= 0 else 2 ** 31 - place))[0]

@@ -28,7 +28,7 @@ sys.dont_write_bytecode = True
 import binary32
 import move_files
 import pages
-from planning import answers, chains, command, files, groups, library, meetings, numbers, page, progress, reading, rows, scene, source
+from planning import answers, chains, command, files, groups, library, meetings, nets, numbers, outline, page, progress, reach, reading, rows, scene, source
 
 import jellyplain                       # found by planning
 
@@ -37,7 +37,7 @@ FOLDER = os.path.join(pages.ROOT, "examples", "plan", "orchard")
 PARKED = os.path.join(pages.ROOT, "examples", "plan", "parked.json")
 HUNDRED = os.path.join(pages.ROOT, "examples", "plan", "hundred.py")
 PROGRAM = os.path.join(pages.ROOT, "tools", "plan")
-QUESTIONS = ["covers", "nets", "rows", "windows", "day", "draw", "page"]
+QUESTIONS = ["covers", "nets", "rows", "schedule", "windows", "day", "draw", "page"]
 SCRATCH = tempfile.mkdtemp()
 
 
@@ -160,18 +160,6 @@ class Reach(unittest.TestCase):
             options = ["--format", "json"] if question in command.FORMATS else []
             self.assertEqual(run(question, PLAN, *options)[:2], run(question, FOLDER, *options)[:2], question)
 
-    def test_map_table_and_schedule_name_the_same_rows(self):
-        schedule = {line["boom"]: line["rows"] for line in json.loads(run("day", PLAN, "--format", "json")[1])["day"]}
-        table = {line["row"]: line["booms"] for line in json.loads(run("rows", PLAN, "--format", "json")[1])["rows"]}
-        features = json.loads(run("day", PLAN, "--format", "geojson")[1])["features"]
-        on_map = {boom: {row for f in features if f["properties"]["what"] == "cover" and f["properties"]["name"] == boom for row in f["properties"]["rows"].split("; ") if row} for boom in schedule}
-        rows_on_map = {f["properties"]["name"]: f["properties"]["booms"].split("; ") if f["properties"]["booms"] else [] for f in features if f["properties"]["what"] == "row"}
-        self.assertEqual({boom: set(rows) for boom, rows in schedule.items()}, on_map)
-        self.assertEqual(table, rows_on_map)
-        self.assertEqual(table, {row: [boom for boom in schedule if row in schedule[boom]] for row in table})
-        drawn = re.findall('data-row="([0-9]+)" fill="#d9ecc4"', run("draw", PLAN)[1])
-        self.assertEqual(drawn, [str(i) for i, booms in enumerate(table.values()) if booms])
-
     def test_map_tells_the_day_and_the_windows(self):
         def of_booms(question):
             features = json.loads(run(question, PLAN, "--format", "geojson")[1])["features"]
@@ -187,17 +175,22 @@ class Reach(unittest.TestCase):
                                                                for line in met if name in (line["boom"], line["other"])))
         self.assertNotIn("may_meet", day["north-west"])
 
-    def test_rows_that_touch_a_cover_are_never_missed(self):
-        mast = [1234567.1, -7654321.7, 3.3]
-        boom = boom_of(mast=mast)
-        found = json.loads(ask(plan_of(boom), "covers", "--format", "json")[1], parse_float=Fraction)["covers"][0]
+    def test_rows_that_touch_are_never_missed(self):
+        """A row that begins where the boom's pieces end in x, by the exact decimal, and one that begins a hundredth of a millimetre further."""
+        boom = boom_of(mast=[1234567.1, -7654321.7, 3.3])
         answer = answers.Answers(reading.plan(files.json_values(json.dumps(plan_of(boom))), "p")).booms[0]
-        exact = answer.covers_in_plan(False)[0]
-        edge = numbers.exact_text(exact[3])
-        text = json.dumps(plan_of(boom, rows=[{"name": "touching", "box": ["EDGE", -8e6, 2e6, 0]}, {"name": "beyond", "box": [1234600, -8e6, 2e6, 0]}])).replace('"EDGE"', edge)
-        rows = json.loads(run("rows", written(text), "--format", "json")[1])["rows"]
-        self.assertEqual([row["booms"] for row in rows], [["a"], []])
-        self.assertGreaterEqual(found["x1"], exact[3])
+        low, high, largest = 1 << 23, binary32.order(100.0), float(binary32.LARGEST)
+        while high - low > 1:       # where it is named, and where it isn't
+            middle = (low + high) // 2
+            row = library.bounds([binary32.at_order(middle), -largest, -largest, largest, largest, largest])
+            low, high = (middle, high) if any(reach.reach(answer.spray, answer.all_parts, answer.depth, answer.ticks, [row])) else (low, middle)
+        edge = Fraction(binary32.at_order(low)) + answer.origin[0]
+        self.assertTrue(answer.origin[0] + 9 < edge <= answer.covers_in_plan(True)[0][3])
+        text = json.dumps(plan_of(boom, rows=[{"name": "touching", "box": ["EDGE", -8e6, 2e6, 0]}, {"name": "beyond", "box": ["FURTHER", -8e6, 2e6, 0]}]))
+        text = text.replace('"EDGE"', numbers.exact_text(edge)).replace('"FURTHER"', numbers.exact_text(edge + Fraction(1, 10 ** 5)))
+        self.assertEqual([row["booms"] for row in json.loads(run("rows", written(text), "--format", "json")[1])["rows"]], [["a"], []])
+        found = json.loads(ask(plan_of(boom), "covers", "--format", "json")[1], parse_float=Fraction)["covers"][0]
+        self.assertGreaterEqual(found["x1"], answer.covers_in_plan(False)[0][3])
 
     def test_more_than_256_rows(self):
         rows = [{"name": "r%d" % i, "box": [0, i, 5, i + 0.5]} for i in range(-300, 300)]
@@ -255,7 +248,7 @@ class Reach(unittest.TestCase):
         self.assertEqual(said, ["may meet", "never meet"])
 
     def test_a_cover_that_touches_a_net_is_not_below(self):
-        top = self.found.booms[3].covers_in_plan(False)[0][5]
+        top = self.found.nets[0, 3].top
         for height, expected in ((top, "NOT BELOW"), (top + Fraction(1, 2 ** 40), "below")):
             text = damaged(lambda plan: plan["nets"].append({"name": "n", "height": "HEIGHT"})).replace('"HEIGHT"', numbers.exact_text(height))
             found = json.loads(run("nets", written(text), "--format", "json")[1])["nets"]
@@ -264,7 +257,7 @@ class Reach(unittest.TestCase):
     def test_line_and_rectangle(self):
         area = [Fraction(v) for v in (0, 0, 2, 1)]
         for line, expected in [((-1, -1, 3, 3), True), ((-1, 0, 0, 1), True), ((-1, 1, 1, 3), False), ((0, 1, 0, 5), True), ((3, 0, 4, 0), False), ((1, 0.5, 1, 0.5), True), ((2, 1, 5, 9), True)]:
-            self.assertEqual(answers.line_touches([Fraction(v) for v in line], area), expected, line)
+            self.assertEqual(nets.line_in([Fraction(v) for v in line], area) is not None, expected, line)
 
     def test_windows(self):
         self.assertEqual({k for pair, windows in self.found.windows.items() if pair == (0, 2) for k in windows}, {1})
@@ -390,7 +383,8 @@ class Hundred(unittest.TestCase):
 
     @classmethod
     def setUpClass(cls):
-        cls.path = written(subprocess.run([sys.executable, HUNDRED], stdout=subprocess.PIPE, check=True).stdout, "hundred.json")
+        plan = json.loads(subprocess.run([sys.executable, HUNDRED], stdout=subprocess.PIPE, check=True).stdout)
+        cls.path = written(json.dumps({**plan, "depth": 5}), "hundred.json")
         cls.found = answered(cls.path)
 
     def test_groups(self):
@@ -408,10 +402,11 @@ class Hundred(unittest.TestCase):
         self.assertEqual([line["group"] for line in day], [k // 4 + 1 for k in range(100)])
 
     def test_rows_are_those_of_asking_for_each(self):
-        for answer in self.found.booms[::17]:
+        for answer in self.found.booms[::40]:
             boxes = [library.bounds(rows.local_box(row, answer.origin)) for row in self.found.plan.rows]
-            self.assertEqual(answer.rows, sorted({place for cover in answer.spray_covers for place in library.reached_rows(library.bounds(cover), boxes)}))
-            self.assertTrue(answer.rows)
+            masks = reach.asked(answer.spray, answer.all_parts, answer.depth, answer.ticks, boxes)
+            self.assertEqual(answer.masks, {place: mask for place, mask in enumerate(masks) if mask})
+            self.assertTrue(set(answer.masks) < {place for cover in answer.spray_covers for place in library.reached_rows(library.bounds(cover), boxes)})
 
     def test_windows(self):
         """Only pairs whose boxes meet are asked, and those that aren't would have none."""
@@ -481,8 +476,8 @@ class RealNumbers(unittest.TestCase):
         rng, met = random.Random(3), 0
         for _ in range(12):
             plan = self.some_plan(rng)
-            covers, rows, windows = [json.loads(ask(plan, question, "--format", "json")[1])[question] for question in ("covers", "rows", "windows")]
-            end = max(pose["time"] for boom in plan["booms"] for pose in boom["poses"])
+            covers, rows, windows, schedule = [json.loads(ask(plan, question, "--format", "json")[1])[question] for question in ("covers", "rows", "windows", "schedule")]
+            start, end = [pick(pose["time"] for boom in plan["booms"] for pose in boom["poses"]) for pick in (min, max)]
             for time in [end * k / 60 for k in range(61)]:
                 moved = [list(self.points(boom, time)) for boom in plan["booms"]]
                 for boom, cover, points in zip(plan["booms"], covers, moved):
@@ -491,10 +486,206 @@ class RealNumbers(unittest.TestCase):
                         x0, y0, x1, y1 = row["box"]
                         over = any(x0 + 0.001 <= x <= x1 - 0.001 and y0 + 0.001 <= y <= y1 - 0.001 for x, y, _ in points)
                         self.assertTrue(not over or boom["name"] in named["booms"], (row, time))
+                        self.assertTrue(not over or time < start or any((line["row"], line["boom"]) == (row["name"], boom["name"]) and line["from"] - 1e-9 <= time <= line["to"] + 1e-9 for line in schedule), (row, time))
                 if any(math.dist(p, q) < 0.1 for p in moved[0] for q in moved[1]):
                     met += 1
                     self.assertTrue(any(w["answer"] == "may meet" and w["from"] - 0.01 <= time <= w["to"] + 0.01 for w in windows), time)
         self.assertGreater(met, 0)
+
+
+class Schedule(unittest.TestCase):
+    """Which rows, and when: one answer for the map, the tables, the day, the picture and the page."""
+
+    def blocks(self, **changes):
+        """A short swing and a to-and-fro over blocks, one of which starts later on the poses' clock and in the day."""
+        rows_of = [{"name": "b%d-%d" % (x, y), "box": [x, y, x + 1.5, y + 1.5]} for x in range(-2, 26, 2) for y in range(-14, 14, 2)]
+        booms = [boom_of(name="a", kind="rigid", poses=[{"time": 0, "heading": 30, "pad": 0.5}, {"time": 10, "heading": 45, "pad": 0.5}]),
+                 boom_of(name="b", kind="rigid", mast=[20, 0, 0], poses=[{"time": 3.5, "heading": -90}, {"time": 20, "heading": -179}, {"time": 31, "heading": -90}])]
+        return plan_of(*booms, rows=rows_of, **{"depth": 6, "tick_seconds": 2, **changes})
+
+    def named(self, path, *options):
+        """From each answer the pairs of row and boom that it names."""
+        def asked(question, *more):
+            status, text, said = run(question, path, *options, *more)
+            self.assertEqual(status, 0, said)
+            return text
+
+        def records(question, *more):
+            return json.loads(asked(question, "--format", "json", *more))[question]
+
+        def texts(value):
+            return [part for part in value.split("; ") if part]
+        found = {"rows": {(line["row"], boom) for line in records("rows") for boom in line["booms"]},
+                 "schedule": {(line["row"], line["boom"]) for line in records("schedule")},
+                 "schedule --day": {(line["row"], line["boom"]) for line in records("schedule", "--day", "--parked-elsewhere")},
+                 "day": {(row, line["boom"]) for line in records("day", "--parked-elsewhere") for row in line["rows"]}}
+        for question, more in (("rows", []), ("schedule", ["--day", "--parked-elsewhere"]), ("day", ["--parked-elsewhere"])):
+            of = [f["properties"] for f in json.loads(asked(question, "--format", "geojson", *more))["features"]]
+            found[question + " on the map"] = {(f["name"], boom) for f in of if f["what"] == "row" for boom in texts(f["booms"])}
+            found[question + " of covers"] = {(row, f["name"]) for f in of if f["what"] == "cover" for row in texts(f["rows"])}
+            if question == "schedule":
+                found["schedule on the map"] = {(f["name"], f["boom"]) for f in of if f["what"] == "schedule"}
+        text = asked("page")
+        data = json.loads(re.search('id="data">(.*?)</script>', text, re.S)[1])
+        for clock, of in data["clocks"].items():
+            found["bars, " + clock] = {(data["rows"][row], data["booms"][boom]["name"]) for row, boom, _, _ in of["bars"]}
+        found["page"] = {(data["rows"][row], boom["name"]) for boom in data["booms"] for window in boom["rows"] for row in window}
+        drawn = {name: {data["rows"][int(row)] for row in re.findall('data-row="([0-9]+)" fill="%s"' % scene.REACHED, picture)} for name, picture in (("draw", asked("draw")), ("page", text))}
+        return found, drawn
+
+    def test_all_name_the_same_rows(self):
+        plans = [(PLAN, []), (PLAN, ["--every", "7"]), (PLAN, ["--every", "200", "--depth", "6"]), (written(json.dumps(self.blocks()), "blocks.json"), []), (written(json.dumps(self.blocks(window_seconds=0.3)), "short.json"), [])]
+        for path, options in plans:
+            found, drawn = self.named(path, *options)
+            self.assertTrue(found["rows"])
+            for name, pairs in found.items():
+                self.assertEqual(pairs, found["rows"], (path, name))
+            for name, rows_of in drawn.items():
+                self.assertEqual(rows_of, {row for row, _ in found["rows"]}, (path, name))
+
+    def test_a_row_is_shown_when_it_is_in_the_schedule(self):
+        """On both clocks the rows of the page's windows are those whose bars go over the slider's time."""
+        data = json.loads(re.search('id="data">(.*?)</script>', ask(self.blocks(), "page")[1], re.S)[1])
+        for kind, clock in data["clocks"].items():
+            for k, time in enumerate(map(Fraction, clock["times"])):
+                for i, boom in enumerate(data["booms"]):
+                    own = clock["booms"][i]
+                    if kind == "poses" or own["states"][k] == 1:
+                        shown = {row for w in own["windows"][k] for row in boom["rows"][w]}
+                        self.assertEqual(shown, {row for row, b, start, end in clock["bars"] if b == i and start - 1e-3 <= time <= end + 1e-3}, (kind, time))
+
+    def test_a_picture_of_one_time(self):
+        """The rows of that time's windows, on the poses' clock, as the schedule has them."""
+        plan = self.blocks()
+        schedule = json.loads(ask(plan, "schedule", "--format", "json")[1])["schedule"]
+        for time in ("0", "4", "17.25", "31"):
+            picture = ask(plan, "draw", "--at", time)[1]
+            now = {plan["rows"][int(row)]["name"] for row in re.findall('data-row="([0-9]+)" fill="%s"' % scene.NOW, picture)}
+            self.assertEqual(now, {line["row"] for line in schedule if line["from"] <= float(time) <= line["to"]}, time)
+            self.assertIn("boom at %s s" % time, picture)
+        self.assertEqual([ask(plan, "draw", "--at", "x")[0], ask(plan, "draw", "--at", "3", "--end-box")[0]], [2, 2])
+
+    def test_times_of_a_boom_that_slides(self):
+        """A metre a second along x: rows of 2 m, each 10 m from the next, in windows of 5 s; before its first pose and after its last it stands."""
+        slide = boom_of(box=[0, 0, 0, 1, 1, 1], kind="rigid", poses=[{"time": 100, "at": [0, 0, 0]}, {"time": 140, "at": [40, 0, 0]}])
+        still = boom_of(name="z", mast=[0, 500, 0], poses=[{"time": 90}, {"time": 150}])
+        plan = plan_of(slide, still, rows=[{"name": "r%d" % x, "box": [x, 0, x + 2, 1]} for x in (-1, 12, 27, 39, 60)], window_seconds=5)
+        found = [(line["row"], line["boom"], line["from"], line["to"]) for line in json.loads(ask(plan, "schedule", "--format", "json")[1])["schedule"]]
+        self.assertEqual(found, [("r-1", "a", 90, 105), ("r12", "a", 110, 115), ("r27", "a", 125, 130), ("r39", "a", 135, 150)])
+        of_day = json.loads(ask(plan, "schedule", "--day", "--format", "json")[1])
+        self.assertEqual(of_day["clock"], "day")
+        self.assertEqual([(line["row"], line["from"], line["to"]) for line in of_day["schedule"]], [("r-1", 0, 5), ("r12", 10, 15), ("r27", 25, 30), ("r39", 35, 40)])
+        self.assertIn("row,boom,from,to\nr-1,a,90.000,105.000\n", ask(plan, "schedule", "--format", "csv")[1])
+        self.assertEqual(ask(plan_of(boom_of()), "schedule")[1], "no boom may reach a row\n")
+
+    def test_day_is_refused_as_by_day(self):
+        self.assertEqual([run("schedule", PARKED)[0], run("schedule", PARKED, "--day")[0], run("schedule", PARKED, "--day", "--parked-elsewhere")[0]], [0, 1, 0])
+
+    def test_spray(self):
+        """A row half a metre beyond a boom that stands: between equal poses the larger pad counts, at 30 s too, and a tick belongs to both windows."""
+        wet = boom_of(box=[0, 0, 0, 10, 1, 1], kind="rigid", poses=[{"time": 10 * k, "pad": pad} for k, pad in enumerate((0, 0, 2, 0, 0))])
+        found = json.loads(ask(plan_of(wet, rows=[{"name": "r", "box": [10.5, 0, 12, 1]}], window_seconds=1), "schedule", "--format", "json")[1])["schedule"]
+        self.assertEqual([(line["from"], line["to"]) for line in found], [(10, 31)])
+
+    def test_parts(self):
+        self.assertEqual(reach.shares([[0, 0, 0, 18, 1, 1]]), [16])
+        self.assertEqual(reach.shares([[0, 0, 0, 20, 1, 1], [19, 0, 0, 19.2, 0.2, 0.85]]), [15, 1])
+        self.assertEqual(reach.shares([[0, 0, 0, 8, 1, 1], [0, 0, 0, 1, 8, 1], [0, 0, 0, 1, 1, 1]]), [8, 7, 1])
+        self.assertEqual(reach.shares([[0] * 6] * 16), [1] * 16)
+        self.assertEqual(sum(reach.shares([[0] * 6] * 3)), 16)
+        self.assertEqual([len(parts) for parts in answered().booms[2].parts], [15, 1])
+
+    def test_calls_of_many_windows_and_rows(self):
+        """More than 63 windows and 256 rows, and the low depth first: what is asked window by window and row by row."""
+        plan = self.blocks(window_seconds=0.125, depth=5)
+        plan["rows"] = [{"name": "r%d" % k, "box": [x / 2, y, x / 2 + 0.4, y + 0.5]} for k, (x, y) in enumerate((x, y) for x in range(0, 24) for y in range(13))]
+        found = answered(written(json.dumps(plan)))
+        self.assertEqual((len(found.booms[0].ticks), len(found.booms[1].ticks), len(plan["rows"])), (81, 221, 312))
+        for answer in found.booms:
+            boxes = [library.bounds(rows.local_box(row, answer.origin)) for row in found.plan.rows]
+            for w in (0, 1, 40, 62, 63, 64, 79, len(answer.ticks) - 2):
+                masks = [answer.spray.reach(answer.all_parts, 5, answer.ticks[w:w + 2], boxes[k:k + 1])[0] for k in range(0, 312, 5)]
+                self.assertEqual([answer.masks.get(k, 0) >> w & 1 for k in range(0, 312, 5)], masks, w)
+
+    def test_a_low_depth_that_is_refused(self):
+        class Refusing:
+            def reach(self, parts, depth, ticks, rows_of):
+                if depth < 7:
+                    raise jellyplain.Refused(10)
+                return [1] * len(rows_of)
+        self.assertEqual(reach.reach(Refusing(), [], 8, [0, 1], [0, 0]), [1, 1])
+        for depth in (6, 4):
+            with self.assertRaises(jellyplain.Refused):
+                reach.reach(Refusing(), [], depth, [0, 1], [0])
+
+    def test_fewer_rows_than_by_the_cover(self):
+        found = answered(written(json.dumps(self.blocks())))
+        named, met = [sum(counts) for counts in zip(*[(len(answer.rows), len(answer.reached(answer.spray_covers))) for answer in found.booms])]
+        self.assertLess(named, 0.9 * met)
+
+    def test_windows_that_are_refused(self):
+        for question in ("rows", "schedule", "day", "draw", "page"):
+            status, _, said = ask(plan_of(rows=[{"name": "r", "box": [0, 0, 5, 5]}]), question, "--every", "0.0099")
+            self.assertEqual((status, len(said)), (1, 1))
+            self.assertIn("windows of 0.0099 s: more than 1000", said[0])
+
+
+class NetsOfPieces(unittest.TestCase):
+    """How high a boom comes under a net, by its parts and slices."""
+
+    def top(self, net, **changes):
+        plan = reading.plan(files.json_values(json.dumps(plan_of(boom_of(**changes), nets=[{"name": "n", "height": 9, **net}]))), "p")
+        found = answers.Answers(plan)
+        return found.booms[0], found.nets[0, 0].top
+
+    def test_greatest_height_that_is_named(self):
+        """A boom whose far end is raised on the way: lower under a net near its mast than under one that is everywhere."""
+        raised = {"kind": "rigid", "poses": [{"time": 0, "tilt": 0}, {"time": 9, "tilt": 20, "heading": 40}]}
+        tops = {}
+        for name, net, area in (("everywhere", {}, [-1e30, -1e30, 1e30, 1e30]), ("near", {"region": [1, -1, 2, 3]}, [1, -1, 2, 3]), ("wire", {"line": [3, -5, 3, 9]}, [3, -5, 3, 9])):
+            answer, top = self.top(net, **raised)
+            place = binary32.order(float(top))
+            self.assertEqual(Fraction(float(top)), top)
+            boxes = [library.bounds([*area[:2], binary32.at_order(place + k), *area[2:], 1e30]) for k in (0, 1)]
+            self.assertEqual(answer.bare.reach(answer.all_parts, answer.depth, reach.ALL_TIME, boxes), [1, 0], name)
+            tops[name] = top
+        self.assertTrue(tops["near"] < tops["wire"] < tops["everywhere"])
+        self.assertLess(tops["near"], 3.5)
+        self.assertGreater(tops["everywhere"], 5)
+
+    def test_a_line_that_goes_aslant(self):
+        """By real numbers a wire past the swing's corner, which the cover touches, and one through it."""
+        swing = {"kind": "rigid", "poses": poses(0, 90)}
+        answer, top = self.top({"line": [8, 12, 12, 8]}, **swing)
+        self.assertTrue(any(nets.line_in([Fraction(v) for v in (9, 11, 11, 9)], [box[0], box[1], box[3], box[4]]) for box in answer.covers_in_plan(False)))
+        self.assertIsNone(top)
+        self.assertEqual(self.top({"line": [-3, 12, 12, -3]}, **swing)[1], 2)
+        self.assertIsNone(self.top({"line": [30, 0, 0, 30]}, **swing)[1])
+
+    def test_orders_of_floats(self):
+        for value in (0.0, 1.0, -1.0, 2.0 ** -149, -2.0 ** -149, 3.4028234663852886e38, -2.5):
+            self.assertEqual(binary32.at_order(binary32.order(value)), value)
+        self.assertEqual([binary32.at_order(k) for k in (-1, 0, 1)], [-2.0 ** -149, 0.0, 2.0 ** -149])
+
+
+class Outlines(unittest.TestCase):
+    """What is drawn of a boom's pieces."""
+
+    def test_edges_of_a_union(self):
+        self.assertEqual(outline.union_edges([(0, 0, 4, 4)]), ([(0, 0, 4), (4, 0, 4)], [(0, 0, 4), (4, 0, 4)]))
+        upright, level = outline.union_edges([(0, 0, 4, 4), (2, 2, 6, 6)])
+        self.assertEqual(sorted(upright), [(0, 0, 4), (2, 4, 6), (4, 0, 2), (6, 2, 6)])
+        self.assertEqual(sorted(level), [(0, 0, 4), (2, 4, 6), (4, 0, 2), (6, 2, 6)])
+
+    def test_the_boxes_hold_the_boom(self):
+        for answer in answered().booms:
+            boxes = outline.window_boxes(answer)
+            union = [pick(box[i] for box in boxes) for pick, i in ((min, 0), (min, 1), (min, 2), (max, 3), (max, 4), (max, 5))]
+            cover = [float(v) for v in answer.union_in_plan(True)]
+            self.assertTrue(all(abs(a - b) < 0.3 for a, b in zip(union, cover)), (union, cover))
+            for moved in scene.places(answer, scene.pose_times(answer.boom, 29)):
+                for p in (p for eight in moved for p in eight):
+                    self.assertTrue(any(all(box[i] - 1e-6 <= p[i] <= box[i + 3] + 1e-6 for i in range(3)) for box in boxes))
 
 
 class Slips(unittest.TestCase):
@@ -1084,18 +1275,18 @@ class Maps(unittest.TestCase):
         return [f["properties"] for f in json.loads(run(question, plan, "--format", "geojson", *options)[1])["features"] if f["properties"]["what"] == what]
 
     def test_every_property_is_a_number_or_a_text(self):
-        for question in ("covers", "nets", "rows", "windows", "day"):
+        for question in ("covers", "nets", "rows", "schedule", "windows", "day"):
             for feature in json.loads(run(question, PLAN, "--format", "geojson")[1])["features"]:
                 for key, value in feature["properties"].items():
                     self.assertLessEqual(len(key), 10)
                     self.assertIsInstance(value, (int, float, str, type(None)), (question, key))
 
-    def test_a_cover_has_the_rows_that_it_meets_itself(self):
+    def test_a_cover_has_the_rows_that_its_box_may_reach(self):
         exact = {row.name: row.area for row in read().rows}
         for f in json.loads(run("rows", PLAN, "--format", "geojson")[1])["features"]:
             if f["properties"]["what"] == "cover":
                 (x0, y0), _, (x1, y1) = f["geometry"]["coordinates"][0][:3]
-                self.assertEqual(f["properties"]["rows"], "; ".join(name for name, area in exact.items() if answers.touching(area, [x0, y0, x1, y1])))
+                self.assertTrue(all(nets.touching(exact[name], [x0, y0, x1, y1]) for name in f["properties"]["rows"].split("; ")))
         rows = {(f["name"], f["of"], f["box"]): f["rows"] for f in self.features("rows")}
         self.assertEqual(rows["south-west", "boom", 2], "row 2; row 3; row 4")
         self.assertEqual(rows["south-west", "boom and spray", 2], "row 2; row 3; row 4; row 5")
@@ -1142,6 +1333,7 @@ class Pages(unittest.TestCase):
             later = plan["booms"][i]["poses"][-1]["time"] / 2
             self.assertEqual(own["side"][seconds.index(run_of["from"] + later)], swung["side"][poses_clock["times"].index("%g" % later)])
             self.assertEqual(own["windows"][seconds.index(run_of["from"] + later)], swung["windows"][poses_clock["times"].index("%g" % later)])
+            self.assertEqual([float(own["ticks"][0]), float(own["ticks"][-1])], [run_of["from"], run_of["to"]])
 
     def test_a_time_lies_in_its_windows(self):
         ticks = [Fraction(k) for k in (0, 5, 10, 12)]
@@ -1161,7 +1353,7 @@ class Pages(unittest.TestCase):
         text, _, _ = page_of(example())
         for words in ("solid: the reserved box of a boom", "dashed: the reserved box of a boom and its spray", "<li><svg", 'net; along a line it is solid', '<p class="warn">NOT BELOW: south-east under power line, clearance -0.053 m</p>'):
             self.assertIn(words, text)
-        self.assertNotIn("a boom reaches", text)
+        self.assertNotIn("reaches", text)
         dry, _, _ = page_of(plan_of(boom_of()))
         for words in ("dashed:", "net;", "NOT BELOW:", "may reach at another time"):
             self.assertNotIn(words, dry)

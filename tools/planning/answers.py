@@ -2,12 +2,13 @@
 import itertools
 from fractions import Fraction
 from functools import cached_property
+from math import inf
 from typing import NamedTuple, Optional
 
 import binary32
 import jellyplain
 from jellyplain import Boom, Refused
-from planning import chains, meetings
+from planning import chains, meetings, nets, reach
 from planning.chains import shifted
 from planning.ending import numbered, refused
 from planning.groups import groups
@@ -21,30 +22,23 @@ MOST_WINDOWS = 1000
 DEFAULT_WINDOWS = 20
 
 
-def touching(a, b):
-    """Whether two rectangles, x0 y0 x1 y1, have a point in common."""
-    return all(a[i] <= b[i + 2] and b[i] <= a[i + 2] for i in range(2))
-
-
-def line_touches(line, area):
-    """Whether a line from one place to another has a point in a rectangle: its share of the way on each axis, cut down to both."""
-    low, high = Fraction(0), Fraction(1)
-    for i in range(2):
-        start, way = line[i], line[i + 2] - line[i]
-        if way == 0:
-            if not area[i] <= start <= area[i + 2]:
-                return False
-            continue
-        shares = sorted([(area[i] - start) / way, (area[i + 2] - start) / way])
-        low, high = max(low, shares[0]), min(high, shares[1])
-    return low <= high
+def ticks_of(start, end, length):
+    """From a start to an end in windows of one length, the last of them shorter where it must be; exact, in seconds."""
+    count = max(1, -(-(end - start) // length))
+    if count > MOST_WINDOWS:
+        raise refused("windows of %s s: more than %d from %s s to %s s; ask for longer ones" % (shown(length), MOST_WINDOWS, shown(start), shown(end)))
+    ticks = [start + k * length for k in range(count)] + [end if end > start else start + length]
+    found = chains.collapsed(ticks, start)
+    if found:
+        raise numbered(21, "windows: %s; ask for longer ones; " % chains.collapse_text(found, start))
+    return ticks
 
 
 class BoomAnswer:
-    """A boom in a frame of its own: its chains with pads and without, their covers as floats of that frame, and the rows that it reaches."""
+    """A boom in a frame of its own and on a clock of its own: its chains with pads and without, their covers as floats of that frame, and the rows that it may reach, window by window."""
 
-    def __init__(self, boom, depth, rows):
-        self.boom, self.own, self.origin = boom, boom.poses[0].time, boom.origin()
+    def __init__(self, boom, depth, rows, window_seconds):
+        self.boom, self.depth, self.own, self.origin, self.window_seconds = boom, depth, boom.poses[0].time, boom.origin(), window_seconds
         self.boxes = [chains.outward(box) for box in boom.boxes]
         self.local_rows = LocalRows(rows, self.origin)
         self.sprays = any(pose.pad for pose in boom.poses)
@@ -62,15 +56,48 @@ class BoomAnswer:
         return list(map(six, found.each)), six(found.union)
 
     @cached_property
+    def parts(self):
+        """For each box its parts."""
+        return reach.parts_of(self.boxes)
+
+    @property
+    def all_parts(self):
+        return [part for parts in self.parts for part in parts]
+
+    @cached_property
+    def ticks(self):
+        """The windows of its swing, from its first pose on, as the library has them: the first has no beginning and the last no end, so that together they are all time."""
+        with at("boom '%s'" % self.boom.name):
+            exact = ticks_of(self.own, self.boom.poses[-1].time, self.window_seconds)
+        return [-inf, *(binary32.nearest(tick - self.own) for tick in exact[1:-1]), inf]
+
+    @cached_property
+    def masks(self):
+        """The one answer from which the map, the table of rows, the day and the schedule name rows: by its place, each row that the boom and its spray may reach, with a mask of windows."""
+        return self.named(self.spray, self.all_parts, self.reached(self.spray_covers))
+
+    @property
     def rows(self):
-        """The one answer from which the map, the table of rows and the schedule name rows."""
+        return list(self.masks)
+
+    def rows_of_box(self, k, with_spray):
+        """The places of the rows that one of its boxes may reach."""
+        chain, covers = (self.spray, self.spray_covers) if with_spray else (self.bare, self.bare_covers)
+        if len(self.boxes) == 1 and chain is self.spray:
+            return self.rows
+        return list(self.named(chain, self.parts[k], self.reached([covers[k]])))
+
+    def named(self, chain, parts, places, rows=None):
+        """Of some rows, by their places, those that are named in any window, with their masks."""
+        rows = rows or self.local_rows
         try:
-            return self.reached(self.spray_covers)
+            masks = reach.reach(chain, parts, self.depth, self.ticks, [rows.row(place) for place in places])
         except Refused as refusal:
             raise numbered(refusal.number, "boom '%s': " % self.boom.name)
+        return {place: mask for place, mask in zip(places, masks) if mask}
 
     def reached(self, covers):
-        """The places of the plan's rows that any of the covers meets, as the library says."""
+        """The places of the plan's rows that any of the covers meets, as the library says: no other can be named."""
         return sorted({place for cover in covers for place in self.local_rows.reached(cover)})
 
     def in_plan(self, cover):
@@ -85,7 +112,7 @@ class BoomAnswer:
 
 
 class NetAnswer(NamedTuple):
-    """The highest of the boom's covers that stand under a net, and how far below the net it ends; None where none does."""
+    """How high the boom comes where it may stand under a net, and how far below the net that is; None where it doesn't stand under it."""
     top: Optional[Fraction]
     clearance: Optional[Fraction]
 
@@ -104,11 +131,12 @@ class Answers:
 
     def __init__(self, plan, with_pads=True, warn=lambda text: None, progress=SILENT):
         self.plan, self.with_pads, self.warn, self.progress = plan, with_pads, warn, progress
+        self.window_seconds = plan.window_seconds or (plan.end() - plan.start()) / DEFAULT_WINDOWS or Fraction(1)
         self.booms, rows = [], Rows(plan.rows)
         for boom in progress.counted("covers of booms", plan.booms):
             with at("boom '%s'" % boom.name):
                 chains.look_at_times(boom, plan.start(), warn)
-                self.booms.append(BoomAnswer(boom, plan.depth, rows))
+                self.booms.append(BoomAnswer(boom, plan.depth, rows, self.window_seconds))
 
     # ---- which booms can meet at all
 
@@ -140,12 +168,12 @@ class Answers:
     # ---- rows
 
     def rows_of(self, i):
-        """The names of the rows that a boom reaches."""
+        """The names of the rows that a boom may reach."""
         return [self.plan.rows[place].name for place in self.booms[i].rows]
 
     @cached_property
     def booms_of_rows(self):
-        """For each row the names of the booms that reach it."""
+        """For each row the names of the booms that may reach it."""
         found = [[] for _ in self.plan.rows]
         for answer in self.progress.counted("rows of booms", self.booms):
             for place in answer.rows:
@@ -158,13 +186,12 @@ class Answers:
     # ---- nets
 
     def net(self, net, answer):
-        """A net beside the covers of the boom itself, without its spray, by exact fractions."""
-        tops = []
-        for box in answer.covers_in_plan(False):
-            area = [box[0], box[1], box[3], box[4]]
-            if (net.line is None and net.region is None) or (net.region and touching(net.region, area)) or (net.line and line_touches(net.line, area)):
-                tops.append(box[5])
-        return NetAnswer(max(tops), net.height - max(tops)) if tops else NetAnswer(None, None)
+        """A net beside the boom itself, without its spray; the two heights are compared as exact fractions."""
+        try:
+            top = nets.top(answer, net, self.plan.depth)
+        except Refused as refusal:
+            raise numbered(refusal.number, "boom '%s': " % answer.boom.name)
+        return NetAnswer(None, None) if top is None else NetAnswer(top, net.height - top)
 
     @cached_property
     def nets(self):
@@ -175,17 +202,8 @@ class Answers:
 
     @cached_property
     def ticks(self):
-        """The plan's time from its start to its end in windows of one length, the last of them shorter where it must be; exact, in the plan's seconds."""
-        start, end = self.plan.start(), self.plan.end()
-        length = self.plan.window_seconds or (end - start) / DEFAULT_WINDOWS or Fraction(1)
-        count = max(1, -(-(end - start) // length))
-        if count > MOST_WINDOWS:
-            raise refused("windows of %s s: more than %d from %s s to %s s; ask for longer ones" % (shown(length), MOST_WINDOWS, shown(start), shown(end)))
-        ticks = [start + k * length for k in range(count)] + [end if end > start else start + length]
-        found = chains.collapsed(ticks, start)
-        if found:
-            raise numbered(21, "windows: %s; ask for longer ones; " % chains.collapse_text(found, start))
-        return ticks
+        """The plan's time from its start to its end in windows."""
+        return ticks_of(self.plan.start(), self.plan.end(), self.window_seconds)
 
     @cached_property
     def float_ticks(self):
@@ -220,18 +238,6 @@ class Answers:
         found = chains.collapsed([pose.time for pose in boom.poses], self.plan.start())
         if found:
             raise numbered(12, "boom '%s': %s: %s; set its swing nearer to the plan's start; " % (boom.name, chains.places(found[0]), chains.collapse_text(found, self.plan.start())))
-
-    def window_rows(self, i):
-        """For each window the places of the rows that a boom may reach in it, by covers of that window alone."""
-        answer = self.booms[i]
-        start, own = self.plan.start(), answer.own
-        if start != own:
-            self.look_at_plan_clock(answer.boom)
-        chain = chains.build(answer.boom, answer.origin, start, True)
-        try:
-            return [answer.reached([six(chain.window_cover(bounds(box), a, b, self.plan.depth)) for box in answer.boxes]) for a, b in zip(self.float_ticks, self.float_ticks[1:])]
-        except Refused as refusal:
-            raise numbered(refusal.number)
 
     # ---- the day
 

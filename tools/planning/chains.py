@@ -77,8 +77,8 @@ def look_at_times(boom, start, warn):
 # ---- numbers in their direction
 
 def shifted(box, offset, sign=1):
-    """A box of six numbers moved by an offset, exactly."""
-    return [Fraction(v) + sign * offset[i % 3] for i, v in enumerate(box)]
+    """A box moved by an offset, which has a number for each axis, exactly."""
+    return [Fraction(v) + sign * offset[i % len(offset)] for i, v in enumerate(box)]
 
 
 def outward(box):

@@ -5,6 +5,7 @@ import sys
 from dataclasses import replace
 
 from planning import chains, drawing, files, geojson, moves, numbers, output, page, parked, reading, slips
+from planning.schedule import schedule
 from planning.answers import Answers
 from planning.ending import Ending, bad, numbered, one_line, refused
 from planning.library import BOOMS, DEFAULT, load
@@ -21,15 +22,17 @@ Exit status: 0 with an answer, 1 where the plan is refused (docs/REFUSALS.md has
 standard error says what and where. The library is target/lib/libjellyplain.so.1, which `make` writes, or what --library or JELLYPLAIN_LIBRARY names."""
 QUESTIONS = {
     "covers": "the box that holds each boom at every time, without and with its spray",
-    "nets": "whether each boom's cover stays below each net that it stands under, and by how much",
-    "rows": "which booms reach each row",
+    "nets": "whether each boom stays below each net that it stands under, and by how much",
+    "rows": "which booms may reach each row",
+    "schedule": "from when to when each boom may reach each row, on the clock of the poses or on the day's",
     "windows": "for each two booms, when they may meet",
-    "day": "from which tick to which each boom runs so that no two that run ever meet, and the rows that it reaches; in groups of at most 8 booms whose boxes meet",
+    "day": "from which tick to which each boom runs so that no two that run ever meet, and the rows that it may reach; in groups of at most 8 booms whose boxes meet",
     "moves": "each boom's chain as a move file in the folder of -o, with the frame and the clock that it stands in",
     "draw": "the plan from above and from the side, as SVG",
     "page": "one HTML page with a time slider, which needs nothing else",
 }
-FORMATS = {"covers": ["table", "csv", "json", "geojson"], "nets": ["table", "csv", "json", "geojson"], "rows": ["table", "csv", "json", "geojson"], "windows": ["table", "csv", "json", "geojson"],
+FORMATS = {"covers": ["table", "csv", "json", "geojson"], "nets": ["table", "csv", "json", "geojson"], "rows": ["table", "csv", "json", "geojson"], "schedule": ["table", "csv", "json", "geojson"],
+           "windows": ["table", "csv", "json", "geojson"],
            "day": ["table", "csv", "json", "geojson"], "moves": ["table", "csv", "json"]}
 
 
@@ -71,14 +74,17 @@ def parser():
             one.add_argument("--byte-order-mark", action="store_true", help="in CSV: a byte order mark in front, by which some spreadsheets know UTF-8")
         if "geojson" in FORMATS.get(name, []):
             one.add_argument("--frame", metavar="EPSG:NUMBER", help="in GeoJSON: the frame of the plan's x and y (default: one of its own, in metres)")
-        if name in ("windows", "page"):
+        if name in ("rows", "schedule", "windows", "day", "draw", "page"):
             one.add_argument("--every", metavar="SECONDS", help="the length of a window (default: the plan's window_seconds, or a twentieth of the plan's time)")
-        if name in ("day", "page"):
+        if name == "schedule":
+            one.add_argument("--day", dest="of_day", action="store_true", help="on the day's clock: each boom's swing begins with its run")
+        if name in ("schedule", "day", "page"):
             one.add_argument("--tick", metavar="SECONDS", help="the length of a tick (default: the plan's tick_seconds, or 1)")
-        if name == "day":
+        if name in ("schedule", "day"):
             one.add_argument("--parked-elsewhere", action="store_true", help="accept a day in which a boom that waits at its first pose, or is done at its last, stands in a box of one that runs")
         if name == "draw":
             one.add_argument("--view", choices=["both", "above", "side"], default="both", help="default: both")
+            one.add_argument("--at", metavar="SECONDS", help="the booms at one time of the poses' clock, and the rows that they may reach in the window of that time (default: the whole swing)")
             one.add_argument("--end-box", action="store_true", help="with a dashed box round each boom's end poses, which the boom may leave on the way")
     return made
 
@@ -100,18 +106,27 @@ def with_short_turns(plan, split, warn):
     return replace(plan, booms=tuple(booms))
 
 
+def time_of(options):
+    """The one time that is drawn, or none."""
+    with reading.at("--at"):
+        if options.at is not None and options.end_box:
+            raise bad("it goes without --end-box")
+        return None if options.at is None else numbers.exact(options.at)
+
+
 def text_of(answers, options):
     """The answer to the question, as text."""
     if options.question == "draw":
-        return drawing.picture(answers, options.view, options.end_box)
+        return drawing.picture(answers, options.view, options.end_box, time_of(options))
     if options.question == "page":
         return page.page(answers)
     if options.format == "geojson":
-        return geojson.geojson_text(answers, options.question, options.frame)
+        return geojson.geojson_text(answers, options.question, options.frame, is_day(options))
     records, empty = {
         "covers": (lambda: output.cover_records(answers, answers.with_pads), ""),
         "nets": (lambda: output.net_records(answers), "the plan has no nets"),
         "rows": (lambda: output.row_records(answers), "the plan has no rows"),
+        "schedule": (lambda: output.schedule_records(answers, schedule(answers, options.of_day)), "no boom may reach a row"),
         "windows": (lambda: output.window_records(answers), "the plan has one boom"),
         "day": (lambda: output.day_records(answers), ""),
         "moves": (lambda: moves.write_moves(answers, options.folder), ""),
@@ -123,21 +138,27 @@ def formatted(options, name, records, empty):
     if options.format == "table":
         return output.table_text(records, empty)
     if options.format == "json":
-        return output.json_text({"plan": name, "depth": options.used_depth, options.question: records}) + "\n"
+        clock = {"clock": "day" if options.of_day else "poses"} if options.question == "schedule" else {}
+        return output.json_text({"plan": name, "depth": options.used_depth, **clock, options.question: records}) + "\n"
     if options.question == "rows":
         records = [{"row": record["row"], "boom": boom} for record in records for boom in record["booms"] or [None]]
     return output.csv_text(records, options.semicolons, options.byte_order_mark)
 
 
+def is_day(options):
+    """Whether the answer is about the day."""
+    return options.question == "day" or getattr(options, "of_day", False)
+
+
 def warn_of_nets(answers, warn):
     for (n, b), found in answers.nets.items():
         if not found.below():
-            warn("boom '%s': its cover is not below net '%s'" % (answers.booms[b].boom.name, answers.plan.nets[n].name))
+            warn("boom '%s': it is not below net '%s'" % (answers.booms[b].boom.name, answers.plan.nets[n].name))
 
 
 def warn_of_slips(answers, options, warn):
     """Numbers that are likely slips; those of rows where rows are named."""
-    named = options.question in ("rows", "day", "draw", "page") or getattr(options, "format", None) == "geojson"
+    named = options.question in ("rows", "schedule", "day", "draw", "page") or getattr(options, "format", None) == "geojson"
     for text in [*slips.of_booms(answers), *(slips.of_rows(answers) if named else [])]:
         warn(text)
 
@@ -150,7 +171,7 @@ def look_at_parked(answers, options, warn):
         if options.question == "page":
             return              # what the page has is written, and it has no day
         raise
-    if found and options.question == "day" and not options.parked_elsewhere:
+    if found and is_day(options) and not options.parked_elsewhere:
         raise refused(parked.refusal_text(answers, found))
     for meeting in found:
         warn("%s; park it elsewhere" % parked.meeting_text(answers, meeting))
@@ -171,14 +192,14 @@ def answered(options, warn, note, progress):
         try:
             answers = Answers(with_short_turns(plan, options.split, warn), not options.without_pads, warn, progress)
             text = text_of(answers, options)
-            if options.question in ("day", "page"):
+            if is_day(options) or options.question == "page":
                 look_at_parked(answers, options, warn)
         except OverflowError:
             raise numbered(5)
         if options.question in ("nets", "draw", "page"):
             warn_of_nets(answers, warn)
         warn_of_slips(answers, options, warn)
-        if options.question == "day":
+        if is_day(options):
             tell_groups(answers, note)
     files.write_text(getattr(options, "out", None), text)
 

@@ -2,8 +2,10 @@
 import math
 
 import svg
-from planning import scene
-from planning.scene import DRY, LEFT, NET, REACHED, WIDTH, Scene, box_round, colour
+from planning import outline, scene
+from planning.numbers import shown
+from planning.scene import DRY, LEFT, NET, NOW, REACHED, WIDTH, Scene, box_round, colour
+from planning.schedule import rows_at
 
 BETWEEN = 3
 MOST_ROW_NAMES = 100                    # more of them would not be read
@@ -11,6 +13,7 @@ MOST_LARGE_NAMES = 24                   # of booms; more of them are written sma
 LINE = 20
 END_BOX = 'fill="none" stroke="#000000" stroke-width="1.4" stroke-dasharray="6 4"'
 PATH = 'fill="none" stroke="#777777" stroke-width="0.9"'
+OUTLINE = "thin: where the boom and its spray may be, by parts and times"
 HALO = ' stroke="#ffffff" stroke-width="3.5" stroke-linejoin="round"'
 
 
@@ -47,12 +50,12 @@ def cover_styles(i):
 
 
 def row_parts(found, labels):
-    """Rows from above, those that a boom reaches in green."""
-    plan = found.answers.plan
+    """Rows from above, those that a boom may reach in green, and in a stronger green in the window of the time that is shown."""
+    plan, now = found.answers.plan, set() if found.time is None else rows_at(found.answers, found.time)
     for place, row in enumerate(plan.rows):
         x0, y0, x1, y1 = row.area
         box = [x0, y0, 0, x1, y1, 0]
-        fill = REACHED if found.answers.reached_by(place) else DRY
+        fill = NOW if place in now else REACHED if found.answers.reached_by(place) else DRY
         yield found.above.box(box, f'class="row" data-row="{place}" fill="{fill}" stroke="#9aa58c" stroke-width="0.6"')
         left, top, right, bottom = found.above.ends(box)
         if len(plan.rows) <= MOST_ROW_NAMES:
@@ -107,6 +110,12 @@ def cover_parts(found, view):
         if answer.sprays:
             yield from (view.box(box, dashed) for box in answer.covers_in_plan(True))
         yield from (view.box(box, solid) for box in answer.covers_in_plan(False))
+
+
+def piece_parts(found, view):
+    """Of each boom the outline of where it and its spray may be, which is less than its box."""
+    for i, boxes in enumerate(found.pieces):
+        yield f'<path class="pieces" d="{outline.path(view, boxes)}" fill="none" stroke="{colour(i)}" stroke-width="0.9"/>'
 
 
 def mast_parts(found):
@@ -165,6 +174,8 @@ def above_parts(found, end_box, with_booms=True):
     yield from cover_parts(found, found.above)
     if end_box:
         yield from end_boxes(found, labels)
+    else:
+        yield from piece_parts(found, found.above)
     yield from mast_parts(found)
     name_booms(found, labels)
     yield from labels.parts
@@ -189,15 +200,20 @@ def columns(found):
     return 2 if found.above.width > 0.8 * WIDTH else 1
 
 
-def legend(found, y):
+def legend(found, y, end_box):
     """What is drawn, for those things that are there."""
     plan, booms = found.answers.plan, found.answers.booms
     grey = 'stroke="#444444"'
-    entries = [(f'fill="#444444" fill-opacity="0.45" {grey}', "boom at its last pose, paler at its first and on the way"), (f'fill="none" {grey} stroke-width="1.8"', "the reserved box of the boom")]
+    words = "boom at its last pose, paler at its first and on the way" if found.time is None else "boom at %s s" % shown(found.time)
+    entries = [(f'fill="#444444" fill-opacity="0.45" {grey}', words), (f'fill="none" {grey} stroke-width="1.8"', "the reserved box of the boom")]
     if any(answer.sprays for answer in booms):
         entries.append((f'fill="none" {grey} stroke-width="1.2" stroke-dasharray="3 3"', "the reserved box of the boom and its spray"))
+    if "above" in found.shown and not end_box:
+        entries.append((f'fill="none" {grey} stroke-width="0.9"', OUTLINE))
     if plan.rows and "above" in found.shown:
-        entries += [(f'fill="{REACHED}" stroke="#9aa58c"', "row that a boom may reach"), (f'fill="{DRY}" stroke="#9aa58c"', "row that none reaches")]
+        if found.time is not None:
+            entries.append((f'fill="{NOW}" stroke="#9aa58c"', "row that a boom may reach in the window of that time"))
+        entries += [(f'fill="{REACHED}" stroke="#9aa58c"', "row that a boom may reach" + ("" if found.time is None else " at another time")), (f'fill="{DRY}" stroke="#9aa58c"', "row that stays dry")]
     if plan.nets:
         entries.append((f'fill="none" stroke="{NET}" stroke-width="1.8"', "net"))
     for k, (style, words) in enumerate(entries):
@@ -206,12 +222,12 @@ def legend(found, y):
         yield svg.text(x + 34, row, words)
 
 
-def picture(answers, shown="both", end_box=False):
-    found = Scene(answers, BETWEEN, ("above", "side") if shown == "both" else (shown,))
+def picture(answers, view="both", end_box=False, time=None):
+    found = Scene(answers, BETWEEN, ("above", "side") if view == "both" else (view,), time)
     parts = [svg.text(LEFT, 30, answers.plan.name, 17, more=' font-weight="bold"')]
     parts += above_parts(found, end_box) if "above" in found.shown else []
     parts += side_parts(found) if "side" in found.shown else []
     y = found.bottom + 62
-    entries = list(legend(found, y))
+    entries = list(legend(found, y, end_box))
     height = y + LINE * math.ceil(len(entries) / 2 / columns(found)) + 4
     return svg.document(found.above.right + 34, height, answers.plan.name, [*parts, *entries])

@@ -4,7 +4,8 @@ import re
 from fractions import Fraction
 
 from planning.ending import bad, one_line
-from planning.output import above, below, cell, day_records, json_text, net_answer, outward, window_records
+from planning.output import above, below, cell, day_records, json_text, net_answer, outward, schedule_records, window_records
+from planning.schedule import schedule
 
 FRAME = "x and y of the plan, in metres; not longitude and latitude"
 OWN = 'LOCAL_CS["the plan\'s own frame",UNIT["metre",1],AXIS["x",EAST],AXIS["y",NORTH]]'
@@ -64,6 +65,13 @@ def row_features(answers):
         yield feature(rectangle(row.area), what="row", name=row.name, booms=answers.reached_by(place))
 
 
+def schedule_features(answers, of_day):
+    """A row for each time in which a boom may reach it."""
+    found = schedule(answers, of_day)
+    for one, record in zip(found, schedule_records(answers, found)):
+        yield feature(rectangle(answers.plan.rows[one.row].area), what="schedule", name=record["row"], boom=record["boom"], **{key: record[key] for key in ("from", "to")})
+
+
 def net_features(answers, question):
     names = [answer.boom.name for answer in answers.booms]
     for n, net in enumerate(answers.plan.nets):
@@ -72,11 +80,11 @@ def net_features(answers, question):
 
 
 def cover_features(answers, question):
-    """Of each box of a boom, without spray and with it, the cover and the rows that this cover meets; what the question says is of the boom."""
+    """Of each box of a boom, without spray and with it, the cover and the rows that the box may reach; what the question says is of the boom."""
     for answer, more in zip(answers.booms, told(answers, question)):
         for sprays in [False] + [True] * answer.sprays:
-            for k, (own, cover) in enumerate(zip(answer.spray_covers if sprays else answer.bare_covers, answer.covers_in_plan(sprays))):
-                rows = [answers.plan.rows[place].name for place in answer.reached([own])]
+            for k, cover in enumerate(answer.covers_in_plan(sprays)):
+                rows = [answers.plan.rows[place].name for place in answer.rows_of_box(k, sprays)]
                 yield feature(rectangle(area_of(cover)), what="cover", name=answer.boom.name, of="boom and spray" if sprays else "boom", box=k + 1,
                               z0=below(cover[2]), z1=above(cover[5]), rows=rows, **more)
 
@@ -110,6 +118,7 @@ def frame_of(name):
     return {"crs": {"type": "name", "properties": {"name": "urn:ogc:def:crs:EPSG::%s" % found[1]}}, "frame": "x and y of EPSG:%s, in metres" % found[1]}
 
 
-def geojson_text(answers, question, frame=None):
-    found = [*row_features(answers), *net_features(answers, question), *mast_features(answers), *cover_features(answers, question)]
+def geojson_text(answers, question, frame=None, of_day=False):
+    waterings = schedule_features(answers, of_day) if question == "schedule" else []
+    found = [*row_features(answers), *waterings, *net_features(answers, question), *mast_features(answers), *cover_features(answers, question)]
     return json_text({"type": "FeatureCollection", "name": answers.plan.name, **frame_of(frame), "features": found}) + "\n"

@@ -86,6 +86,12 @@ def day_records(answers):
         yield {"boom": answer.boom.name, "group": group_of[i], "start_tick": run.start, "end_tick": run.end, "from": below(run.start * seconds), "to": above(run.end * seconds), "rows": answers.rows_of(i)}
 
 
+def schedule_records(answers, waterings):
+    """Ends are rounded outward."""
+    for one in waterings:
+        yield {"row": answers.plan.rows[one.row].name, "boom": answers.booms[one.boom].boom.name, "from": below(one.start), "to": above(one.end)}
+
+
 class Plain(str):
     """Text that is a number already."""
 

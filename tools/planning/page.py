@@ -1,5 +1,4 @@
 """One HTML page of a plan with a time slider, on the clock of the poses and on the day's: every answer is worked out here, and the page only shows it."""
-import bisect
 import html
 import json
 import os
@@ -11,11 +10,11 @@ from planning import drawing, output, parked
 from planning.ending import Ending
 from planning.library import BOOMS
 from planning.numbers import shown
-from planning.reading import at
-from planning.scene import DRY, NET, REACHED, Scene, colour, places
+from planning.reach import windows_in
+from planning.scene import DRY, NET, NOW, REACHED, Scene, colour, places
+from planning.schedule import schedule, ticks_on, windows_at
 
 SAMPLES = 120
-NOW = "#a9d57f"                         # a row that a boom may reach at the slider's time
 WAITS, RUNS, DONE = 0, 1, 2
 TEMPLATE = os.path.join(os.path.dirname(os.path.abspath(__file__)), "page.html")
 
@@ -40,12 +39,6 @@ def sample_times(start, end):
     return [start + k * step for k in range(-(-(end - start) // step))] + [end]
 
 
-def windows_at(ticks, time):
-    """The windows in which a time lies: two where it is a tick."""
-    before, up_to = bisect.bisect_left(ticks, time), bisect.bisect_right(ticks, time)
-    return [k for k in range(before - 1, up_to) if 0 <= k < len(ticks) - 1] or [0 if time < ticks[0] else len(ticks) - 2]
-
-
 # ---- what the slider shows
 
 def points(view, eight):
@@ -58,34 +51,49 @@ def outlines(answers, found, i, times):
     return {"above": [[points(found.above, box) for box in boxes] for boxes in moved], "side": [[points(found.side, box) for box in boxes] for boxes in moved]}
 
 
+def boom_on(answers, found, i, times, of_day):
+    """A boom at some times of its own: where it is, in which of its windows each time lies, and the ends of its windows on a clock."""
+    answer = answers.booms[i]
+    return {**outlines(answers, found, i, times), "windows": [windows_at(answer.ticks, time - answer.own) for time in times],
+            "ticks": [shown(round(tick, 3)) for tick in ticks_on(answers, i, of_day)]}
+
+
+def bars(answers, of_day):
+    """The schedule: row, boom, from, to."""
+    return [[one.row, one.boom, float(one.start), float(one.end)] for one in schedule(answers, of_day)]
+
+
 def pose_clock(answers, found, ticks):
-    """Each boom goes by the times of its poses."""
+    """Each boom goes by the times of its poses; two booms are asked for in the plan's windows."""
     times = sample_times(answers.plan.start(), answers.plan.end())
-    windows = [windows_at(ticks, time) for time in times]
-    return {"times": [shown(round(time, 3)) for time in times], "booms": [{**outlines(answers, found, i, times), "windows": windows} for i in range(len(answers.booms))]}
+    return {"times": [shown(round(time, 3)) for time in times], "windows": [windows_at(ticks, time) for time in times], "bars": bars(answers, False),
+            "booms": [boom_on(answers, found, i, times, False) for i in range(len(answers.booms))]}
 
 
-def day_clock(answers, found, ticks):
+def day_clock(answers, found):
     """Each boom's swing starts with its run; it waits at its first pose, and is done at its last."""
     seconds = answers.plan.tick_seconds
     runs = [(run.start * seconds, run.end * seconds) for run in answers.day]
     times = sorted({*sample_times(Fraction(0), max(end for _, end in runs)), *(time for run in runs for time in run)})
     standing = [{"from": float(one.start * seconds), "to": float(one.end * seconds), "text": parked.meeting_text(answers, one)} for one in parked.meetings(answers)]
     return {"times": [shown(round(time, 3)) for time in times], "ticks": [int(time // seconds) for time in times], "standing": standing,
-            "booms": [day_of_boom(answers, found, ticks, i, times, run) for i, run in enumerate(runs)]}
+            "bars": bars(answers, True), "booms": [day_of_boom(answers, found, i, times, run) for i, run in enumerate(runs)]}
 
 
-def day_of_boom(answers, found, ticks, i, times, run):
+def day_of_boom(answers, found, i, times, run):
     poses, (start, end) = answers.booms[i].boom.poses, run
     own = [min(poses[0].time + max(time - start, 0), poses[-1].time) for time in times]
     states = [WAITS if time < start else RUNS if time < end else DONE for time in times]
-    return {**outlines(answers, found, i, own), "windows": [windows_at(ticks, time) for time in own], "states": states}
+    return {**boom_on(answers, found, i, own, True), "states": states}
 
 
 def boom_data(answers, i):
-    boom = answers.booms[i].boom
-    with at("boom '%s'" % boom.name):
-        return {"name": boom.name, "rows": answers.window_rows(i)}
+    """Its name and colour, and for each of its windows the places of the rows that are named in it."""
+    answer, rows = answers.booms[i], [[] for _ in answers.booms[i].ticks[1:]]
+    for place, mask in answer.masks.items():
+        for w in windows_in(mask):
+            rows[w].append(place)
+    return {"name": answer.boom.name, "colour": colour(i), "rows": rows}
 
 
 def page_data(answers, found, with_day):
@@ -93,7 +101,7 @@ def page_data(answers, found, with_day):
     last, start = len(answers.ticks) - 1, answers.plan.start()
     ticks = [Fraction(tick) + start for tick in answers.float_ticks]
     return {
-        "clocks": {"poses": pose_clock(answers, found, ticks), **({"day": day_clock(answers, found, ticks)} if with_day else {})},
+        "clocks": {"poses": pose_clock(answers, found, ticks), **({"day": day_clock(answers, found)} if with_day else {})},
         "windows": [[answers.tick_text(k, False), answers.tick_text(k + 1, True)] for k in range(last)],
         "rows": [row.name for row in answers.plan.rows],
         "booms": [boom_data(answers, i) for i in range(len(answers.booms))],
@@ -120,11 +128,12 @@ def legend(answers):
     entries = [(f'fill="#444444" fill-opacity="0.55" {grey}', "boom at the slider's time"), (f'fill="none" {grey} stroke-width="1.8"', "solid: the reserved box of a boom, which holds it at every time")]
     if any(answer.sprays for answer in answers.booms):
         entries.append((f'fill="none" {grey} stroke-width="1.2" stroke-dasharray="3 3"', "dashed: the reserved box of a boom and its spray"))
+    entries.append((f'fill="none" {grey} stroke-width="0.9"', drawing.OUTLINE))
     if answers.plan.nets:
         entries.append((f'fill="none" stroke="{NET}" stroke-width="1.8" stroke-dasharray="10 3 2 3"', "net; along a line it is solid"))
     if answers.plan.rows:
         edge = 'stroke="#9aa58c"'
-        entries += [(f'fill="{NOW}" {edge}', "row that a boom may reach now"), (f'fill="{REACHED}" {edge}', "row that a boom may reach at another time"), (f'fill="{DRY}" {edge}', "row that none reaches")]
+        entries += [(f'fill="{NOW}" {edge}', "row that a boom may reach now"), (f'fill="{REACHED}" {edge}', "row that a boom may reach at another time"), (f'fill="{DRY}" {edge}', "row that stays dry")]
     return "".join('<li><svg width="30" height="14" aria-hidden="true"><rect x="1" y="1" width="28" height="12" %s/></svg>%s</li>' % (style, html.escape(words)) for style, words in entries)
 
 

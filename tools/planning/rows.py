@@ -44,9 +44,14 @@ class Rows:
         self.rows = rows
 
     @cached_property
+    def bundles(self):
+        """Each row by itself."""
+        return [Bundle(row.area, row.heights, place, ()) for place, row in enumerate(self.rows)]
+
+    @cached_property
     def all(self):
         """The bundle of all, in a list that is empty where there is none."""
-        return [bundled([Bundle(row.area, row.heights, place, ()) for place, row in enumerate(self.rows)])] if self.rows else []
+        return [bundled(self.bundles)] if self.rows else []
 
 
 def local_box(row, origin):
@@ -62,6 +67,10 @@ class LocalRows:
 
     def __init__(self, rows, origin):
         self.rows, self.origin, self.boxes = rows, origin, {}
+
+    def row(self, place):
+        """The floats of the row at a place."""
+        return self.box(self.rows.bundles[place])
 
     def box(self, bundle):
         """Its floats, worked out once."""

@@ -1,10 +1,12 @@
 """Where booms stand at some times, by the library, and two views of them: from above and from the side."""
 import math
 from fractions import Fraction
+from functools import cached_property
 
 import binary32
 import svg
 from jellyplain import Refused
+from planning import outline
 from planning.ending import numbered
 
 WIDTH = 860                             # pixels of a view
@@ -13,7 +15,7 @@ SIDE = 150                              # pixels of the side view's height
 GAP = 84                                # pixels between the two views
 ROOM = 0.03                             # of the width round all that is drawn
 COLOURS = ["#2166ac", "#c62828", "#b8860b", "#00838f", "#8d5524", "#d81b7a", "#1b7837", "#555555"]
-NET, REACHED, DRY = "#6a3d9a", "#d9ecc4", "#efefef"
+NET, NOW, REACHED, DRY = "#6a3d9a", "#a9d57f", "#d9ecc4", "#efefef"
 FRAME = 'fill="none" stroke="#000000" stroke-width="0.8"'
 LONGEST, CHARACTER = 5, 6.3             # the most characters of a label on an axis, and the pixels of one
 
@@ -127,11 +129,11 @@ def extents(answers, moved):
 
 
 class Scene:
-    """Both views of a plan, the side view below the other, and the booms at some times of their own."""
+    """Both views of a plan, the side view below the other, and the booms at some times of their own, or at one time of the poses' clock."""
 
-    def __init__(self, answers, between, shown=("above", "side")):
-        self.answers, self.shown = answers, shown
-        self.moved = [places(answer, pose_times(answer.boom, between)) for answer in answers.booms]
+    def __init__(self, answers, between, shown=("above", "side"), time=None):
+        self.answers, self.shown, self.time = answers, shown, time
+        self.moved = [places(answer, pose_times(answer.boom, between) if time is None else [time]) for answer in answers.booms]
         ranges = extents(answers, self.moved)
         size = max(ranges[0][1] - ranges[0][0], ranges[1][1] - ranges[1][0], 1e-5 * max(abs(end) for ends in ranges for end in ends), 1e-3)
         room = ROOM * size
@@ -148,6 +150,11 @@ class Scene:
         side_top = self.above.bottom + GAP if "above" in shown else TOP
         self.side = View(2, [x, z], [scale, SIDE / (z[1] - z[0])], side_top)
         self.bottom = self.side.bottom if "side" in shown else self.above.bottom
+
+    @cached_property
+    def pieces(self):
+        """Of each boom the boxes that hold its parts in short windows."""
+        return [outline.window_boxes(answer) for answer in self.answers.progress.counted("outlines of booms", self.answers.booms)]
 
     def views(self):
         return [view for view, name in ((self.above, "above"), (self.side, "side")) if name in self.shown]

@@ -97,9 +97,10 @@ def of_rows(answers):
         local, reached, missed = LocalRows(from_above, answer.origin), set(answer.rows), {}
         for cover in answer.spray_covers:
             low = answer.in_plan(cover)[2]
-            missed.update((numbers[k], low) for k in local.reached(cover) if numbers[k] not in reached and rows[numbers[k]].heights[1] < low)
-        if missed:
-            yield missed_text(answer.boom, [rows[k] for k in sorted(missed)], missed[min(missed)])
+            missed.update((k, low) for k in local.reached(cover) if numbers[k] not in reached and rows[numbers[k]].heights[1] < low)
+        over = answer.named(answer.spray, answer.all_parts, sorted(missed), local)
+        if over:
+            yield missed_text(answer.boom, [rows[numbers[k]] for k in over], missed[min(over)])
 
 
 def missed_text(boom, rows, low):
