@@ -534,7 +534,7 @@ class Schedule(unittest.TestCase):
         return found, drawn
 
     def test_all_name_the_same_rows(self):
-        plans = [(PLAN, []), (PLAN, ["--every", "7"]), (PLAN, ["--every", "200", "--depth", "6"]), (written(json.dumps(self.blocks()), "blocks.json"), []), (written(json.dumps(self.blocks(window_seconds=0.3)), "short.json"), [])]
+        plans = [(PLAN, []), (PLAN, ["--every", "7", "--depth", "6"]), (PLAN, ["--every", "200", "--depth", "6"]), (written(json.dumps(self.blocks()), "blocks.json"), []), (written(json.dumps(self.blocks(window_seconds=0.3)), "short.json"), [])]
         for path, options in plans:
             found, drawn = self.named(path, *options)
             self.assertTrue(found["rows"])
@@ -622,6 +622,12 @@ class Schedule(unittest.TestCase):
         found = answered(written(json.dumps(self.blocks())))
         named, met = [sum(counts) for counts in zip(*[(len(answer.rows), len(answer.reached(answer.spray_covers))) for answer in found.booms])]
         self.assertLess(named, 0.9 * met)
+
+    def test_windows_of_a_long_swing(self):
+        """The last tick of a boom's windows is none: that it is one float with the one before doesn't matter."""
+        long = plan_of(boom_of(poses=[{"time": 0}, {"time": 1000000000.5, "heading": 9}]), rows=[{"name": "r", "box": [0, 0, 5, 5]}])
+        found = json.loads(ask(long, "schedule", "--every", "1e9", "--format", "json")[1])["schedule"]
+        self.assertEqual([(line["from"], line["to"]) for line in found], [(0, 1000000000.5)])
 
     def test_windows_that_are_refused(self):
         for question in ("rows", "schedule", "day", "draw", "page"):

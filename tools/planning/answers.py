@@ -1,4 +1,4 @@
-"""What a plan is answered: covers, nets, rows, windows and the day, each asked of the library once and kept."""
+"""What a plan is answered: covers, nets, rows window by window, when booms may meet and the day, each asked of the library once and kept."""
 import itertools
 from fractions import Fraction
 from functools import cached_property
@@ -27,11 +27,15 @@ def ticks_of(start, end, length):
     count = max(1, -(-(end - start) // length))
     if count > MOST_WINDOWS:
         raise refused("windows of %s s: more than %d from %s s to %s s; ask for longer ones" % (shown(length), MOST_WINDOWS, shown(start), shown(end)))
-    ticks = [start + k * length for k in range(count)] + [end if end > start else start + length]
+    return [start + k * length for k in range(count)] + [end if end > start else start + length]
+
+
+def float_ticks(ticks, start):
+    """Ticks as the library has them, in seconds from a start; refused where two are one float."""
     found = chains.collapsed(ticks, start)
     if found:
         raise numbered(21, "windows: %s; ask for longer ones; " % chains.collapse_text(found, start))
-    return ticks
+    return [binary32.nearest(tick - start) for tick in ticks]
 
 
 class BoomAnswer:
@@ -68,8 +72,8 @@ class BoomAnswer:
     def ticks(self):
         """The windows of its swing, from its first pose on, as the library has them: the first has no beginning and the last no end, so that together they are all time."""
         with at("boom '%s'" % self.boom.name):
-            exact = ticks_of(self.own, self.boom.poses[-1].time, self.window_seconds)
-        return [-inf, *(binary32.nearest(tick - self.own) for tick in exact[1:-1]), inf]
+            _, *inner = float_ticks(ticks_of(self.own, self.boom.poses[-1].time, self.window_seconds)[:-1], self.own)
+        return [-inf, *inner, inf]
 
     @cached_property
     def masks(self):
@@ -81,11 +85,11 @@ class BoomAnswer:
         return list(self.masks)
 
     def rows_of_box(self, k, with_spray):
-        """The places of the rows that one of its boxes may reach."""
-        chain, covers = (self.spray, self.spray_covers) if with_spray else (self.bare, self.bare_covers)
+        """Of the rows that it may reach, by their places, those that one of its boxes may."""
+        chain = self.spray if with_spray else self.bare
         if len(self.boxes) == 1 and chain is self.spray:
             return self.rows
-        return list(self.named(chain, self.parts[k], self.reached([covers[k]])))
+        return list(self.named(chain, self.parts[k], self.rows))
 
     def named(self, chain, parts, places, rows=None):
         """Of some rows, by their places, those that are named in any window, with their masks."""
@@ -208,7 +212,7 @@ class Answers:
     @cached_property
     def float_ticks(self):
         """The ticks as the library has them, seconds from the plan's start."""
-        return [binary32.nearest(tick - self.plan.start()) for tick in self.ticks]
+        return float_ticks(self.ticks, self.plan.start())
 
     def tick_text(self, k, above):
         """A tick in the plan's seconds, the float's own value, rounded to the millisecond, up or down."""

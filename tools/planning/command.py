@@ -65,7 +65,7 @@ def parser():
         else:
             one.add_argument("-o", dest="out", metavar="FILE", help="write the answer to FILE (default: standard output)")
         one.add_argument("--library", metavar="FILE", help="the shared library")
-        one.add_argument("--depth", metavar="N", help="0 to 12: each move is worked in 2^N slices; greater is tighter and slower (default: the plan's, or 10)")
+        one.add_argument("--depth", metavar="N", help="0 to 12: each move, or its share of a window, is worked in 2^N slices; greater is tighter and slower (default: the plan's, or 10)")
         one.add_argument("--split", action="store_true", help="set poses on the way where a turn has 180 degrees or more, which is refused otherwise")
         one.add_argument("--without-pads", action="store_true", help="leave the spray aside in the covers, windows and the day (nets leave it aside anyway, rows never)")
         if name in FORMATS:
