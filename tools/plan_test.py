@@ -568,14 +568,14 @@ class Schedule(unittest.TestCase):
     def test_times_of_a_boom_that_slides(self):
         """A metre a second along x: rows of 2 m, each 10 m from the next, in windows of 5 s; before its first pose and after its last it stands."""
         slide = boom_of(box=[0, 0, 0, 1, 1, 1], kind="rigid", poses=[{"time": 100, "at": [0, 0, 0]}, {"time": 140, "at": [40, 0, 0]}])
-        still = boom_of(name="z", mast=[0, 500, 0], poses=[{"time": 90}, {"time": 150}])
-        plan = plan_of(slide, still, rows=[{"name": "r%d" % x, "box": [x, 0, x + 2, 1]} for x in (-1, 12, 27, 39, 60)], window_seconds=5)
+        still = boom_of(name="z", mast=[0, 500, 0], poses=[{"time": 50}, {"time": 150}])
+        plan = plan_of(slide, still, rows=[{"name": "r%d" % x, "box": [x, 0, x + 2, 1]} for x in (-1, 4, 12, 27, 35, 39, 60)], window_seconds=5)
         found = [(line["row"], line["boom"], line["from"], line["to"]) for line in json.loads(ask(plan, "schedule", "--format", "json")[1])["schedule"]]
-        self.assertEqual(found, [("r-1", "a", 90, 105), ("r12", "a", 110, 115), ("r27", "a", 125, 130), ("r39", "a", 135, 150)])
+        self.assertEqual(found, [("r-1", "a", 50, 105), ("r4", "a", 100, 110), ("r12", "a", 110, 115), ("r27", "a", 125, 130), ("r35", "a", 130, 140), ("r39", "a", 135, 150)])
         of_day = json.loads(ask(plan, "schedule", "--day", "--format", "json")[1])
         self.assertEqual(of_day["clock"], "day")
-        self.assertEqual([(line["row"], line["from"], line["to"]) for line in of_day["schedule"]], [("r-1", 0, 5), ("r12", 10, 15), ("r27", 25, 30), ("r39", 35, 40)])
-        self.assertIn("row,boom,from,to\nr-1,a,90.000,105.000\n", ask(plan, "schedule", "--format", "csv")[1])
+        self.assertEqual([(line["row"], line["from"], line["to"]) for line in of_day["schedule"]], [("r-1", 0, 5), ("r4", 0, 10), ("r12", 10, 15), ("r27", 25, 30), ("r35", 30, 40), ("r39", 35, 40)])
+        self.assertIn("row,boom,from,to\nr-1,a,50.000,105.000\n", ask(plan, "schedule", "--format", "csv")[1])
         self.assertEqual(ask(plan_of(boom_of()), "schedule")[1], "no boom may reach a row\n")
 
     def test_day_is_refused_as_by_day(self):
@@ -600,7 +600,7 @@ class Schedule(unittest.TestCase):
         plan = self.blocks(window_seconds=0.125, depth=5)
         plan["rows"] = [{"name": "r%d" % k, "box": [x / 2, y, x / 2 + 0.4, y + 0.5]} for k, (x, y) in enumerate((x, y) for x in range(0, 24) for y in range(13))]
         found = answered(written(json.dumps(plan)))
-        self.assertEqual((len(found.booms[0].ticks), len(found.booms[1].ticks), len(plan["rows"])), (81, 221, 312))
+        self.assertEqual((len(found.booms[0].ticks), len(found.booms[1].ticks), len(plan["rows"])), (83, 223, 312))
         for answer in found.booms:
             boxes = [library.bounds(rows.local_box(row, answer.origin)) for row in found.plan.rows]
             for w in (0, 1, 40, 62, 63, 64, 79, len(answer.ticks) - 2):
@@ -624,7 +624,7 @@ class Schedule(unittest.TestCase):
         self.assertLess(named, 0.9 * met)
 
     def test_windows_of_a_long_swing(self):
-        """The last tick of a boom's windows is none: that it is one float with the one before doesn't matter."""
+        """Ticks of a boom's windows that are one float are one."""
         long = plan_of(boom_of(poses=[{"time": 0}, {"time": 1000000000.5, "heading": 9}]), rows=[{"name": "r", "box": [0, 0, 5, 5]}])
         found = json.loads(ask(long, "schedule", "--every", "1e9", "--format", "json")[1])["schedule"]
         self.assertEqual([(line["from"], line["to"]) for line in found], [(0, 1000000000.5)])

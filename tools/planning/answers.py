@@ -30,14 +30,6 @@ def ticks_of(start, end, length):
     return [start + k * length for k in range(count)] + [end if end > start else start + length]
 
 
-def float_ticks(ticks, start):
-    """Ticks as the library has them, in seconds from a start; refused where two are one float."""
-    found = chains.collapsed(ticks, start)
-    if found:
-        raise numbered(21, "windows: %s; ask for longer ones; " % chains.collapse_text(found, start))
-    return [binary32.nearest(tick - start) for tick in ticks]
-
-
 class BoomAnswer:
     """A boom in a frame of its own and on a clock of its own: its chains with pads and without, their covers as floats of that frame, and the rows that it may reach, window by window."""
 
@@ -70,10 +62,10 @@ class BoomAnswer:
 
     @cached_property
     def ticks(self):
-        """The windows of its swing, from its first pose on, as the library has them: the first has no beginning and the last no end, so that together they are all time."""
+        """The windows of its swing, from its first pose to its last, as the library has them, with one before and one behind in which it stands: together they are all time. Ticks that are one float are one."""
         with at("boom '%s'" % self.boom.name):
-            _, *inner = float_ticks(ticks_of(self.own, self.boom.poses[-1].time, self.window_seconds)[:-1], self.own)
-        return [-inf, *inner, inf]
+            swing = ticks_of(self.own, self.boom.poses[-1].time, self.window_seconds)
+        return [-inf, *sorted({binary32.nearest(tick - self.own) for tick in swing}), inf]
 
     @cached_property
     def masks(self):
@@ -211,8 +203,11 @@ class Answers:
 
     @cached_property
     def float_ticks(self):
-        """The ticks as the library has them, seconds from the plan's start."""
-        return float_ticks(self.ticks, self.plan.start())
+        """The ticks as the library has them, seconds from the plan's start; refused where two are one float."""
+        start, found = self.plan.start(), chains.collapsed(self.ticks, self.plan.start())
+        if found:
+            raise numbered(21, "windows: %s; ask for longer ones; " % chains.collapse_text(found, start))
+        return [binary32.nearest(tick - start) for tick in self.ticks]
 
     def tick_text(self, k, above):
         """A tick in the plan's seconds, the float's own value, rounded to the millisecond, up or down."""

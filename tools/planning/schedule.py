@@ -15,7 +15,7 @@ class Clock(NamedTuple):
     end: Fraction
 
     def time(self, tick, last):
-        """A tick of the boom's own clock on this one; the first window begins with the clock, and the last ends with it."""
+        """A tick of the boom's own clock on this one; the window before its swing begins with this clock, and the one behind ends with it."""
         return (self.end if last else self.start) if isinf(tick) else self.zero + Fraction(tick)
 
 
@@ -28,7 +28,7 @@ class Watering(NamedTuple):
 
 
 def clock_of(answers, i, of_day):
-    """On the poses' clock a boom stands at its first pose before its swing and at its last after it, as long as the plan goes; on the day's its swing begins with its run."""
+    """On the poses' clock a boom stands at its first pose before its swing and at its last behind it, as long as the plan goes; on the day's it is there as long as it runs, and its swing begins with its run."""
     if of_day:
         start, end = [tick * answers.plan.tick_seconds for tick in answers.day[i]]
         return Clock(start, start, end)
