@@ -7,8 +7,8 @@
 #   make clean       removes target/lib and what the tests have built; what is proved stays, in the rest of target/
 # All of them are run here. What is newer than target/lib, by make's own timestamps, is proved and built again; `make -B` does so in any case, as after another toolchain was installed.
 # The version is written here, in c/jellyplain.h, in rust/Cargo.toml and in crates/api; `make check` holds them to one another.
-VERSION = 1.0.0
-SONAME = libjellyplain.so.1
+VERSION = 2.0.0
+SONAME = libjellyplain.so.2
 
 # They may have spaces and commas; a relative one is meant from here.
 PREFIX = /usr/local

@@ -101,7 +101,7 @@ uint32_t jellyplain_layout(void);
 
 /* The version of this header, and of the library that is linked: 10000 * major + 100 * minor + patch. Another major
  * version has another boundary, a greater minor one more functions. */
-#define JELLYPLAIN_VERSION 10000
+#define JELLYPLAIN_VERSION 20000
 uint32_t jellyplain_version(void);
 
 /* Whether the library that is linked fits this header: the same major version and the same layout. To be asked once,

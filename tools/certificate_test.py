@@ -194,12 +194,12 @@ class Certificates(unittest.TestCase):
 
     # ---- the real library
     def test_library_is_asked(self):
-        built = os.path.join(pages.ROOT, "target", "lib", "libjellyplain.so.1.0.0")
+        built = os.path.join(pages.ROOT, "target", "lib", "libjellyplain.so.2.0.0")
         if not os.path.exists(built):
             self.skipTest("there is no " + built)
         example = os.path.join(pages.ROOT, "examples", "slight_scale")
         shutil.copy(example + ".txt", self.file)
-        shutil.copy(built, self.path("target/lib/libjellyplain.so.1.0.0"))
+        shutil.copy(built, self.path("target/lib/libjellyplain.so.2.0.0"))
         for kind, ending in (("plain", "expected"), ("rigid", "rigid")):
             for name, box in (("cover", "expected"), ("cover_rigid", "rigid")):
                 write(self.path("target/bin/" + name), "#!/bin/sh\ncat %s.%s\n" % (example, box), True)

@@ -3,7 +3,7 @@
 
   plan_test.py     exit status 1 where a test fails; 0 with a line where there is nothing to test with
 
-The library is what JELLYPLAIN_LIBRARY names, or is made from target/staticlib/libapi.a by the C compiler, or is target/lib/libjellyplain.so.1.
+The library is what JELLYPLAIN_LIBRARY names, or is made from target/staticlib/libapi.a by the C compiler, or is target/lib/libjellyplain.so.2.
 """
 import contextlib
 import copy
@@ -48,7 +48,7 @@ def made_library():
     if os.environ.get("JELLYPLAIN_LIBRARY"):
         return os.environ["JELLYPLAIN_LIBRARY"]
     if compiler and os.path.exists(archive):
-        made = os.path.join(SCRATCH, "libjellyplain.so.1")
+        made = os.path.join(SCRATCH, "libjellyplain.so.2")
         subprocess.run([compiler, "-shared", "-o", made, "-Wl,--whole-archive", archive, "-Wl,--no-whole-archive", "-lm"], check=True)
         return made
     return library.DEFAULT if os.path.exists(library.DEFAULT) else None
@@ -1389,6 +1389,6 @@ if __name__ == "__main__":
         if os.environ["JELLYPLAIN_LIBRARY"]:
             library.load(os.environ["JELLYPLAIN_LIBRARY"])
             unittest.main(verbosity=0)
-        print("tools/plan_test.py: skipped, there is neither target/lib/libjellyplain.so.1 nor target/staticlib/libapi.a with a C compiler")
+        print("tools/plan_test.py: skipped, there is neither target/lib/libjellyplain.so.2 nor target/staticlib/libapi.a with a C compiler")
     finally:
         shutil.rmtree(SCRATCH, ignore_errors=True)

@@ -131,7 +131,7 @@ _loaded: Optional[_Functions] = None
 def load(path: Optional[str] = None) -> str:
     """Loads the library now, not at the first call, and answers the path that it was loaded from.
 
-    It is the file at `path`; or else what the environment variable JELLYPLAIN_LIBRARY names; or else libjellyplain.so.1 in the package's
+    It is the file at `path`; or else what the environment variable JELLYPLAIN_LIBRARY names; or else libjellyplain.so.2 in the package's
     own folder, in target/lib of the repository that the package stands in, or wherever the system's loader finds it (LD_LIBRARY_PATH,
     ldconfig). What is named and not there is not looked for elsewhere.
 

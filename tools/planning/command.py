@@ -19,7 +19,7 @@ input; docs/for-planners.md has their layout. Lengths are in metres, times in se
 rounded outward to the millimetre."""
 EPILOG = """\
 Exit status: 0 with an answer, 1 where the plan is refused (docs/REFUSALS.md has the numbers), 2 for bad usage, a bad file or no library; then one line on
-standard error says what and where. The library is target/lib/libjellyplain.so.1, which `make` writes, or what --library or JELLYPLAIN_LIBRARY names."""
+standard error says what and where. The library is target/lib/libjellyplain.so.2, which `make` writes, or what --library or JELLYPLAIN_LIBRARY names."""
 QUESTIONS = {
     "covers": "the box that holds each boom at every time, without and with its spray",
     "nets": "whether each boom stays below each net that it stands under, and by how much",

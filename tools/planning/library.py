@@ -6,7 +6,7 @@ import pages
 from jellyplain import Bounds
 from planning.ending import bad, one_line
 
-DEFAULT = os.path.join(pages.ROOT, "target", "lib", "libjellyplain.so.1")
+DEFAULT = os.path.join(pages.ROOT, "target", "lib", "libjellyplain.so.2")
 TICKS, BOOMS, ROWS = 64, 8, 256         # the most of a call
 
 

@@ -19,9 +19,9 @@ use Rattle.chain_trial.specs.Try.{Moves·try}
 abbrev pub layoutNumber : ℕ
 layoutNumber = 3
 
--- Version 1.0.0, as 10000 * major + 100 * minor + patch.
+-- Version 2.0.0, as 10000 * major + 100 * minor + patch.
 abbrev pub versionNumber : ℕ
-versionNumber = 10000
+versionNumber = 20000
 
 abbrev pub Moves·point : List Rows → Float → List Float → PointAnswer
 Moves·point rows time p = Moves·transformPoint rows time (Point3f·ofList p)

@@ -229,12 +229,12 @@ pub extern "C" fn jellyplain_layout() -> u32
     3
 }
 
-// The library's version, 10000 * major + 100 * minor + patch: now 1.0.0. A caller tells by it which functions there are. Accuracy: exact.
+// The library's version, 10000 * major + 100 * minor + patch: now 2.0.0. A caller tells by it which functions there are. Accuracy: exact.
 #[no_mangle]
 pub extern "C" fn jellyplain_version() -> u32
     ensures value { λ r. ⌜ r ≡ versionNumber ⌝ }
 {
-    10000
+    20000
 }
 
 // Builds a chain from 2 to 32 poses; the rows of its moves, one fewer than poses, then stand in the front blocks; a rigid one's moves are rigid.
