@@ -104,7 +104,7 @@ module _ (a : PoseConstants) (s0 s1 : Matrix4x4) (pad0 pad1 : Float) where
     pad = padHigh pad0 pad1 (oneMinus T) T;
   }
 
-  module _ (b : Bounds3f) (h : ℕ) where
+  module _ (b : Bounds3f) where
     -- ---- a group
     points : LanesVector
     points = LanesVector·of (λ (l : Lane). Bounds3f·intervals b)
@@ -118,19 +118,28 @@ module _ (a : PoseConstants) (s0 s1 : Matrix4x4) (pad0 pad1 : Float) where
     unfolding points LanesVector·pieces LanesBorders·slices LanesBorders·from lanewise
     lanes-apart T f = refl
 
-    group-lanes : (g : ℕ) (f : Lane → IntervalVector) → LanesVector·group a (secondBy (isNear a) a) s0 s1 pad0 pad1 points h g (LanesVector·of f)
-        ≡ LanesVector·of (λ (l : Lane). IntervalVector·join (f l) (leanPiece a s0 s1 pad0 pad1 b h (4 * g + place l)))
-    unfolding LanesVector·group leanPiece
-    group-lanes g f =
-        (λ i. LanesVector·pieces a (secondBy (isNear a) a) s0 s1 pad0 pad1 points (borders-slices (isNear a) (a .theta) h (4 * g) i) (LanesVector·of f))
-        ∙ lanes-apart (λ (l : Lane). slice h (4 * g + place l)) f
-        ∙ λ i. LanesVector·of (λ (l : Lane). IntervalVector·join (f l) (LeanPose·vector (by-over (slice h (4 * g + place l)) i) (Bounds3f·intervals b)))
+    -- Any four intervals of dt.
+    pub pieces-apart : (T : Lane → Interval) (f : Lane → IntervalVector)
+        → LanesVector·pieces a (secondBy (isNear a) a) s0 s1 pad0 pad1 (LanesVector·of (λ (l : Lane). Bounds3f·intervals b))
+        (LanesBorders·slices (isNear a) (a .theta) T) (LanesVector·of f)
+        ≡ LanesVector·of (λ (l : Lane). IntervalVector·join (f l) (LeanPose·vector (LeanPose·over a s0 s1 pad0 pad1 (T l)) (Bounds3f·intervals b)))
+    unfolding points
+    pieces-apart T f =
+        lanes-apart T f ∙ λ i. LanesVector·of (λ (l : Lane). IntervalVector·join (f l) (LeanPose·vector (by-over (T l) i) (Bounds3f·intervals b)))
 
-    -- ---- all groups
-    pub groups-lanes : (n : ℕ) (u : IntervalVector)
-        → loop (LanesVector·group a (secondBy (isNear a) a) s0 s1 pad0 pad1 (LanesVector·of (λ (l : Lane). Bounds3f·intervals b)) h) n (LanesVector·of (λ (l : Lane). u))
-        ≡ LanesVector·of (laneUnion a s0 s1 pad0 pad1 b h n u)
-    unfolding loop laneUnion points
-    groups-lanes zero u = refl
-    groups-lanes (suc n) u =
-        ap (LanesVector·group a (secondBy (isNear a) a) s0 s1 pad0 pad1 points h n) (groups-lanes n u) ∙ group-lanes n (laneUnion a s0 s1 pad0 pad1 b h n u)
+    module _ (h : ℕ) where
+      group-lanes : (g : ℕ) (f : Lane → IntervalVector) → LanesVector·group a (secondBy (isNear a) a) s0 s1 pad0 pad1 points h g (LanesVector·of f)
+          ≡ LanesVector·of (λ (l : Lane). IntervalVector·join (f l) (leanPiece a s0 s1 pad0 pad1 b h (4 * g + place l)))
+      unfolding LanesVector·group leanPiece points
+      group-lanes g f =
+          (λ i. LanesVector·pieces a (secondBy (isNear a) a) s0 s1 pad0 pad1 points (borders-slices (isNear a) (a .theta) h (4 * g) i) (LanesVector·of f))
+          ∙ pieces-apart (λ (l : Lane). slice h (4 * g + place l)) f
+
+      -- ---- all groups
+      pub groups-lanes : (n : ℕ) (u : IntervalVector)
+          → loop (LanesVector·group a (secondBy (isNear a) a) s0 s1 pad0 pad1 (LanesVector·of (λ (l : Lane). Bounds3f·intervals b)) h) n (LanesVector·of (λ (l : Lane). u))
+          ≡ LanesVector·of (laneUnion a s0 s1 pad0 pad1 b h n u)
+      unfolding loop laneUnion points
+      groups-lanes zero u = refl
+      groups-lanes (suc n) u =
+          ap (LanesVector·group a (secondBy (isNear a) a) s0 s1 pad0 pad1 points h n) (groups-lanes n u) ∙ group-lanes n (laneUnion a s0 s1 pad0 pad1 b h n u)

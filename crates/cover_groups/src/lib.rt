@@ -1,5 +1,6 @@
 // The slices of a cover four at a time, without any test: the union of the lean boxes of neighbouring slices lane by lane, and at the end that of the
 // four lanes. Where the coarse slices of the same cover are accepted, no finer one is refused and this is the cover but for zeros' signs.
+// What it does with four borders and the constants is lent to the pieces of a window.
 use bounds3::Bounds3f;
 use lanes::Lanes;
 use lanes_rotation::LanesVector;
@@ -21,17 +22,17 @@ ghost use Rattle.cover_groups.specs.means.Groups.{LanesVector·group, Gr
 const MAX_DEPTH: u32 = 12;
 
 // Where two slices meet: dt, and cosine and sine of the angle that slerp has turned by there. Near slerp asks for no angle.
-struct Border {
-    dt: f32,
-    cos: f32,
-    sin: f32,
+pub struct Border {
+    pub dt: f32,
+    pub cos: f32,
+    pub sin: f32,
 }
 
 // The borders of four neighbouring slices: those where they begin as low ends, those where they end as high ends.
-struct LanesBorders {
-    dt: Lanes,
-    cos: Lanes,
-    sin: Lanes,
+pub struct LanesBorders {
+    pub dt: Lanes,
+    pub cos: Lanes,
+    pub sin: Lanes,
 }
 
 // The boxes of some slices joined, and the border where the next slice begins.
@@ -71,7 +72,7 @@ fn border_at(table: &[u32; 2049], near: bool, theta: f32, h: u32, k: u64) -> Bor
 }
 
 // Four intervals by five numbers, each from one to the next. Accuracy: exact.
-fn ends(a: f32, b: f32, c: f32, d: f32, e: f32) -> Lanes
+pub fn ends(a: f32, b: f32, c: f32, d: f32, e: f32) -> Lanes
     ensures value { λ r. ⌜ r ≡ Lanes·ends a b c d e ⌝ }
 {
     let low = [a, b, c, d];
@@ -116,7 +117,7 @@ fn last(g: LanesBorders) -> Border
 }
 
 // The boxes of four slices, of the points p, joined to those before. Accuracy: encloses, where nothing is refused.
-fn join_pieces(
+pub fn join_pieces(
     a: PoseConstants,
     second: Quaternion,
     s0: Matrix4x4,
@@ -187,7 +188,7 @@ fn join_groups(
 }
 
 // The second quaternion that slerp mixes. Accuracy: each operation is correctly rounded.
-fn second_quaternion(a: PoseConstants) -> Quaternion
+pub fn second_quaternion(a: PoseConstants) -> Quaternion
     ensures value { λ r. ⌜ r ≡ secondBy (isNear a) a ⌝ }
 {
     if a.cos_theta > SLERP_THRESHOLD {

@@ -1,5 +1,5 @@
 -- The pieces of a window's share of dt: where those of a depth are accepted, with what stands before them, those of each greater depth are the lean
--- ones but for zeros' signs, and so is their union, `pieces-lean`. For any list of intervals: `list-lean`.
+-- ones but for zeros' signs, `each-lean`, and so is their union, `pieces-lean`. For any list of intervals: `list-lean`.
 use Prim.Native.Nat.{ℕ, _+_}
 use mathlib.Core.Path.{_≡_, refl, sym, subst}
 use mathlib.Core.Logic.{inl, inr}
@@ -70,14 +70,16 @@ module _ {a : PoseConstants} {s0 s1 : Matrix4x4} {pad0 pad1 : Float} (parts : En
   abbrev lean : Interval → Bounds3f
   lean D = Lean·box a s0 s1 pad0 pad1 D b
 
+  -- Each piece of a greater depth.
+  pub each-lean : (d n : ℕ) {i : Interval} → UnitPart i → (s : BoundsAnswer) (c : Bounds3f) → BoundsAnswer·unionAll s (map box (pieces d i)) ≡ Bounds c
+      → (D : Interval) → List·Memᴰ D (pieces (d + n) i) → BoundsAnswer·Same (box D) (Bounds (lean D))
+  each-lean d n {i} p s c e D k =
+      let whole = pieces-finer d n p D k in
+      let w = list-answered box s (pieces d i) c e (whole .piece) (whole .member) in
+      piece-lean parts values b r numbers D (whole .piece) (w .box) (part-proper (pieces-part (d + n) p D k .unit)) (whole .subset)
+      (pieces-part d p (whole .piece) (whole .member) .unit .subset) (w .accepted)
+
   pub pieces-lean : (d n : ℕ) {i : Interval} → UnitPart i → {s : BoundsAnswer} {u : Bounds3f} → BoundsAnswer·Same s (Bounds u)
       → (c : Bounds3f) → BoundsAnswer·unionAll s (map box (pieces d i)) ≡ Bounds c
       → BoundsAnswer·Same (BoundsAnswer·unionAll s (map box (pieces (d + n) i))) (Bounds (unionList u (map lean (pieces (d + n) i))))
-  pieces-lean d n {i} p {s} same c e = list-lean box lean same (pieces (d + n) i) each
-    where
-      each : (D : Interval) → List·Memᴰ D (pieces (d + n) i) → BoundsAnswer·Same (box D) (Bounds (lean D))
-      each D k =
-          let whole = pieces-finer d n p D k in
-          let w = list-answered box s (pieces d i) c e (whole .piece) (whole .member) in
-          piece-lean parts values b r numbers D (whole .piece) (w .box) (part-proper (pieces-part (d + n) p D k .unit)) (whole .subset)
-          (pieces-part d p (whole .piece) (whole .member) .unit .subset) (w .accepted)
+  pieces-lean d n {i} p {s} same c e = list-lean box lean same (pieces (d + n) i) (each-lean d n p s c e)
