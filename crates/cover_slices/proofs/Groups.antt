@@ -37,7 +37,7 @@ lanes-paired : (a : PoseConstants) (s0 s1 : Matrix4x4) (pad0 pad1 : Float) (b : 
 unfolding Groups·union LanesVector·joined Lanes·joined LanesVector·of Lanes·of laneUnion leanPiece IntervalVector·join Interval·join
 lanes-paired a s0 s1 pad0 pad1 b h n first = refl
 
-box-answered : (r : BoundsAnswer) → T (BoundsAnswer·isBox r) → Answered r
+pub box-answered : (r : BoundsAnswer) → T (BoundsAnswer·isBox r) → Answered r
 box-answered (Bounds b) h = record { box = b; accepted = refl }
 box-answered (Refused n) h = absurd h
 

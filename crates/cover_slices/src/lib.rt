@@ -31,7 +31,7 @@ fn held_depth(d: u32) -> u32
 }
 
 // The depth of the slices that are judged before any finer one is computed without judging. Far slerp is seldom refused, and one slice will do.
-fn coarse_depth(a: PoseConstants) -> u32
+pub fn coarse_depth(a: PoseConstants) -> u32
     ensures value { λ r. ⌜ r ≡ coarseDepth a ⌝ }
 {
     if a.cos_theta > SLERP_THRESHOLD {
@@ -86,7 +86,7 @@ fn union_judged(
 }
 
 // Whether an answer is a box. Accuracy: exact.
-fn is_box(answer: BoundsAnswer) -> bool
+pub fn is_box(answer: BoundsAnswer) -> bool
     ensures value { λ r. ⌜ r ≡ BoundsAnswer·isBox answer ⌝ }
 {
     match answer {

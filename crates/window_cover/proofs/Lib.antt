@@ -1,3 +1,4 @@
 pub mod Kept
 pub mod Union
 pub mod Slices
+pub mod Same

@@ -1,6 +1,7 @@
--- The union of a window's boxes as the code takes it: a pass over the moves from a place on (`pass-next`, `pass-end`), and the passes in a row (`worked`).
+-- The union of a window's boxes as the code takes it: a pass over the moves from a place on (`pass-next`, `pass-end`), and the passes in a row
+-- (`worked`); with answers that are the same on the way (`reached-next`, `reached-end`, `worked-same`).
 use Prim.Native.Nat.{ℕ, zero, suc, _+_, _≤_, _<_}
-use mathlib.Core.Path.{_≡_, refl, sym, ap, _∙_}
+use mathlib.Core.Path.{_≡_, refl, sym, ap, subst, _∙_}
 use mathlib.Core.Bool.{Bool, true, false}
 use mathlib.Core.List.{List, [], _∷_, _++_, map}
 use native.Mathlib.Omega.{arith}
@@ -12,6 +13,9 @@ use Rattle.bounds3.specs.declared.Bounds3f.{Bounds3f}
 use Rattle.bounds3.specs.Bounds3f.{Bounds3f·default}
 use Rattle.transform.specs.declared.BoundsAnswer.{BoundsAnswer}
 use Rattle.transform.specs.declared.BoundsAnswer.the-variants.{Bounds}
+use Rattle.bounds_query.specs.Same.{BoundsAnswer·Same}
+use Rattle.bounds_query.specs.Zeros.{BoundsAnswer·positiveZeros}
+use Rattle.motion_pad.proofs.Zeros.{answers-zeros}
 use Rattle.bounds_answers.specs.UnionAll.{BoundsAnswer·unionAll}
 use Rattle.bounds_answers.proofs.UnionAll.{union-append}
 use Rattle.animated_transform.specs.declared.AnimatedTransform.{AnimatedTransform}
@@ -20,7 +24,9 @@ use Rattle.motion_chain.specs.Chain.{Chain·moves}
 use Rattle.chain_rows.specs.Kept.{Moves·chain}
 use Rattle.window_times.specs.declared.Window.{Window}
 use Rattle.chain_window.specs.Cover.{sliceBoxes, firstPoseBoxes, endPoseBoxes, equalPoseBoxes, isNil, boxesFrom, windowBoxes, Chain·encloseWindow}
+use Rattle.window_slices.proofs.Same.{union-all-same}
 use Rattle.window_cover.specs.means.Stage.{stageBoxes}
+use Rattle.window_cover.proofs.Same.{first-valued}
 
 -- ---- which move is the last
 eqb-suc : (i n : ℕ) → eqb (i + 1) n ≡ eqb (suc i + 1) (suc n)
@@ -71,6 +77,30 @@ module _ (boxes : Bool → Bool → AnimatedTransform → List BoundsAnswer) whe
   unfolding boxesFrom
   pass-end r moves i h = rw (drop-of-length-le moves {i = i} h)
 
+  -- What is reached at place i: an answer that is the same as r, from which the rest of the pass gives that from s.
+  pub record Reached (r s : BoundsAnswer) (moves : List Rows) (i : ℕ) : Type 0 where
+    pub answer : BoundsAnswer
+    pub same : BoundsAnswer·Same r answer
+    pub rest : passFrom answer moves i ≡ passFrom s moves 0
+
+  pub reached-start : {r s : BoundsAnswer} (moves : List Rows) → BoundsAnswer·Same r s → Reached r s moves 0
+  reached-start {r} {s} moves h = record { answer = s; same = h; rest = refl }
+
+  pub reached-next : {r s u : BoundsAnswer} (moves : List Rows) (i : ℕ) → i < length moves
+      → ((t : BoundsAnswer) → BoundsAnswer·Same r t → BoundsAnswer·Same u
+      (BoundsAnswer·unionAll t (boxes (eqb i 0) (eqb (i + 1) (length moves)) (AnimatedTransform·fromRows (getD moves i [])))))
+      → Reached r s moves i → Reached u s moves (i + 1)
+  reached-next moves i h f x =
+      let own = boxes (eqb i 0) (eqb (i + 1) (length moves)) (AnimatedTransform·fromRows (getD moves i [])) in
+      record {
+        answer = BoundsAnswer·unionAll (x .answer) own;
+        same = f (x .answer) (x .same);
+        rest = pass-next (x .answer) (BoundsAnswer·unionAll (x .answer) own) moves i h refl ∙ x .rest;
+      }
+
+  pub reached-end : {r s : BoundsAnswer} (moves : List Rows) (i : ℕ) → length moves ≤ i → Reached r s moves i → BoundsAnswer·Same r (passFrom s moves 0)
+  reached-end {r} moves i h x = subst (BoundsAnswer·Same r) (sym (pass-end (x .answer) moves i h) ∙ x .rest) (x .same)
+
 -- ---- the passes in a row
 pub moves-all : (rows : List Rows) → (length rows ≡ 0 → ⊥) → Chain·moves (Moves·chain rows) ≡ map AnimatedTransform·fromRows rows
 unfolding Moves·chain
@@ -102,3 +132,18 @@ module _ (rows : List Rows) (b : Bounds3f) (d : ℕ) (w : Window) where
       taken ∙ sym joined
       ∙ ap (λ (l : List AnimatedTransform). BoundsAnswer·unionAll start (boxesFrom (λ first last m. sliceBoxes b d w m) true l ++ F
       ++ boxesFrom (λ first last m. endPoseBoxes b w last m) true l ++ boxesFrom (equalPoseBoxes b w) true l)) (sym (moves-all rows some))
+
+  -- The same with answers that are the same.
+  pub worked-same : (s f p r : BoundsAnswer) → (length rows ≡ 0 → ⊥) → BoundsAnswer·Same s (pass 0 (Bounds Bounds3f·default))
+      → f ≡ BoundsAnswer·unionAll s (firstPoseBoxes b w (AnimatedTransform·fromRows (getD rows 0 [])))
+      → ((t : BoundsAnswer) → BoundsAnswer·Same f t → BoundsAnswer·Same p (pass 1 t))
+      → ((t : BoundsAnswer) → BoundsAnswer·Same p t → BoundsAnswer·Same r (pass 2 t))
+      → BoundsAnswer·positiveZeros r ≡ BoundsAnswer·positiveZeros (Chain·encloseWindow (Moves·chain rows) b d w)
+  worked-same s f p r some hs ef hp hr =
+      let m = AnimatedTransform·fromRows (getD rows 0 []) in
+      let S = pass 0 (Bounds Bounds3f·default) in
+      let F = BoundsAnswer·unionAll S (firstPoseBoxes b w m) in
+      let P = pass 1 F in
+      let first : BoundsAnswer·Same f F =
+      subst (λ (x : BoundsAnswer). BoundsAnswer·Same x F) (sym ef) (union-all-same hs (firstPoseBoxes b w m) (first-valued b w m)) in
+      answers-zeros (hr P (hp F first)) ∙ ap BoundsAnswer·positiveZeros (worked S F P (pass 2 P) some refl refl refl refl)

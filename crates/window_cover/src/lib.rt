@@ -13,6 +13,7 @@ ghost use lib.Dec.{eqb};
 ghost use lib.ListN.{length, getD};
 ghost use Rattle.transform.specs.Answer.{BoundsAnswer·refusal, BoundsAnswer·bounds};
 ghost use Rattle.bounds_query.specs.Query.{maxDepth};
+ghost use Rattle.bounds_query.specs.Same.{BoundsAnswer·Same};
 ghost use Rattle.bounds_answers.specs.UnionAll.{BoundsAnswer·unionAll};
 ghost use Rattle.motion_cover.specs.Cover.{Transform·enclosePadded};
 ghost use Rattle.motion_rows.specs.Rows.{AnimatedTransform·fromRows};
@@ -22,7 +23,8 @@ ghost use Rattle.chain_window.specs.Cover.{sliceBoxes, boxesFrom, Chain·window
 ghost use Rattle.window_cover.specs.means.Stage.{stageBoxes};
 ghost use Rattle.window_cover.specs.Kept.{Moves·windowCover, KeptWindowContainsMotion, KeptWindowFiner};
 
-// The slices of a move, joined to r; the depth is held at 12, here and in what follows. Accuracy: encloses.
+// The slices of a move, joined to r, but for zeros' signs; the depth is held at 12, here and in what follows. What r is the same as is joined to the same.
+// Accuracy: encloses.
 fn union_slices(
     r: BoundsAnswer,
     m: AnimatedTransform,
@@ -30,7 +32,8 @@ fn union_slices(
     depth: u32,
     w: Window,
 ) -> BoundsAnswer
-    ensures value { λ u. ⌜ u ≡ BoundsAnswer·unionAll r (sliceBoxes b (min depth maxDepth) w m) ⌝ }
+    ensures same { λ u. ⌜ ((s : BoundsAnswer) → BoundsAnswer·Same r s
+        → BoundsAnswer·Same u (BoundsAnswer·unionAll s (sliceBoxes b (min depth maxDepth) w m))) ⌝ }
 {
     let overlaps = window_times::overlaps(w, m.start_time, m.end_time);
     if !(m.actually_animated & overlaps) {
@@ -38,7 +41,7 @@ fn union_slices(
     }
     let a = motion_point::constants(m);
     let dt = dt_share::share(m.start_time, m.end_time, w.earlier, w.later);
-    dt_pieces::union_pieces(r, a, m.s0, m.s1, m.pad0, m.pad1, dt, depth, b)
+    window_slices::union_pieces(r, a, m.s0, m.s1, m.pad0, m.pad1, dt, depth, b)
 }
 
 // A stored transform over a box, grown by a pad, joined to r where it is asked for. Accuracy: encloses.
@@ -65,9 +68,9 @@ fn union_move(
     w: Window,
 ) -> BoundsAnswer
     requires { ⌜ i < length (now moves) ⌝ }
-    ensures value { λ u. ⌜ u ≡ BoundsAnswer·unionAll r
+    ensures same { λ u. ⌜ ((s : BoundsAnswer) → BoundsAnswer·Same r s → BoundsAnswer·Same u (BoundsAnswer·unionAll s
         (stageBoxes b (min depth maxDepth) w stage (eqb i 0) (eqb (i + 1) (length (now (moves .entry))))
-        (AnimatedTransform·fromRows (getD (now (moves .entry)) i []))) ⌝ }
+        (AnimatedTransform·fromRows (getD (now (moves .entry)) i []))))) ⌝ }
 {
     let first = i == 0;
     let last = i + 1 == moves.len();
@@ -93,8 +96,8 @@ fn union_moves(
     depth: u32,
     w: Window,
 ) -> BoundsAnswer
-    ensures value { λ u. ⌜ u ≡ BoundsAnswer·unionAll start
-        (boxesFrom (stageBoxes b (min depth maxDepth) w stage) true (map AnimatedTransform·fromRows (now (moves .entry)))) ⌝ }
+    ensures same { λ u. ⌜ ((s : BoundsAnswer) → BoundsAnswer·Same start s → BoundsAnswer·Same u (BoundsAnswer·unionAll s
+        (boxesFrom (stageBoxes b (min depth maxDepth) w stage) true (map AnimatedTransform·fromRows (now (moves .entry)))))) ⌝ }
 {
     let mut r = start;
     let mut i = 0;

@@ -21,7 +21,8 @@ use Rattle.lanes_box.specs.means.Boxes.{IntervalVector·join}
 use Rattle.cover_groups.specs.declared.Border.{Border}
 use Rattle.cover_groups.specs.means.Groups.{Lanes·ends, Border·at, LanesBorders·from, LanesBorders·of, LanesVector·pieces}
 use Rattle.cover_groups.proofs.Lanewise.{atEnds, LanesBorders·slices, pieces-apart}
-use Rattle.window_groups.specs.means.Halves.{between, Border·between, LanesBorders·quarters, quarter, foldHalves, LanesVector·quarters, leanOver, joinQuarter}
+use Rattle.window_groups.specs.means.Halves.{between, Border·between, LanesBorders·quarters, quarter, foldHalves, LanesVector·quarters}
+use Rattle.window_groups.specs.means.Halves.{leanOver, joinQuarter}
 
 -- ---- borders
 -- Where a border stands; it is the border there.

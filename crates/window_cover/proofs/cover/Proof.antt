@@ -2,11 +2,14 @@
 -- (`window-clauses`).
 use borrow.Author.Needs.{needs}
 use borrow.Author.Tests.{eq-eqb}
-use mathlib.Core.Path.{sym, _∙_}
+use mathlib.Core.Path.{refl, sym, _∙_}
+use Rattle.bounds3.specs.Bounds3f.{Bounds3f·default}
+use Rattle.transform.specs.declared.BoundsAnswer.the-variants.{Bounds}
 use Rattle.chain_window.specs.Cover.{firstPoseBoxes}
 use Rattle.window_cover.specs.Kept.{Moves·windowCover}
 use Rattle.window_cover.proofs.Kept.{held-depth, window-clauses, ticks-refused, arguments-refused, window-worked}
-use Rattle.window_cover.proofs.Union.{worked}
+use Rattle.window_cover.proofs.Union.{worked-same}
+use Rattle.window_cover.proofs.Same.{default-same}
 use Rattle.window_cover.proofs.cover.Statement.{statement}
 use Rattle.window_cover.proofs.cover.Tie as tie
 
@@ -78,12 +81,13 @@ returns-4 c =
     let none = sym (box .before .cover-refusal .ensures) ∙ box .if3 .left in
     let held = held-depth (a .b) (a .depth) none in
     window-clauses (a .moves .now) (a .b) (a .depth) (a .w)
-    (window-worked (a .moves .now) (a .b) (a .depth) (a .w) (some .if1 .left) (sym (ticks .before .refusal .ensures) ∙ ticks .if2 .left) none
-    (worked (a .moves .now) (a .b) (a .depth) (a .w) (slices .union-moves .result) (pose .union-pose .result)
+    (window-worked (a .moves .now) (a .b) (a .depth) (a .w) (some .if1 .left) (sym (ticks .before .refusal .ensures) ∙ ticks .if2 .left) none refl
+    (c .positive-zeros .ensures
+    ∙ worked-same (a .moves .now) (a .b) (a .depth) (a .w) (slices .union-moves .result) (pose .union-pose .result)
     (poses .union-moves2 .result) (equal .union-moves3 .result) (some .if1 .left)
-    (rw (slices .before .default .ensures, held) at (slices .union-moves .ensures))
+    (rw held at (slices .union-moves .ensures (Bounds Bounds3f·default) (default-same (slices .before .default .ensures))))
     (rw (pose .before .asks-first .ensures, rows .from-rows .ensures) at (pose .union-pose .ensures))
-    (rw held at (poses .union-moves2 .ensures)) (rw held at (equal .union-moves3 .ensures))) (c .positive-zeros .ensures))
+    (rw held at (poses .union-moves2 .ensures)) (rw held at (equal .union-moves3 .ensures))))
 
 pub cover-spec : {M : Type 1} → statement M
 cover-spec =

@@ -53,7 +53,8 @@ foldHalves f (suc d) low high u =
 
 -- ---- four pieces
 -- The boxes of the four pieces between two numbers, of the points p, joined to u.
-unfoldable pub LanesVector·quarters : PoseConstants → Quaternion → Matrix4x4 → Matrix4x4 → Float → Float → LanesVector → Float → Float → LanesVector → LanesVector
+unfoldable pub LanesVector·quarters : PoseConstants → Quaternion → Matrix4x4 → Matrix4x4 → Float → Float → LanesVector → Float → Float → LanesVector
+    → LanesVector
 LanesVector·quarters a q s0 s1 pad0 pad1 p low high u =
     LanesVector·pieces a q s0 s1 pad0 pad1 p (LanesBorders·quarters (isNear a) (a .theta) low high) u
 
