@@ -102,7 +102,13 @@ fn put_asked(
     at: usize,
 ) -> usize {
     // No line holds so many.
-    if (150 < boxes) | (900 < ticks) | (150 < rows) {
+    if 150 < boxes {
+        return put_error(out, at);
+    }
+    if 900 < ticks {
+        return put_error(out, at);
+    }
+    if 150 < rows {
         return put_error(out, at);
     }
     let n = boxes as usize;
@@ -124,7 +130,7 @@ fn put_asked(
         &asked[..k],
         &mut masks,
     );
-    mask_lines::put_masks(refusal, &masks[..k], out, at)
+    put_masks(refusal, &masks, k, out, at)
 }
 
 // Answers the n parts of a box.
@@ -132,6 +138,31 @@ pub(crate) fn put_cut(n: u64, x: &[f32; 900], out: &mut [u8; 32768], at: usize) 
     let b = question_values::bounds_at(x, 0);
     let mut parts = [[0.0f32; 6]; 16];
     let refusal = api::jellyplain_cut(&b, question_lines::saturated(n), &mut parts);
+    put_parts(refusal, &parts, n, out, at)
+}
+
+// The masks of so many rows.
+fn put_masks(
+    refusal: u8,
+    masks: &[u64; 256],
+    rows: usize,
+    out: &mut [u8; 32768],
+    at: usize,
+) -> usize {
+    if 256 < rows {
+        return put_error(out, at);
+    }
+    mask_lines::put_masks(refusal, &masks[..rows], out, at)
+}
+
+// So many parts, or the number of a refusal.
+fn put_parts(
+    refusal: u8,
+    parts: &[[f32; 6]; 16],
+    n: u64,
+    out: &mut [u8; 32768],
+    at: usize,
+) -> usize {
     if refusal != 0 {
         return answer_lines::put_refused(refusal, out, at);
     }
