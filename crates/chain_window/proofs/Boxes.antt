@@ -43,7 +43,7 @@ use Rattle.motion_chain.specs.Built.{BuiltChain, Contiguous}
 use Rattle.motion_chain.proofs.Built.{built-moves}
 use Rattle.dt_share.specs.Share.{pieces}
 use Rattle.dt_share.proofs.DtShare.{share-part}
-use Rattle.dt_share.proofs.Pieces.{UnitPart}
+use Rattle.dt_share.specs.means.Part.{UnitPart}
 use Rattle.window_times.specs.declared.Window.{Window}
 use Rattle.window_times.specs.Window.{Window·asksFirst, Window·asksEnd}
 use Rattle.chain_window.specs.Cover.{movesIn, shareIn, staysIn, sliceBoxes, firstPoseBoxes, endPoseBoxes, equalPoseBoxes, boxesFrom, windowBoxes}

@@ -15,7 +15,8 @@ use Rattle.bounds_query.proofs.Union.{union-accepted, union-same}
 use Rattle.interval.specs.declared.Interval.{Interval}
 use Rattle.interval.proofs.Contains.{subset-finite}
 use Rattle.dt_share.specs.Share.{pieces}
-use Rattle.dt_share.proofs.Pieces.{UnitPart, pieces-part, pieces-finer}
+use Rattle.dt_share.specs.means.Part.{UnitPart}
+use Rattle.dt_share.proofs.Pieces.{pieces-part, pieces-finer}
 use Rattle.alike.specs.means.Alike.{Interval·Proper}
 use Rattle.pose_steps.specs.declared.PoseConstants.{PoseConstants}
 use Rattle.pose_steps.proofs.Angle.{unit-finite}

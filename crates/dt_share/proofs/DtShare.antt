@@ -17,7 +17,7 @@ use Rattle.unit_interval.specs.Unit.{dt}
 use Rattle.unit_interval.proofs.DtUnit.{dt-unit, sub-positive}
 use Rattle.dt_share.specs.Share.{share}
 use Rattle.dt_share.proofs.Limits.{limited-unit, limited-mono, limited-low, limited-high, limited-fits}
-use Rattle.dt_share.proofs.Pieces.{UnitPart}
+use Rattle.dt_share.specs.means.Part.{UnitPart}
 
 -- ---- the infinities
 least-all : (x : Float) → Number x → inf true ≼ x

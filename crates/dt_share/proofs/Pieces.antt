@@ -5,8 +5,7 @@ use mathlib.Core.Logic.{inl, inr}
 use mathlib.Core.List.{List·Memᴰ, List·Memᴰ·head, List·Memᴰ·append-cases, List·Memᴰ·eq-of-singleton, Memᴰ·append-left, Memᴰ·append-right}
 use Prim.Native.Nat.{ℕ, zero, suc, _+_}
 use native.Mathlib.Omega.{arith}
-use lib.Dec.{T}
-use lib.Ieee.{Float, binary32, fits}
+use lib.Ieee.{Float, binary32}
 use lib.Ieee.Fits.{mul-fits}
 use Rattle.rounding.proofs.Order.{≼-refl, ≼-total, number-left, number-right}
 use Rattle.float32.specs.Operators.{_⊕_, half}
@@ -14,15 +13,9 @@ use Rattle.interval.specs.declared.Interval.{Interval}
 use Rattle.interval.specs.Interval.{Interval·midpoint}
 use Rattle.interval.specs.Contains.{Contains, Subset}
 use Rattle.interval.proofs.Contains.{subset-trans}
-use Rattle.unit_interval.specs.Unit.{unitInterval}
 use Rattle.dt_share.specs.Share.{lowerHalf, upperHalf, pieces}
+use Rattle.dt_share.specs.means.Part.{UnitPart}
 use Rattle.dt_share.proofs.Between.{midpoint-contained}
-
--- A part of the unit interval with binary32 ends.
-pub record UnitPart (i : Interval) : Type 0 where
-  pub subset : Subset i unitInterval
-  pub low-fits : T (fits binary32 (i .low))
-  pub high-fits : T (fits binary32 (i .high))
 
 -- ---- halves
 part-midpoint : {i : Interval} → UnitPart i → Contains i (Interval·midpoint i)

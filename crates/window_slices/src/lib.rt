@@ -12,7 +12,7 @@ ghost use Rattle.transform.specs.declared.BoundsAnswer.the-variants.{Bounds};
 ghost use Rattle.bounds_query.specs.Query.{maxDepth};
 ghost use Rattle.bounds_query.specs.Same.{BoundsAnswer·Same};
 ghost use Rattle.bounds_query.specs.Zeros.{BoundsAnswer·positiveZeros};
-ghost use Rattle.dt_share.proofs.Pieces.{UnitPart};
+ghost use Rattle.dt_share.specs.means.Part.{UnitPart};
 ghost use Rattle.cover_slices.specs.means.Lean.{coarseDepth};
 ghost use Rattle.dt_pieces.specs.means.Pieces.{pieceBox, unionPieces};
 ghost use Rattle.window_groups.specs.means.Halves.{between};

@@ -9,7 +9,7 @@ use Rattle.matrix4x4.specs.declared.Matrix4x4.{Matrix4x4}
 use Rattle.transform.specs.declared.BoundsAnswer.the-variants.{Bounds}
 use Rattle.bounds_query.specs.Query.{Bounds3f·refusal}
 use Rattle.interval.specs.declared.Interval.{Interval}
-use Rattle.dt_share.proofs.Pieces.{UnitPart}
+use Rattle.dt_share.specs.means.Part.{UnitPart}
 use Rattle.pose_steps.specs.declared.PoseConstants.{PoseConstants}
 use Rattle.pose_lean.specs.means.Values.{Bounds3f·Values}
 use Rattle.cover_lean.specs.means.Test.{Pose·isEnclosable}
