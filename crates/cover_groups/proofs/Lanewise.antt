@@ -1,19 +1,20 @@
 -- Four slices in lanes are the slices lane by lane: `pieces-lanes`, `group-lanes`; so all groups are (`groups-lanes`). A piece with its borders at hand is the lean one
 -- over its slice: `by-over`.
-use Prim.Native.Nat.{ℕ, zero, suc, _+_, _*_}
-use mathlib.Core.Path.{_≡_, refl, ap, _∙_}
+use Prim.Native.Nat.{ℕ, zero, suc, _+_, _*_, _^_, _≤_, _<_}
+use mathlib.Core.Path.{_≡_, refl, sym, ap, _∙_}
 use mathlib.Core.Bool.{Bool, true, false, cond}
 use mathlib.Core.List.{[], _∷_}
 use native.Mathlib.Omega.{arith}
 use lib.Ieee.{Float}
 use Rattle.control_flow.specs.Loop.{loop}
-use Rattle.float32.specs.Operators.{_⊗_, positiveZero, one}
+use Rattle.float32.specs.Operators.{_⊕_, _⊗_, positiveZero, one}
 use Rattle.trig.specs.SinCos.{sin, cos}
 use Rattle.quaternion.specs.declared.Quaternion.{Quaternion}
 use Rattle.matrix4x4.specs.declared.Matrix4x4.{Matrix4x4}
 use Rattle.bounds3.specs.declared.Bounds3f.{Bounds3f}
 use Rattle.interval.specs.declared.Interval.{Interval}
 use Rattle.unit_interval.specs.Unit.{sliceEnd, slice}
+use Rattle.unit_interval.proofs.Slices.{sliceEnd-next}
 use Rattle.pose_steps.specs.declared.PoseConstants.{PoseConstants}
 use Rattle.pose_steps.specs.declared.IntervalVector.{IntervalVector}
 use Rattle.pose_steps.specs.declared.IntervalQuaternion.{IntervalQuaternion}
@@ -29,7 +30,7 @@ use Rattle.lanes_pose.specs.means.Poses.{LeanPose·by, LanesPose·of, LanesPose
 use Rattle.lanes_box.specs.means.Boxes.{IntervalVector·join}
 use Rattle.cover_groups.specs.declared.Border.{Border}
 use Rattle.cover_groups.specs.declared.LanesBorders.{LanesBorders}
-use Rattle.cover_groups.specs.means.Groups.{Lanes·ends, Border·at, LanesBorders·from, LanesBorders·of, LanesBorders·at, Border·last, LanesVector·pieces, LanesVector·group}
+use Rattle.cover_groups.specs.means.Groups.{Lanes·ends, Border·at, LanesBorders·from, LanesBorders·of, LanesBorders·at, LanesBorders·steps, Border·last, LanesVector·pieces, LanesVector·group}
 use Rattle.cover_groups.specs.means.Groups.{leanPiece, laneUnion}
 
 -- ---- each stage in lanes, as its contract has it
@@ -54,6 +55,32 @@ module _ (near : Bool) (theta : Float) (h : ℕ) where
   pub last-border : (k : ℕ) → Border·last (LanesBorders·at near theta h k) ≡ Border·at near theta (sliceEnd h (k + 4))
   unfolding LanesBorders·at LanesBorders·of Lanes·ends
   last-border k = refl
+
+  -- A border that is one at some dt is the one at its own.
+  pub border-own : {b : Border} (t : Float) → b ≡ Border·at near theta t → b ≡ Border·at near theta (b .dt)
+  unfolding Border·at
+  border-own {b} t e = let own : b .dt ≡ t = λ i. e i .dt in e ∙ λ i. Border·at near theta (sym own i)
+
+  -- Steps of the width go from border to border.
+  pub steps-at : (k : ℕ) {b : Border} {w : Float} → h ≤ 12 → k + 4 ≤ 2 ^ h → w ≡ sliceEnd h 1 → b ≡ Border·at near theta (sliceEnd h k)
+      → LanesBorders·steps near theta w (b .dt) ≡ LanesBorders·at near theta h k
+  unfolding LanesBorders·steps LanesBorders·at Border·at
+  steps-at k {b} {w} d l ew eb =
+      let x : ℕ → Float = sliceEnd h in
+      let v = x 1 in
+      let e1 : x k ⊕ v ≡ x (k + 1) = sliceEnd-next h k d (omega (arith, l)) in
+      let e2 : (x k ⊕ v) ⊕ v ≡ x (k + 2) = on e1 ∙ next (k + 1) (k + 2) (omega arith) (omega (arith, l)) in
+      let e3 : ((x k ⊕ v) ⊕ v) ⊕ v ≡ x (k + 3) = on e2 ∙ next (k + 2) (k + 3) (omega arith) (omega (arith, l)) in
+      let e4 : (((x k ⊕ v) ⊕ v) ⊕ v) ⊕ v ≡ x (k + 4) = on e3 ∙ next (k + 3) (k + 4) (omega arith) (omega (arith, l)) in
+      (λ i. LanesBorders·steps near theta (ew i) (eb i .dt))
+      ∙ λ i. LanesBorders·of (Border·at near theta (x k)) (Border·at near theta (e1 i)) (Border·at near theta (e2 i)) (Border·at near theta (e3 i))
+      (Border·at near theta (e4 i))
+    where
+      on : {s t : Float} → s ≡ t → s ⊕ sliceEnd h 1 ≡ t ⊕ sliceEnd h 1
+      on e = λ i. e i ⊕ sliceEnd h 1
+
+      next : (j m : ℕ) → j + 1 ≡ m → j < 2 ^ h → sliceEnd h j ⊕ sliceEnd h 1 ≡ sliceEnd h m
+      next j m e j<n = sliceEnd-next h j d j<n ∙ ap (sliceEnd h) e
 
   -- The next group begins where this one ends.
   pub border-next : (g : ℕ) → Border·at near theta (sliceEnd h (4 * g + 4)) ≡ Border·at near theta (sliceEnd h (4 * (g + 1)))

@@ -8,7 +8,7 @@ use matrix4x4::Matrix4x4;
 use pose_steps::PoseConstants;
 use quaternion::Quaternion;
 use quaternion::SLERP_THRESHOLD;
-ghost use Prim.Native.Nat.{_+_, _/_, _^_, _≤_, _<_, min};
+ghost use Prim.Native.Nat.{_*_, _/_, _^_, _≤_, min};
 ghost use mathlib.Core.Path.{_≡_};
 ghost use Rattle.control_flow.specs.Loop.{loop};
 ghost use Rattle.sine_table.specs.Table.{sineTable};
@@ -16,7 +16,7 @@ ghost use Rattle.unit_interval.specs.Unit.{sliceEnd};
 ghost use Rattle.bounds_query.specs.Query.{maxDepth};
 ghost use Rattle.pose_steps.specs.Pose.{isNear};
 ghost use Rattle.pose_lean.specs.means.Lean.{secondBy};
-ghost use Rattle.cover_groups.specs.means.Groups.{Lanes·ends, Border·at, Border·last, LanesBorders·at, LanesVector·pieces};
+ghost use Rattle.cover_groups.specs.means.Groups.{Lanes·ends, Border·at, Border·last, LanesBorders·steps, LanesVector·pieces};
 ghost use Rattle.cover_groups.specs.means.Groups.{LanesVector·group, Groups·union};
 
 const MAX_DEPTH: u32 = 12;
@@ -48,12 +48,11 @@ fn held_depth(d: u32) -> u32
     if d > MAX_DEPTH { MAX_DEPTH } else { d }
 }
 
-// The border k of 2^h slices. Accuracy: heuristic, as sine and cosine are.
-fn border_at(table: &[u32; 2049], near: bool, theta: f32, h: u32, k: u64) -> Border
-    requires { ⌜ now table ≡ sineTable ⌝ ∗ ⌜ h ≤ maxDepth ⌝ }
-    ensures value { λ r. ⌜ r ≡ Border·at near theta (sliceEnd h k) ⌝ }
+// The border at dt. Accuracy: heuristic, as sine and cosine are.
+fn border_at(table: &[u32; 2049], near: bool, theta: f32, dt: f32) -> Border
+    requires { ⌜ now table ≡ sineTable ⌝ }
+    ensures value { λ r. ⌜ r ≡ Border·at near theta dt ⌝ }
 {
-    let dt = float_bits::from_fixed(k, h);
     if near {
         Border {
             dt,
@@ -80,22 +79,25 @@ pub fn ends(a: f32, b: f32, c: f32, d: f32, e: f32) -> Lanes
     Lanes { low, high }
 }
 
-// The borders of the slices k to k + 3, of which the first is known. Accuracy: heuristic, as sine and cosine are.
+// The borders of four slices of one width, of which the first is known. Accuracy: heuristic, as sine and cosine are.
 fn borders_from(
     table: &[u32; 2049],
     near: bool,
     theta: f32,
-    h: u32,
-    k: u64,
+    width: f32,
     from: Border,
 ) -> LanesBorders
-    requires { ⌜ now table ≡ sineTable ⌝ ∗ ⌜ h ≤ maxDepth ⌝ ∗ ⌜ k < 2 ^ 32 ⌝ ∗ ⌜ from ≡ Border·at near theta (sliceEnd h k) ⌝ }
-    ensures value { λ r. ⌜ r ≡ LanesBorders·at near theta h k ⌝ }
+    requires { ⌜ now table ≡ sineTable ⌝ ∗ ⌜ from ≡ Border·at near theta (from .dt) ⌝ }
+    ensures value { λ r. ⌜ r ≡ LanesBorders·steps near theta width (from .dt) ⌝ }
 {
-    let b = border_at(table, near, theta, h, k + 1);
-    let c = border_at(table, near, theta, h, k + 2);
-    let d = border_at(table, near, theta, h, k + 3);
-    let e = border_at(table, near, theta, h, k + 4);
+    let second = from.dt + width;
+    let third = second + width;
+    let fourth = third + width;
+    let fifth = fourth + width;
+    let b = border_at(table, near, theta, second);
+    let c = border_at(table, near, theta, third);
+    let d = border_at(table, near, theta, fourth);
+    let e = border_at(table, near, theta, fifth);
     let dt = ends(from.dt, b.dt, c.dt, d.dt, e.dt);
     let cos = ends(from.cos, b.cos, c.cos, d.cos, e.cos);
     let sin = ends(from.sin, b.sin, c.sin, d.sin, e.sin);
@@ -134,7 +136,7 @@ pub fn join_pieces(
     lanes_box::join(union, lanes_box::box_enclosure(pose, p))
 }
 
-// Four more slices, from the border k on. Accuracy: encloses, where nothing is refused.
+// Four more slices of one width. Accuracy: encloses, where nothing is refused.
 fn reach_next(
     table: &[u32; 2049],
     a: PoseConstants,
@@ -144,16 +146,15 @@ fn reach_next(
     pad0: f32,
     pad1: f32,
     p: LanesVector,
-    h: u32,
-    k: u64,
+    width: f32,
     reached: Reached,
 ) -> Reached
-    requires { ⌜ now table ≡ sineTable ⌝ ∗ ⌜ h ≤ maxDepth ⌝ ∗ ⌜ k < 2 ^ 32 ⌝ ∗ ⌜ reached .from ≡ Border·at (isNear a) (a .theta) (sliceEnd h k) ⌝ }
-    ensures joined { λ r. ⌜ r .union ≡ LanesVector·pieces a second s0 s1 pad0 pad1 p (LanesBorders·at (isNear a) (a .theta) h k) (reached .union) ⌝ }
-    ensures next { λ r. ⌜ r .from ≡ Border·at (isNear a) (a .theta) (sliceEnd h (k + 4)) ⌝ }
+    requires { ⌜ now table ≡ sineTable ⌝ ∗ ⌜ reached .from ≡ Border·at (isNear a) (a .theta) (reached .from .dt) ⌝ }
+    ensures joined { λ r. ⌜ r .union ≡ LanesVector·pieces a second s0 s1 pad0 pad1 p (LanesBorders·steps (isNear a) (a .theta) width (reached .from .dt)) (reached .union) ⌝ }
+    ensures next { λ r. ⌜ r .from ≡ Border·last (LanesBorders·steps (isNear a) (a .theta) width (reached .from .dt)) ⌝ }
 {
     let near = a.cos_theta > SLERP_THRESHOLD;
-    let g = borders_from(table, near, a.theta, h, k, reached.from);
+    let g = borders_from(table, near, a.theta, width, reached.from);
     let union = join_pieces(a, second, s0, s1, pad0, pad1, p, g, reached.union);
     let from = last(g);
     Reached { union, from }
@@ -173,13 +174,15 @@ fn join_groups(
     n: u64,
     start: Reached,
 ) -> LanesVector
-    requires { ⌜ now table ≡ sineTable ⌝ ∗ ⌜ h ≤ maxDepth ⌝ ∗ ⌜ n ≤ 2 ^ 12 ⌝ ∗ ⌜ start .from ≡ Border·at (isNear a) (a .theta) (sliceEnd h 0) ⌝ }
+    requires { ⌜ now table ≡ sineTable ⌝ ∗ ⌜ h ≤ maxDepth ⌝ ∗ ⌜ 4 * n ≤ 2 ^ h ⌝ ∗ ⌜ start .from ≡ Border·at (isNear a) (a .theta) (sliceEnd h 0) ⌝ }
     ensures value { λ r. ⌜ r ≡ loop (LanesVector·group a second s0 s1 pad0 pad1 p h) n (start .union) ⌝ }
 {
+    // Borders up to depth 12 are exact, so each is the one before and the width, to the bit.
+    let width = float_bits::from_fixed(1, h);
     let mut reached = start;
     let mut g = 0u64;
     while g < n {
-        let next = reach_next(table, a, second, s0, s1, pad0, pad1, p, h, 4 * g, reached);
+        let next = reach_next(table, a, second, s0, s1, pad0, pad1, p, width, reached);
         reached = next;
         g += 1;
     }
@@ -222,7 +225,7 @@ pub fn union_groups(
     let p = lanes_box::repeated(b);
     let union = lanes_box::repeated(first);
     let near = a.cos_theta > SLERP_THRESHOLD;
-    let from = border_at(&table, near, a.theta, h, 0);
+    let from = border_at(&table, near, a.theta, 0.0);
     let start = Reached { union, from };
     let joined = join_groups(&table, a, second, s0, s1, pad0, pad1, p, h, n, start);
     lanes_box::joined(joined)

@@ -1,9 +1,7 @@
--- `reach_next` meets its contract: the boxes by the borders from k on, and the last of these borders.
+-- `reach_next` meets its contract: the boxes by the borders from the known one on, and the last of these borders.
 use mathlib.Core.Path.{_∙_}
 use borrow.Author.Needs.{needs}
 use Rattle.cover_groups.specs.means.Groups.{LanesVector·pieces, Border·last}
-use Rattle.cover_groups.proofs.Lanewise.{last-border}
-use Rattle.pose_steps.specs.Pose.{isNear}
 use Rattle.cover_groups.proofs.reach_next.Statement.{statement}
 use Rattle.cover_groups.proofs.reach_next.Tie as tie
 
@@ -17,7 +15,7 @@ returns c =
     let g = c2 .borders-from .ensures in (
       c1 .join-pieces .ensures
           ∙ (λ i. LanesVector·pieces (a .a) (a .second) (a .s0) (a .s1) (a .pad0) (a .pad1) (a .p) (g i) (a .reached .union)),
-      c .last .ensures ∙ (λ i. Border·last (g i)) ∙ last-border (isNear (a .a)) (a .a .theta) (a .h) (a .k),
+      c .last .ensures ∙ λ i. Border·last (g i),
     )
 
 pub reach-next-spec : {M : Type 1} → statement M

@@ -1,15 +1,16 @@
 -- `union_groups` meets its contract: what is computed once a cover, then all groups, lane by lane.
 use Prim.Native.Nat.{ℕ, _*_, _/_, _%_, _^_, _≤_}
-use mathlib.Core.Path.{_≡_, ap, _∙_}
+use mathlib.Core.Path.{_≡_, sym, ap, _∙_}
 use native.Mathlib.Omega.{arith}
-use lib.Pow.{pow-lt}
 use borrow.Author.Needs.{needs}
 use Rattle.control_flow.specs.Loop.{loop}
 use Rattle.bounds_query.specs.Query.{maxDepth}
+use Rattle.unit_interval.proofs.Slices.{sliceEnd-first}
+use Rattle.pose_steps.specs.Pose.{isNear}
 use Rattle.pose_steps.specs.Enclose.{Bounds3f·intervals}
 use Rattle.motion_cover.proofs.Slices.{slice-count}
 use Rattle.lanes_box.specs.means.Boxes.{LanesVector·joined}
-use Rattle.cover_groups.specs.means.Groups.{LanesVector·group, Groups·union}
+use Rattle.cover_groups.specs.means.Groups.{Border·at, LanesVector·group, Groups·union}
 use Rattle.cover_groups.proofs.Lanewise.{groups-lanes}
 use Rattle.cover_groups.proofs.union_groups.Statement.{statement}
 use Rattle.cover_groups.proofs.union_groups.Tie as tie
@@ -24,10 +25,12 @@ join-groups-requires : tie.Need-join-groups-requires
 join-groups-requires c κs =
     let c1 = c .before in let c2 = c1 .before in let c3 = c2 .before in let c4 = c3 .before in let c5 = c4 .before in let c6 = c5 .before in
     let c7 = c6 .before in let c8 = c7 .before in
+    let a = c8 .before .args .a in
     let held = c8 .held-depth in
     let d = held .result in
     let h : d ≤ maxDepth = omega (arith, held .ensures) in
-    (c7 .table .ensures .0, (h, (omega (arith, slice-count d h, pow-lt {i = d} {j = 13} (omega (arith, h))), c1 .border-at .ensures)))
+    let start = c1 .border-at .ensures ∙ λ i. Border·at (isNear a) (a .theta) (sym (sliceEnd-first d) i) in
+    (c7 .table .ensures .0, (h, (omega (arith, slice-count d h), start)))
 
 returns : tie.Need-returns
 unfolding Groups·union

@@ -4,7 +4,7 @@ use mathlib.Core.Bool.{Bool, cond}
 use mathlib.Core.List.{[], _∷_}
 use lib.Ieee.{Float}
 use Rattle.control_flow.specs.Loop.{loop}
-use Rattle.float32.specs.Operators.{_⊗_, positiveZero, one}
+use Rattle.float32.specs.Operators.{_⊕_, _⊗_, positiveZero, one}
 use Rattle.trig.specs.SinCos.{sin, cos}
 use Rattle.quaternion.specs.declared.Quaternion.{Quaternion}
 use Rattle.matrix4x4.specs.declared.Matrix4x4.{Matrix4x4}
@@ -51,6 +51,12 @@ unfoldable pub LanesBorders·at : Bool → Float → ℕ → ℕ → LanesBorder
 LanesBorders·at near theta h k =
     LanesBorders·of (Border·at near theta (sliceEnd h k)) (Border·at near theta (sliceEnd h (k + 1))) (Border·at near theta (sliceEnd h (k + 2)))
     (Border·at near theta (sliceEnd h (k + 3))) (Border·at near theta (sliceEnd h (k + 4)))
+
+-- The borders at t and at four steps of the width w on from it.
+unfoldable pub LanesBorders·steps : Bool → Float → Float → Float → LanesBorders
+LanesBorders·steps near theta w t =
+    LanesBorders·of (Border·at near theta t) (Border·at near theta (t ⊕ w)) (Border·at near theta ((t ⊕ w) ⊕ w)) (Border·at near theta (((t ⊕ w) ⊕ w) ⊕ w))
+    (Border·at near theta ((((t ⊕ w) ⊕ w) ⊕ w) ⊕ w))
 
 abbrev pub Border·last : LanesBorders → Border
 Border·last g = record { dt = at fourth (g .dt .high); cos = at fourth (g .cos .high); sin = at fourth (g .sin .high) }
