@@ -10,7 +10,7 @@ cd "$(dirname "$0")/.." || exit 2
 unfit='expected type `tie\.|has no field|can be named|no .mod. line|exports no|does not cover|not in scope|[Pp]arse error|error\[|has-holes|unsolved'
 unfit="$unfit"'|was not determined|too (many|few) arguments|is not a function|is applied to|could not tell'
 unfit="$unfit"'|: error: .*(this pattern|is not a record|there is no |takes (no|only) )|: error: `Inv-[^`]*`:'
-shown='the two (types|sides) |give a proof of that as the last argument|does not follow from what it read|^note: [^ ]*: it is not proved'
+shown='the two (types|sides|values) |give a proof of that as the last argument|does not follow from what it read|^note: [^ ]*: it is not proved'
 # what is left unproved is the function's own clause
 shown="$shown"'|: error: `returns[^`]*`: (expected type|`search`: no proof of) `Rattle·[^ ]*\.Reads\.Post '
 fact='^[^ ]*: error: `[^`]*`: |^note: [^ ]*: it is not proved'
