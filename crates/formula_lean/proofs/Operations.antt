@@ -14,12 +14,13 @@ use Rattle.interval_unjudged.specs.means.Unjudged.{Positive}
 use Rattle.interval_unjudged.proofs.Ordered.{mul-ordered, div-ordered}
 use Rattle.alike.specs.means.Alike.{Interval·Alike, Interval·Proper}
 use Rattle.alike.proofs.Intervals.{interval-self, interval-trans, interval-finite, interval-positive, add-alike, sub-alike, mul-alike, div-alike, sqrt-alike}
-use Rattle.alike.proofs.Constant.{ordered-finite, ordered-both, mul-span}
+use Rattle.alike.proofs.Constant.{ordered-finite, ordered-both, mul-span, mul-rising}
+use Rattle.alike.proofs.Equivalence.{alike-≼}
 use Rattle.alike.proofs.Terms.{zero-mul, mul-zero, one-mul, mul-one, add-none, none-add, sub-none, zero-interval, one-interval}
 use Rattle.alike.proofs.Proper.{add-proper, sub-proper, mul-proper, div-proper, sqrt-proper}
-use Rattle.formula_lean.specs.means.Lean.{Lean, nought, unit, number, span, range, Lean·interval, Lean·Finite}
+use Rattle.formula_lean.specs.means.Lean.{Lean, nought, unit, number, factor, span, range, Lean·interval, Lean·Finite}
 use Rattle.formula_lean.specs.means.Lean.{Lean·added, Lean·addedNumber, Lean·plus, Lean·lessNumber, Lean·minus}
-use Rattle.formula_lean.specs.means.Lean.{Lean·multiplied, Lean·multipliedNumber, Lean·times, Lean·dividedNumber, Lean·over, Lean·root}
+use Rattle.formula_lean.specs.means.Lean.{Lean·multiplied, Lean·multipliedNumber, Lean·multipliedFactor, Lean·times, Lean·dividedNumber, Lean·over, Lean·root}
 
 -- v stands for X.
 pub record Stands (v : Lean) (X : Interval) : Type 0 where
@@ -31,6 +32,7 @@ pub lean-finite : (v : Lean) → Lean·Finite v → Finite (Lean·interval v)
 lean-finite nought f = zero-interval
 lean-finite unit f = one-interval
 lean-finite (number k) f = record { low = f; high = f }
+lean-finite (factor k) f = record { low = f .0; high = f .0 }
 lean-finite (span a b) f = ordered-finite a b (f .0) (f .1)
 lean-finite (range X) f = f
 
@@ -68,6 +70,7 @@ module _ {X Y : Interval} where
     added v nought p q = none-right p q
     added v unit p q = sums p q
     added v (number l) p q = sums p q
+    added v (factor l) p q = sums p q
     added v (span c d) p q = sums p q
     added v (range Q) p q = sums p q
 
@@ -75,6 +78,7 @@ module _ {X Y : Interval} where
     added-number k nought p q = none-right p q
     added-number k unit p q = sums p q
     added-number k (number l) p q = numbered (sum-proper p q) (add-alike (p .proper .finite) (q .proper .finite) (p .alike) (q .alike)) (add-point k l)
+    added-number k (factor l) p q = sums p q
     added-number k (span c d) p q = sums p q
     added-number k (range Q) p q = sums p q
 
@@ -82,6 +86,7 @@ module _ {X Y : Interval} where
     plus-stands nought w p q = none-left p q
     plus-stands unit w p q = added unit w p q
     plus-stands (number k) w p q = added-number k w p q
+    plus-stands (factor k) w p q = added (factor k) w p q
     plus-stands (span a b) w p q = added (span a b) w p q
     plus-stands (range P) w p q = added (range P) w p q
 
@@ -98,6 +103,7 @@ module _ {X Y : Interval} where
     less-number nought l p q = differences p q
     less-number unit l p q = differences p q
     less-number (number k) l p q = numbered (difference-proper p q) (sub-alike (p .proper .finite) (q .proper .finite) (p .alike) (q .alike)) (sub-point k l)
+    less-number (factor k) l p q = differences p q
     less-number (span a b) l p q = differences p q
     less-number (range P) l p q = differences p q
 
@@ -109,6 +115,7 @@ module _ {X Y : Interval} where
     }
     minus-stands v unit p q = differences p q
     minus-stands v (number l) p q = less-number v l p q
+    minus-stands v (factor l) p q = differences p q
     minus-stands v (span c d) p q = differences p q
     minus-stands v (range Q) p q = differences p q
 
@@ -163,6 +170,7 @@ module _ {X Y : Interval} where
     multiplied v nought p q = zero-right p q
     multiplied v unit p q = one-right p q
     multiplied v (number l) p q = products v (number l) p q
+    multiplied v (factor l) p q = products v (factor l) p q
     multiplied v (span c d) p q = products v (span c d) p q
     multiplied v (range Q) p q = products v (range Q) p q
 
@@ -170,6 +178,7 @@ module _ {X Y : Interval} where
     multiplied-number k nought p q = zero-right p q
     multiplied-number k unit p q = one-right p q
     multiplied-number k (number l) p q = numbered (product-proper p q) (product-alike p q) (mul-point k l)
+    multiplied-number k (factor l) p q = products (number k) (factor l) p q
     multiplied-number k (span c d) p q =
         let (g, h) = q .good in
         let a = interval-trans (product-alike p q) (mul-span k c d (p .good) g h) in
@@ -180,10 +189,21 @@ module _ {X Y : Interval} where
         }
     multiplied-number k (range Q) p q = products (number k) (range Q) p q
 
+    multiplied-factor : (k : Float) (w : Lean) → Stands (factor k) X → Stands w Y → Stands (Lean·multipliedFactor w k) (Interval·mulEnclosure X Y)
+    multiplied-factor k nought p q = zero-right p q
+    multiplied-factor k unit p q = one-right p q
+    multiplied-factor k (number l) p q = products (factor k) (number l) p q
+    multiplied-factor k (factor l) p q = products (factor k) (factor l) p q
+    multiplied-factor k (span c d) p q = products (factor k) (span c d) p q
+    multiplied-factor k (range Q) p q =
+        let rises = alike-≼ (q .alike .low) (q .alike .high) (q .proper .rises) in
+        ranged (product-proper p q) (interval-trans (product-alike p q) (mul-rising k Q (p .good .0) (q .good) (record { holds = p .good .1 }) rises))
+
     pub times-stands : (v w : Lean) → Stands v X → Stands w Y → Stands (Lean·times v w) (Interval·mulEnclosure X Y)
     times-stands nought w p q = zero-left p q
     times-stands unit w p q = one-left p q
     times-stands (number k) w p q = multiplied-number k w p q
+    times-stands (factor k) w p q = multiplied-factor k w p q
     times-stands (span a b) w p q = multiplied (span a b) w p q
     times-stands (range P) w p q = multiplied (range P) w p q
 
@@ -206,6 +226,7 @@ module _ {X Y : Interval} where
     divided-number k nought p q = quotients (number k) nought p q
     divided-number k unit p q = quotients (number k) unit p q
     divided-number k (number l) p q = numbered (quotient-proper p q) (quotient-alike p q) (div-point k l)
+    divided-number k (factor l) p q = quotients (number k) (factor l) p q
     divided-number k (span c d) p q = quotients (number k) (span c d) p q
     divided-number k (range Q) p q = quotients (number k) (range Q) p q
 
@@ -213,6 +234,7 @@ module _ {X Y : Interval} where
     over-stands nought w p q = quotients nought w p q
     over-stands unit w p q = quotients unit w p q
     over-stands (number k) w p q = divided-number k w p q
+    over-stands (factor k) w p q = quotients (factor k) w p q
     over-stands (span a b) w p q = quotients (span a b) w p q
     over-stands (range P) w p q = quotients (range P) w p q
 
@@ -225,5 +247,6 @@ module _ {X : Interval} (h : Positive X) (F : Finite (Interval·sqrtEnclosure X)
   root-stands nought p = roots p
   root-stands unit p = roots p
   root-stands (number k) p = numbered (sqrt-proper h (p .proper .rises) F) (sqrt-alike h (p .alike)) (sqrt-point k)
+  root-stands (factor k) p = roots p
   root-stands (span a b) p = roots p
   root-stands (range P) p = roots p

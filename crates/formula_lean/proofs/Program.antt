@@ -27,10 +27,10 @@ use Rattle.formula.proofs.Pairwise.{pairwise-length, pairwise-getD, pairwise-ap
 use Rattle.formula.proofs.Carries.{binary-zero, unary-zero, expr-zero, all-zero, program-zero}
 use Rattle.interval_unjudged.specs.means.Unjudged.{All, Positive}
 use Rattle.interval_unjudged.proofs.Unjudged.{all-left, all-right}
-use Rattle.alike.specs.means.Alike.{Interval·Proper}
+use Rattle.alike.specs.means.Alike.{Interval·Alike, Interval·Proper}
 use Rattle.alike.proofs.Intervals.{interval-self, point-alike}
 use Rattle.alike.proofs.Proper.{point-proper}
-use Rattle.formula_lean.specs.means.Lean.{Lean, nought, unit, number, Lean·Angles, Lean·of}
+use Rattle.formula_lean.specs.means.Lean.{Lean, nought, unit, number, factor, Lean·Angles, Lean·of}
 use Rattle.formula_lean.specs.means.Lean.{Binary·lean, Unary·lean, Expr·lean, Expr·leanAll, Program·lean}
 use Rattle.formula_lean.specs.means.Asked.{Expr·bound, Expr·boundAll, Program·bound, Unary·turned, Expr·turned, Expr·turnedAll, Program·turned}
 use Rattle.formula_lean.proofs.Operations.{Stands, plus-stands, minus-stands, times-stands, over-stands, root-stands}
@@ -68,15 +68,19 @@ unary-lean cosine m v p t h = cosine-stands v p (t .0)
 constant : (x : Float) → T (finite x) → T (fits binary32 x) → Stands (Lean·of x) (Interval·point x)
 unfolding Lean·of
 constant x f v = go (le x one && le one x) (le x positiveZero && le positiveZero x) (λ t. (and-l (le x one) (le one x) t, and-r (le x one) (le one x) t))
-    (λ t. (and-l (le x positiveZero) (le positiveZero x) t, and-r (le x positiveZero) (le positiveZero x) t))
+    (le positiveZero x) (λ t. (and-l (le x positiveZero) (le positiveZero x) t, and-r (le x positiveZero) (le positiveZero x) t)) (λ t. t)
   where
-    go : (b c : Bool) → (T b → T (le x one) × T (le one x)) → (T c → T (le x positiveZero) × T (le positiveZero x))
-        → Stands (cond b unit (cond c nought (number x))) (Interval·point x)
-    go true c h k = let e = h tt in
+    itself : Interval·Alike (Interval·point x) (Interval·point x)
+    itself = interval-self (Interval·point x) (record { low = f; high = f })
+
+    go : (b c : Bool) → (T b → T (le x one) × T (le one x)) → (d : Bool) → (T c → T (le x positiveZero) × T (le positiveZero x)) → (T d → T (le positiveZero x))
+        → Stands (cond b unit (cond c nought (cond d (factor x) (number x)))) (Interval·point x)
+    go true c h d k z = let e = h tt in
         record { good = tt; proper = point-proper x f v; alike = point-alike (record { to = record { holds = e .0 }; from = record { holds = e .1 } }) }
-    go false true h k = let e = k tt in
+    go false true h d k z = let e = k tt in
         record { good = tt; proper = point-proper x f v; alike = point-alike (record { to = record { holds = e .0 }; from = record { holds = e .1 } }) }
-    go false false h k = record { good = f; proper = point-proper x f v; alike = interval-self (Interval·point x) (record { low = f; high = f }) }
+    go false false h true k z = record { good = (f, z tt); proper = point-proper x f v; alike = itself }
+    go false false h false k z = record { good = f; proper = point-proper x f v; alike = itself }
 
 -- ---- the induction
 module _ (σ : List Interval) (τ : List Lean) (s : Pairwise Stands τ σ) where

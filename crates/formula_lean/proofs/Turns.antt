@@ -26,7 +26,7 @@ use Rattle.alike.proofs.Intervals.{interval-sym, interval-trans, interval-finit
 use Rattle.alike.proofs.Constant.{ordered-alike, ordered-finite, new-ordered}
 use Rattle.alike.proofs.Angles.{sin-new, cos-new}
 use Rattle.alike.proofs.Turns.{ProperAlike, sin-turn, cos-turn}
-use Rattle.formula_lean.specs.means.Lean.{Lean, nought, unit, number, span, range, Lean·interval, Lean·Finite, Lean·sine, Lean·cosine, Lean·Angles}
+use Rattle.formula_lean.specs.means.Lean.{Lean, nought, unit, number, factor, span, range, Lean·interval, Lean·Finite, Lean·sine, Lean·cosine, Lean·Angles}
 use Rattle.formula_lean.proofs.Operations.{Stands, lean-finite}
 
 -- ---- sine and cosine of angles are finite
@@ -73,6 +73,7 @@ sine-fine : {X : Interval} (v : Lean) → Stands v X → Lean·Angles v → Lean
 sine-fine nought p d = sine-range (Lean·interval nought) d (rises nought p)
 sine-fine unit p d = sine-range (Lean·interval unit) d (rises unit p)
 sine-fine (number k) p d = unit-finite (sin-unit k (angle-near (point-angle k d)))
+sine-fine (factor k) p d = sine-range (Lean·interval (factor k)) d (rises (factor k) p)
 sine-fine (span a b) p d = (unit-finite (sin-unit a (angle-near (d .low))), unit-finite (sin-unit b (angle-near (d .high))))
 sine-fine (range P) p d = sine-range P d (rises (range P) p)
 
@@ -80,6 +81,7 @@ cosine-fine : {X : Interval} (v : Lean) → Stands v X → Lean·Angles v → Le
 cosine-fine nought p d = cosine-range (Lean·interval nought) d (rises nought p)
 cosine-fine unit p d = cosine-range (Lean·interval unit) d (rises unit p)
 cosine-fine (number k) p d = unit-finite (cos-unit k (angle-near (point-angle k d)))
+cosine-fine (factor k) p d = cosine-range (Lean·interval (factor k)) d (rises (factor k) p)
 cosine-fine (span a b) p d = (unit-finite (cos-unit a (angle-near (d .low))), unit-finite (cos-unit b (angle-near (d .high))))
 cosine-fine (range P) p d = cosine-range P d (rises (range P) p)
 
@@ -111,6 +113,7 @@ module _ {X : Interval} where
   sine-alike : (v : Lean) → Stands v X → Lean·Angles v → Lean·Finite (Lean·sine v) → ProperAlike (Interval·sinEnclosure X) (Lean·interval (Lean·sine v))
   sine-alike nought p d f = sin-turn (p .proper) (p .alike) d (lean-finite nought tt) f
   sine-alike unit p d f = sin-turn (p .proper) (p .alike) d (lean-finite unit tt) f
+  sine-alike (factor k) p d f = sin-turn (p .proper) (p .alike) d (lean-finite (factor k) (p .good)) f
   sine-alike (range P) p d f = sin-turn (p .proper) (p .alike) d (p .good) f
   sine-alike (number k) p d f =
       let e = at-point (sin-point (point-angle k d)) f in
@@ -123,6 +126,7 @@ module _ {X : Interval} where
   cosine-alike : (v : Lean) → Stands v X → Lean·Angles v → Lean·Finite (Lean·cosine v) → ProperAlike (Interval·cosEnclosure X) (Lean·interval (Lean·cosine v))
   cosine-alike nought p d f = cos-turn (p .proper) (p .alike) d (lean-finite nought tt) f
   cosine-alike unit p d f = cos-turn (p .proper) (p .alike) d (lean-finite unit tt) f
+  cosine-alike (factor k) p d f = cos-turn (p .proper) (p .alike) d (lean-finite (factor k) (p .good)) f
   cosine-alike (range P) p d f = cos-turn (p .proper) (p .alike) d (p .good) f
   cosine-alike (number k) p d f =
       let e = at-point (cos-point (point-angle k d)) f in

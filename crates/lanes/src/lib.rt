@@ -4,11 +4,11 @@ use interval::Interval;
 ghost use mathlib.Core.Path.{_≡_};
 ghost use lib.Ieee.{binary32};
 ghost use Rattle.square_root.specs.SquareRoot.{sqrt};
-ghost use Rattle.float32.specs.Operators.{_⊕_, _⊖_, _⊗_, _⊘_, one, two};
+ghost use Rattle.float32.specs.Operators.{_⊕_, _⊖_, _⊗_, _⊘_, one};
 ghost use Rattle.interval.specs.Interval.{Interval·point};
 ghost use Rattle.interval.specs.Enclosure.{Interval·addEnclosure, Interval·subEnclosure, Interval·sqrtEnclosure};
 ghost use Rattle.interval_unjudged.specs.means.Ordered.{lesser, greater, Interval·mulOrdered, Interval·divOrdered};
-ghost use Rattle.lanes.specs.means.Lanes.{Lane, at, four, zip4, leastOf, greatestOf, scaled, Interval·join, Interval·widened};
+ghost use Rattle.lanes.specs.means.Lanes.{Lane, at, four, zip4, leastOf, greatestOf, scaled, Interval·doubled, Interval·join, Interval·widened};
 ghost use Rattle.lanes.specs.means.Lanes.{Lanes·lane, Lanes·of, Lanes·map, Lanes·zip, Lanes·span, Lanes·chosen, Lanes·joined};
 
 // The low ends and the high ends of four intervals.
@@ -159,11 +159,16 @@ pub fn scaled(a: Lanes, x: f32) -> Lanes
     span(l, h)
 }
 
-// Twice an interval. Accuracy: encloses, for finite ends.
+// Twice an interval, by both ends as they stand. Accuracy: encloses, for ends in order.
 pub fn twice(a: Lanes) -> Lanes
-    ensures value { λ r. ⌜ r ≡ Lanes·map (Interval·mulOrdered (Interval·point two)) a ⌝ }
+    ensures value { λ r. ⌜ r ≡ Lanes·map Interval·doubled a ⌝ }
 {
-    times(2.0, a)
+    let al = a.low;
+    let ah = a.high;
+    let by = all(2.0);
+    let low = mul4(by, al);
+    let high = mul4(by, ah);
+    Lanes { low, high }
 }
 
 // One less an interval. Accuracy: encloses.

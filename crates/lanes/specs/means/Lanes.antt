@@ -5,7 +5,7 @@ use mathlib.Core.Bool.{Bool, cond}
 use mathlib.Core.List.{List, [], _∷_}
 use lib.ListN.{getD}
 use lib.Ieee.{Float, nan}
-use Rattle.float32.specs.Operators.{_⊕_, _⊖_}
+use Rattle.float32.specs.Operators.{_⊕_, _⊖_, _⊗_, two}
 use Rattle.interval.specs.declared.Interval.{Interval}
 use Rattle.interval.specs.Interval.{Interval·point}
 use Rattle.interval_unjudged.specs.means.Ordered.{lesser, greater, Interval·mulOrdered}
@@ -58,6 +58,10 @@ Interval·join X Y = record { low = lesser (X .low) (Y .low); high = greater (X 
 -- An interval times a number.
 abbrev pub scaled : Float → Interval → Interval
 scaled x X = Interval·mulOrdered X (Interval·point x)
+
+-- Twice an interval, by both ends as they stand.
+abbrev pub Interval·doubled : Interval → Interval
+Interval·doubled X = record { low = two ⊗ X .low; high = two ⊗ X .high }
 
 -- Grown by a number at both ends.
 unfoldable pub Interval·widened : Float → Interval → Interval

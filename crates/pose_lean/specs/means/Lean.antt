@@ -88,14 +88,18 @@ unfoldable pub Lean·slerp : PoseConstants → Interval → IntervalQuaternion
 Lean·slerp a T = slerpBy (isNear a) (a .r0) (secondBy (isNear a) a) T (atBorders cos (a .theta) T) (atBorders sin (a .theta) T)
 
 -- ---- the matrix of a quaternion
+-- Twice an interval, by both ends as they stand.
+abbrev pub twice : Interval → Interval
+twice X = record { low = two ⊗ X .low; high = two ⊗ X .high }
+
 unfoldable pub diagonal : Interval → Interval → Interval
-diagonal X Y = Interval·subEnclosure (Interval·point one) (Interval·point two ⊠ (X ⊞ Y))
+diagonal X Y = Interval·subEnclosure (Interval·point one) (twice (X ⊞ Y))
 
 unfoldable pub twiceSum : Interval → Interval → Interval
-twiceSum X Y = Interval·point two ⊠ (X ⊞ Y)
+twiceSum X Y = twice (X ⊞ Y)
 
 unfoldable pub twiceDifference : Interval → Interval → Interval
-twiceDifference X Y = Interval·point two ⊠ Interval·subEnclosure X Y
+twiceDifference X Y = twice (Interval·subEnclosure X Y)
 
 unfoldable pub rotation : IntervalQuaternion → LinearPart
 rotation q =
