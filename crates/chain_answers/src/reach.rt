@@ -124,13 +124,13 @@ fn put_asked(
     let mut masks = [0u64; 256];
     let refusal = api::jellyplain_moves_reach(
         moves,
-        &many[..n],
+        &many[0..n],
         depth,
         question_values::part(x, 6 * n, 6 * n + m),
-        &asked[..k],
+        &asked[0..k],
         &mut masks,
     );
-    put_masks(refusal, &masks, k, out, at)
+    put_masks(refusal, masks, k, out, at)
 }
 
 // Answers the n parts of a box.
@@ -138,13 +138,13 @@ pub(crate) fn put_cut(n: u64, x: &[f32; 900], out: &mut [u8; 32768], at: usize) 
     let b = question_values::bounds_at(x, 0);
     let mut parts = [[0.0f32; 6]; 16];
     let refusal = api::jellyplain_cut(&b, question_lines::saturated(n), &mut parts);
-    put_parts(refusal, &parts, n, out, at)
+    put_parts(refusal, parts, n, out, at)
 }
 
 // The masks of so many rows.
 fn put_masks(
     refusal: u8,
-    masks: &[u64; 256],
+    masks: [u64; 256],
     rows: usize,
     out: &mut [u8; 32768],
     at: usize,
@@ -152,13 +152,13 @@ fn put_masks(
     if 256 < rows {
         return put_error(out, at);
     }
-    mask_lines::put_masks(refusal, &masks[..rows], out, at)
+    mask_lines::put_masks(refusal, &masks[0..rows], out, at)
 }
 
 // So many parts, or the number of a refusal.
 fn put_parts(
     refusal: u8,
-    parts: &[[f32; 6]; 16],
+    parts: [[f32; 6]; 16],
     n: u64,
     out: &mut [u8; 32768],
     at: usize,
@@ -166,11 +166,12 @@ fn put_parts(
     if refusal != 0 {
         return answer_lines::put_refused(refusal, out, at);
     }
+    // No box has so many.
     if 16 < n {
         return put_error(out, at);
     }
     let count = n as usize;
     let ok = answer_lines::put_text(b"ok", out, at);
-    let end = answer_values::put_boxes(&parts[..count], out, ok);
+    let end = answer_values::put_boxes(&parts[0..count], out, ok);
     answer_lines::put_text(b"\n", out, end)
 }
