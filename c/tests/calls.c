@@ -20,6 +20,13 @@ static void expect(bool holds, const char *what, int line)
 }
 #define EXPECT(condition) expect((condition), #condition, __LINE__)
 
+static uint32_t bits_of(float x)
+{
+    uint32_t bits;
+    memcpy(&bits, &x, sizeof bits);
+    return bits;
+}
+
 static float float_of(uint32_t bits)
 {
     float x;

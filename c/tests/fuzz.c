@@ -443,6 +443,48 @@ static unsigned call_moves_pad(void)
     return jellyplain_moves_pad(moves, count, time, pad);
 }
 
+static unsigned call_moves_interpolate(void)
+{
+    static size_t count;
+    static jellyplain_move *moves;
+    static float time, (*transform)[4][4];
+    if (used == 0) {
+        count = moves_count();
+        moves = any_moves(count);
+        time = likely(-12, 12);
+        transform = (float(*)[4][4])lent(2 * sizeof *transform);
+    }
+    return jellyplain_moves_interpolate(moves, count, time, transform);
+}
+
+static unsigned call_moves_held(void)
+{
+    static size_t count;
+    static jellyplain_move *moves;
+    if (used == 0) {
+        count = once_in(10) ? (size_t)next() | 32 : moves_count();
+        moves = any_moves(count <= JELLYPLAIN_MOVES ? count : 0);
+    }
+    jellyplain_held held = jellyplain_moves_held(moves, count);
+    if (held.poses != (held.refusal == JELLYPLAIN_NONE ? count + 1 : 0))
+        fault("a chain that holds other poses than it has");
+    return held.refusal;
+}
+
+static unsigned call_moves_pose(void)
+{
+    static size_t count, place;
+    static jellyplain_move *moves;
+    static jellyplain_pose *pose;
+    if (used == 0) {
+        count = once_in(10) ? (size_t)next() | 32 : moves_count();
+        moves = any_moves(count <= JELLYPLAIN_MOVES ? count : 0);
+        place = once_in(10) ? (size_t)next() : below(count % 40 + 2);
+        pose = (jellyplain_pose *)lent(sizeof *pose);
+    }
+    return jellyplain_moves_pose(moves, count, place, pose);
+}
+
 static unsigned call_moves_points(void)
 {
     static size_t count, times_count, places;
@@ -729,6 +771,9 @@ static const struct {
     {"jellyplain_refused_run", call_refused_run, N(12)},
     {"jellyplain_moves_point", call_moves_point, N(12) | N(6) | N(5)},
     {"jellyplain_moves_pad", call_moves_pad, N(12) | N(6) | N(5)},
+    {"jellyplain_moves_interpolate", call_moves_interpolate, N(12) | N(6) | N(4) | N(5)},
+    {"jellyplain_moves_held", call_moves_held, N(12)},
+    {"jellyplain_moves_pose", call_moves_pose, N(12) | N(19)},
     {"jellyplain_moves_points", call_moves_points, N(12) | N(6) | N(13) | N(5)},
     {"jellyplain_moves_cover", call_moves_cover, N(12) | COVER},
     {"jellyplain_moves_try", call_moves_try, N(19) | N(12) | BUILD | COVER},

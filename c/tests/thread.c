@@ -82,7 +82,7 @@ static int ended(unsigned csr)
         if (jellyplain_build(false, &start, &end, &move) != JELLYPLAIN_NONE)
             _exit(1);
         _mm_setcsr(csr);
-        _exit(jellyplain_cover(&move, box, 8, cover) == JELLYPLAIN_NONE ? 0 : 1);
+        _exit(jellyplain_cover(&move, box, 0, cover) == JELLYPLAIN_NONE ? 0 : 1);
     }
     int status = -1;
     waitpid(child, &status, 0);

@@ -453,7 +453,7 @@ mod tests {
 
     #[test]
     fn version() {
-        assert_eq!(unsafe { jellyplain_version() }, 10_000);
+        assert_eq!(unsafe { jellyplain_version() }, crate::VERSION);
     }
 
     /// Rows that no building made are answered too: here a move at rest whose matrices are all zeros, so that a point's wp is zero.
