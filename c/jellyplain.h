@@ -23,8 +23,8 @@
  * What the guarantee asks of the thread that calls: its floating-point environment is the one that a program starts
  * with. On x86-64 that is SSE's control word, MXCSR: round to nearest even, no flush to zero, no denormals-are-zero,
  * every exception masked; (_mm_getcsr() & 0xffc0) == 0x1f80 says so. Otherwise a point may stand outside the cover that
- * was reserved for it, and nothing refuses it; with the invalid operation unmasked an accepted cover may end the
- * program by SIGFPE: c/tests/thread.c shows each. gcc's -ffast-math and -Ofast, given where a program is linked (before
+ * was reserved for it, and nothing refuses it; with the invalid operation unmasked a cover may end the program
+ * by SIGFPE: c/tests/thread.c shows each. gcc's -ffast-math and -Ofast, given where a program is linked (before
  * GCC 13 also a shared library), set both bits for zeros at its start, and a thread takes over the bits of the one that
  * started it. The x87 control word plays no part. Calls leave the control bits as they are, and may set MXCSR's flags.
  *

@@ -1,6 +1,6 @@
 /* What jellyplain.h says of the calling thread is shown, each by an input that is answered inside its cover as a program starts, and otherwise where the thread is otherwise:
  * a point that is asked with another rounding, with flush to zero or with denormals-are-zero leaves the cover that was reserved for it; with denormals-are-zero alone it does so even where cover and
- * point are asked alike; and with the invalid operation unmasked an accepted cover stops the program. The control bits are left as they are.
+ * point are asked alike; and with the invalid operation unmasked a cover that is refused stops the program. The control bits are left as they are.
  */
 #define _POSIX_C_SOURCE 200809L
 #include <signal.h>
@@ -66,7 +66,7 @@ static bool outside(const standing *boom, unsigned cover_csr, unsigned point_csr
     return !inside(cover, moved);
 }
 
-/* How a process ends that asks for an ordinary cover with some exceptions masked. */
+/* How a process ends that asks for a cover whose one slice is too wide for its rotation, with some exceptions masked. */
 static int ended(unsigned csr)
 {
     fflush(stdout);
@@ -82,7 +82,7 @@ static int ended(unsigned csr)
         if (jellyplain_build(false, &start, &end, &move) != JELLYPLAIN_NONE)
             _exit(1);
         _mm_setcsr(csr);
-        _exit(jellyplain_cover(&move, box, 0, cover) == JELLYPLAIN_NONE ? 0 : 1);
+        _exit(jellyplain_cover(&move, box, 0, cover) == JELLYPLAIN_SQUARED_LENGTH ? 0 : 1);
     }
     int status = -1;
     waitpid(child, &status, 0);
@@ -106,7 +106,7 @@ int main(void)
     expect(outside(&halved, START, START | FLUSH_TO_ZERO), "a point asked with flush to zero leaves the cover that was reserved for it");
     expect(outside(&halved, START, START | DENORMALS_ARE_ZERO), "a point asked with denormals-are-zero leaves it");
     expect(outside(&near, START | DENORMALS_ARE_ZERO, START | DENORMALS_ARE_ZERO), "with denormals-are-zero a point leaves the cover that was reserved in the same way");
-    expect(ended(START) == 0, "a cover is accepted with every exception masked");
+    expect(ended(START) == 0, "a cover of depth 0 is refused with 10, with every exception masked");
     int status = ended(START & ~INVALID_MASKED);
     expect(WIFSIGNALED(status) && WTERMSIG(status) == SIGFPE, "with the invalid operation unmasked the same cover ends the program by SIGFPE");
     printf("thread: %u not shown\n", failures);

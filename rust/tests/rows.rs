@@ -83,5 +83,5 @@ fn rows_that_are_not_named_stay_dry() {
 
 #[test]
 fn the_version() {
-    assert_eq!(version(), 10_000);
+    assert_eq!(version(), 20_000);
 }
