@@ -338,7 +338,7 @@ JELLYPLAIN_CHECKED uint8_t jellyplain_moves_try(const jellyplain_move *moves, si
                                                 float bounds[JELLYPLAIN_RESTRICT 6]);
 
 /* A box for each of 1 to 16 boxes that holds every point of it at every time but NaN, as jellyplain_moves_cover does,
- * in order, the places behind them +0; and the union of them. It costs far less than that query for each box.
+ * in order, the places behind them +0; and the union of them.
  * `boxes_count` is judged before a box is read; `covers` and `all` stay after a refusal.
  * Refused with 12 for no chain; 14; as jellyplain_moves_cover is of the first refused box. */
 JELLYPLAIN_CHECKED uint8_t jellyplain_moves_covers(const jellyplain_move *moves, size_t count, const float (*boxes)[6],

@@ -263,7 +263,7 @@ class Chain(_Built):
         return bounds_of(box[:])
 
     def covers(self, boxes: Iterable[Bounds], depth: int = 10) -> Covers:
-        """The covers of 1 to 16 boxes, each as `cover` gives it, and their union. It costs far less than a cover for each.
+        """The covers of 1 to 16 boxes, each as `cover` gives it, and their union.
 
         Refused with 14, then as `cover` of the first box in order that is refused. ValueError for a depth below zero.
         """

@@ -504,8 +504,7 @@ impl Chain {
         answered(number, Bounds::from_array(bounds))
     }
 
-    /// The covers of 1 to 16 boxes, each as [`Chain::cover`] gives it, and their union: no point of a box leaves that box's own cover at any time but NaN. It costs far less than a
-    /// cover for each. Refused with [`Refusal::Set`], then as [`Chain::cover`] of the first box in order that is refused.
+    /// The covers of 1 to 16 boxes, each as [`Chain::cover`] gives it, and their union: no point of a box leaves that box's own cover at any time but NaN. Refused with [`Refusal::Set`], then as [`Chain::cover`] of the first box in order that is refused.
     pub fn covers(&self, boxes: &[Bounds], depth: u32) -> Result<Covers, Refusal> {
         let (moves, mut covers, mut union) = (self.built()?, [[0.0; 6]; BOXES], [0.0; 6]);
         // A box crosses as its six floats.
