@@ -29,7 +29,7 @@
  * started it. The x87 control word plays no part. Calls leave the control bits as they are, and may set MXCSR's flags.
  *
  * The stack that a call takes is at most JELLYPLAIN_STACK bytes. By what is asked, in kB: points, pads and lists of
- * times 10; building a move, its transform, a refused run 12; rows by windows 17; covers, windows and motion boxes 27;
+ * times 10; building a move, its transform, a refused run 12; rows by windows 18; covers and motion boxes 27; windows,
  * building a chain, joining two 34; reading a file 41; trying a pose 79; the others 2. tools/stack prints it from the
  * library's code, and c/tests/stack.c sees it on a painted stack.
  *
