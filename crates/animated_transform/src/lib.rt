@@ -1,4 +1,5 @@
 // pbrt's AnimatedTransform, built from two poses: a move by translation, rotation and scale.
+#![tactic(auto)]
 ghost use Rattle.std.specs.Prelude.{◌≡◌};
 ghost use Rattle.animated_transform.specs.Built.{Built};
 ghost use Rattle.animated_transform.specs.New.{AnimatedTransformAnswer-refused, AnimatedTransform-from_parts};
@@ -15,7 +16,7 @@ use vector3::Vector3f;
 
 // 0 stands for the start and 1 for the end, so that pbrt's t[0] is t0; the coefficients are pbrt's c1 to c5. The pads are the poses' own, and a rigid
 // move neither stretches nor shears: pbrt knows neither.
-#[derive(Drop)]
+#[derive(Clone, Copy)]
 pub struct AnimatedTransform {
     pub start_transform: Transform,
     pub end_transform: Transform,
@@ -36,7 +37,7 @@ pub struct AnimatedTransform {
 }
 
 // A move beside a refusal (error code, 0 for none), after which every number is +0 and every yes or no is no.
-#[derive(Drop)]
+#[derive(Clone, Copy)]
 pub struct AnimatedTransformAnswer {
     pub value: AnimatedTransform,
     pub refusal: u8,

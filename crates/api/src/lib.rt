@@ -2,6 +2,7 @@
 // its moves, one block for each; no moves and more than 31 are no chain. Each function returns the number of a refusal, 0 for none, those over move files beside a length or a count. Where nothing is
 // refused it writes what it is lent for its answer; after a refusal that is as it was. Any floats may be handed in,
 // and any rows may be asked, but the guarantee is for rows that building has written.
+#![tactic(auto)]
 ghost use Rattle.std.specs.Prelude.{◌-◌, ◌≡◌, [], ◌∷◌, map, length, take};
 ghost use Rattle.bounds3.specs.List.{Point3f-of_list, Bounds3f-of_list};
 ghost use Rattle.transform.specs.Answer.{PointAnswer-refusal, BoundsAnswer-refusal};
@@ -454,7 +455,7 @@ pub extern "C" fn jellyplain_moves_covers(
 
 // How many poses a move file holds, and 0; or 0 and the number of a refusal.
 #[repr(C)]
-#[derive(Drop)]
+#[derive(Clone, Copy)]
 pub struct FileRead {
     pub count: usize,
     pub refusal: u8,

@@ -1,5 +1,6 @@
 // The arc cosine, by document 01's table of sines: the least angle whose cosine is not above a number, found by halving. Angles are in units of 2^-28, cosines
 // in units of 2^-30, which are carried 2^30 more than they are.
+#![tactic(auto)]
 ghost use Rattle.std.specs.Prelude.{◌≡◌, true, ◌+◌, ◌*◌, ◌/◌, ◌^◌, ◌≤◌, ◌<◌};
 ghost use Rattle.std.specs.Float.Ieee.{minus};
 ghost use Rattle.sine_table.specs.Table.{quarter_turn, sine_table};
@@ -16,14 +17,14 @@ const HALF_TURN: u64 = 843314856;
 const ONE: u64 = 1073741824;
 
 // An arc cosine, and how many cosines were worked out for it.
-#[derive(Drop)]
+#[derive(Clone, Copy)]
 pub struct ArcCosine {
     pub angle: f32,
     pub cosines: u32,
 }
 
 // The least angle that passes, likewise, in units.
-#[derive(Drop)]
+#[derive(Clone, Copy)]
 struct LeastAngle {
     angle: u64,
     cosines: u32,
@@ -31,7 +32,7 @@ struct LeastAngle {
 
 // The search for it: the angle lies above `low` and is at most `high`, unless `low` passes itself.
 // The cosine of `low`, biased, is carried along.
-#[derive(Drop)]
+#[derive(Clone, Copy)]
 struct Bracket {
     low: u64,
     high: u64,

@@ -1,5 +1,6 @@
 // The derivative of a moved point by time along one axis: a sum of five terms, pbrt's c1 to c5, each an affine function of the point.
 // The formulas are those of derivative_x, derivative_y and derivative_z, at the three columns of the two scale matrices.
+#![tactic(auto)]
 ghost use Rattle.std.specs.Prelude.{◌≡◌};
 ghost use Rattle.matrix4x4.specs.Rows.{row};
 ghost use Rattle.derivative_x.specs.Terms.{c1x, c2x, c3x, c4x, c5x};
@@ -14,7 +15,7 @@ use derivative_z::{c1z, c2z, c3z, c4z, c5z};
 use quaternion::Quaternion;
 
 // The five coefficients of an axis at one column of the scale matrices.
-#[derive(Drop)]
+#[derive(Clone, Copy)]
 struct ColumnTerms {
     c1: f32,
     c2: f32,
@@ -24,7 +25,7 @@ struct ColumnTerms {
 }
 
 // kc + kx * x + ky * y + kz * z at a point (x, y, z).
-#[derive(Drop)]
+#[derive(Clone, Copy)]
 pub struct DerivativeTerm {
     pub kc: f32,
     pub kx: f32,
@@ -33,7 +34,7 @@ pub struct DerivativeTerm {
 }
 
 // The derivative along axis i: pbrt's c1[i] to c5[i].
-#[derive(Drop)]
+#[derive(Clone, Copy)]
 pub struct Derivative {
     pub c1: DerivativeTerm,
     pub c2: DerivativeTerm,

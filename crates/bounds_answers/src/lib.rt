@@ -1,1 +1,2 @@
 // Laws only: the union of a list of answers.
+#![tactic(auto)]

@@ -1,4 +1,5 @@
 // Whether two answered boxes meet, or the first refusal of the two.
+#![tactic(auto)]
 ghost use Rattle.std.specs.Prelude.{◌≡◌};
 ghost use Rattle.transform.specs.Answer.{BoundsAnswer-refusal, BoundsAnswer-bounds};
 ghost use Rattle.bounds_meeting.specs.Meeting.{Meeting-of};
@@ -8,7 +9,7 @@ use refusal::first_refusal;
 use transform::BoundsAnswer;
 
 // Whether two boxes meet, and the first refusal of the two, 0 for none, after which they don't.
-#[derive(Drop)]
+#[derive(Clone, Copy)]
 pub struct Meeting {
     pub meets: bool,
     pub refusal: u8,

@@ -1,1 +1,2 @@
 // Laws only: the poses that a built chain was built from.
+#![tactic(auto)]

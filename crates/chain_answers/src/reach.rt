@@ -4,7 +4,7 @@ use answer_values::put_error;
 use question_lines::{Decimal, part};
 
 // A whole number, and the place behind its word: one that no line has where the word is malformed.
-#[derive(Drop)]
+#[derive(Clone, Copy)]
 struct Whole {
     value: u64,
     end: usize,

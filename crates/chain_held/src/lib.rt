@@ -1,4 +1,5 @@
 // What a kept chain holds: the number of its poses, the times of its first and its last, its kind; and each of its poses, as it was set.
+#![tactic(auto)]
 ghost use Rattle.std.specs.Prelude.{◌≤◌, ◌<◌, ◌≡◌, Bool, List, Float, length};
 ghost use Rattle.lent_arrays.specs.Arrays.{Pose-of_list};
 ghost use Rattle.built_poses.specs.Poses.{Pose-list};
@@ -7,7 +8,7 @@ ghost use Rattle.chain_held.specs.Theorem.{HeldAsSet, PoseAsSet};
 
 // How many poses, the times of the first and of the last, whether the chain is rigid, and 0; or the number of a refusal, and 0, +0 and no.
 #[repr(C)]
-#[derive(Drop)]
+#[derive(Clone, Copy)]
 pub struct ChainHeld {
     pub poses: usize,
     pub first: f32,

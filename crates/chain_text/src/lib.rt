@@ -1,4 +1,5 @@
 // Document 02's "One way to write a move file": a kept chain and a box as the text of a move file, in the front of a lent buffer.
+#![tactic(auto)]
 ghost use Rattle.std.specs.Prelude.{◌+◌, ◌*◌, ◌≤◌, ◌<◌, ◌≡◌, map, length, take};
 ghost use Rattle.std.proofs.Math.Seq.{paste};
 ghost use Rattle.bounds3.specs.List.{Bounds3f-list};
@@ -26,7 +27,7 @@ const BOX: usize = 72;
 
 // What came of writing: the text's length and 0, or 0 and the number of a refusal.
 #[repr(C)]
-#[derive(Drop)]
+#[derive(Clone, Copy)]
 pub struct Written {
     pub length: usize,
     pub refusal: u8,

@@ -1,4 +1,5 @@
 // The coefficient set: pbrt's c1 to c5 on each axis, the derivative of a moved point by time.
+#![tactic(auto)]
 ghost use Rattle.std.specs.Prelude.{◌≡◌};
 ghost use Rattle.coefficients.specs.Coefficients.{Coefficients-new, Coefficients-zero};
 ghost use Rattle.coefficients.specs.IsFinite.{Coefficients-is_finite};
@@ -8,7 +9,7 @@ use quaternion::Quaternion;
 use vector3::Vector3f;
 
 // The coefficient set.
-#[derive(Drop)]
+#[derive(Clone, Copy)]
 pub struct Coefficients {
     pub x: Derivative,
     pub y: Derivative,

@@ -1,5 +1,6 @@
 // Document 01's program: reads a move file from standard input to its end, builds its chain as plain, and prints the cover or the refusal.
 // One byte more than a file may have is read, so that a longer file is refused.
+#![tactic(auto)]
 fn main() {
     let mut input = [0u8; 65537];
     let read = standard_streams::read(&mut input);

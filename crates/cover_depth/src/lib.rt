@@ -1,1 +1,2 @@
 // Laws only: a finer cover is never a wider one.
+#![tactic(auto)]

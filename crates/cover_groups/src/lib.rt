@@ -1,6 +1,7 @@
 // The slices of a cover four at a time, without any test: the union of the lean boxes of neighbouring slices lane by lane, and at the end that of the
 // four lanes. Where the coarse slices of the same cover are accepted, no finer one is refused and this is the cover but for zeros' signs.
 // What it does with four borders and the constants is lent to the pieces of a window.
+#![tactic(auto)]
 ghost use Rattle.std.specs.Prelude.{◌*◌, ◌/◌, ◌^◌, ◌≤◌, min, ◌≡◌};
 ghost use Rattle.control_flow.specs.Loop.{loop};
 ghost use Rattle.sine_table.specs.Table.{sine_table};
@@ -21,7 +22,7 @@ use quaternion::{Quaternion, SLERP_THRESHOLD};
 const MAX_DEPTH: u32 = 12;
 
 // Where two slices meet: dt, and cosine and sine of the angle that slerp has turned by there. Near slerp asks for no angle.
-#[derive(Drop)]
+#[derive(Clone, Copy)]
 pub struct Border {
     pub dt: f32,
     pub cos: f32,
@@ -29,7 +30,7 @@ pub struct Border {
 }
 
 // The borders of four neighbouring slices: those where they begin as low ends, those where they end as high ends.
-#[derive(Drop)]
+#[derive(Clone, Copy)]
 pub struct LanesBorders {
     pub dt: Lanes,
     pub cos: Lanes,
@@ -37,7 +38,7 @@ pub struct LanesBorders {
 }
 
 // The boxes of some slices joined, and the border where the next slice begins.
-#[derive(Drop)]
+#[derive(Clone, Copy)]
 struct Reached {
     union: LanesVector,
     from: Border,

@@ -1,5 +1,6 @@
 // pbrt's `AnimatedTransform::decompose`: a matrix as a translation, a rotation and a scale.
 // The rotation is where the polar rounds end, the scale what is left of the matrix.
+#![tactic(auto)]
 ghost use Rattle.std.specs.Prelude.{◌≡◌};
 ghost use Rattle.decomposition.specs.Decompose.{Decomposition-refused, Decomposition-judged, scale_by, parts, Matrix4x4-decompose};
 
@@ -8,7 +9,7 @@ use quaternion::Quaternion;
 use vector3::Vector3f;
 
 // Translation, rotation and scale beside a refusal (error code, 0 for none), after which every number is +0.
-#[derive(Drop)]
+#[derive(Clone, Copy)]
 pub struct Decomposition {
     pub t: Vector3f,
     pub r: Quaternion,

@@ -1,1 +1,2 @@
 // Laws only: the one way to write a move file.
+#![tactic(auto)]

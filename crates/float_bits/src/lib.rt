@@ -1,4 +1,5 @@
 // A float as whole numbers, and a whole number as the nearest float. Each is stated for all arguments.
+#![tactic(auto)]
 ghost use Rattle.std.specs.Prelude.{◌≡◌, false, ◌%◌, ◌^◌, pos};
 ghost use Rattle.std.specs.Float.{binary32};
 ghost use Rattle.std.specs.Float.Ieee.{round, of_int};
@@ -15,7 +16,7 @@ const FIELD: u32 = 0x80_0000;
 const INFINITE: u32 = 255;
 
 // A finite float is its sign times significand × 2^exponent units of 2^-149.
-#[derive(Drop)]
+#[derive(Clone, Copy)]
 pub struct Decoded {
     pub negative: bool,
     pub significand: u64,

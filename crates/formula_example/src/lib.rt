@@ -1,22 +1,23 @@
 // A formula from end to end: one text, its float code and its interval code, and the promise that the second encloses the first.
+#![tactic(auto)]
 ghost use Rattle.std.specs.Prelude.{◌≡◌};
 ghost use Rattle.formula_example.specs.Normalize.{Vector2-normalize, Vector2-normalize_enclosure, EnclosesNormalized};
 
 use interval::{Interval, Judged};
 
-#[derive(Drop)]
+#[derive(Clone, Copy)]
 pub struct Vector2 {
     pub x: f32,
     pub y: f32,
 }
 
-#[derive(Drop)]
+#[derive(Clone, Copy)]
 pub struct IntervalVector2 {
     pub x: Interval,
     pub y: Interval,
 }
 
-#[derive(Drop)]
+#[derive(Clone, Copy)]
 pub struct JudgedVector2 {
     pub value: IntervalVector2,
     pub refusal: u8,

@@ -1,4 +1,5 @@
 // Words of eight hexadecimal digits, and the floats whose bits they are.
+#![tactic(auto)]
 ghost use Rattle.std.specs.Prelude.{◌≡◌, ◌+◌, ◌%◌, ◌≤◌, length, take, drop, get_or};
 ghost use Rattle.std.specs.Float.{binary32};
 ghost use Rattle.std.specs.Float.Ieee.{of_bits, to_bits};
@@ -6,7 +7,7 @@ ghost use Rattle.hexadecimal.specs.Digit.{digit_value, lower_digits};
 ghost use Rattle.hexadecimal.specs.Word.{number_or, Word-fits, Word-read, Word-write};
 
 // What eight bytes of text say.
-#[derive(Drop)]
+#[derive(Clone, Copy)]
 pub enum Word {
     Bits(u32),
     Malformed,

@@ -1,5 +1,6 @@
 // Closed intervals of 32-bit floats. `Interval` has pbrt's own operations, with which the zero search bounds a function's range. `Judged` has those of document
 // 01's cover: an interval is judged as it is formed, and each operation takes the refusal number met before it, m, and hands the first number on.
+#![tactic(auto)]
 ghost use Rattle.std.specs.Prelude.{◌≡◌};
 ghost use Rattle.trig.specs.SinCos.{sin, cos};
 ghost use Rattle.trig.specs.Range.{lies};
@@ -26,35 +27,35 @@ const THREE_QUARTERS: u64 = 1264972284;
 const FULL_TURN: u64 = 1686629712;
 
 // A low and a high end.
-#[derive(Drop)]
+#[derive(Clone, Copy)]
 pub struct Interval {
     pub low: f32,
     pub high: f32,
 }
 
 // An interval with its refusal number, 0 for none.
-#[derive(Drop)]
+#[derive(Clone, Copy)]
 pub struct Judged {
     pub interval: Interval,
     pub refusal: u8,
 }
 
 // The sine and the cosine of an interval.
-#[derive(Drop)]
+#[derive(Clone, Copy)]
 pub struct IntervalSinCos {
     pub sin: Interval,
     pub cos: Interval,
 }
 
 // The same, judged: the cosine first, as in `slerp`.
-#[derive(Drop)]
+#[derive(Clone, Copy)]
 pub struct JudgedSinCos {
     pub cos: Judged,
     pub sin: Judged,
 }
 
 // An end of an interval of angles: the angle, its u held at 2^52, which is beyond every quarter, its sine and its cosine.
-#[derive(Drop)]
+#[derive(Clone, Copy)]
 pub struct EndAngle {
     pub angle: f32,
     pub units: u64,

@@ -1,5 +1,6 @@
 // Four intervals side by side, of four neighbouring slices of dt: an operation on each of them. None is judged.
 // Ends are kept together and every place is a constant, so that the compiler takes four floats in one instruction.
+#![tactic(auto)]
 ghost use Rattle.std.specs.Prelude.{◌≡◌};
 ghost use Rattle.std.specs.Float.{binary32};
 ghost use Rattle.square_root.specs.SquareRoot.{sqrt};
@@ -13,7 +14,7 @@ ghost use Rattle.lanes.specs.means.Lanes.{Lanes-lane, Lanes-of, Lanes-map, Lanes
 use interval::Interval;
 
 // The low ends and the high ends of four intervals.
-#[derive(Drop)]
+#[derive(Clone, Copy)]
 pub struct Lanes {
     pub low: [f32; 4],
     pub high: [f32; 4],

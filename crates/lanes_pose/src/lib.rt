@@ -1,5 +1,6 @@
 // The poses of four neighbouring slices of dt, without judging and without terms by constants: `LeanPose-over` of `pose_lean` has one.
 // Each stage has one call, so that it is compiled in place.
+#![tactic(auto)]
 ghost use Rattle.std.specs.Prelude.{◌≡◌};
 ghost use Rattle.lanes.specs.means.Lanes.{Lane, four, Lanes-lane, Lanes-of, Lanes-zip};
 ghost use Rattle.lanes_rotation.specs.means.Matrices.{LanesVector-lane, LanesVector-of, LanesMatrix-lane, LanesMatrix-of};
@@ -15,7 +16,7 @@ use quaternion::{Quaternion, SLERP_THRESHOLD};
 use vector3::Vector3f;
 
 // The linear part, the translation and the pad, the high end of its interval.
-#[derive(Drop)]
+#[derive(Clone, Copy)]
 pub struct LanesPose {
     pub linear: LanesMatrix,
     pub translation: LanesVector,

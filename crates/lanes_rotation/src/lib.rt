@@ -1,4 +1,5 @@
 // The matrices of four quaternions, without judging and without the column that is 0.
+#![tactic(auto)]
 ghost use Rattle.std.specs.Prelude.{◌≡◌};
 ghost use Rattle.lanes.specs.means.Lanes.{Lane, Lanes-zip};
 ghost use Rattle.lanes_slerp.specs.means.Quaternions.{LanesQuaternion-lane};
@@ -8,7 +9,7 @@ ghost use Rattle.lanes_rotation.specs.means.Matrices.{LanesMatrix-of, LanesProdu
 use lanes::Lanes;
 use lanes_slerp::LanesQuaternion;
 
-#[derive(Drop)]
+#[derive(Clone, Copy)]
 pub struct LanesVector {
     pub x: Lanes,
     pub y: Lanes,
@@ -16,7 +17,7 @@ pub struct LanesVector {
 }
 
 // Three rows of three.
-#[derive(Drop)]
+#[derive(Clone, Copy)]
 pub struct LanesMatrix {
     pub r0: LanesVector,
     pub r1: LanesVector,
@@ -24,7 +25,7 @@ pub struct LanesMatrix {
 }
 
 // The products of a quaternion's components of which the matrix is made.
-#[derive(Drop)]
+#[derive(Clone, Copy)]
 struct LanesProducts {
     xx: Lanes,
     yy: Lanes,

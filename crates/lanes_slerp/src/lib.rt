@@ -1,4 +1,5 @@
 // The rotations of four neighbouring slices of dt, near or far slerp, without judging: `pose_lean` has one slice.
+#![tactic(auto)]
 ghost use Rattle.std.specs.Prelude.{◌≡◌};
 ghost use Rattle.lanes.specs.means.Lanes.{Lane, Lanes-lane, Lanes-of, Lanes-zip};
 ghost use Rattle.pose_lean.specs.means.Lean.{mix, turned, length, over, normalized, slerp_by};
@@ -7,7 +8,7 @@ ghost use Rattle.lanes_slerp.specs.means.Quaternions.{LanesQuaternion-lane, Lane
 use lanes::Lanes;
 use quaternion::Quaternion;
 
-#[derive(Drop)]
+#[derive(Clone, Copy)]
 pub struct LanesQuaternion {
     pub x: Lanes,
     pub y: Lanes,

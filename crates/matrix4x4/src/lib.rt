@@ -1,4 +1,5 @@
 // pbrt's Matrix4x4: four rows of four floats, by value, as `[[f32; 4]; 4]`. Each function is stated for all arguments, NaN and infinities included.
+#![tactic(auto)]
 ghost use Rattle.std.specs.Prelude.{◌≡◌};
 ghost use Rattle.std.specs.Float.Ieee.{eq};
 ghost use Rattle.std.specs.Float.Ieee.Scale.{finite};
@@ -11,7 +12,7 @@ ghost use Rattle.matrix4x4.specs.IsAffine.{Matrix4x4-is_affine};
 
 // A matrix that is kept: a transform's, a pose's, a scale. It has a field for each row, since many of its readers take single rows.
 // A field `[[f32; 4]; 4]` is made and read whole, by functions whose code is walked by hand: `InverseAnswer` of matrix_inverse has one.
-#[derive(Drop)]
+#[derive(Clone, Copy)]
 pub struct Matrix4x4 {
     pub r0: [f32; 4],
     pub r1: [f32; 4],

@@ -1,4 +1,5 @@
 // The inverse of a 4x4 matrix: pbrt's Gauss-Jordan elimination with full pivoting, in its order of operations.
+#![tactic(auto)]
 ghost use Rattle.std.specs.Prelude.{◌≡◌, ◌<◌};
 ghost use Rattle.matrix_inverse.specs.Pivot.{consider, search_row, Pivot-search};
 ghost use Rattle.matrix_inverse.specs.Eliminate.{swap_rows, replace, scale_row, clear_row, clear_at, eliminate};
@@ -8,7 +9,7 @@ ghost use Rattle.matrix_inverse.specs.Inverse.{refused, InverseAnswer-judged, Ma
 use float32::select;
 
 // The best candidate for a pivot so far: its absolute value, row and column.
-#[derive(Drop)]
+#[derive(Clone, Copy)]
 pub struct Pivot {
     pub big: f32,
     pub irow: usize,
@@ -16,7 +17,7 @@ pub struct Pivot {
 }
 
 // A matrix and a refusal (error code, 0 for none), after which every entry is +0.
-#[derive(Drop)]
+#[derive(Clone, Copy)]
 pub struct InverseAnswer {
     pub m: [[f32; 4]; 4],
     pub refusal: u8,

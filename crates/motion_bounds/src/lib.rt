@@ -1,6 +1,7 @@
 // The motion box: pbrt's `bound_point_motion` and `motion_bounds`. It holds where the two poses take a point, and where the move takes it at the times that the
 // zero search found, so that it isn't a cover of the motion. What is asked of the arguments (6, 7) stands apart from what is met on the way (5, 9).
 // Each box comes with how many intervals its search examined.
+#![tactic(auto)]
 ghost use Rattle.std.specs.Prelude.{◌≡◌, ◌+◌, ◌<◌};
 ghost use Rattle.zero_search.specs.Stored.{Stored};
 ghost use Rattle.motion_bounds.specs.MotionBounds.{DerivativeTerm-eval, BoundsAnswer-from_ends, point_at, union_zero, union_zeros};
@@ -18,7 +19,7 @@ use zero_list::Zeros;
 use zero_search::Search;
 
 // How many intervals the zero search examined on each axis.
-#[derive(Drop)]
+#[derive(Clone, Copy)]
 pub struct Examined {
     pub x: u32,
     pub y: u32,
@@ -26,14 +27,14 @@ pub struct Examined {
 }
 
 // A motion box and what its search cost, or the number of a refusal, which carries no counts.
-#[derive(Drop)]
+#[derive(Clone, Copy)]
 pub enum MotionBoundsAnswer {
     Bounds(Bounds3f, Examined),
     Refused(u8),
 }
 
 // The box with one axis's points, and how many intervals were examined for them.
-#[derive(Drop)]
+#[derive(Clone, Copy)]
 struct AxisBounds {
     bounds: BoundsAnswer,
     examined: u32,

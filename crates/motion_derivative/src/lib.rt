@@ -1,4 +1,5 @@
 // The derivative of a coordinate's motion, whose zeros pbrt's motion box needs: its bounds over an interval, its value and its slope.
+#![tactic(auto)]
 ghost use Rattle.std.specs.Prelude.{◌≡◌};
 ghost use Rattle.interval.specs.Interval.{Interval-sin, Interval-cos};
 ghost use Rattle.motion_derivative.specs.Derivative.{affine, MotionDerivative-angles, MotionDerivative-range_at, MotionDerivative-excludes_zero_at};
@@ -8,7 +9,7 @@ use interval::{Interval, IntervalSinCos};
 use trig::SinCos;
 
 // c1 + (c2 + c3 t) cos(2 theta t) + (c4 + c5 t) sin(2 theta t)
-#[derive(Drop)]
+#[derive(Clone, Copy)]
 pub struct MotionDerivative {
     pub c1: f32,
     pub c2: f32,

@@ -1,4 +1,5 @@
 // The layout of move files, the texts that hold the poses of a chain and a box: its lines, and the pose of a line. `file_reader` reads them.
+#![tactic(auto)]
 ghost use Rattle.std.specs.Prelude.{◌≡◌, cond, ◌+◌, eqb, ltb, length};
 ghost use Rattle.motion_file.specs.Text.{line_feed, split};
 ghost use Rattle.motion_file.specs.Layout.{pose_lines, pose_of_values, MoveFile-departs};
@@ -9,7 +10,7 @@ pub const PAST_END: usize = 65537;
 
 // What a move file says: how many poses it has, and its box's least corner and greatest. The poses themselves are put into a lent array.
 // `refusal` is 0, or 11 for a file that departs from the layout, and every other number is then 0.
-#[derive(Drop)]
+#[derive(Clone, Copy)]
 pub struct MoveFile {
     pub count: usize,
     pub bounds: [f32; 6],

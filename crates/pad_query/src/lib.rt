@@ -1,4 +1,5 @@
 // The pad query: how far beyond the boom the spray of a kept move wets the ground at a time.
+#![tactic(auto)]
 ghost use Rattle.std.specs.Prelude.{◌≡◌};
 ghost use Rattle.float32.specs.MinMax.{max_num};
 ghost use Rattle.motion_rows.specs.Rows.{AnimatedTransform-from_rows};
@@ -6,7 +7,7 @@ ghost use Rattle.motion_point.specs.PadAt.{AnimatedTransform-pad_at};
 ghost use Rattle.pad_query.specs.PadQuery.{PadAnswer-judged, Rows-pad, PadAnswer-refusal, PadAnswer-left};
 
 // A pad, or the number of a refusal.
-#[derive(Drop)]
+#[derive(Clone, Copy)]
 pub enum PadAnswer {
     Pad(f32),
     Refused(u8),

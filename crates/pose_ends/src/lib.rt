@@ -1,6 +1,7 @@
 // The sum of all ends of an interval vector, quaternion, row or matrix. It is finite only where every end is, so that one test of it may stand for a test of
 // each.
 // Ends are added pair by pair, which keeps the sums independent of each other.
+#![tactic(auto)]
 ghost use Rattle.std.specs.Prelude.{◌≡◌};
 ghost use Rattle.pose_ends.specs.means.Ends.{IntervalVector-ends_sum, IntervalQuaternion-ends_sum, IntervalRow-ends_sum, IntervalMatrix-ends_sum};
 

@@ -1,11 +1,12 @@
 // A pose, and what the building of a move asks of two of them before it computes anything; what a rigid one asks of each.
+#![tactic(auto)]
 ghost use Rattle.std.specs.Prelude.{◌≡◌};
 ghost use Rattle.pose_pair.specs.Pose.{Pose-is_finite, Pose-is_affine, Pose-is_padded, times_refusal, poses_refusal, Pose-kind_number};
 
 use matrix4x4::Matrix4x4;
 
 // A matrix at a time, and the pad: how far beyond the boom the spray wets the ground then.
-#[derive(Drop)]
+#[derive(Clone, Copy)]
 pub struct Pose {
     pub time: f32,
     pub m: Matrix4x4,

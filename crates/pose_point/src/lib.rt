@@ -1,6 +1,7 @@
 // A point moved by a matrix whose bottom row is 0, 0, 0, 1, pbrt's `transform_point` with wp = 1: in floats, and in intervals of which each is judged as it is
 // formed. Where a sum over all ends is finite, judging is left out, which gives the same.
 // And vectors and matrices of floats as intervals with equal ends.
+#![tactic(auto)]
 ghost use Rattle.std.specs.Prelude.{◌≡◌};
 ghost use Rattle.pose_steps.specs.Pose.{Pose-transform_point};
 ghost use Rattle.pose_steps.specs.Enclose.{IntervalVector-point, IntervalRow-point, IntervalMatrix-point, Pose-enclose_transform_point};

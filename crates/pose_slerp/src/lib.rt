@@ -2,6 +2,7 @@
 // Where a sum over ends is finite, judging is left out, which gives the same. slerp is linear above 0.9995. A squared length whose low end is zero or below is
 // refused with 10 before its root is taken.
 // What far slerp needs that does not depend on t is computed by `perpendicular_to`, so that a caller with many intervals of t keeps it.
+#![tactic(auto)]
 ghost use Rattle.std.specs.Prelude.{◌≡◌};
 ghost use Rattle.pose_steps.specs.Pose.{PoseConstants-new, Pose-slerp_near, Pose-slerp_far, Pose-slerp};
 ghost use Rattle.pose_steps.specs.Enclose.{IntervalQuaternion-point, Pose-enclose_slerp_near, Pose-enclose_slerp_far, Pose-enclose_slerp};
@@ -16,7 +17,7 @@ use quaternion::{Quaternion, SLERP_THRESHOLD};
 use vector3::Vector3f;
 
 // The unit quaternion that `slerp` turns the first one to, and the length that it was divided by.
-#[derive(Drop)]
+#[derive(Clone, Copy)]
 pub struct Perpendicular {
     pub q: Quaternion,
     pub length: f32,

@@ -1,5 +1,6 @@
 // A move between its two poses: what the steps of pbrt's `interpolate` and `transform_point` take and give, in floats and in intervals.
 // The steps themselves are formulas (specs/Stages.antt), and their code stands in crates of its own.
+#![tactic(auto)]
 use interval::Interval;
 use matrix4x4::Matrix4x4;
 use quaternion::Quaternion;
@@ -7,7 +8,7 @@ use vector3::Vector3f;
 
 // Translation and rotation of the two poses. cos_theta is the dot product of the rotations and theta the angle between them.
 // A rigid move has the identity in the place of its scale.
-#[derive(Drop)]
+#[derive(Clone, Copy)]
 pub struct PoseConstants {
     pub t0: Vector3f,
     pub t1: Vector3f,
@@ -19,21 +20,21 @@ pub struct PoseConstants {
 }
 
 // A matrix beside the number of a refusal, 0 for none: after a refusal every entry is +0.
-#[derive(Drop)]
+#[derive(Clone, Copy)]
 pub struct PoseAnswer {
     pub m: Matrix4x4,
     pub refusal: u8,
 }
 
 // Intervals in the place of floats. A matrix is the three rows above 0, 0, 0, 1.
-#[derive(Drop)]
+#[derive(Clone, Copy)]
 pub struct IntervalVector {
     pub x: Interval,
     pub y: Interval,
     pub z: Interval,
 }
 
-#[derive(Drop)]
+#[derive(Clone, Copy)]
 pub struct IntervalQuaternion {
     pub x: Interval,
     pub y: Interval,
@@ -41,7 +42,7 @@ pub struct IntervalQuaternion {
     pub w: Interval,
 }
 
-#[derive(Drop)]
+#[derive(Clone, Copy)]
 pub struct IntervalRow {
     pub c0: Interval,
     pub c1: Interval,
@@ -49,7 +50,7 @@ pub struct IntervalRow {
     pub c3: Interval,
 }
 
-#[derive(Drop)]
+#[derive(Clone, Copy)]
 pub struct IntervalMatrix {
     pub r0: IntervalRow,
     pub r1: IntervalRow,
@@ -57,25 +58,25 @@ pub struct IntervalMatrix {
 }
 
 // Each beside the first refusal number that was met, 0 for none.
-#[derive(Drop)]
+#[derive(Clone, Copy)]
 pub struct JudgedVector {
     pub vector: IntervalVector,
     pub refusal: u8,
 }
 
-#[derive(Drop)]
+#[derive(Clone, Copy)]
 pub struct JudgedQuaternion {
     pub quaternion: IntervalQuaternion,
     pub refusal: u8,
 }
 
-#[derive(Drop)]
+#[derive(Clone, Copy)]
 pub struct JudgedRow {
     pub row: IntervalRow,
     pub refusal: u8,
 }
 
-#[derive(Drop)]
+#[derive(Clone, Copy)]
 pub struct JudgedMatrix {
     pub matrix: IntervalMatrix,
     pub refusal: u8,

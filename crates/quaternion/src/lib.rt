@@ -1,5 +1,6 @@
 // pbrt's Quaternion: a vector and a scalar, which rotates where its length is 1. Nothing is refused here: each function is stated for all arguments, NaN and
 // infinities included, and the functions that build and that answer queries judge what comes out.
+#![tactic(auto)]
 ghost use Rattle.std.specs.Prelude.{◌≡◌};
 ghost use Rattle.quaternion.specs.Quaternion.{Quaternion-dot, Quaternion-normalize, Quaternion-add};
 ghost use Rattle.quaternion.specs.Quaternion.{Quaternion-sub, Quaternion-neg, Quaternion-mul, Quaternion-div};
@@ -11,7 +12,7 @@ use vector3::Vector3f;
 // slerp is linear where the dot product is above it, and a move has rotation where it is below: at 0.9995 itself neither holds.
 pub const SLERP_THRESHOLD: f32 = 0.9995;
 
-#[derive(Drop)]
+#[derive(Clone, Copy)]
 pub struct Quaternion {
     pub v: Vector3f,
     pub w: f32,

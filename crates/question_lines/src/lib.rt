@@ -1,4 +1,5 @@
 // Lines of questions: words with one space between them. A float is the eight hexadecimal digits of its bits, a whole number is decimal.
+#![tactic(auto)]
 ghost use Rattle.std.specs.Prelude.{◌≡◌, cond, ◌≤◌, ◌<◌, max, ltb, length, take};
 ghost use Rattle.motion_text.specs.Answer.{text_left};
 ghost use Rattle.question_lines.specs.Words.{part as Words-part, Words-position, Decimal-append, Decimal-read, Decimal-saturated};
@@ -7,7 +8,7 @@ ghost use Rattle.question_lines.specs.Words.{Decimal-read_saturated, Float-read,
 use hexadecimal::Word;
 
 // What a word says.
-#[derive(Drop)]
+#[derive(Clone, Copy)]
 pub enum Decimal {
     Value(u64),
     Malformed,

@@ -1,6 +1,7 @@
 // A line as a question: a name, then whole numbers, for some the word `plain` or `rigid`, and floats, with one space before each.
 // A question's shape says what follows its name: how many whole numbers, whether that word (0: no), how many floats at least, and how many floats each
 // thing has of which any number may follow, 0 for none.
+#![tactic(auto)]
 ghost use Rattle.std.specs.Prelude.{◌≡◌, ◌≤◌, eqb, length};
 ghost use Rattle.question_lines.specs.Words.{Words-position};
 ghost use Rattle.question_reader.specs.Question.{word_end, word_at, Decimals-end, Decimals-stored, Kind-read, Shape-fits};
@@ -9,7 +10,7 @@ ghost use Rattle.question_reader.specs.Question.{Question-none, Question-rest, r
 use question_lines::{Decimal, part, position};
 
 // What is asked, as the place of its name, whether its word is `rigid`, and how many floats it has.
-#[derive(Drop)]
+#[derive(Clone, Copy)]
 pub struct Question {
     pub kind: usize,
     pub rigid: bool,
@@ -17,7 +18,7 @@ pub struct Question {
 }
 
 // The place behind the word that says how a chain is built, and whether it is `rigid`.
-#[derive(Drop)]
+#[derive(Clone, Copy)]
 struct Kind {
     end: usize,
     rigid: bool,

@@ -1,4 +1,5 @@
 // Which rows a boom of many boxes reaches, and in which windows: one mask a row, over a kept chain.
+#![tactic(auto)]
 ghost use Rattle.std.specs.Prelude.{◌+◌, ◌^◌, ◌≤◌, ◌<◌, ◌≡◌, map, length, take};
 ghost use Rattle.bounds3.specs.List.{Bounds3f-of_list};
 ghost use Rattle.bounds_query.specs.Query.{Bounds3f-refusal};
@@ -19,7 +20,7 @@ const MAX_ROWS: usize = 256;
 const MAX_DEPTH: u32 = 12;
 
 // The masks so far, 0 behind the rows'; all are 0 where a window is refused, with its number, 0 for none.
-#[derive(Drop)]
+#[derive(Clone, Copy)]
 struct Found {
     masks: [u64; 256],
     refusal: u8,

@@ -1,4 +1,5 @@
 // The rows that a boom of many boxes reaches in one window of a kept chain's times. Each pose is enclosed once for all boxes.
+#![tactic(auto)]
 ghost use Rattle.std.specs.Prelude.{◌+◌, ◌^◌, ◌≤◌, ◌<◌, ◌≡◌, true, false, cond, [], ◌∷◌, map, eqb, length, get_or, replicate};
 ghost use Rattle.bounds3.specs.List.{Bounds3f-of_list};
 ghost use Rattle.bounds_query.specs.Query.{max_depth};
@@ -23,7 +24,7 @@ const MAX_BOXES: usize = 16;
 const MAX_ROWS: usize = 256;
 
 // Which rows are named, false behind them; none where the window is refused, with its number, 0 for none.
-#[derive(Drop)]
+#[derive(Clone, Copy)]
 pub struct Named {
     pub names: [bool; 256],
     pub refusal: u8,

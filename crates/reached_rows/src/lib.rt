@@ -1,4 +1,5 @@
 // Which rows a boom reaches: those of up to 256 rows, each a box, that a cover meets, listed in lent places.
+#![tactic(auto)]
 ghost use Rattle.std.specs.Prelude.{◌≤◌, ◌≡◌, map, length, take};
 ghost use Rattle.bounds3.specs.List.{Bounds3f-of_list};
 ghost use Rattle.bounds_query.specs.Query.{Bounds3f-refusal};
@@ -13,14 +14,14 @@ const MAX_ROWS: usize = 256;
 
 // How many rows are named, and a refusal's number, 0 for none.
 #[repr(C)]
-#[derive(Drop)]
+#[derive(Clone, Copy)]
 pub struct Reached {
     pub count: usize,
     pub refusal: u8,
 }
 
 // The places of the named rows in front, 0 behind them; and their count.
-#[derive(Drop)]
+#[derive(Clone, Copy)]
 struct Named {
     places: [u32; 256],
     count: usize,

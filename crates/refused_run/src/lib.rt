@@ -1,5 +1,6 @@
 // Document 02's "The shortest refused stretch": of a chain that is refused, the shortest run of neighbouring poses that is still refused with that number, the
 // leftmost among equals. Every refused chain has such a run of one pose or of two, so no longer one is built; the definition tries all.
+#![tactic(auto)]
 ghost use Rattle.std.specs.Prelude.{◌<◌, ◌≡◌, length};
 ghost use Rattle.chain_poses.specs.Poses.{Poses-of_lists};
 ghost use Rattle.refused_run.specs.Run.{run_number, run_places, leftmost_place, shortest_run};
@@ -8,7 +9,7 @@ ghost use Rattle.refused_run.specs.Theorem.{ShortestRefused};
 
 // A run's first place and its length, and 0; or 0, 0 and the number of a refusal.
 #[repr(C)]
-#[derive(Drop)]
+#[derive(Clone, Copy)]
 pub struct Run {
     pub place: usize,
     pub length: usize,

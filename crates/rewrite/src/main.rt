@@ -1,5 +1,6 @@
 // Document 02's one way to write a move file, as a program: reads a file from standard input to its end, and prints its one form or its refusal.
 // One byte more than a file may have is read, so that a longer file is refused. The longest text is that of 32 poses.
+#![tactic(auto)]
 fn main() {
     let mut input = [0u8; 65537];
     let read = standard_streams::read(&mut input);

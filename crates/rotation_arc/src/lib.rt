@@ -1,4 +1,5 @@
 // The shorter arc between the rotations of two poses, and the coefficients c1 to c5 of a move along it.
+#![tactic(auto)]
 ghost use Rattle.std.specs.Prelude.{◌≡◌};
 ghost use Rattle.rotation_arc.specs.ShorterArc.{flip, dots_refusal};
 ghost use Rattle.rotation_arc.specs.ArcCoefficients.{CoefficientsAnswer-judged, rotation_coefficients, pair_coefficients};
@@ -9,7 +10,7 @@ use quaternion::Quaternion;
 use vector3::Vector3f;
 
 // A coefficient set beside a refusal, after which every number is +0.
-#[derive(Drop)]
+#[derive(Clone, Copy)]
 pub struct CoefficientsAnswer {
     pub value: Coefficients,
     pub refusal: u8,

@@ -1,1 +1,2 @@
 // Laws only: see specs/ and proofs/.
+#![tactic(auto)]

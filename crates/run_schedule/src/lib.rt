@@ -1,1 +1,2 @@
 // Laws only: a day of booms, tick by tick.
+#![tactic(auto)]

@@ -1,5 +1,6 @@
 // The sine over a quarter turn: a table of 2,049 entries, and the straight line between them.
 // Angles are in units of 2^-28, sines in units of 2^-30.
+#![tactic(auto)]
 ghost use Rattle.std.specs.Prelude.{◌≡◌, ◌-◌, ◌≤◌, min};
 ghost use Rattle.sine_table.specs.Table.{quarter_turn, sine_table, SineTable};
 ghost use Rattle.sine_table.specs.QuarterSine.{line, quarter_sine_over, entry};
@@ -298,7 +299,7 @@ pub fn quarter_sine_in(table: &[u32; 2049], v: u64) -> u64
 }
 
 // H of an angle, and of a quarter turn less it.
-#[derive(Drop)]
+#[derive(Clone, Copy)]
 pub struct QuarterSinCos {
     pub sin: u32,
     pub cos: u32,

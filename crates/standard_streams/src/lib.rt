@@ -1,9 +1,10 @@
 // Standard input and output for the programs. A read that fails is told from the end of the input, and a write that fails is said on standard error.
 // No contract can speak of what is read or written.
+#![tactic(auto)]
 ghost use Rattle.io.specs.Counts.{IsPrefixLen};
 
 // How many bytes were read, and whether a read failed before the input ended.
-#[derive(Drop)]
+#[derive(Clone, Copy)]
 pub struct Input {
     pub count: usize,
     pub failed: bool,

@@ -1,6 +1,7 @@
 // pbrt's Transform: a 4x4 matrix with its inverse, applied to points, vectors and boxes.
 // Who judges what: `transform_point` and `transform_bounds` answer a refusal, 5, for a moved point that isn't finite; `from_matrix` hands on the inverse's,
 // 4 or 5. All others refuse nothing. Neither a matrix nor a point is asked to be finite here: that is for the functions that build and that answer queries.
+#![tactic(auto)]
 ghost use Rattle.std.specs.Prelude.{◌≡◌};
 ghost use Rattle.matrix4x4.specs.Rows.{Matrix4x4-to_rows};
 ghost use Rattle.transform.specs.Transform.{TransformAnswer-refused, Transform-from_matrices, Transform-from_matrix};
@@ -15,28 +16,28 @@ use bounds3::{Bounds3f, Point3f};
 use matrix4x4::Matrix4x4;
 use vector3::Vector3f;
 
-#[derive(Drop)]
+#[derive(Clone, Copy)]
 pub struct Transform {
     pub m: Matrix4x4,
     pub m_inv: Matrix4x4,
 }
 
 // A transform beside the number of a refusal, 0 for none: after a refusal every entry is +0.
-#[derive(Drop)]
+#[derive(Clone, Copy)]
 pub struct TransformAnswer {
     pub transform: Transform,
     pub refusal: u8,
 }
 
 // A moved point, or the number of a refusal.
-#[derive(Drop)]
+#[derive(Clone, Copy)]
 pub enum PointAnswer {
     Moved(Point3f),
     Refused(u8),
 }
 
 // A moved box, or the number of a refusal.
-#[derive(Drop)]
+#[derive(Clone, Copy)]
 pub enum BoundsAnswer {
     Bounds(Bounds3f),
     Refused(u8),

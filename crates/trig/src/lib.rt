@@ -1,4 +1,5 @@
 // Sine and cosine, by document 01's table of sines, which a caller with many angles lends. Angles are in units of 2^-28, sines and cosines in units of 2^-30.
+#![tactic(auto)]
 ghost use Rattle.std.specs.Prelude.{◌≡◌, false, cond, ◌+◌, ◌-◌, ◌*◌, ◌/◌, ◌%◌, ◌^◌, ◌≤◌, ◌<◌, min, eqb, pos};
 ghost use Rattle.std.specs.Float.{binary32};
 ghost use Rattle.std.specs.Float.Ieee.{round};
@@ -21,14 +22,14 @@ const ONE_UNIT: u32 = 0x3180_0000;
 const QUARTER_TURN_BITS: u32 = 0x3fc9_0fdb;
 
 // The sine and the cosine of an angle.
-#[derive(Drop)]
+#[derive(Clone, Copy)]
 pub struct SinCos {
     pub sin: f32,
     pub cos: f32,
 }
 
 // Those of two angles, x and y.
-#[derive(Drop)]
+#[derive(Clone, Copy)]
 pub struct SinCosPair {
     pub sin_x: f32,
     pub cos_x: f32,

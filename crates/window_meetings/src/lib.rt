@@ -1,1 +1,2 @@
 // Laws only: the windows in which the boxes of two chains meet.
+#![tactic(auto)]

@@ -1,4 +1,5 @@
 // The windows between neighbouring ticks in which the covers of two kept chains meet, listed in lent places.
+#![tactic(auto)]
 ghost use Rattle.std.specs.Prelude.{◌≤◌, ◌<◌, ◌≡◌, length, take};
 ghost use Rattle.bounds_meeting.specs.Meeting.{Meeting-of};
 ghost use Rattle.tick_list.specs.Ticks.{max_ticks};
@@ -14,14 +15,14 @@ use window_times::Window;
 
 // How many windows are listed, and a refusal's number, 0 for none.
 #[repr(C)]
-#[derive(Drop)]
+#[derive(Clone, Copy)]
 pub struct Windows {
     pub count: usize,
     pub refusal: u8,
 }
 
 // The windows found so far in the first places, 0 in the others; their count, and the number of a refusal.
-#[derive(Drop)]
+#[derive(Clone, Copy)]
 struct Found {
     places: [u32; 63],
     count: usize,

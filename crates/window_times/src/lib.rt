@@ -1,9 +1,10 @@
 // Windows of times, and which moves and poses of a chain a window asks for, by their times.
+#![tactic(auto)]
 ghost use Rattle.std.specs.Prelude.{◌≡◌};
 ghost use Rattle.window_times.specs.Window.{Window-refusal, Window-overlaps, Window-asks_first, Window-asks_end, Window-belongs};
 
 // The times from one tick to a later one, both included.
-#[derive(Drop)]
+#[derive(Clone, Copy)]
 pub struct Window {
     pub earlier: f32,
     pub later: f32,

@@ -1,4 +1,5 @@
 // The zeros that pbrt's motion box finds, in eight places.
+#![tactic(auto)]
 ghost use Rattle.std.specs.Prelude.{◌≡◌};
 ghost use Rattle.zero_list.specs.Zeros.{Zeros-empty, Zeros-store, Zeros-accept};
 
@@ -9,7 +10,7 @@ const TOLERANCE: f32 = 0.001;
 
 // The zeros found, in the order of their intervals, in the first `count` places; unused places are +0. The refusal is 9 where a ninth zero would be stored, and
 // then there are no zeros.
-#[derive(Drop)]
+#[derive(Clone, Copy)]
 pub struct Zeros {
     pub zeros: [f32; 8],
     pub count: usize,

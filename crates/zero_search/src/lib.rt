@@ -1,5 +1,6 @@
 // The zero search of pbrt's motion box: where the derivative of a coordinate's motion may vanish, from 0 to 1. It names the table of sines once and lends it
 // to all that asks for a sine.
+#![tactic(auto)]
 ghost use Rattle.std.specs.Prelude.{◌≡◌, ◌≤◌};
 ghost use Rattle.sine_table.specs.Table.{sine_table};
 ghost use Rattle.interval.specs.Interval.{Interval-new};
@@ -16,14 +17,14 @@ use zero_list::Zeros;
 const DEPTH: u32 = 8;
 
 // What a search finds, and how many intervals it examines: each once, also one that the range test leaves out. An answer with a refusal counts none.
-#[derive(Drop)]
+#[derive(Clone, Copy)]
 pub struct Search {
     pub zeros: Zeros,
     pub examined: u32,
 }
 
 // The sine and the cosine of the angles at the ends of an interval; both halves share those at its midpoint.
-#[derive(Drop)]
+#[derive(Clone, Copy)]
 struct EndAngles {
     low: SinCos,
     high: SinCos,

@@ -1,0 +1,17 @@
+-- `put_floats` puts a text of floats. The invariant: the first k of them stand in `out` from `at` on.
+use Prim.Native.Nat.{◌+◌, ◌-◌, ◌*◌, ◌≤◌}
+use native.Mathlib.Omega.{arith}
+use mathlib.Core.Path.{◌≡◌, refl, ◌∙◌, ap}
+use lib.Ieee.{nan}
+use lib.ListN.{length, take}
+use lib.Seq.{paste, paste-zero, length-paste, length-take-le, get_or-take}
+use Rattle.answer_lines.proofs.Put.{put-fits, put-short, put-empty, floats-enough, floats-few, length-floats, floats-turn}
+use Rattle.answer_lines.specs.Pieces.{spaced_floats}
+use borrow.Author.Rules.{rules}
+use Rattle.answer_lines.proofs.put_floats.Given as goal
+
+abbrev pub invariant-loop-k : goal.invariant-loop-k
+invariant-loop-k l = (l.k ≤ l.count) × (length l.out ≡ length l.at) × (l.out ≡ paste l.at l.initial.out (spaced_floats (take l.count l.values)) (9 * l.k))
+
+abbrev pub decreases-loop-k : goal.decreases-loop-k
+decreases-loop-k l = l.count - l.k

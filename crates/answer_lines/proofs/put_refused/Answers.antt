@@ -1,0 +1,18 @@
+-- `put_refused` puts the word, the number and a line feed.
+use mathlib.Core.List.{[], ◌∷◌}
+use Rattle.answer_lines.proofs.Pieces.{all_none, all_cons, all_append}
+use Rattle.motion_file.specs.Text.{ascii, line_feed}
+use Rattle.answer_lines.specs.Pieces.{whole_pieces}
+use borrow.Author.Rules.{rules}
+use Rattle.answer_lines.proofs.put_refused.Goals as goal
+
+pub returns : goal.returns
+unfolding ascii
+returns c =
+    let a = c.args in
+    let n = a.refusal in
+    all_cons (ascii "refused") _ a.out.now _ _ a.at _ _
+    c.put_text.ensures
+    (all_append (whole_pieces n) ((line_feed ∷ []) ∷ []) _ _ _ _ _ _
+    c.put_decimal-end.ensures
+    (all_cons (line_feed ∷ []) [] _ _ _ _ _ _ c.put_text.ensures (all_none _ _)))

@@ -1,0 +1,15 @@
+-- `put_boxes` puts them one by one. The invariant: what is left from the k-th on, put from `end` on, makes the whole.
+use Prim.Native.Nat.{◌-◌, ◌≤◌}
+use native.Mathlib.Omega.{arith}
+use mathlib.Core.Path.{◌≡◌, refl, sym, ◌∙◌}
+use lib.ListN.{length, drop}
+use Rattle.answer_values.specs.Lines.{rows_pieces}
+use Rattle.answer_values.proofs.Lines.{Left, rows-turn, rows_end}
+use borrow.Author.Rules.{rules}
+use Rattle.answer_values.proofs.put_boxes.Given as goal
+
+abbrev pub invariant-loop-k : goal.invariant-loop-k
+invariant-loop-k l = (length l.out ≡ length l.at) × Left (rows_pieces 6 (drop l.k l.boxes)) (rows_pieces 6 l.boxes) l.at l.out l.initial.out l.end
+
+abbrev pub decreases-loop-k : goal.decreases-loop-k
+decreases-loop-k l = length l.boxes - l.k

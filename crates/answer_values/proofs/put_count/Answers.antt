@@ -1,0 +1,18 @@
+-- `put_count` puts a refusal, or `ok`, a whole number and a line feed.
+use Rattle.motion_file.specs.Text.{ascii}
+use Rattle.answer_lines.specs.Pieces.{whole_pieces}
+use Rattle.answer_values.proofs.Lines.{answer-refused, answer_ok}
+use borrow.Author.Rules.{rules}
+use Rattle.answer_values.proofs.put_count.Goals as goal
+
+pub returns-then-refusal-ne0 : goal.returns-then-refusal-ne0
+returns-then-refusal-ne0 c =
+    answer-refused c.args.refusal (whole_pieces c.args.count) c.args.out.now _ c.args.at _ c.if-refusal-ne0.true c.put_refused.ensures
+
+pub returns : goal.returns
+unfolding ascii
+returns c =
+    answer_ok c.args.refusal (whole_pieces c.args.count) c.args.out.now _ _ _ c.args.at _ _ _ c.if-refusal-ne0.false
+    c.put_text.ensures
+    c.put_decimal-end.ensures
+    c.put_text.ensures

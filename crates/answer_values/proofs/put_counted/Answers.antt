@@ -1,0 +1,21 @@
+-- `put_counted` puts a refusal, or `ok`, floats and whole numbers and a line feed.
+use Rattle.motion_file.specs.Text.{ascii}
+use Rattle.answer_lines.proofs.Pieces.{all_cons}
+use Rattle.answer_values.specs.Lines.{counted_pieces}
+use Rattle.answer_values.proofs.Lines.{answer-refused, answer_ok}
+use borrow.Author.Rules.{rules}
+use Rattle.answer_values.proofs.put_counted.Goals as goal
+
+pub returns-then-refusal-ne0 : goal.returns-then-refusal-ne0
+returns-then-refusal-ne0 c =
+    answer-refused c.args.refusal (counted_pieces c.args.values.now c.args.counts.now)
+    c.args.out.now _ c.args.at _ c.if-refusal-ne0.true c.put_refused.ensures
+
+pub returns : goal.returns
+unfolding ascii
+returns c =
+    answer_ok c.args.refusal (counted_pieces c.args.values.now c.args.counts.now)
+    c.args.out.now _ _ _ c.args.at _ _ _ c.if-refusal-ne0.false
+    c.put_text.ensures
+    (all_cons _ _ _ _ _ _ _ _ c.put_floats-behind.ensures c.put_decimals-end.ensures)
+    c.put_text.ensures

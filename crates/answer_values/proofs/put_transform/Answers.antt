@@ -1,0 +1,18 @@
+-- `put_transform` puts a refusal, or `ok`, the rows and a line feed.
+use Rattle.motion_file.specs.Text.{ascii}
+use Rattle.answer_values.specs.Lines.{rows_pieces}
+use Rattle.answer_values.proofs.Lines.{answer-refused, answer_ok}
+use borrow.Author.Rules.{rules}
+use Rattle.answer_values.proofs.put_transform.Goals as goal
+
+pub returns-then-refusal-ne0 : goal.returns-then-refusal-ne0
+returns-then-refusal-ne0 c =
+    answer-refused c.args.refusal (rows_pieces 4 c.args.rows.now) c.args.out.now _ c.args.at _ c.if-refusal-ne0.true c.put_refused.ensures
+
+pub returns : goal.returns
+unfolding ascii
+returns c =
+    answer_ok c.args.refusal (rows_pieces 4 c.args.rows.now) c.args.out.now _ _ _ c.args.at _ _ _ c.if-refusal-ne0.false
+    c.put_text.ensures
+    c.put_rows-end.ensures
+    c.put_text.ensures

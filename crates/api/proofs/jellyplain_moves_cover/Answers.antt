@@ -1,0 +1,15 @@
+-- `jellyplain_moves_cover` meets its contract: the cover of the chain in the rows, and the guarantee of it (`moves-cover-clauses`).
+use Rattle.api.proofs.Kept.{moves-cover-clauses}
+use Rattle.moves_asked.specs.Asked.{Moves-asked}
+use borrow.Author.Rules.{rules}
+use Rattle.api.proofs.jellyplain_moves_cover.Goals as goal
+
+pub returns : goal.returns
+returns c =
+    let a = c.args in
+    let asked = c.asked in
+    let cover = c.cover in
+    let bounds = c.bounds in
+    moves-cover-clauses (Moves-asked a.moves.now) a.b.now a.depth _ _ a.bounds.now
+    (rw (c.put_bounds.ensures.0, cover.ensures.0, bounds.ensures, asked.ensures))
+    (rw (c.put_bounds.ensures.1, cover.ensures.0, bounds.ensures, asked.ensures))

@@ -1,0 +1,25 @@
+-- `jellyplain_moves_point` meets its contract: the point query of the chain in the rows, which is the chain's own where it was built (`kept-point`),
+-- and of one block the move's (`block-point`).
+use Rattle.matrix4x4.specs.Rows.{Rows}
+use Rattle.bounds3.specs.List.{Point3f-of_list}
+use Rattle.motion_chain.specs.Chain.{Chain}
+use Rattle.chain_rows.proofs.Kept.{kept-point, block-point}
+use Rattle.moves_asked.specs.Asked.{Moves-asked}
+use borrow.Author.Rules.{rules}
+use Rattle.api.proofs.jellyplain_moves_point.Goals as goal
+
+pub returns : goal.returns
+returns c =
+    let a = c.args in
+    let asked = c.asked in
+    let moved = c.transform_point in
+    let point = c.point in (
+      rw (c.put_point.ensures.0, moved.ensures.0, point.ensures, asked.ensures),
+      (
+        rw (c.put_point.ensures.1, moved.ensures.0, point.ensures, asked.ensures),
+        (
+          λ (k : Chain). kept-point (Moves-asked a.moves.now) k a.time (Point3f-of_list a.p.now),
+          λ (block : Rows). block-point (Moves-asked a.moves.now) block a.time (Point3f-of_list a.p.now),
+        ),
+      ),
+    )

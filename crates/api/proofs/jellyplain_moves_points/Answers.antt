@@ -1,0 +1,22 @@
+-- `jellyplain_moves_points` meets its contract: the query with a list of times of the chain in the rows,
+-- which is the chain's own where it was built (`kept-points`).
+use lib.ListN.{length}
+use Rattle.bounds3.specs.List.{Point3f-of_list}
+use Rattle.motion_chain.specs.Chain.{Chain}
+use Rattle.chain_rows.proofs.Kept.{kept-points}
+use Rattle.moves_asked.specs.Asked.{Moves-asked}
+use borrow.Author.Rules.{rules}
+use Rattle.api.proofs.jellyplain_moves_points.Goals as goal
+
+pub returns : goal.returns
+returns c =
+    let a = c.args in
+    let asked = c.asked in
+    let moved = c.transform_points in
+    let point = c.point in (
+      rw (moved.ensures.0, point.ensures, asked.ensures),
+      (
+        rw (moved.ensures.1.0, point.ensures, asked.ensures),
+        λ (k : Chain). kept-points (Moves-asked a.moves.now) k a.times.now (Point3f-of_list a.p.now) (length a.answers.now),
+      ),
+    )

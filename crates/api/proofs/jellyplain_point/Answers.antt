@@ -1,0 +1,20 @@
+-- `jellyplain_point` meets its contract: the point query of the move in the rows, which is the move's own where it was built (`kept-point`).
+use Rattle.bounds3.specs.List.{Point3f-of_list}
+use Rattle.animated_transform.specs.declared.AnimatedTransform.{AnimatedTransform}
+use Rattle.api.proofs.Kept.{kept-point}
+use borrow.Author.Rules.{rules}
+use Rattle.api.proofs.jellyplain_point.Goals as goal
+
+pub returns : goal.returns
+returns c =
+    let a = c.args in (
+      rw (c.put_point.ensures.0, c.transform_point.ensures, c.point.ensures),
+      (
+        rw (
+          c.put_point.ensures.1,
+          c.transform_point.ensures,
+          c.point.ensures,
+        ),
+        λ (m : AnimatedTransform). kept-point a.motion.now m a.time (Point3f-of_list a.p.now),
+      ),
+    )

@@ -1,0 +1,14 @@
+-- `jellyplain_read_file` meets its contract: the file's number chooses whether its box is stored (`read-clauses`, `refused-clauses`).
+use borrow.Author.Rules.{rules}
+use Rattle.api.proofs.Files.{read-clauses, refused-clauses}
+use Rattle.api.proofs.jellyplain_read_file.Goals as goal
+
+pub returns-then-refusal-eq0 : goal.returns-then-refusal-eq0
+returns-then-refusal-eq0 c =
+    let a = c.args in
+    read-clauses a.bytes.now c.read-file.result c.read-file.ensures.0 _ a.poses.now a.bounds.now c.read-file.ensures.1.0 c.if-refusal-eq0.true
+
+pub returns-else-refusal-eq0 : goal.returns-else-refusal-eq0
+returns-else-refusal-eq0 c =
+    let a = c.args in
+    refused-clauses a.bytes.now c.read-file.result c.read-file.ensures.0 _ a.poses.now a.bounds.now c.read-file.ensures.1.0 c.if-refusal-eq0.false

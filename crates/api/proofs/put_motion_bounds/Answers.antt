@@ -1,0 +1,11 @@
+-- `put_motion_bounds` meets its contract: each arm is its case of the definitions.
+use mathlib.Core.Path.{refl}
+use borrow.Author.Rules.{rules}
+use Rattle.api.proofs.put_motion_bounds.Goals as goal
+
+pub returns-in-Bounds : goal.returns-in-Bounds
+returns-in-Bounds c =
+    rw (c.answer-1.given.1, c.bounds_values.ensures) (refl, (refl, refl))
+
+pub returns-in-Refused : goal.returns-in-Refused
+returns-in-Refused c = rw c.answer-in-Refused-1.given.1 (refl, (refl, refl))

@@ -1,0 +1,28 @@
+-- In the first quarter by `cos-first`, in the second by `cos-second`; H is at most 1, so that nothing wraps.
+use mathlib.Core.Path.{refl, sym, ap, ◌∙◌}
+use Prim.Native.Nat.{ℕ, ◌+◌, ◌-◌, ◌^◌}
+use native.Mathlib.Omega.{arith}
+use borrow.Author.Rules.{rules}
+use Rattle.sine_table.specs.Table.{quarter_turn}
+use Rattle.trig.proofs.Units.{read, cos-first, cos-second}
+use Rattle.arc_cosine.proofs.counted_cos.Goals as goal
+
+pub overflow_add-result : goal.overflow_add-result
+overflow_add-result c =
+    let t = read c.args.table.now c.requires.0 (quarter_turn - c.args.u) c.quarter_sine_in.result (omega arith) c.quarter_sine_in.ensures in
+    omega (arith, t.small)
+
+pub returns-then-u-lt-QUARTER_TURN : goal.returns-then-u-lt-QUARTER_TURN
+returns-then-u-lt-QUARTER_TURN c =
+    let t = read c.args.table.now c.requires.0 (quarter_turn - c.args.u) c.quarter_sine_in.result (omega arith) c.quarter_sine_in.ensures in
+    (ap (λ (r : ℕ). 2 ^ 30 + r) t.value ∙ sym (cos-first c.args.u (omega arith)), refl)
+
+pub overflow_sub-result : goal.overflow_sub-result
+overflow_sub-result c =
+    let t = read c.args.table.now c.requires.0 (c.args.u - quarter_turn) c.quarter_sine_in-2.result (omega arith) c.quarter_sine_in-2.ensures in
+    t.small
+
+pub returns : goal.returns
+returns c =
+    let t = read c.args.table.now c.requires.0 (c.args.u - quarter_turn) c.quarter_sine_in-2.result (omega arith) c.quarter_sine_in-2.ensures in
+    (ap (λ (r : ℕ). 2 ^ 30 - r) t.value ∙ sym (cos-second c.args.u (omega arith) (omega arith)), refl)

@@ -1,0 +1,15 @@
+-- One cosine, in the middle: where it is above w the middle is the lower end and its cosine is carried (`halve-upper`),
+-- otherwise the upper end (`halve-lower`).
+use borrow.Author.Rules.{rules}
+use Rattle.arc_cosine.proofs.Halving.{halve-upper, halve-lower}
+use Rattle.arc_cosine.proofs.halve.Goals as goal
+
+pub returns-then-cosine-w : goal.returns-then-cosine-w
+returns-then-cosine-w c =
+    let r = c.counted_cos-cosine in
+    (halve-upper c.args.w c.args.b r.result r.ensures.0 c.if-cosine-w.true, (r.ensures.0, r.ensures.1))
+
+pub returns : goal.returns
+returns c =
+    let r = c.counted_cos-cosine in
+    (halve-lower c.args.w c.args.b r.result r.ensures.0 c.if-cosine-w.false, (c.requires.1.1.0, r.ensures.1))

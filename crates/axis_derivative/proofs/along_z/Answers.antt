@@ -1,0 +1,9 @@
+-- `along_z` meets its contract: each call of `column_z` is a column.
+use Rattle.axis_derivative.specs.AxisDerivative.{derivative}
+use borrow.Author.Rules.{rules}
+use Rattle.axis_derivative.proofs.along_z.Goals as goal
+
+pub returns : goal.returns
+unfolding derivative
+returns c =
+    rw (c.from_columns.ensures, c.column_z-z.ensures, c.column_z-y.ensures, c.column_z-x.ensures)

@@ -1,0 +1,9 @@
+-- `column_x` meets its contract: each call is a formula.
+use Rattle.axis_derivative.specs.AxisDerivative.{column_terms}
+use borrow.Author.Rules.{rules}
+use Rattle.axis_derivative.proofs.column_x.Goals as goal
+
+pub returns : goal.returns
+unfolding column_terms
+returns c =
+    rw (c.c5x.ensures, c.c4x.ensures, c.c3x.ensures, c.c2x.ensures, c.c1x.ensures)

@@ -1,0 +1,9 @@
+-- `column_y` meets its contract: each call is a formula.
+use Rattle.axis_derivative.specs.AxisDerivative.{column_terms}
+use borrow.Author.Rules.{rules}
+use Rattle.axis_derivative.proofs.column_y.Goals as goal
+
+pub returns : goal.returns
+unfolding column_terms
+returns c =
+    rw (c.c5y.ensures, c.c4y.ensures, c.c3y.ensures, c.c2y.ensures, c.c1y.ensures)

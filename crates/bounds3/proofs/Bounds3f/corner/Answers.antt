@@ -1,0 +1,8 @@
+-- `corner` meets its contract: a coordinate of each of three calls of `index`.
+use Rattle.bounds3.specs.Bounds3f.{Bounds3f-corner}
+use borrow.Author.Rules.{rules}
+use Rattle.bounds3.proofs.Bounds3f.corner.Goals as goal
+
+pub returns : goal.returns
+unfolding Bounds3f-corner
+returns c = rw (c.index-px.ensures, c.index-py.ensures, c.index-pz.ensures)

@@ -1,0 +1,8 @@
+-- `is_finite` meets its contract: a call for each corner.
+use Rattle.bounds3.specs.Finite.{Bounds3f-is_finite}
+use borrow.Author.Rules.{rules}
+use Rattle.bounds3.proofs.Bounds3f.is_finite.Goals as goal
+
+pub returns : goal.returns
+unfolding Bounds3f-is_finite
+returns c = rw (c.is_finite.ensures, c.is_finite-2.ensures)

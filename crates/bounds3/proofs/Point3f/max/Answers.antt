@@ -1,0 +1,8 @@
+-- `max` meets its contract: a call for each coordinate.
+use Rattle.bounds3.specs.Point3f.{Point3f-max}
+use borrow.Author.Rules.{rules}
+use Rattle.bounds3.proofs.Point3f.max.Goals as goal
+
+pub returns : goal.returns
+unfolding Point3f-max
+returns c = rw (c.max.ensures, c.max-2.ensures, c.max-3.ensures)

@@ -1,0 +1,6 @@
+-- `corners` meets its contract: the box that was answered, or +0 throughout.
+use borrow.Author.Rules.{rules}
+use Rattle.bounds_meeting.proofs.corners.Goals as goal
+
+pub returns-in-Refused : goal.returns-in-Refused
+returns-in-Refused c = rw (c.a-in-Refused-1.given.1, c.from_point.ensures)

@@ -1,0 +1,20 @@
+-- `meet` meets its contract: the first number that isn't 0, or else the boxes compared.
+use mathlib.Core.Path.{◌∙◌}
+use borrow.Author.Rules.{rules}
+use Rattle.refusal.specs.First.{first_refusal}
+use Rattle.bounds_overlap.specs.Meets.{Bounds3f-meets}
+use Rattle.bounds_meeting.proofs.Joined.{after-refusal, both-answered}
+use Rattle.bounds_meeting.proofs.meet.Goals as goal
+
+pub returns-then-refusal-ne0 : goal.returns-then-refusal-ne0
+returns-then-refusal-ne0 c =
+    let a = c.args in
+    after-refusal a.r a.s
+    (c.first_refusal-refusal.ensures ∙ λ i. first_refusal (c.number.ensures i) (c.number-2.ensures i)) c.if-refusal-ne0.true
+
+pub returns : goal.returns
+returns c =
+    let a = c.args in
+    both-answered a.r a.s
+    (c.first_refusal-refusal.ensures ∙ λ i. first_refusal (c.number.ensures i) (c.number-2.ensures i)) c.if-refusal-ne0.false
+    (c.meets.ensures ∙ λ i. Bounds3f-meets (c.corners.ensures i) (c.corners-2.ensures i))

@@ -1,0 +1,8 @@
+-- `meets` meets its contract: its three axes are the definition's.
+use Rattle.bounds_overlap.specs.Meets.{Bounds3f-meets}
+use borrow.Author.Rules.{rules}
+use Rattle.bounds_overlap.proofs.meets.Goals as goal
+
+pub returns : goal.returns
+unfolding Bounds3f-meets
+returns c = rw (c.ranges_meet.ensures, c.ranges_meet-2.ensures, c.ranges_meet-3.ensures)

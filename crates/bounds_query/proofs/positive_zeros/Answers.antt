@@ -1,0 +1,13 @@
+-- `positive_zeros` meets its contract: both corners, or the refusal.
+use borrow.Author.Rules.{rules}
+use Rattle.bounds_query.specs.Zeros.{Bounds3f-positive_zeros, BoundsAnswer-positive_zeros}
+use Rattle.bounds_query.proofs.positive_zeros.Goals as goal
+
+pub returns-in-Bounds : goal.returns-in-Bounds
+unfolding Bounds3f-positive_zeros BoundsAnswer-positive_zeros
+returns-in-Bounds c =
+    rw (c.a-1.given.1, c.corner_zeros-p_min.ensures, c.corner_zeros-p_max.ensures)
+
+pub returns-in-Refused : goal.returns-in-Refused
+unfolding BoundsAnswer-positive_zeros
+returns-in-Refused c = rw c.a-in-Refused-1.given.1

@@ -1,0 +1,11 @@
+-- `build` meets its contract: it is refused by the chain's checks, or does what `build_passed` does.
+use borrow.Author.Rules.{rules}
+use lib.ListN.{length}
+use Rattle.chain_poses.specs.Poses.{Poses-of_lists}
+use Rattle.chain_build.proofs.Answer.{checks-refused}
+use Rattle.chain_build.proofs.build.Goals as goal
+
+pub returns-then-refusal-ne0 : goal.returns-then-refusal-ne0
+returns-then-refusal-ne0 c =
+    let a = c.args in
+    checks-refused a.rigid (Poses-of_lists a.poses.now) (length a.poses.now) a.moves.now c.refusal-refusal.ensures c.if-refusal-ne0.true

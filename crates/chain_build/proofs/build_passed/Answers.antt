@@ -1,0 +1,36 @@
+-- `build_passed` meets its contract, in the two ways that it ends (proofs/Answer.antt). That there are 31 blocks is known of the copy, an array by value.
+use mathlib.Core.Path.{sym, ap, ◌∙◌}
+use mathlib.Core.List.{List, map}
+use native.Mathlib.Omega.{arith}
+use lib.ListN.{length}
+use Rattle.matrix4x4.specs.Rows.{Rows}
+use Rattle.motion_chain.specs.Chain.{neighbours}
+use Rattle.motion_chain.proofs.Built.{checks-passed}
+use Rattle.chain_poses.specs.Poses.{Poses-of_lists}
+use Rattle.chain_poses.proofs.Loops.{poses-length}
+use Rattle.chain_build.specs.Build.{blocks_left}
+use Rattle.chain_build.specs.means.Pairs.{Pair-rows}
+use Rattle.chain_build.proofs.Answer.{pair-refused, all-built}
+use Rattle.chain_build.proofs.build_passed.Goals as goal
+
+pub put_pairs-refusal-requires : goal.put_pairs-refusal-requires
+put_pairs-refusal-requires c =
+    let lists = c.args.poses.now in
+    let h = (checks-passed c.args.rigid (Poses-of_lists lists) c.requires.0).greatest in
+    let n = poses-length lists in
+    (omega (arith, h, n), c.well_formed.1.1.0.1.0.1)
+
+pub returns-then-refusal-ne0 : goal.returns-then-refusal-ne0
+returns-then-refusal-ne0 c =
+    let lists = c.args.poses.now in
+    pair-refused c.args.rigid (Poses-of_lists lists) (length lists) c.args.moves.now c.requires.0 c.put_pairs-refusal.ensures.0 c.if-refusal-ne0.true
+
+pub returns : goal.returns
+returns c =
+    let lists = c.args.poses.now in
+    let poses = Poses-of_lists lists in
+    let work = c.put_pairs-refusal.ensures in
+    let none = c.if-refusal-ne0.false in
+    let left = work.1.0 none ∙ ap (λ (old : List Rows). blocks_left (map (Pair-rows c.args.rigid) (neighbours poses)) old) c.requires.1 in
+    all-built c.args.rigid poses (length lists) c.args.moves.now
+    (sym (poses-length lists)) c.requires.0 (sym none ∙ work.0) left (work.1.1 none)

@@ -1,0 +1,23 @@
+-- `put_pair` meets its contract.
+use Prim.Native.Nat.{◌+◌}
+use mathlib.Core.Path.{ap}
+use mathlib.Core.List.{[]}
+use borrow.Author.Rules.{rules}
+use lib.ListN.{get_or, set}
+use Rattle.matrix4x4.specs.Rows.{Rows}
+use Rattle.lent_arrays.specs.Arrays.{Pose-of_list}
+use Rattle.chain_build.proofs.Answer.{pair-clauses}
+use Rattle.chain_build.proofs.put_pair.Goals as goal
+
+pub returns : goal.returns
+returns c =
+    let a = c.args in
+    let new = c.new in
+    let p = Pose-of_list (get_or a.poses.now a.i []) in
+    let q = Pose-of_list (get_or a.poses.now (a.i + 1) []) in
+    let ps = c.pose-start.ensures in
+    let qs = c.pose-end.ensures in
+    let (number, (rows, built)) =
+    pair-clauses a.rigid p q new.result (get_or a.moves.now a.i []) (rw (new.ensures.0, qs, ps)) new.ensures.1
+    c.put_motion.ensures.0 c.put_motion.ensures.1 in
+    (number, (λ z. ap (λ (r : Rows). set a.moves.now a.i r) (rows z), built))

@@ -1,0 +1,68 @@
+-- `put_pairs` meets its contract. Its loop keeps the first number of the pairs from the one whose second pose is i, what is put once all of them are,
+-- and that all are built if these are.
+use Prim.Native.Nat.{◌+◌, ◌-◌, ◌≤◌}
+use mathlib.Core.Path.{◌≡◌, refl, ◌∙◌}
+use native.Mathlib.Omega.{arith}
+use borrow.Author.Rules.{rules}
+use borrow.Author.Tests.{eq-eqb, ne_eqb}
+use lib.ListN.{length}
+use Rattle.chain_number.specs.Number.{Move-number}
+use Rattle.motion_chain.specs.Chain.{first_number, stage}
+use Rattle.motion_chain.specs.Built.{Each}
+use Rattle.chain_poses.specs.Poses.{Poses-of_lists, Poses-pair_at}
+use Rattle.chain_poses.proofs.Loops.{poses-length, pairs_from, pairs_next, pairs_end, pairs-count}
+use Rattle.chain_build.specs.means.Pairs.{Pair-Built}
+use Rattle.chain_build.proofs.Put.{put, put_front, put_next}
+use Rattle.chain_build.proofs.put_pairs.Goals as goal
+
+pub loop-i-init : goal.loop-i-init
+loop-i-init c = (refl, (omega arith, (refl, (refl, λ h. h))))
+
+pub returns-then-refusal-ne0 : goal.returns-then-refusal-ne0
+unfolding first_number
+returns-then-refusal-ne0 c =
+    let l = c.loop-i in
+    let a = c.args in
+    let next = pairs_next a.poses.now l.i l.invariant.1.0 c.loop-i-test.true in
+    let f = c.if-refusal-ne0.true in
+    (rw (← l.invariant.1.1.0, next, ← c.put_pair-refusal.ensures.0, ne_eqb _ 0 f), (λ z. absurd (f z), λ z. absurd (f z)))
+
+pub loop-i-preserved : goal.loop-i-preserved
+unfolding first_number
+loop-i-preserved c =
+    let l = c.loop-i in
+    let a = c.args in
+    let next = pairs_next a.poses.now l.i l.invariant.1.0 c.loop-i-test.true in
+    let put = c.put_pair-refusal.ensures in
+    let z = c.if-refusal-ne0.false in
+    let pair = Poses-pair_at a.poses.now (l.i - 1) in (
+      refl,
+      (
+        omega arith,
+        (
+          rw (← l.invariant.1.1.0, next, ← put.0, eq-eqb _ 0 z),
+          (
+            put_next a.rigid l.moves l.i pair (pairs_from a.poses.now (l.i + 1)) l.invariant.1.0 (put.1.0 z)
+                ∙ (rw (← next) refl ∙ l.invariant.1.1.1.0),
+            λ rest. l.invariant.1.1.1.1 (rw next (put.1.1 z, rest)),
+          ),
+        ),
+      ),
+    )
+
+pub returns : goal.returns
+unfolding first_number put
+returns c =
+    let l = c.loop-i in
+    let a = c.args in
+    let pre = c.requires in
+    let end = pairs_end a.poses.now l.i l.invariant.1.0 c.loop-i-test.false in
+    let poses = Poses-of_lists a.poses.now in
+    let n = poses-length a.poses.now in
+    let k = pairs-count poses in (
+      rw (← l.invariant.1.1.0, end),
+      (
+        λ z. rw end at l.invariant.1.1.1.0 ∙ put_front a.rigid (pairs_from a.poses.now 1) a.moves.now (omega (arith, n, k, pre)),
+        λ z. l.invariant.1.1.1.1 (rw end tt),
+      ),
+    )

@@ -1,0 +1,6 @@
+-- `union_move` meets its contract: the move in the rows, its cover, and the union.
+use borrow.Author.Rules.{rules}
+use Rattle.chain_cover.proofs.union_move.Goals as goal
+
+pub returns : goal.returns
+returns c = rw (c.union_bounds.ensures, c.cover.ensures.0, c.from_rows.ensures)

@@ -1,0 +1,11 @@
+-- `kind_stage` meets its contract: the kind chooses the case.
+use Rattle.motion_chain.specs.Chain.{kind_stage}
+use Rattle.chain_poses.proofs.kind_stage.Goals as goal
+
+pub returns-then-rigid : goal.returns-then-rigid
+unfolding kind_stage
+returns-then-rigid c = rw c.if-rigid.true c.pose_stage.ensures
+
+pub returns : goal.returns
+unfolding kind_stage
+returns c = rw c.if-rigid.false

@@ -1,0 +1,21 @@
+-- `pair_number_at` meets its contract.
+use borrow.Author.Rules.{rules}
+use borrow.Author.Tests.{eq-eqb, ne_eqb}
+use Rattle.motion_chain.specs.Chain.{Pair-number}
+use Rattle.chain_poses.proofs.pair_number_at.Goals as goal
+
+pub returns-then-start-end : goal.returns-then-start-end
+unfolding Pair-number
+returns-then-start-end c = rw (eq-eqb _ 12 c.if-k-eq12.true, c.if-start-end.true)
+
+pub returns-then-k-eq12 : goal.returns-then-k-eq12
+unfolding Pair-number
+returns-then-k-eq12 c = rw (eq-eqb _ 12 c.if-k-eq12.true, c.if-start-end.false)
+
+pub returns-then-k-eq3 : goal.returns-then-k-eq3
+unfolding Pair-number
+returns-then-k-eq3 c = rw (ne_eqb _ 12 c.if-k-eq12.false, eq-eqb _ 3 c.if-k-eq3.true, c.times_refusal.ensures)
+
+pub returns : goal.returns
+unfolding Pair-number
+returns c = rw (ne_eqb _ 12 c.if-k-eq12.false, ne_eqb _ 3 c.if-k-eq3.false)

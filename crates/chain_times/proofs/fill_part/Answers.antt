@@ -1,0 +1,11 @@
+-- `fill_part` meets its contract: the part of the answers has three places a time of the stretch (`part-put`), and comes back as its move filled it.
+use borrow.Author.Rules.{rules}
+use Rattle.chain_times.proofs.Stretches.{part-put}
+use Rattle.chain_times.proofs.fill_part.Goals as goal
+
+pub returns : goal.returns
+returns c =
+    let a = c.args in
+    let e = c.requires in
+    let put = part-put a.motion.now a.p a.times.now a.answers.now a.from a.to e.0 e.1.0 e.1.1 in
+    (rw (c.put_points.ensures, put), search rules)

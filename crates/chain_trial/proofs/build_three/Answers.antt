@@ -1,0 +1,16 @@
+-- `build_three` meets its contract: what building leaves of these poses (`built-clauses`).
+use mathlib.Core.Path.{refl}
+use mathlib.Core.List.{[], ◌∷◌}
+use borrow.Author.Rules.{rules}
+use Rattle.lent_arrays.specs.Arrays.{Pose-of_list}
+use Rattle.chain_poses.specs.Poses.{Poses-of_lists}
+use Rattle.chain_trial.proofs.Blocks.{built-clauses}
+use Rattle.chain_trial.proofs.build_three.Goals as goal
+
+pub returns : goal.returns
+unfolding Poses-of_lists
+returns c =
+    let a = c.args in
+    let build = c.build.ensures in
+    built-clauses a.rigid (a.start ∷ a.middle ∷ a.end ∷ []) (Pose-of_list a.start ∷ Pose-of_list a.middle ∷ Pose-of_list a.end ∷ [])
+    a.blocks.now refl c.requires build.0 build.1.0 build.1.1

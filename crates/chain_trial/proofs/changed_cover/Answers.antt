@@ -1,0 +1,31 @@
+-- `changed_cover` meets its contract: the blocks in front are the changed moves (`changed-front`), and these are asked.
+use mathlib.Core.Path.{refl, sym, ap, ◌∙◌}
+use mathlib.Core.List.{List}
+use native.Mathlib.Omega.{arith}
+use lib.Seq.{length-take-le}
+use Rattle.matrix4x4.specs.Rows.{Rows}
+use Rattle.chain_rows.specs.Kept.{Moves-cover}
+use Rattle.trial_blocks.proofs.Blocks.{changed-front}
+use borrow.Author.Rules.{rules}
+use Rattle.chain_trial.proofs.changed_cover.Goals as goal
+
+pub slice_bounds-blocks-end : goal.slice_bounds-blocks-end
+slice_bounds-blocks-end c =
+    let a = c.args in
+    let pre = c.requires in
+    let changed = changed-front a.moves.now a.place a.beside.now _ pre.0 pre.1.0 pre.1.1 refl c.put_changed.ensures in
+    omega (arith, pre.1.0, changed.1)
+
+pub slice_bounds-cover-end : goal.slice_bounds-cover-end
+slice_bounds-cover-end c =
+    let a = c.args in
+    let pre = c.requires in
+    let changed = changed-front a.moves.now a.place a.beside.now _ pre.0 pre.1.0 pre.1.1 refl c.put_changed.ensures in
+    sym (length-take-le _ _ (omega (arith, pre.1.0, changed.1)))
+
+pub returns : goal.returns
+returns c =
+    let a = c.args in
+    let pre = c.requires in
+    let changed = changed-front a.moves.now a.place a.beside.now _ pre.0 pre.1.0 pre.1.1 refl c.put_changed.ensures in
+    c.cover.ensures.0 ∙ ap (λ (rows : List Rows). Moves-cover rows a.b a.depth) changed.0

@@ -1,0 +1,8 @@
+-- `is_finite` meets its contract: each call tests an axis.
+use Rattle.coefficients.specs.IsFinite.{Coefficients-is_finite}
+use borrow.Author.Rules.{rules}
+use Rattle.coefficients.proofs.Coefficients.is_finite.Goals as goal
+
+pub returns : goal.returns
+unfolding Coefficients-is_finite
+returns c = rw (c.is_finite-3.ensures, c.is_finite-2.ensures, c.is_finite.ensures)

@@ -1,0 +1,11 @@
+-- `new` meets its contract: the rows of a transposed scale matrix are its columns.
+use Rattle.matrix4x4.specs.Transpose.{Matrix4x4-transpose}
+use Rattle.axis_derivative.specs.AxisDerivative.{derivative}
+use Rattle.coefficients.specs.Coefficients.{Coefficients-new}
+use borrow.Author.Rules.{rules}
+use Rattle.coefficients.proofs.Coefficients.new.Goals as goal
+
+pub returns : goal.returns
+unfolding Coefficients-new derivative Matrix4x4-transpose
+returns c =
+    rw (c.along_z-z.ensures, c.along_y-y.ensures, c.along_x-x.ensures, c.transpose-b.ensures, c.transpose-a.ensures)

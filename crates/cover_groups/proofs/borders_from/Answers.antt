@@ -1,0 +1,11 @@
+-- `borders_from` meets its contract: the border that is known and four more, end by end.
+use mathlib.Core.Path.{◌∙◌}
+use borrow.Author.Rules.{rules}
+use Rattle.cover_groups.specs.means.Groups.{LanesBorders-from, LanesBorders-of, LanesBorders-steps}
+use Rattle.cover_groups.proofs.borders_from.Goals as goal
+
+pub returns : goal.returns
+unfolding LanesBorders-from LanesBorders-of LanesBorders-steps
+returns c =
+    (λ i. LanesBorders-from (c.ends-dt.ensures i) (c.ends-cos.ensures i) (c.ends-sin.ensures i))
+    ∙ λ i. LanesBorders-of (c.requires.1 i) (c.border_at-b.ensures i) (c.border_at-c.ensures i) (c.border_at-d.ensures i) (c.border_at-e.ensures i)

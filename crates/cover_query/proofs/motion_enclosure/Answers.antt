@@ -1,0 +1,43 @@
+-- `motion_enclosure` meets its contract: a depth up to 12 is the one at which it is held, and a refusal of the stored transforms stays over all slices
+-- (`refused-first`).
+use native.Mathlib.Nat.{min-eq_left}
+use borrow.Author.Rules.{rules}
+use borrow.Author.Tests.{not-true, not-false}
+use Rattle.bounds_query.specs.Zeros.{BoundsAnswer-positive_zeros}
+use Rattle.motion_cover.specs.Cover.{AnimatedTransform-enclose_motion}
+use Rattle.motion_cover.proofs.Slices.{refused-first}
+use Rattle.motion_piece.proofs.Piece.{stored-composition}
+use Rattle.cover_query.proofs.motion_enclosure.Goals as goal
+
+pub returns-then-not-m : goal.returns-then-not-m
+unfolding AnimatedTransform-enclose_motion
+returns-then-not-m c =
+    rw (
+      not-true c.args.m.actually_animated c.if-not-m.true,
+      stored-composition _ _ _,
+      c.positive_zeros.ensures,
+      c.box_enclosure.ensures,
+      c.stored_enclosure.ensures,
+      c.max-pad.ensures,
+    )
+
+pub returns-in-Bounds : goal.returns-in-Bounds
+unfolding AnimatedTransform-enclose_motion
+returns-in-Bounds c =
+    rw (
+      ← c.ends_enclosure-ends.ensures,
+      c.ends-1.given.1,
+      c.union_slices.ensures,
+      min-eq_left c.requires,
+      not-false c.args.m.actually_animated c.if-not-m.false,
+    )
+
+pub returns-in-Refused : goal.returns-in-Refused
+unfolding AnimatedTransform-enclose_motion BoundsAnswer-positive_zeros
+returns-in-Refused c =
+    rw (
+      ← c.ends_enclosure-ends.ensures,
+      c.ends-in-Refused-1.given.1,
+      refused-first _ _ _ _ _ _,
+      not-false c.args.m.actually_animated c.if-not-m.false,
+    )

@@ -1,0 +1,10 @@
+-- `is_finite_box` meets its contract: a call for each corner.
+use Rattle.bounds3.specs.Finite.{Bounds3f-is_finite}
+use Rattle.cover_test.proofs.is_finite_box.Goals as goal
+
+pub returns : goal.returns
+unfolding Bounds3f-is_finite
+returns c =
+    let l = c.is_finite_point.ensures in
+    let h = c.is_finite_point-2.ensures in
+    (rw (l.0, h.0), record { low = l.1; high = h.1 })

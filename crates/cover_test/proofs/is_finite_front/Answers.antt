@@ -1,0 +1,12 @@
+-- `is_finite_front` meets its contract: a call for each entry.
+use borrow.Author.Rules.{rules}
+use Rattle.cover_lean.specs.means.Test.{is_finite_front}
+use Rattle.cover_test.proofs.is_finite_front.Goals as goal
+
+pub returns : goal.returns
+unfolding is_finite_front
+returns c =
+    let x = c.is_finite.ensures in
+    let y = c.is_finite-2.ensures in
+    let z = c.is_finite-3.ensures in
+    (rw (x.0, y.0, z.0), (x.1, (y.1, (z.1, tt))))

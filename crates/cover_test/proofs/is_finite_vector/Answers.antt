@@ -1,0 +1,11 @@
+-- `is_finite_vector` meets its contract: a call for each component.
+use Rattle.cover_lean.specs.means.Test.{Vector3f-is_finite}
+use Rattle.cover_test.proofs.is_finite_vector.Goals as goal
+
+pub returns : goal.returns
+unfolding Vector3f-is_finite
+returns c =
+    let x = c.is_finite.ensures in
+    let y = c.is_finite-2.ensures in
+    let z = c.is_finite-3.ensures in
+    (rw (x.0, y.0, z.0), (x.1, (y.1, (z.1, tt))))

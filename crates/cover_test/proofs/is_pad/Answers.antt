@@ -1,0 +1,7 @@
+-- `is_pad` meets its contract.
+use Rattle.cover_lean.specs.means.Test.{is_pad}
+use Rattle.cover_test.proofs.is_pad.Goals as goal
+
+pub returns : goal.returns
+unfolding is_pad
+returns c = let x = c.is_finite.ensures in (rw x.0, x.1)

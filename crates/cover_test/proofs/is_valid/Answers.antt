@@ -1,0 +1,14 @@
+-- `is_valid` meets its contract: a call for each part.
+use Rattle.cover_lean.specs.means.Test.{PoseConstants-is_valid}
+use Rattle.cover_test.proofs.is_valid.Goals as goal
+
+pub returns : goal.returns
+unfolding PoseConstants-is_valid
+returns c =
+    let t0 = c.is_finite_vector.ensures in
+    let t1 = c.is_finite_vector-2.ensures in
+    let r0 = c.is_finite_quaternion.ensures in
+    let r1 = c.is_finite_quaternion-2.ensures in
+    let d = c.is_finite.ensures in
+    let q = c.is_quarter_angle.ensures in
+    (rw (t0.0, t1.0, r0.0, r1.0, d.0, q.0), record { t0 = t0.1; t1 = t1.1; r0 = r0.1; r1 = r1.1; cos_theta = d.1; theta = q.1 })

@@ -1,0 +1,19 @@
+-- `part` meets its contract: each test is the definition's, and the part's faces are `face`'s.
+use borrow.Author.Rules.{rules}
+use Rattle.cut_parts.proofs.Parts.{part-x, part-y, part-z}
+use Rattle.cut_parts.proofs.part.Goals as goal
+
+pub returns-then-longest_x : goal.returns-then-longest_x
+returns-then-longest_x c =
+    part-x _ _ _ _ _ _ c.longest_x.ensures c.if-longest_x.true
+    c.face-f.ensures c.face-g.ensures c.with_x.ensures
+
+pub returns-then-longest_y : goal.returns-then-longest_y
+returns-then-longest_y c =
+    part-y _ _ _ _ _ _ c.longest_x.ensures c.if-longest_x.false c.longest_y.ensures c.if-longest_y.true
+    c.face-f-then-longest_y.ensures c.face-g-then-longest_y.ensures c.with_y.ensures
+
+pub returns : goal.returns
+returns c =
+    part-z _ _ _ _ _ _ c.longest_x.ensures c.if-longest_x.false c.longest_y.ensures c.if-longest_y.false
+    c.face-f-2.ensures c.face-g-2.ensures c.with_z.ensures

@@ -1,0 +1,8 @@
+-- `limited` meets its contract: one call.
+use borrow.Author.Rules.{rules}
+use Rattle.dt_share.specs.Share.{limited}
+use Rattle.dt_share.proofs.limited.Goals as goal
+
+pub returns : goal.returns
+unfolding limited
+returns c = c.clamp.ensures

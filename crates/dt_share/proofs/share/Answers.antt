@@ -1,0 +1,9 @@
+-- `share` meets its contract: both ends by the same two calls.
+use borrow.Author.Rules.{rules}
+use Rattle.dt_share.specs.Share.{share}
+use Rattle.dt_share.proofs.share.Goals as goal
+
+pub returns : goal.returns
+unfolding share
+returns c =
+    rw (c.limited-2.ensures, c.dt-2.ensures, c.limited.ensures, c.dt.ensures)

@@ -1,0 +1,33 @@
+-- `rewrite` meets its contract: the file's number chooses the case, and the poses that were read stand in the front of the array.
+use native.Mathlib.Omega.{arith}
+use mathlib.Core.Path.{sym}
+use lib.Seq.{length-take-le}
+use borrow.Author.Rules.{rules}
+use Rattle.motion_file.specs.Layout.{MoveFile-poses}
+use Rattle.motion_answer.proofs.Posed.{poses-room}
+use Rattle.file_rewrite.proofs.Printed.{file-refused, file-printed}
+use Rattle.file_rewrite.proofs.rewrite.Goals as goal
+
+pub returns-then-file-ne0 : goal.returns-then-file-ne0
+returns-then-file-ne0 c =
+    let bytes = c.args.bytes.now in
+    rw (file-refused bytes c.read-file.result c.read-file.ensures.0 c.if-file-ne0.true) c.write_refusal.ensures
+
+pub slice_bounds-poses-end : goal.slice_bounds-poses-end
+slice_bounds-poses-end c =
+    let read = c.read-file in
+    let bytes = c.args.bytes.now in
+    omega (arith, read.ensures.1.1, poses-room (MoveFile-poses bytes) _ read.ensures.1.0)
+
+pub slice_bounds-write_poses-end : goal.slice_bounds-write_poses-end
+slice_bounds-write_poses-end c =
+    let read = c.read-file in
+    let room = poses-room (MoveFile-poses c.args.bytes.now) _ read.ensures.1.0 in
+    sym (length-take-le _ _ (omega (arith, read.ensures.1.1, room)))
+
+pub returns : goal.returns
+returns c =
+    let bytes = c.args.bytes.now in
+    rw (file-printed bytes c.read-file.result c.read-file.ensures.0 _ _ c.bounds.result
+    c.if-file-ne0.false c.read-file.ensures.1.0 c.bounds.ensures)
+    c.write_poses.ensures

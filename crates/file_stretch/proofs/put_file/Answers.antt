@@ -1,0 +1,38 @@
+-- `put_file` meets its contract: the file's number chooses the case, and the poses that were read stand in the front of the array.
+use native.Mathlib.Nat.{le_trans}
+use native.Mathlib.Omega.{arith}
+use mathlib.Core.Path.{sym}
+use lib.Seq.{length-take-le}
+use borrow.Author.Rules.{rules}
+use Rattle.motion_file.specs.Layout.{MoveFile-poses}
+use Rattle.motion_answer.proofs.Posed.{poses-room}
+use Rattle.file_stretch.proofs.Printed.{refusal-put, taken-length, file-refused, file-printed}
+use Rattle.file_stretch.proofs.put_file.Goals as goal
+
+pub returns-then-file-ne0 : goal.returns-then-file-ne0
+returns-then-file-ne0 c =
+    let read = c.read-file in
+    let write = c.write_refusal in
+    rw (file-refused c.args.bytes.now read.result read.ensures.0 c.if-file-ne0.true)
+    (refusal-put read.result.refusal c.args.out.now _ _ c.requires write.ensures.0 write.ensures.1.0)
+
+pub slice_bounds-poses-end : goal.slice_bounds-poses-end
+slice_bounds-poses-end c =
+    let read = c.read-file in
+    omega (arith, read.ensures.1.1, poses-room (MoveFile-poses c.args.bytes.now) _ read.ensures.1.0)
+
+pub slice_bounds-put_poses-end : goal.slice_bounds-put_poses-end
+slice_bounds-put_poses-end c =
+    let read = c.read-file in
+    let room = poses-room (MoveFile-poses c.args.bytes.now) _ read.ensures.1.0 in
+    sym (length-take-le _ _ (omega (arith, read.ensures.1.1, room)))
+
+pub put_poses-requires : goal.put_poses-requires
+put_poses-requires c =
+    let read = c.read-file in
+    (le_trans (taken-length read.result.count _) read.ensures.1.1, c.requires)
+
+pub returns : goal.returns
+returns c =
+    let read = c.read-file in
+    rw (file-printed c.args.bytes.now read.result read.ensures.0 _ _ c.if-file-ne0.false read.ensures.1.0) c.put_poses.ensures

@@ -1,0 +1,25 @@
+-- `read_half` is `number_or` of four bytes: their values are tested and weighed one by one (`half-digits`).
+use borrow.Author.Rules.{rules}
+use native.Mathlib.Omega.{arith}
+use Rattle.hexadecimal.proofs.Words.{half-digits}
+use Rattle.hexadecimal.proofs.read_half.Goals as goal
+
+pub returns-then-a-b : goal.returns-then-a-b
+returns-then-a-b c =
+    let a = c.args in
+    rw c.if-a-b.true at
+    (half-digits a.s.now a.at _ _ _ _ (omega arith)
+    c.digit_value-a.ensures.0
+    c.digit_value-b.ensures.0
+    c.digit_value-c.ensures.0
+    c.digit_value-d.ensures.0)
+
+pub returns : goal.returns
+returns c =
+    let a = c.args in
+    rw c.if-a-b.false at
+    (half-digits a.s.now a.at _ _ _ _ (omega arith)
+    c.digit_value-a.ensures.0
+    c.digit_value-b.ensures.0
+    c.digit_value-c.ensures.0
+    c.digit_value-d.ensures.0)

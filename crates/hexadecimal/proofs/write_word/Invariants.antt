@@ -1,0 +1,17 @@
+-- `write_word` is `Word-write`. The invariant: the first i of the eight digits stand in the list from the place on.
+use Prim.Native.Nat.{◌+◌, ◌-◌, ◌≤◌}
+use native.Mathlib.Omega.{arith}
+use mathlib.Core.Path.{◌≡◌, refl, sym, ◌∙◌}
+use lib.ListN.{length, length-set}
+use lib.Seq.{paste, paste-zero}
+use borrow.Author.Rules.{rules}
+use borrow.Author.Tests.{le-leb, lt-leb}
+use Rattle.hexadecimal.specs.Word.{digits}
+use Rattle.hexadecimal.proofs.Words.{digits-store, write-fits, write-short}
+use Rattle.hexadecimal.proofs.write_word.Given as goal
+
+abbrev pub invariant-loop-i : goal.invariant-loop-i
+invariant-loop-i l = (l.i ≤ 8) × (l.initial.out + 8 ≤ length l.at) × (length l.out ≡ length l.at) × (l.out ≡ paste l.at l.initial.out (digits 8 l.n) l.i)
+
+abbrev pub decreases-loop-i : goal.decreases-loop-i
+decreases-loop-i l = 8 - l.i

@@ -1,0 +1,14 @@
+-- `Interval::cos_between` meets its contract: its calls in turn, from the last to the first.
+use Rattle.interval.specs.Interval.{Interval-cos_between}
+use Rattle.interval.proofs.Interval.cos_between.Goals as goal
+
+pub returns : goal.returns
+unfolding Interval-cos_between
+returns c =
+    rw (
+      c.new.ensures,
+      c.select.ensures,
+      c.straddles.ensures,
+      c.select-high.ensures,
+      c.select.ensures,
+    )

@@ -1,0 +1,7 @@
+-- `Interval::mul` meets its contract: `Interval::new` of the two ends that the definition names.
+use Rattle.interval.specs.Interval.{Interval-mul}
+use Rattle.interval.proofs.Interval.mul.Goals as goal
+
+pub returns : goal.returns
+unfolding Interval-mul
+returns c = rw (← c.of_four-four.ensures) c.new.ensures

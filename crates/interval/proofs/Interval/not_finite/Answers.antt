@@ -1,0 +1,14 @@
+-- `Interval::not_finite` meets its contract: each return is the case that the two tests chose.
+use Rattle.std.proofs.Common.{◌≡◌, true, ◌&&◌}
+use Rattle.interval.specs.Enclosure.{not_finite}
+use Rattle.interval.proofs.Interval.not_finite.Goals as goal
+
+pub returns-then-is_finite : goal.returns-then-is_finite
+unfolding not_finite
+returns-then-is_finite c =
+    let taken : (c.is_finite.result && c.is_finite-2.result) ≡ true = c.if-is_finite.true in
+    rw (← c.is_finite.ensures, ← c.is_finite-2.ensures, taken)
+
+pub returns-else-is_finite : goal.returns-else-is_finite
+unfolding not_finite
+returns-else-is_finite c = rw (← c.is_finite.ensures, ← c.is_finite-2.ensures, c.if-is_finite.false)

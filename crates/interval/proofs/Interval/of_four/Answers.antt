@@ -1,0 +1,7 @@
+-- `Interval::of_four` meets its contract: least and greatest, pair by pair.
+use Rattle.interval.specs.Interval.{Interval-of_four}
+use Rattle.interval.proofs.Interval.of_four.Goals as goal
+
+pub returns : goal.returns
+unfolding Interval-of_four
+returns c = rw (c.hull.ensures, c.new-2.ensures, c.new.ensures)

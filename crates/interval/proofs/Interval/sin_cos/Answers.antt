@@ -1,0 +1,11 @@
+-- `Interval::sin_cos` meets its contract: the sines and the cosines of the ends are `sin_cos_pair`'s.
+use Rattle.interval.specs.Interval.{Interval-sin, Interval-cos}
+use Rattle.interval.proofs.Interval.sin_cos.Goals as goal
+
+pub returns : goal.returns
+unfolding Interval-sin Interval-cos
+returns c =
+    let ends = c.sin_cos_pair-ends.ensures in (
+      rw (c.sin_between-sin.ensures, ends.0, ends.2),
+      rw (c.cos_between-cos.ensures, ends.1, ends.3),
+    )

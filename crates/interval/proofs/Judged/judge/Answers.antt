@@ -1,0 +1,7 @@
+-- `Judged::judge` meets its contract: the number is what `first` and `not_finite` give.
+use Rattle.interval.specs.Enclosure.{Judged-judge}
+use Rattle.interval.proofs.Judged.judge.Goals as goal
+
+pub returns : goal.returns
+unfolding Judged-judge
+returns c = rw (c.first_refusal.ensures, c.not_finite.ensures)

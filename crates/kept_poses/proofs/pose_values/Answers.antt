@@ -1,0 +1,17 @@
+-- `pose_values` meets its contract: a row is its four entries.
+use mathlib.Core.Path.{◌≡◌}
+use lib.ListN.{length}
+use borrow.Author.Rules.{rules}
+use Rattle.matrix4x4.specs.Rows.{Row}
+use Rattle.kept_poses.specs.means.Poses.{pose}
+use Rattle.kept_poses.proofs.Row.{row-entries}
+use Rattle.kept_poses.proofs.pose_values.Goals as goal
+
+pub returns : goal.returns
+returns c =
+    let a = c.args in
+    let h0 : length a.t2 ≡ 4 = search rules in
+    let h1 : length a.t3 ≡ 4 = search rules in
+    let h2 : length a.t4 ≡ 4 = search rules in
+    let h3 : length a.t5 ≡ 4 = search rules in
+    λ i. pose a.time (row-entries a.t2 h0 i) (row-entries a.t3 h1 i) (row-entries a.t4 h2 i) (row-entries a.t5 h3 i) a.pad

@@ -1,0 +1,20 @@
+-- `mul` meets its contract: end by end.
+use Rattle.lanes.specs.means.Lanes.{Lanes-lane, Lanes-of, Lanes-zip}
+use Rattle.interval_unjudged.specs.means.Ordered.{Interval-of_four_ordered, Interval-mul_ordered}
+use Rattle.lanes.proofs.mul.Goals as goal
+
+pub returns : goal.returns
+unfolding Lanes-zip Lanes-of Lanes-lane Interval-mul_ordered Interval-of_four_ordered
+returns c =
+    rw (
+      c.greater4-high.ensures,
+      c.greater4-2.ensures,
+      c.greater4.ensures,
+      c.lesser4-low.ensures,
+      c.lesser4-2.ensures,
+      c.lesser4.ensures,
+      c.mul4-t.ensures,
+      c.mul4-s.ensures,
+      c.mul4-q.ensures,
+      c.mul4-p.ensures,
+    )

@@ -1,0 +1,8 @@
+-- `span` meets its contract: end by end.
+use Rattle.lanes.specs.means.Lanes.{Interval-span, Lanes-of, Lanes-span}
+use Rattle.lanes.proofs.span.Goals as goal
+
+pub returns : goal.returns
+unfolding Lanes-span Lanes-of Interval-span
+returns c =
+    rw (c.greater4-high.ensures, c.lesser4-low.ensures)

@@ -1,0 +1,8 @@
+-- `twice` meets its contract: end by end.
+use Rattle.lanes.specs.means.Lanes.{Lanes-lane, Lanes-of, Lanes-map}
+use Rattle.lanes.proofs.twice.Goals as goal
+
+pub returns : goal.returns
+unfolding Lanes-map Lanes-of Lanes-lane
+returns c =
+    rw (c.mul4-high.ensures, c.mul4-low.ensures, c.all-by.ensures)

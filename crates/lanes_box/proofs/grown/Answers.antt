@@ -1,0 +1,10 @@
+-- `grown` meets its contract: three axes, side by side.
+use Rattle.lanes.specs.means.Lanes.{Interval-widened}
+use Rattle.lanes_rotation.specs.means.Matrices.{LanesVector-of, LanesVector-lane}
+use Rattle.pose_lean.specs.means.Lean.{Interval-grown, IntervalVector-grown}
+use Rattle.lanes_box.proofs.grown.Goals as goal
+
+pub returns : goal.returns
+unfolding Interval-widened Interval-grown IntervalVector-grown LanesVector-of LanesVector-lane
+returns c =
+    λ i. record { x = c.widened-x.ensures i; y = c.widened-y.ensures i; z = c.widened-z.ensures i }

@@ -1,0 +1,10 @@
+-- `moved` meets its contract: its calls in turn.
+use Rattle.lanes.specs.means.Lanes.{Lanes-lane, Lanes-of, Lanes-zip}
+use Rattle.lanes_rotation.specs.means.Matrices.{LanesVector-lane}
+use Rattle.pose_lean.specs.means.Lean.{moved}
+use Rattle.lanes_box.proofs.moved.Goals as goal
+
+pub returns : goal.returns
+unfolding Lanes-lane Lanes-of Lanes-zip moved LanesVector-lane
+returns c =
+    rw (c.add-3.ensures, c.add-2.ensures, c.add.ensures, c.mul-z.ensures, c.mul-y.ensures, c.mul-x.ensures)

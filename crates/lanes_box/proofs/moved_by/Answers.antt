@@ -1,0 +1,9 @@
+-- `moved_by` meets its contract: three axes, side by side.
+use Rattle.lanes_rotation.specs.means.Matrices.{LanesVector-of, LanesVector-lane, LanesMatrix-lane}
+use Rattle.pose_lean.specs.means.Lean.{moved_by}
+use Rattle.lanes_box.proofs.moved_by.Goals as goal
+
+pub returns : goal.returns
+unfolding moved_by LanesVector-of LanesVector-lane LanesMatrix-lane
+returns c =
+    λ i. record { x = c.moved-x.ensures i; y = c.moved-y.ensures i; z = c.moved-z.ensures i }

@@ -1,0 +1,10 @@
+-- `dot` meets its contract: its calls in turn.
+use Rattle.lanes.specs.means.Lanes.{Lanes-lane, Lanes-of, Lanes-zip}
+use Rattle.lanes_rotation.specs.means.Matrices.{LanesVector-lane}
+use Rattle.pose_lean.specs.means.Lean.{dot}
+use Rattle.lanes_pose.proofs.dot.Goals as goal
+
+pub returns : goal.returns
+unfolding Lanes-lane Lanes-of Lanes-zip dot LanesVector-lane
+returns c =
+    rw (c.add-2.ensures, c.mul-3.ensures, c.add.ensures, c.mul-2.ensures, c.mul.ensures)

@@ -1,0 +1,9 @@
+-- `lerp` meets its contract: its calls in turn.
+use Rattle.lanes.specs.means.Lanes.{Lanes-lane, Lanes-of, Lanes-map, Lanes-zip}
+use Rattle.pose_lean.specs.means.Lean.{lerp}
+use Rattle.lanes_pose.proofs.lerp.Goals as goal
+
+pub returns : goal.returns
+unfolding Lanes-lane Lanes-of Lanes-map Lanes-zip lerp
+returns c =
+    rw (c.add.ensures, c.scaled-2.ensures, c.scaled.ensures)

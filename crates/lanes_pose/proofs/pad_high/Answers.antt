@@ -1,0 +1,8 @@
+-- `pad_high` meets its contract: the high ends.
+use Rattle.lanes.specs.means.Lanes.{Lanes-of, Lanes-zip}
+use Rattle.pose_lean.specs.means.Lean.{pad_high}
+use Rattle.lanes_pose.proofs.pad_high.Goals as goal
+
+pub returns : goal.returns
+unfolding Lanes-of Lanes-zip pad_high
+returns c = λ i. (c.lerp-pad.ensures i).high

@@ -1,0 +1,9 @@
+-- `row_by` meets its contract: three columns, side by side.
+use Rattle.lanes_rotation.specs.means.Matrices.{LanesVector-of, LanesVector-lane, LanesMatrix-lane}
+use Rattle.pose_lean.specs.means.Lean.{row_by}
+use Rattle.lanes_pose.proofs.row_by.Goals as goal
+
+pub returns : goal.returns
+unfolding row_by LanesVector-of LanesVector-lane LanesMatrix-lane
+returns c =
+    λ i. record { x = c.dot-x.ensures i; y = c.dot-y.ensures i; z = c.dot-z.ensures i }

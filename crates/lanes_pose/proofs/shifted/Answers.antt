@@ -1,0 +1,10 @@
+-- `shifted` meets its contract: three components, side by side.
+use Rattle.lanes.specs.means.Lanes.{Lanes-zip}
+use Rattle.lanes_rotation.specs.means.Matrices.{LanesVector-of}
+use Rattle.pose_lean.specs.means.Lean.{shifted}
+use Rattle.lanes_pose.proofs.shifted.Goals as goal
+
+pub returns : goal.returns
+unfolding Lanes-zip shifted LanesVector-of
+returns c =
+    λ i. record { x = c.mix-x.ensures i; y = c.mix-y.ensures i; z = c.mix-z.ensures i }

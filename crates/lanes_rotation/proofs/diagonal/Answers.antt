@@ -1,0 +1,9 @@
+-- `diagonal` meets its contract: its calls in turn.
+use Rattle.lanes.specs.means.Lanes.{Lanes-lane, Lanes-of, Lanes-map, Lanes-zip}
+use Rattle.pose_lean.specs.means.Lean.{diagonal}
+use Rattle.lanes_rotation.proofs.diagonal.Goals as goal
+
+pub returns : goal.returns
+unfolding Lanes-lane Lanes-of Lanes-map Lanes-zip diagonal
+returns c =
+    rw (c.one_minus.ensures, c.twice.ensures, c.add.ensures)

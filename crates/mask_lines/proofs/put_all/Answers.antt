@@ -1,0 +1,27 @@
+-- `put_all` puts them one by one. The invariant: what is left from the k-th on, put from `end` on, makes the whole.
+use Prim.Native.Nat.{ℕ, ◌+◌, ◌-◌, ◌≤◌, ◌<◌}
+use mathlib.Core.Path.{◌≡◌, refl, sym, ap, ◌∙◌}
+use native.Mathlib.Omega.{arith}
+use borrow.Author.Rules.{rules}
+use lib.ListN.{length}
+use mathlib.Core.List.{map}
+use lib.ListN.{drop}
+use Rattle.answer_values.proofs.Lines.{Left}
+use Rattle.mask_lines.specs.Masks.{mask_text}
+use Rattle.mask_lines.proofs.Text.{masks-turn, masks-end}
+use Rattle.mask_lines.proofs.put_all.Goals as goal
+
+pub loop-k-init : goal.loop-k-init
+loop-k-init c = (refl, (refl, refl))
+
+pub loop-k-preserved : goal.loop-k-preserved
+loop-k-preserved c =
+    let l = c.loop-k in
+    let turn = masks-turn c.args.masks.now l.k l.out _ l.end _ (omega arith) (rw c.mask_text-text.ensures at c.put_text-end.ensures) in
+    (search rules, (turn.0 ∙ l.invariant.1.0, turn.1 ∙ l.invariant.1.1))
+
+pub returns : goal.returns
+returns c =
+    let l = c.loop-k in
+    let end = masks-end c.args.masks.now l.k l.out l.end (omega arith) in
+    (sym end.0 ∙ l.invariant.1.0, sym end.1 ∙ l.invariant.1.1)

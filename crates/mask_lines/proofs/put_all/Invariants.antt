@@ -1,0 +1,18 @@
+-- `put_all` puts them one by one. The invariant: what is left from the k-th on, put from `end` on, makes the whole.
+use Prim.Native.Nat.{ℕ, ◌+◌, ◌-◌, ◌≤◌, ◌<◌}
+use mathlib.Core.Path.{◌≡◌, refl, sym, ap, ◌∙◌}
+use native.Mathlib.Omega.{arith}
+use borrow.Author.Rules.{rules}
+use lib.ListN.{length}
+use mathlib.Core.List.{map}
+use lib.ListN.{drop}
+use Rattle.answer_values.proofs.Lines.{Left}
+use Rattle.mask_lines.specs.Masks.{mask_text}
+use Rattle.mask_lines.proofs.Text.{masks-turn, masks-end}
+use Rattle.mask_lines.proofs.put_all.Given as goal
+
+abbrev pub invariant-loop-k : goal.invariant-loop-k
+invariant-loop-k l = (length l.out ≡ length l.at) × Left (map mask_text (drop l.k l.masks)) (map mask_text l.masks) l.at l.out l.initial.out l.end
+
+abbrev pub decreases-loop-k : goal.decreases-loop-k
+decreases-loop-k l = length l.masks - l.k

@@ -1,0 +1,22 @@
+-- `put_masks` puts a refusal, or `ok`, the masks and a line feed.
+use Prim.Native.Nat.{ℕ, ◌+◌, ◌-◌, ◌≤◌, ◌<◌}
+use mathlib.Core.Path.{◌≡◌, refl, sym, ap, ◌∙◌}
+use native.Mathlib.Omega.{arith}
+use borrow.Author.Rules.{rules}
+use lib.ListN.{length}
+use mathlib.Core.List.{map}
+use Rattle.motion_file.specs.Text.{ascii}
+use Rattle.answer_values.proofs.Lines.{answer-refused, answer_ok}
+use Rattle.mask_lines.specs.Masks.{mask_text}
+use borrow.Author.Rules.{rules}
+use Rattle.mask_lines.proofs.put_masks.Goals as goal
+
+pub returns-then-refusal-ne0 : goal.returns-then-refusal-ne0
+returns-then-refusal-ne0 c =
+    answer-refused c.args.refusal (map mask_text c.args.masks.now) c.args.out.now _ c.args.at _ c.if-refusal-ne0.true c.put_refused.ensures
+
+pub returns : goal.returns
+unfolding ascii
+returns c =
+    answer_ok c.args.refusal (map mask_text c.args.masks.now) c.args.out.now _ _ _ c.args.at _ _ _ c.if-refusal-ne0.false
+    c.put_text.ensures c.put_all-end.ensures c.put_text.ensures

@@ -1,0 +1,9 @@
+-- `eq` meets its contract: each call compares a row.
+use Rattle.matrix4x4.specs.Eq.{Matrix4x4-eq}
+use borrow.Author.Rules.{rules}
+use Rattle.matrix4x4.proofs.eq.Goals as goal
+
+pub returns : goal.returns
+unfolding Matrix4x4-eq
+returns c =
+    rw (c.row_eq.ensures, c.row_eq-2.ensures, c.row_eq-3.ensures, c.row_eq-4.ensures)

@@ -1,0 +1,10 @@
+-- `mul` meets its contract: the rows of the transposed second matrix are its columns.
+use Rattle.matrix4x4.specs.Transpose.{Matrix4x4-transpose}
+use Rattle.matrix4x4.specs.Mul.{Matrix4x4-mul}
+use borrow.Author.Rules.{rules}
+use Rattle.matrix4x4.proofs.mul.Goals as goal
+
+pub returns : goal.returns
+unfolding Matrix4x4-transpose Matrix4x4-mul
+returns c =
+    rw (c.mul_row.ensures, c.mul_row-2.ensures, c.mul_row-3.ensures, c.mul_row-4.ensures, c.transpose-t.ensures)

@@ -1,0 +1,12 @@
+-- `judged` meets its contract: its test is the definition's.
+use Rattle.matrix_inverse.specs.Inverse.{InverseAnswer-judged}
+use borrow.Author.Rules.{rules}
+use Rattle.matrix_inverse.proofs.judged.Goals as goal
+
+pub returns-then-is_finite : goal.returns-then-is_finite
+unfolding InverseAnswer-judged
+returns-then-is_finite c = rw (← c.is_finite.ensures, c.if-is_finite.true) c.new.ensures
+
+pub returns-else-is_finite : goal.returns-else-is_finite
+unfolding InverseAnswer-judged
+returns-else-is_finite c = rw (← c.is_finite.ensures, c.if-is_finite.false) c.refused.ensures

@@ -1,0 +1,8 @@
+-- `from_largest` meets its contract: its operations are the definition's, about one root and one quotient.
+use Rattle.matrix_quaternion.specs.FromMatrix.{from_largest}
+use borrow.Author.Rules.{rules}
+use Rattle.matrix_quaternion.proofs.from_largest.Goals as goal
+
+pub returns : goal.returns
+unfolding from_largest
+returns c = rw (c.half_over-r.ensures, c.sqrt-s.ensures)

@@ -1,0 +1,19 @@
+-- `quaternion_from_matrix` meets its contract: the trace's sign, then the largest of the diagonal, choose the case.
+use Rattle.matrix_quaternion.specs.FromMatrix.{Quaternion-from_matrix}
+use borrow.Author.Rules.{rules}
+use Rattle.matrix_quaternion.proofs.quaternion_from_matrix.Goals as goal
+
+pub returns-then-trace : goal.returns-then-trace
+unfolding Quaternion-from_matrix
+returns-then-trace c = rw (c.if-trace.true, c.from_trace.ensures)
+
+pub returns : goal.returns
+unfolding Quaternion-from_matrix
+returns c =
+    rw (
+      c.if-trace.false,
+      c.from_largest.ensures,
+      c.nxt-k.ensures.0,
+      c.nxt-j.ensures.0,
+      c.largest-i.ensures.0,
+    )

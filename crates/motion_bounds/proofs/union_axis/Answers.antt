@@ -1,0 +1,25 @@
+-- `union_axis` meets its contract: each arm is its case of the definition, and the search's number chooses in the first.
+use borrow.Author.Tests.{eq-eqb, ne_eqb}
+use Rattle.motion_bounds.specs.MotionBounds.{union_axis}
+use Rattle.motion_bounds.proofs.Searched.{axis-zeros-stored}
+use borrow.Author.Rules.{rules}
+use Rattle.motion_bounds.proofs.union_axis.Goals as goal
+
+pub returns-then-zeros-ne0 : goal.returns-then-zeros-ne0
+unfolding union_axis
+returns-then-zeros-ne0 c =
+    rw (c.enum_told-1.given.1, ← c.axis_search-found.ensures, ne_eqb _ _ c.if-zeros-ne0.true)
+
+pub union_zeros-bounds-requires : goal.union_zeros-bounds-requires
+union_zeros-bounds-requires c =
+    rw c.axis_search-found.ensures (axis-zeros-stored _ _ _)
+
+pub returns-else-zeros-ne0 : goal.returns-else-zeros-ne0
+unfolding union_axis
+returns-else-zeros-ne0 c =
+    let told = c.enum_told-1.given.1 in
+    rw (told, ← c.axis_search-found.ensures, eq-eqb _ _ c.if-zeros-ne0.false, c.union_zeros-bounds.ensures, told)
+
+pub returns-in-Refused : goal.returns-in-Refused
+unfolding union_axis
+returns-in-Refused c = rw c.enum_told-in-Refused-1.given.1

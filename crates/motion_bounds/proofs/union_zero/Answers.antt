@@ -1,0 +1,19 @@
+-- `union_zero` meets its contract: each arm is its case of `unionMoved`.
+use Rattle.transform.specs.TransformBounds.{BoundsAnswer-union_moved}
+use Rattle.motion_bounds.specs.MotionBounds.{union_zero}
+use borrow.Author.Rules.{rules}
+use Rattle.motion_bounds.proofs.union_zero.Goals as goal
+
+pub returns-in-Moved : goal.returns-in-Moved
+unfolding union_zero BoundsAnswer-union_moved
+returns-in-Moved c =
+    rw (c.r-1.given.1, ← c.point_at-q.ensures, c.q-1.given.1, c.union_point.ensures)
+
+pub returns-in-Refused-q : goal.returns-in-Refused-q
+unfolding union_zero BoundsAnswer-union_moved
+returns-in-Refused-q c =
+    rw (c.r-1.given.1, ← c.point_at-q.ensures, c.q-in-Refused-1.given.1)
+
+pub returns-in-Refused : goal.returns-in-Refused
+unfolding union_zero BoundsAnswer-union_moved
+returns-in-Refused c = rw c.enum_told-1.given.1

@@ -1,0 +1,21 @@
+-- `slice` meets its contract: both ends by `from_fixed`.
+use Prim.Native.Nat.{◌+◌, ◌≤◌}
+use native.Mathlib.Omega.{arith}
+use lib.Pow.{pow-lt}
+use Rattle.bounds_query.specs.Query.{max_depth}
+use Rattle.unit_interval.specs.Unit.{slice}
+use Rattle.motion_cover.proofs.Slices.{slice-end}
+use borrow.Author.Rules.{rules}
+use Rattle.motion_fronts.proofs.slice.Goals as goal
+
+pub overflow_add-k : goal.overflow_add-k
+overflow_add-k c =
+    let h = c.requires in
+    omega (arith, h, pow-lt {i = c.args.d} {j = 13} (omega (arith, h)))
+
+pub returns : goal.returns
+unfolding slice
+returns c =
+    let a = c.args in
+    let h : a.d ≤ max_depth = c.requires.0 in
+    rw (c.from_fixed.ensures, c.from_fixed-2.ensures, slice-end a.d a.k h, slice-end a.d (a.k + 1) h)

@@ -1,0 +1,17 @@
+-- `take_slices` meets its contract. The invariant: the first k slices are taken over the boxes in front.
+use Prim.Native.Nat.{◌-◌, ◌≤◌}
+use mathlib.Core.Path.{ap, ◌∙◌}
+use native.Mathlib.Omega.{arith}
+use lib.Pow.{pow-lt}
+use borrow.Author.Rules.{rules}
+use Rattle.bounds_query.specs.Query.{max_depth}
+use Rattle.motion_piece.specs.means.Piece.{PaddedPose-over}
+use Rattle.motion_cover.proofs.Slices.{slice-count}
+use Rattle.motion_fronts.proofs.Sliced.{Sliced, sliced-first, sliced-next, sliced-last}
+use Rattle.motion_fronts.proofs.take_slices.Given as goal
+
+abbrev pub invariant-loop-k : goal.invariant-loop-k
+invariant-loop-k l = (l.k ≤ l.initial.places) × Sliced l.m l.slices l.boxes l.d l.initial.reached l.a l.k l.places l.reached
+
+abbrev pub decreases-loop-k : goal.decreases-loop-k
+decreases-loop-k l = l.initial.places - l.k

@@ -1,0 +1,11 @@
+-- `grow` meets its contract: a refusal passes on.
+use Rattle.motion_pad.specs.Grow.{BoundsAnswer-grow}
+use borrow.Author.Rules.{rules}
+use Rattle.motion_pad.proofs.grow.Goals as goal
+
+pub returns-in-Bounds : goal.returns-in-Bounds
+returns-in-Bounds c = rw (c.answer-1.given.1, c.grow_box.ensures)
+
+pub returns-in-Refused : goal.returns-in-Refused
+unfolding BoundsAnswer-grow
+returns-in-Refused c = rw c.answer-in-Refused-1.given.1

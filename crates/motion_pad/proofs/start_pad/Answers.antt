@@ -1,0 +1,8 @@
+-- `start_pad` meets its contract: one test.
+use Rattle.motion_pad.proofs.start_pad.Goals as goal
+
+pub returns-then-animated : goal.returns-then-animated
+returns-then-animated c = rw c.if-animated.true
+
+pub returns : goal.returns
+returns c = rw (c.if-animated.false, c.max.ensures)

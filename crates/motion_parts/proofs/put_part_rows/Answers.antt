@@ -1,0 +1,36 @@
+-- `put_part_rows` puts the rows of the parts. The invariant: what is left from the k-th row on, put from `end` on, makes the whole.
+use Prim.Native.Nat.{◌-◌, ◌≤◌}
+use native.Mathlib.Omega.{arith}
+use mathlib.Core.Path.{◌≡◌, refl, sym, ◌∙◌, ap}
+use lib.ListN.{length}
+use Rattle.answer_lines.specs.Pieces.{put_all, behind_all}
+use Rattle.motion_parts.specs.Parts.{row_pieces}
+use Rattle.motion_parts.proofs.Rows.{rows-below, rows-turn, rows_end}
+use borrow.Author.Rules.{rules}
+use Rattle.motion_parts.proofs.put_part_rows.Goals as goal
+
+pub loop-k-init : goal.loop-k-init
+loop-k-init c = (omega arith, refl, refl, refl)
+
+pub offset_bounds-motion-i : goal.offset_bounds-motion-i
+offset_bounds-motion-i c = record { fits = omega (arith, rows-below c.loop-k.k) }
+
+pub bounds-motion-i : goal.bounds-motion-i
+bounds-motion-i c = rows-below c.loop-k.k
+
+pub loop-k-preserved : goal.loop-k-preserved
+loop-k-preserved c =
+    let l = c.loop-k in
+    let a = c.args in
+    let turn =
+    rows-turn a.motion.now l.k l.out _ l.end _ (omega arith)
+    (rw c.part_size.ensures at c.put_floats-end.ensures) in
+    (omega arith, search rules, turn.0 ∙ l.invariant.2, turn.1 ∙ l.invariant.3)
+
+pub returns : goal.returns
+returns c =
+    let l = c.loop-k in
+    let a = c.args in
+    let last : l.k ≡ 35 = omega arith in
+    let end = rows_end a.motion.now l.out l.end in
+    (sym end.0 ∙ rw last at l.invariant.2, sym end.1 ∙ rw last at l.invariant.3)

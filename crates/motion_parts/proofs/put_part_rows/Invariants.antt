@@ -1,0 +1,19 @@
+-- `put_part_rows` puts the rows of the parts. The invariant: what is left from the k-th row on, put from `end` on, makes the whole.
+use Prim.Native.Nat.{◌-◌, ◌≤◌}
+use native.Mathlib.Omega.{arith}
+use mathlib.Core.Path.{◌≡◌, refl, sym, ◌∙◌, ap}
+use lib.ListN.{length}
+use Rattle.answer_lines.specs.Pieces.{put_all, behind_all}
+use Rattle.motion_parts.specs.Parts.{row_pieces}
+use Rattle.motion_parts.proofs.Rows.{rows-below, rows-turn, rows_end}
+use borrow.Author.Rules.{rules}
+use Rattle.motion_parts.proofs.put_part_rows.Given as goal
+
+abbrev pub invariant-loop-k : goal.invariant-loop-k
+invariant-loop-k l =
+    (l.k ≤ 35) × (length l.out ≡ length l.at)
+    × (behind_all (row_pieces l.motion l.k) l.out l.end ≡ behind_all (row_pieces l.motion 0) l.at l.initial.out)
+    × (put_all (row_pieces l.motion l.k) l.out l.end ≡ put_all (row_pieces l.motion 0) l.at l.initial.out)
+
+abbrev pub decreases-loop-k : goal.decreases-loop-k
+decreases-loop-k l = 35 - l.k

@@ -1,0 +1,13 @@
+-- `box_enclosure` meets its contract: a chain of calls.
+use Rattle.motion_piece.specs.means.Piece.{PaddedPose-enclose_bounds}
+use Rattle.motion_piece.proofs.box_enclosure.Goals as goal
+
+pub returns : goal.returns
+unfolding PaddedPose-enclose_bounds
+returns c =
+    rw (
+      c.grow.ensures,
+      c.from_enclosure-moved.ensures,
+      c.transform_point_enclosure.ensures,
+      c.intervals.ensures,
+    )

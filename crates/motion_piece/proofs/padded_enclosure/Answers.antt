@@ -1,0 +1,5 @@
+-- `padded_enclosure` meets its contract: two calls.
+use Rattle.motion_piece.proofs.padded_enclosure.Goals as goal
+
+pub returns : goal.returns
+returns c = rw (c.pad_enclosure-pad.ensures, c.pose_enclosure-matrix.ensures)

@@ -1,0 +1,5 @@
+-- `stored_enclosure` meets its contract: two calls.
+use Rattle.motion_piece.proofs.stored_enclosure.Goals as goal
+
+pub returns : goal.returns
+returns c = rw (c.stored_pad-pad.ensures, c.matrix_point-entries.ensures)

@@ -1,0 +1,29 @@
+-- `put` pastes a text. The invariant: its first i bytes stand in `out` from `at` on.
+use Prim.Native.Nat.{◌+◌, ◌-◌, ◌≤◌}
+use native.Mathlib.Numerals.{add-one}
+use native.Mathlib.Omega.{arith}
+use mathlib.Core.Path.{◌≡◌, refl, ◌∙◌}
+use lib.ListN.{length, length-set}
+use lib.Seq.{paste, paste-zero, paste-suc}
+use borrow.Author.Rules.{rules}
+use Rattle.motion_text.proofs.put.Goals as goal
+
+pub loop-i-init : goal.loop-i-init
+loop-i-init c =
+    let a = c.args in
+    (omega arith, refl, paste-zero a.out.now a.at a.text.now)
+
+pub loop-i-preserved : goal.loop-i-preserved
+loop-i-preserved c =
+    let a = c.args in
+    let l = c.loop-i in (
+      omega arith,
+      length-set l.out (a.at + l.i) _ ∙ l.invariant.1,
+      rw (l.invariant.2, add-one l.i) (paste-suc a.out.now a.at a.text.now l.i 0 (omega arith) (omega arith)),
+    )
+
+pub returns : goal.returns
+returns c =
+    let l = c.loop-i in
+    let e : l.i ≡ length c.args.text.now = omega arith in
+    rw (← e) l.invariant.2

@@ -1,0 +1,9 @@
+-- `distance` meets its contract: each row is taken into the greatest so far.
+use Rattle.polar_round.specs.PolarRound.{distance}
+use borrow.Author.Rules.{rules}
+use Rattle.polar_round.proofs.distance.Goals as goal
+
+pub returns : goal.returns
+unfolding distance
+returns c =
+    rw (c.max.ensures, c.row_distance-3.ensures, c.max-b.ensures, c.row_distance-2.ensures, c.max.ensures, c.row_distance.ensures)

@@ -1,0 +1,14 @@
+-- `composed_point` meets its contract: one test of the pose's number and of the point.
+use Rattle.pose.specs.means.Composition.{Pose-composed_point}
+use borrow.Author.Rules.{rules}
+use Rattle.pose.proofs.composed_point.Goals as goal
+
+pub returns-then-pose-is_finite : goal.returns-then-pose-is_finite
+unfolding Pose-composed_point
+returns-then-pose-is_finite c =
+    rw (← c.composition-pose.ensures, ← c.transform_point-q.ensures, ← c.is_finite.ensures, c.if-pose-is_finite.true)
+
+pub returns-else-pose-is_finite : goal.returns-else-pose-is_finite
+unfolding Pose-composed_point
+returns-else-pose-is_finite c =
+    rw (← c.composition-pose.ensures, ← c.transform_point-q.ensures, ← c.is_finite.ensures, c.if-pose-is_finite.false)

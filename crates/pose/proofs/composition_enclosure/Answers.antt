@@ -1,0 +1,11 @@
+-- `composition_enclosure` meets its contract: the stages in the order of the definition, the last call first.
+use Rattle.pose.proofs.composition_enclosure.Goals as goal
+
+pub returns : goal.returns
+returns c =
+    rw (
+      c.mul_enclosure.ensures,
+      c.translate_enclosure-first.ensures,
+      c.rotation_enclosure-rotating.ensures,
+      c.scale_by_enclosure-scaling.ensures,
+    )

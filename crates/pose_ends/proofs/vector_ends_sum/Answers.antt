@@ -1,0 +1,7 @@
+-- `vector_ends_sum` meets its contract: its calls in turn, from the last to the first.
+use Rattle.pose_ends.specs.means.Ends.{IntervalVector-ends_sum}
+use Rattle.pose_ends.proofs.vector_ends_sum.Goals as goal
+
+pub returns : goal.returns
+unfolding IntervalVector-ends_sum
+returns c = rw (c.ends_sum-3.ensures, c.ends_sum-2.ensures, c.ends_sum.ensures)

@@ -1,0 +1,42 @@
+-- `rotation_enclosure` meets its contract: its calls are the formula's operations in working order.
+use mathlib.Core.Path.{ap}
+use Rattle.formula.specs.Enclose.{enclosure}
+use Rattle.formula.proofs.Trace.{traced}
+use Rattle.pose_steps.specs.Stages.{rotation_stage}
+use Rattle.pose_steps.specs.Enclose.{IntervalQuaternion-list, JudgedMatrix-of, Pose-enclose_rotation}
+use Rattle.pose_judged.proofs.rotation_enclosure.Goals as goal
+
+pub returns : goal.returns
+unfolding Pose-enclose_rotation
+returns c =
+    ap JudgedMatrix-of (traced (enclosure c.args.m (IntervalQuaternion-list c.args.q)) rotation_stage
+    _ c.mul_enclosure-xx.ensures
+    _ c.mul_enclosure-yy.ensures
+    _ c.mul_enclosure-zz.ensures
+    _ c.mul_enclosure-xy.ensures
+    _ c.mul_enclosure-xz.ensures
+    _ c.mul_enclosure-yz.ensures
+    _ c.mul_enclosure-wx.ensures
+    _ c.mul_enclosure-wy.ensures
+    _ c.mul_enclosure-wz.ensures
+    _ c.add_enclosure-a00.ensures
+    _ c.mul_enclosure-b00.ensures
+    _ c.sub_enclosure-m00.ensures
+    _ c.add_enclosure-a01.ensures
+    _ c.mul_enclosure-m01.ensures
+    _ c.sub_enclosure-a02.ensures
+    _ c.mul_enclosure-m02.ensures
+    _ c.sub_enclosure-a10.ensures
+    _ c.mul_enclosure-m10.ensures
+    _ c.add_enclosure-a11.ensures
+    _ c.mul_enclosure-b11.ensures
+    _ c.sub_enclosure-m11.ensures
+    _ c.add_enclosure-a12.ensures
+    _ c.mul_enclosure-m12.ensures
+    _ c.add_enclosure-a20.ensures
+    _ c.mul_enclosure-m20.ensures
+    _ c.sub_enclosure-a21.ensures
+    _ c.mul_enclosure-m21.ensures
+    _ c.add_enclosure-a22.ensures
+    _ c.mul_enclosure-b22.ensures
+    _ c.sub_enclosure-m22.ensures)

@@ -1,0 +1,9 @@
+-- `scale_enclosure` meets its contract, row by row, the last call first.
+use Rattle.pose_steps.specs.Enclose.{Pose-enclose_scale}
+use borrow.Author.Rules.{rules}
+use Rattle.pose_judged.proofs.scale_enclosure.Goals as goal
+
+pub returns : goal.returns
+unfolding Pose-enclose_scale
+returns c =
+    rw (c.scale_row_enclosure-r.ensures, c.scale_row_enclosure-q.ensures, c.scale_row_enclosure-p.ensures)

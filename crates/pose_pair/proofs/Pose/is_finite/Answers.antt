@@ -1,0 +1,10 @@
+-- `is_finite` meets its contract: the tests of the time, of the matrix and of the pad.
+use Rattle.pose_pair.specs.Pose.{Pose-is_finite}
+use borrow.Author.Rules.{rules}
+use Rattle.matrix4x4.proofs.is_finite.Reads as is-finite-reads'
+use Rattle.pose_pair.proofs.Pose.is_finite.Goals as goal
+
+pub returns : goal.returns
+unfolding Pose-is_finite
+returns c =
+    rw (c.is_finite-3.ensures, c.is_finite-2.ensures, c.to_rows.ensures, c.is_finite.ensures)

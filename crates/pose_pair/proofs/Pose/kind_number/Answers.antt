@@ -1,0 +1,11 @@
+-- `kind_number` meets its contract: the kind chooses the case.
+use Rattle.pose_pair.specs.Pose.{Pose-kind_number}
+use Rattle.pose_pair.proofs.Pose.kind_number.Goals as goal
+
+pub returns-then-rigid : goal.returns-then-rigid
+unfolding Pose-kind_number
+returns-then-rigid c = rw (c.if-rigid.true, ← c.to_rows.ensures) c.refusal.ensures
+
+pub returns-else-rigid : goal.returns-else-rigid
+unfolding Pose-kind_number
+returns-else-rigid c = rw c.if-rigid.false

@@ -1,0 +1,19 @@
+-- `times_refusal` meets its contract: its test is the definition's.
+use Prim.Native.Nat.{ℕ}
+use mathlib.Core.Path.{sym, ap}
+use mathlib.Core.Bool.{Bool, cond}
+use Rattle.pose_pair.specs.Pose.{times_refusal}
+use borrow.Author.Rules.{rules}
+use Rattle.pose_pair.proofs.times_refusal.Goals as goal
+
+-- by the answer of the test
+abbrev refusal : Bool → ℕ
+refusal b = cond b 3 0
+
+pub returns-then-end-start : goal.returns-then-end-start
+unfolding times_refusal
+returns-then-end-start c = sym (ap refusal (rw c.is_finite.ensures at c.if-end-start.true))
+
+pub returns-else-end-start : goal.returns-else-end-start
+unfolding times_refusal
+returns-else-end-start c = sym (ap refusal (rw c.is_finite.ensures at c.if-end-start.false))

@@ -1,0 +1,6 @@
+-- `matrix_point` meets its contract.
+use borrow.Author.Rules.{rules}
+use Rattle.pose_point.proofs.matrix_point.Goals as goal
+
+pub returns : goal.returns
+returns c = cc

@@ -1,0 +1,34 @@
+-- `transform_point_unjudged` meets its contract: its calls are the formula's operations in working order.
+use mathlib.Core.Path.{ap}
+use mathlib.Core.List.{List, ◌++◌}
+use Rattle.interval.specs.declared.Interval.{Interval}
+use Rattle.formula.specs.Enclose.{enclosure}
+use Rattle.interval_unjudged.proofs.Trace.{traced-unjudged}
+use Rattle.pose_steps.specs.Stages.{transform_point_stage}
+use Rattle.pose_steps.specs.Enclose.{IntervalVector-list, IntervalMatrix-list, JudgedVector-of}
+use Rattle.pose_point.specs.means.Unjudged.{Pose-unjudged_transform_point}
+use Rattle.pose_point.proofs.transform_point_unjudged.Goals as goal
+
+pub returns : goal.returns
+unfolding Pose-unjudged_transform_point
+returns c =
+    ap (λ (l : List Interval). (JudgedVector-of (enclosure 0 l)).vector)
+    (traced-unjudged (IntervalMatrix-list c.args.a ++ IntervalVector-list c.args.p) transform_point_stage
+    _ c.mul_ordered-p0.ensures
+    _ c.mul_ordered-q0.ensures
+    _ c.add_enclosure-s0.ensures
+    _ c.mul_ordered-t0.ensures
+    _ c.add_enclosure-u0.ensures
+    _ c.add_enclosure-x.ensures
+    _ c.mul_ordered-p1.ensures
+    _ c.mul_ordered-q1.ensures
+    _ c.add_enclosure-s1.ensures
+    _ c.mul_ordered-t1.ensures
+    _ c.add_enclosure-u1.ensures
+    _ c.add_enclosure-y.ensures
+    _ c.mul_ordered-p2.ensures
+    _ c.mul_ordered-q2.ensures
+    _ c.add_enclosure-s2.ensures
+    _ c.mul_ordered-t2.ensures
+    _ c.add_enclosure-u2.ensures
+    _ c.add_enclosure-z.ensures)

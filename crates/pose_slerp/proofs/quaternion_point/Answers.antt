@@ -1,0 +1,6 @@
+-- `quaternion_point` meets its contract.
+use borrow.Author.Rules.{rules}
+use Rattle.pose_slerp.proofs.quaternion_point.Goals as goal
+
+pub returns : goal.returns
+returns c = cc

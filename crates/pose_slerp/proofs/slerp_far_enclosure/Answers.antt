@@ -1,0 +1,12 @@
+-- `slerp_far_enclosure` meets its contract: its calls in turn, from the last to the first.
+use Rattle.pose_slerp.proofs.slerp_far_enclosure.Goals as goal
+
+pub returns : goal.returns
+returns c =
+    rw (
+      c.slerp_far_enclosure.ensures,
+      c.point-theta.ensures,
+      c.point-cos_theta.ensures,
+      c.quaternion_point-q.ensures,
+      c.quaternion_point-p.ensures,
+    )

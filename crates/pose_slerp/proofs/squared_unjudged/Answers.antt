@@ -1,0 +1,16 @@
+-- `squared_unjudged` meets its contract: its calls in turn, from the last to the first.
+use Rattle.pose_slerp.specs.means.Unjudged.{IntervalQuaternion-squared}
+use Rattle.pose_slerp.proofs.squared_unjudged.Goals as goal
+
+pub returns : goal.returns
+unfolding IntervalQuaternion-squared
+returns c =
+    rw (
+      c.add_enclosure.ensures,
+      c.mul_ordered-ww.ensures,
+      c.add_enclosure-xyz.ensures,
+      c.mul_ordered-zz.ensures,
+      c.add_enclosure.ensures,
+      c.mul_ordered-yy.ensures,
+      c.mul_ordered-xx.ensures,
+    )

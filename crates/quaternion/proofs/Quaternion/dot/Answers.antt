@@ -1,0 +1,8 @@
+-- `dot` meets its contract: the vectors' dot product, then the scalars' product.
+use Rattle.quaternion.specs.Quaternion.{Quaternion-dot}
+use borrow.Author.Rules.{rules}
+use Rattle.quaternion.proofs.Quaternion.dot.Goals as goal
+
+pub returns : goal.returns
+unfolding Quaternion-dot
+returns c = rw c.dot.ensures

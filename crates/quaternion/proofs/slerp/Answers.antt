@@ -1,0 +1,17 @@
+-- `slerp` meets its contract: the dot product chooses the case.
+use mathlib.Core.Path.{◌≡◌}
+use mathlib.Core.Bool.{true}
+use lib.Ieee.{lt}
+use Rattle.quaternion.specs.Slerp.{slerp_threshold, Quaternion-slerp, slerp_by}
+use borrow.Author.Rules.{rules}
+use Rattle.quaternion.proofs.slerp.Goals as goal
+
+pub returns-then-cos_theta : goal.returns-then-cos_theta
+unfolding Quaternion-slerp slerp_by
+returns-then-cos_theta c =
+    let taken : lt slerp_threshold c.dot-cos_theta.result ≡ true = c.if-cos_theta.true in
+    rw (rw c.dot-cos_theta.ensures at taken, c.slerp_near.ensures)
+
+pub returns-else-cos_theta : goal.returns-else-cos_theta
+unfolding Quaternion-slerp slerp_by
+returns-else-cos_theta c = rw (rw c.dot-cos_theta.ensures at c.if-cos_theta.false, c.slerp_far.ensures, c.dot-cos_theta.ensures)

@@ -1,0 +1,9 @@
+-- `slerp_near` meets its contract: a chain of four calls.
+use Rattle.quaternion.specs.Slerp.{slerp_near}
+use borrow.Author.Rules.{rules}
+use Rattle.quaternion.proofs.slerp_near.Goals as goal
+
+pub returns : goal.returns
+unfolding slerp_near
+returns c =
+    rw (c.normalize.ensures, c.add.ensures, c.mul-b.ensures, c.mul-a.ensures)

@@ -1,0 +1,14 @@
+-- `nth_bounds` is +0 where there are too few floats.
+use Prim.Native.Nat.{◌*◌}
+use native.Mathlib.Omega.{arith}
+use lib.Ieee.{binary32, of_bits}
+use lib.ListN.{replicate}
+use Rattle.question_values.specs.Places.{values_at}
+use Rattle.question_values.proofs.Places.{left-few}
+use borrow.Author.Rules.{rules}
+use Rattle.question_values.proofs.nth_bounds.Goals as goal
+
+pub returns-then-values-i : goal.returns-then-values-i
+unfolding values_at
+returns-then-values-i c =
+    left-few c.args.values.now (6 * c.args.i) (replicate 6 (of_bits binary32 0)) (omega (arith, c.if-values-i.true))

@@ -1,0 +1,17 @@
+-- `put_poses` puts one by one. The invariant: the first i places are filled.
+use Prim.Native.Nat.{◌-◌, ◌≤◌}
+use native.Mathlib.Omega.{arith}
+use mathlib.Core.Path.{◌≡◌, refl, ◌∙◌}
+use lib.ListN.{length, length-set}
+use lib.Seq.{paste, paste-zero}
+use Rattle.question_values.specs.Places.{groups_from}
+use Rattle.question_values.proofs.Places.{groups-turn, groups-all}
+use borrow.Author.Rules.{rules}
+use Rattle.question_values.proofs.put_poses.Given as goal
+
+abbrev pub invariant-loop-i : goal.invariant-loop-i
+invariant-loop-i l =
+    (length l.poses ≡ length l.initial.poses) × (l.i ≤ length l.initial.poses) × (l.poses ≡ paste l.initial.poses 0 (groups_from 18 (length l.initial.poses) 0 l.values) l.i)
+
+abbrev pub decreases-loop-i : goal.decreases-loop-i
+decreases-loop-i l = length l.initial.poses - l.i

@@ -1,0 +1,19 @@
+-- `take_stored` meets its contract: a stored transform with its pad, where it is asked for.
+use Prim.Native.Nat.{ℕ, ◌+◌, ◌-◌, ◌≤◌, ◌<◌}
+use mathlib.Core.Path.{◌≡◌, refl, sym, ap, ◌∙◌}
+use native.Mathlib.Omega.{arith}
+use borrow.Author.Rules.{rules}
+use lib.ListN.{length}
+use mathlib.Core.List.{[], ◌∷◌}
+use borrow.Author.Tests.{not-true, not-false}
+use Rattle.reach_window.specs.means.Walk.{Walks}
+use Rattle.reach_window.proofs.Walk.{walks-none}
+use borrow.Author.Rules.{rules}
+use Rattle.reach_window.proofs.take_stored.Goals as goal
+
+pub returns-then-not-asked : goal.returns-then-not-asked
+returns-then-not-asked c = rw (not-true c.args.asked c.if-not-asked.true) walks-none
+
+pub returns : goal.returns
+returns c =
+    rw (not-false c.args.asked c.if-not-asked.false, ← c.stored_enclosure.ensures) c.take_pose.ensures

@@ -1,0 +1,18 @@
+-- `has_shear` meets its contract: the rows of the transpose are the columns.
+use Rattle.matrix4x4.specs.Transpose.{Matrix4x4-transpose}
+use Rattle.rigid_pose.specs.Rigid.{Matrix4x4-has_shear}
+use borrow.Author.Rules.{rules}
+use Rattle.rigid_pose.proofs.has_shear.Goals as goal
+
+pub returns : goal.returns
+unfolding Matrix4x4-has_shear Matrix4x4-transpose
+returns c =
+    rw (
+      c.near_zero-yz.ensures,
+      c.dot3-3.ensures,
+      c.near_zero-xz.ensures,
+      c.dot3-2.ensures,
+      c.near_zero-xy.ensures,
+      c.dot3.ensures,
+      c.transpose-t.ensures,
+    )

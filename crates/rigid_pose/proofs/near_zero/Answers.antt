@@ -1,0 +1,8 @@
+-- `near_zero` meets its contract: it is the definition's test.
+use Rattle.rigid_pose.specs.Rigid.{near_zero}
+use borrow.Author.Rules.{rules}
+use Rattle.rigid_pose.proofs.near_zero.Goals as goal
+
+pub returns : goal.returns
+unfolding near_zero
+returns c = rw c.abs.ensures

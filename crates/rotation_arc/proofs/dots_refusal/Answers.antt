@@ -1,0 +1,12 @@
+-- `dots_refusal` meets its contract: its test is the definition's.
+use Rattle.rotation_arc.specs.ShorterArc.{dots_refusal}
+use borrow.Author.Rules.{rules}
+use Rattle.rotation_arc.proofs.dots_refusal.Goals as goal
+
+pub returns-then-is_finite : goal.returns-then-is_finite
+unfolding dots_refusal
+returns-then-is_finite c = rw (rw (c.is_finite.ensures, c.is_finite-2.ensures) at c.if-is_finite.true)
+
+pub returns-else-is_finite : goal.returns-else-is_finite
+unfolding dots_refusal
+returns-else-is_finite c = rw (rw (c.is_finite.ensures, c.is_finite-2.ensures) at c.if-is_finite.false)

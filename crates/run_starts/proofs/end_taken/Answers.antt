@@ -1,0 +1,23 @@
+-- `end_taken` meets its contract: each return is a case of the definition.
+use native.Mathlib.Omega.{arith}
+use borrow.Author.Tests.{eq-eqb, ne_eqb}
+use Rattle.run_starts.specs.means.Ends.{end_taken}
+use borrow.Author.Rules.{rules}
+use Rattle.run_starts.proofs.end_taken.Goals as goal
+
+pub returns-then-end-ne0 : goal.returns-then-end-ne0
+unfolding end_taken
+returns-then-end-ne0 c = rw (ne_eqb _ 0 c.if-end-ne0.true)
+
+pub returns-then-meets_running : goal.returns-then-meets_running
+unfolding end_taken
+returns-then-meets_running c = rw (eq-eqb _ 0 c.if-end-ne0.false, ← c.meets_running.ensures, c.if-meets_running.true)
+
+pub overflow_add-result : goal.overflow_add-result
+overflow_add-result c =
+    omega (arith, (c.requires.1.1.0 c.args.i c.requires.1.0).1, c.requires.1.1.1)
+
+pub returns : goal.returns
+unfolding end_taken
+returns c =
+    rw (eq-eqb _ 0 c.if-end-ne0.false, ← c.meets_running.ensures, c.if-meets_running.false)

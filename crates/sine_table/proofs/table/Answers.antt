@@ -1,0 +1,8 @@
+-- The constant passes the test of a whole table, which is computed here.
+use Rattle.sine_table.specs.Table.{sine_entry, taylor_sum}
+use Rattle.sine_table.proofs.Entries.{tested}
+use Rattle.sine_table.proofs.table.Goals as goal
+
+pub returns : goal.returns
+unfolding sine_entry taylor_sum
+returns c = tested tt

@@ -1,0 +1,63 @@
+-- `fill_stretch` meets its contract. Its loop keeps what the answers are once the points from time i on are put, and what the stretch has in common.
+use Prim.Native.Nat.{◌*◌, ◌-◌, ◌≤◌}
+use mathlib.Core.Path.{◌≡◌, refl, sym, ap, ◌∙◌}
+use native.Mathlib.Omega.{arith}
+use borrow.Author.Rules.{rules}
+use lib.ListN.{length, drop}
+use lib.Ieee.{Float}
+use Rattle.sine_table.specs.Table.{sine_table}
+use Rattle.transform.specs.declared.PointAnswer.{PointAnswer}
+use Rattle.transform.specs.Answer.{PointAnswer-point}
+use Rattle.motion_rows.specs.TransformPoint.{Rows-transform_point}
+use Rattle.motion_chain.specs.Times.{places_per_time}
+use Rattle.stretch_points.specs.means.Stretch.{Stretch-of}
+use Rattle.stretch_points.proofs.Fill.{put-length, filled, filled_next, filled-end, filled-floats}
+use Rattle.stretch_points.proofs.fill_stretch.Goals as goal
+
+pub returns-then-n-eq0 : goal.returns-then-n-eq0
+returns-then-n-eq0 c =
+    let a = c.args in
+    let f : Float → PointAnswer = λ t. Rows-transform_point a.motion.now t a.p in
+    sym (filled-end f a.times.now a.answers.now 0 (let h = c.if-n-eq0.true in omega (arith, h)))
+    ∙ filled-floats f a.times.now a.answers.now c.requires
+
+pub loop-i-init : goal.loop-i-init
+loop-i-init c =
+    ((c.table-table.ensures.0, c.stretch_of-stretch.ensures), (refl, (omega arith, (c.requires, refl))))
+
+pub point_at-requires : goal.point_at-requires
+point_at-requires c = c.loop-i.invariant.0
+
+pub loop-i-preserved : goal.loop-i-preserved
+loop-i-preserved c =
+    let l = c.loop-i in
+    let a = c.args in
+    let h = c.loop-i-test.true in
+    let put = c.put_three.ensures in
+    let point = c.point_of-q.ensures in
+    let answer = c.point_at.ensures in
+    let f : Float → PointAnswer = λ t. Rows-transform_point a.motion.now t a.p in (
+      l.invariant.0,
+      (
+        refl,
+        (
+          omega (arith, h),
+          (
+            put-length l.answers (3 * l.i) point put ∙ l.invariant.1.1.1.0,
+            filled_next f a.times.now l.answers l.i h (point ∙ ap PointAnswer-point answer) put ∙ l.invariant.1.1.1.1,
+          ),
+        ),
+      ),
+    )
+
+pub shape_of-answers : goal.shape_of-answers
+shape_of-answers c =
+    let e = c.loop-i.invariant.1.1.1.0 in let h = c.requires in e ∙ sym h
+
+pub returns : goal.returns
+returns c =
+    let l = c.loop-i in
+    let a = c.args in
+    let f : Float → PointAnswer = λ t. Rows-transform_point a.motion.now t a.p in
+    sym (filled-end f a.times.now l.answers l.i c.loop-i-test.false)
+    ∙ (l.invariant.1.1.1.1 ∙ filled-floats f a.times.now a.answers.now c.requires)

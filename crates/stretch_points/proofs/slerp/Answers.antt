@@ -1,0 +1,21 @@
+-- `slerp` meets its contract: cos_theta chooses the case, and the table that is lent gives the angle's own sine and cosine (`sin-lent`, `cos-lent`).
+use Rattle.float32.specs.Operators.{◌⊗◌}
+use Rattle.trig.proofs.OverTable.{sin-lent, cos-lent}
+use Rattle.pose_steps.specs.Pose.{Pose-slerp, slerp_by}
+use Rattle.pose_slerp.proofs.Arc.{slerp_far-turned}
+use borrow.Author.Rules.{rules}
+use Rattle.stretch_points.proofs.slerp.Goals as goal
+
+pub returns-then-a : goal.returns-then-a
+unfolding Pose-slerp slerp_by
+returns-then-a c = rw (c.if-a.true, c.slerp_near.ensures)
+
+pub returns : goal.returns
+unfolding Pose-slerp slerp_by
+returns c =
+    let a = c.args.a in
+    let x = a.theta ⊗ c.args.t in
+    let lent = c.requires.0 in
+    let s = c.sin_cos_in-angle.ensures in
+    rw (c.if-a.false, c.turned.ensures, sin-lent lent x s.0, cos-lent lent x s.1, c.requires.1)
+    (slerp_far-turned a.r0 a.r1 a.cos_theta a.theta c.args.t)

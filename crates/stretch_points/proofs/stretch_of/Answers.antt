@@ -1,0 +1,9 @@
+-- `stretch_of` meets its contract: its calls in turn.
+use Rattle.stretch_points.specs.means.Stretch.{Stretch-of}
+use borrow.Author.Rules.{rules}
+use Rattle.stretch_points.proofs.stretch_of.Goals as goal
+
+pub returns : goal.returns
+unfolding Stretch-of
+returns c =
+    rw (c.end_scale-s1.ensures, c.start_scale-s0.ensures, c.perpendicular_to-perpendicular.ensures, c.constants_from_rows-a.ensures)

@@ -1,0 +1,18 @@
+-- `refusal` meets its contract: the two tests of the definition.
+use Rattle.motion_chain.specs.Times.{list_refusal}
+use borrow.Author.Rules.{rules}
+use Rattle.time_list.proofs.refusal.Goals as goal
+
+pub returns-then-are_numbers-is_finite : goal.returns-then-are_numbers-is_finite
+unfolding list_refusal
+returns-then-are_numbers-is_finite c = rw (← c.are_numbers.ensures, ← c.is_finite.ensures, c.if-are_numbers-is_finite.true)
+
+pub returns-then-never_falls-places : goal.returns-then-never_falls-places
+unfolding list_refusal
+returns-then-never_falls-places c =
+    rw (← c.are_numbers.ensures, ← c.is_finite.ensures, c.if-are_numbers-is_finite.false, ← c.never_falls.ensures, c.if-never_falls-places.true)
+
+pub returns : goal.returns
+unfolding list_refusal
+returns c =
+    rw (← c.are_numbers.ensures, ← c.is_finite.ensures, c.if-are_numbers-is_finite.false, ← c.never_falls.ensures, c.if-never_falls-places.false)

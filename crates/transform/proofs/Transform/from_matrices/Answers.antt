@@ -1,0 +1,6 @@
+-- `from_matrices` meets its contract: each half is packed by rows.
+use borrow.Author.Rules.{rules}
+use Rattle.transform.proofs.Transform.from_matrices.Goals as goal
+
+pub returns : goal.returns
+returns c = rw (c.from_rows-a.ensures, c.from_rows-b.ensures)

@@ -1,0 +1,25 @@
+-- `from_matrix` meets its contract: the inverse's number chooses the case.
+use borrow.Author.Tests.{eq-eqb, ne_eqb}
+use Rattle.transform.specs.Transform.{Transform-from_matrix}
+use borrow.Author.Rules.{rules}
+use Rattle.transform.proofs.Transform.from_matrix.Goals as goal
+
+pub returns-then-inverse-eq0 : goal.returns-then-inverse-eq0
+unfolding Transform-from_matrix
+returns-then-inverse-eq0 c =
+    rw (
+      eq-eqb _ 0 (rw c.inverse-inverse.ensures at c.if-inverse-eq0.true),
+      c.from_rows-a.ensures,
+      c.from_rows-b.ensures,
+      c.matrix.ensures,
+      c.inverse-inverse.ensures,
+    )
+
+pub returns-else-inverse-eq0 : goal.returns-else-inverse-eq0
+unfolding Transform-from_matrix
+returns-else-inverse-eq0 c =
+    rw (
+      ne_eqb _ 0 (rw c.inverse-inverse.ensures at c.if-inverse-eq0.false),
+      c.refused.ensures,
+      c.inverse-inverse.ensures,
+    )

@@ -1,0 +1,17 @@
+-- `mul` meets its contract: a product for each half, of matrices taken out of their structs.
+use Rattle.transform.specs.Transform.{Transform-mul}
+use borrow.Author.Rules.{rules}
+use Rattle.transform.proofs.Transform.mul.Goals as goal
+
+pub returns : goal.returns
+unfolding Transform-mul
+returns c =
+    rw (
+      c.from_matrices.ensures,
+      c.mul-m_inv.ensures,
+      c.to_rows-4.ensures,
+      c.to_rows-3.ensures,
+      c.mul-m.ensures,
+      c.to_rows-2.ensures,
+      c.to_rows.ensures,
+    )

@@ -1,0 +1,24 @@
+-- `transform_point` meets its contract: the moved point where it is finite, and the number 5 otherwise.
+use Rattle.transform.proofs.Judged.{point-clauses}
+use Rattle.transform.specs.TransformPoint.{Transform-transform_point, PointAnswer-judged}
+use borrow.Author.Rules.{rules}
+use Rattle.transform.proofs.Transform.transform_point.Goals as goal
+
+pub returns-then-is_finite : goal.returns-then-is_finite
+unfolding Transform-transform_point PointAnswer-judged
+returns-then-is_finite c =
+    point-clauses c.args.self c.args.p (rw (
+      rw (
+        c.is_finite.ensures,
+        c.moved_point-q.ensures,
+      ) at c.if-is_finite.true,
+      c.moved_point-q.ensures,
+    ))
+
+pub returns-else-is_finite : goal.returns-else-is_finite
+unfolding Transform-transform_point PointAnswer-judged
+returns-else-is_finite c =
+    point-clauses c.args.self c.args.p (rw (rw (
+      c.is_finite.ensures,
+      c.moved_point-q.ensures,
+    ) at c.if-is_finite.false))

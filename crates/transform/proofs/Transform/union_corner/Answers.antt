@@ -1,0 +1,8 @@
+-- `union_corner` meets its contract: the point is moved, then joined.
+use Rattle.transform.specs.TransformBounds.{union_corner}
+use borrow.Author.Rules.{rules}
+use Rattle.transform.proofs.Transform.union_corner.Goals as goal
+
+pub returns : goal.returns
+unfolding union_corner
+returns c = rw (c.union_moved.ensures, c.transform_point.ensures.0)

@@ -1,0 +1,12 @@
+-- `from_moved` meets its contract: each arm is its case of the definition.
+use Rattle.transform.specs.TransformBounds.{BoundsAnswer-from_moved}
+use borrow.Author.Rules.{rules}
+use Rattle.transform.proofs.from_moved.Goals as goal
+
+pub returns-in-Moved : goal.returns-in-Moved
+unfolding BoundsAnswer-from_moved
+returns-in-Moved c = rw (c.a-1.given.1, c.from_point.ensures)
+
+pub returns-in-Refused : goal.returns-in-Refused
+unfolding BoundsAnswer-from_moved
+returns-in-Refused c = rw c.a-in-Refused-1.given.1

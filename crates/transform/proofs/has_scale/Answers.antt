@@ -1,0 +1,16 @@
+-- `has_scale` meets its contract: for each axis the squared length of the image, and the test.
+use Rattle.transform.specs.HasScale.{Matrix4x4-has_scale}
+use borrow.Author.Rules.{rules}
+use Rattle.transform.proofs.has_scale.Goals as goal
+
+pub returns : goal.returns
+unfolding Matrix4x4-has_scale
+returns c =
+    rw (
+      c.not_one-3.ensures,
+      c.image_squared-3.ensures,
+      c.not_one-2.ensures,
+      c.image_squared-2.ensures,
+      c.not_one.ensures,
+      c.image_squared.ensures,
+    )

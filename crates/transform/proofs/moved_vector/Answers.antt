@@ -1,0 +1,8 @@
+-- `moved_vector` meets its contract: a sum for each coordinate.
+use Rattle.transform.specs.TransformVector.{moved_vector}
+use borrow.Author.Rules.{rules}
+use Rattle.transform.proofs.moved_vector.Goals as goal
+
+pub returns : goal.returns
+unfolding moved_vector
+returns c = rw (c.mul_vector.ensures, c.mul_vector-2.ensures, c.mul_vector-3.ensures)

@@ -1,0 +1,18 @@
+-- `union_moved` meets its contract: each arm is its case of the definition.
+use Rattle.transform.specs.TransformBounds.{BoundsAnswer-union_moved}
+use borrow.Author.Rules.{rules}
+use Rattle.transform.proofs.union_moved.Goals as goal
+
+pub returns-in-Moved : goal.returns-in-Moved
+unfolding BoundsAnswer-union_moved
+returns-in-Moved c =
+    rw (c.r-1.given.1, c.a-1.given.1, c.union_point.ensures)
+
+pub returns-in-Refused-a : goal.returns-in-Refused-a
+unfolding BoundsAnswer-union_moved
+returns-in-Refused-a c =
+    rw (c.r-1.given.1, c.a-in-Bounds-1.given.1)
+
+pub returns-in-Refused : goal.returns-in-Refused
+unfolding BoundsAnswer-union_moved
+returns-in-Refused c = rw c.r-in-Refused-r-1.given.1

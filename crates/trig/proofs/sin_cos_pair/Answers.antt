@@ -1,0 +1,12 @@
+-- Over the table that `table` gives, by `sin-lent` and `cos-lent`.
+use borrow.Author.Rules.{rules}
+use Rattle.trig.proofs.OverTable.{sin-lent, cos-lent}
+use Rattle.trig.proofs.sin_cos_pair.Goals as goal
+
+pub returns : goal.returns
+returns c =
+    let t = c.table-table.ensures.0 in
+    let p = c.sin_cos_in-p.ensures in
+    let q = c.sin_cos_in-q.ensures in
+    let a = c.args in
+    (sin-lent t a.x p.0, cos-lent t a.x p.1, sin-lent t a.y q.0, cos-lent t a.y q.1)

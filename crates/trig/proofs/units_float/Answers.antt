@@ -1,0 +1,12 @@
+-- The float of n, negated (`float_negated`) or as it is (`float-kept`).
+use mathlib.Core.Path.{ap, ◌∙◌}
+use lib.Ieee.{neg}
+use borrow.Author.Rules.{rules}
+use Rattle.trig.proofs.Fixed.{float_negated, float-kept}
+use Rattle.trig.proofs.units_float.Goals as goal
+
+pub returns-then-negative-n : goal.returns-then-negative-n
+returns-then-negative-n c = ap neg c.from_units-x.ensures ∙ float_negated c.args.negative c.args.n c.if-negative-n.true
+
+pub returns : goal.returns
+returns c = c.from_units-x.ensures ∙ float-kept c.args.negative c.args.n c.if-negative-n.false

@@ -1,0 +1,45 @@
+-- `cover` meets its contract: the tests, the three passes with the first pose between them, then the zeros; the other clauses follow from the value
+-- (`window-clauses`).
+use borrow.Author.Rules.{rules}
+use borrow.Author.Tests.{eq-eqb}
+use mathlib.Core.Path.{refl, sym, ◌∙◌}
+use Rattle.bounds3.specs.Bounds3f.{Bounds3f-default}
+use Rattle.transform.specs.declared.BoundsAnswer.TheVariants.{Bounds}
+use Rattle.chain_window.specs.Cover.{first_pose_boxes}
+use Rattle.window_cover.specs.Kept.{Moves-window_cover}
+use Rattle.window_cover.proofs.Kept.{held-depth, window-clauses, ticks-refused, arguments-refused, window-worked}
+use Rattle.window_cover.proofs.Union.{worked_same}
+use Rattle.window_cover.proofs.Same.{default-same}
+use Rattle.window_cover.proofs.cover.Goals as goal
+
+pub returns-then-moves-eq0 : goal.returns-then-moves-eq0
+unfolding Moves-window_cover
+returns-then-moves-eq0 c = let a = c.args in window-clauses a.moves.now a.b a.depth a.w (rw (eq-eqb _ 0 c.if-moves-eq0.true))
+
+pub returns-then-ticks-ne0 : goal.returns-then-ticks-ne0
+returns-then-ticks-ne0 c =
+    let a = c.args in
+    window-clauses a.moves.now a.b a.depth a.w
+    (ticks-refused a.moves.now a.b a.depth a.w c.if-moves-eq0.false c.refusal-ticks.ensures c.if-ticks-ne0.true)
+
+pub returns-then-n-ne0 : goal.returns-then-n-ne0
+returns-then-n-ne0 c =
+    let a = c.args in
+    window-clauses a.moves.now a.b a.depth a.w
+    (arguments-refused a.moves.now a.b a.depth a.w c.if-moves-eq0.false
+    (sym c.refusal-ticks.ensures ∙ c.if-ticks-ne0.false) c.cover_refusal-n.ensures c.if-n-ne0.true)
+
+pub returns : goal.returns
+unfolding first_pose_boxes
+returns c =
+    let a = c.args in
+    let none = sym c.cover_refusal-n.ensures ∙ c.if-n-ne0.false in
+    let held = held-depth a.b a.depth none in
+    window-clauses a.moves.now a.b a.depth a.w
+    (window-worked a.moves.now a.b a.depth a.w c.if-moves-eq0.false (sym c.refusal-ticks.ensures ∙ c.if-ticks-ne0.false) none refl
+    (c.positive_zeros.ensures
+    ∙ worked_same a.moves.now a.b a.depth a.w c.union_moves.result c.union_pose-first.result
+    c.union_moves-poses.result c.union_moves.result c.if-moves-eq0.false
+    (rw held at (c.union_moves.ensures (Bounds Bounds3f-default) (default-same c.default.ensures)))
+    (rw (c.asks_first-asked.ensures, c.from_rows-m.ensures) at c.union_pose-first.ensures)
+    (rw held at c.union_moves-poses.ensures) (rw held at c.union_moves.ensures)))

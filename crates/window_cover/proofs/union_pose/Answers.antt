@@ -1,0 +1,19 @@
+-- `union_pose` meets its contract: a stored transform over the box, grown by its pad, where it is asked for.
+use borrow.Author.Rules.{rules}
+use borrow.Author.Tests.{not-true, not-false}
+use Rattle.motion_piece.proofs.Piece.{stored-composition}
+use Rattle.window_cover.proofs.union_pose.Goals as goal
+
+pub returns-then-not-asked : goal.returns-then-not-asked
+returns-then-not-asked c = rw (not-true c.args.asked c.if-not-asked.true)
+
+pub returns : goal.returns
+returns c =
+    let a = c.args in
+    rw (
+      not-false a.asked c.if-not-asked.false,
+      c.union_bounds.ensures,
+      c.box_enclosure.ensures,
+      c.stored_enclosure.ensures,
+      stored-composition a.pad a.t a.b,
+    )
