@@ -3,4 +3,4 @@ use borrow.Author.Rules.{rules}
 use Rattle.animated_transform.proofs.refused.Goals as goal
 
 pub returns : goal.returns
-returns c = rw c.zero-coefficients.ensures
+returns c = record { value = rw c.zero-coefficients.ensures.value }

@@ -13,5 +13,5 @@ shape_of-out c =
 pub returns : goal.returns
 returns c =
     let a = c.args in
-    c.write_word.ensures.0
-    ∙ put-float a.x a.out.now a.at _ (omega arith) c.bits_of_float.ensures
+    c.write_word.ensures.value
+    ∙ put-float a.x a.out.now a.at _ (omega arith) c.bits_of_float.ensures.value

@@ -10,11 +10,10 @@ use borrow.Author.Rules.{rules}
 use Rattle.answer_lines.proofs.put_text.Goals as goal
 
 pub returns-then-out-at : goal.returns-then-out-at
-returns-then-out-at c = let a = c.args in put-short a.text.now a.out.now a.at (omega arith)
+returns-then-out-at c = let a = c.args in let all = put-short a.text.now a.out.now a.at (omega arith) in record { value = all.0; left = all.1 }
 
 pub returns-then-out-at-2 : goal.returns-then-out-at-2
-returns-then-out-at-2 c =
-    let a = c.args in put-short a.text.now a.out.now a.at (omega arith)
+returns-then-out-at-2 c = let a = c.args in let all = put-short a.text.now a.out.now a.at (omega arith) in record { value = all.0; left = all.1 }
 
 pub loop-i-init : goal.loop-i-init
 loop-i-init c =
@@ -31,8 +30,4 @@ loop-i-preserved c =
     )
 
 pub returns : goal.returns
-returns c =
-    let a = c.args in
-    let l = c.loop-i in
-    let e : l.i ≡ length a.text.now = omega arith in
-    rw (l.invariant.2, e) (put-fits a.text.now a.out.now a.at (omega arith))
+returns c = let a = c.args in let l = c.loop-i in let e : l.i ≡ length a.text.now = omega arith in let all = rw (l.invariant.2, e) (put-fits a.text.now a.out.now a.at (omega arith)) in record { value = all.0; left = all.1 }

@@ -14,11 +14,8 @@ loop-k-init c = (refl, (refl, refl))
 pub loop-k-preserved : goal.loop-k-preserved
 loop-k-preserved c =
     let l = c.loop-k in
-    let turn = rows-turn 6 c.args.boxes.now l.k l.out _ l.end _ (omega arith) c.put_floats-end.ensures in
+    let turn = rows-turn 6 c.args.boxes.now l.k l.out _ l.end _ (omega arith) (c.put_floats-end.ensures.value, c.put_floats-end.ensures.left) in
     (search rules, (turn.0 ∙ l.invariant.1.0, turn.1 ∙ l.invariant.1.1))
 
 pub returns : goal.returns
-returns c =
-    let l = c.loop-k in
-    let end = rows_end 6 c.args.boxes.now l.k l.out l.end (omega arith) in
-    (sym end.0 ∙ l.invariant.1.0, sym end.1 ∙ l.invariant.1.1)
+returns c = let l = c.loop-k in let end = rows_end 6 c.args.boxes.now l.k l.out l.end (omega arith) in record { value = sym end.0 ∙ l.invariant.1.0; left = sym end.1 ∙ l.invariant.1.1 }

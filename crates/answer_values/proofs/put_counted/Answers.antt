@@ -7,15 +7,13 @@ use borrow.Author.Rules.{rules}
 use Rattle.answer_values.proofs.put_counted.Goals as goal
 
 pub returns-then-refusal-ne0 : goal.returns-then-refusal-ne0
-returns-then-refusal-ne0 c =
-    answer-refused c.args.refusal (counted_pieces c.args.values.now c.args.counts.now)
-    c.args.out.now _ c.args.at _ c.if-refusal-ne0.true c.put_refused.ensures
+returns-then-refusal-ne0 c = let all = answer-refused c.args.refusal (counted_pieces c.args.values.now c.args.counts.now)
+    c.args.out.now _ c.args.at _ c.if-refusal-ne0.true (c.put_refused.ensures.value, c.put_refused.ensures.left) in record { value = all.0; left = all.1 }
 
 pub returns : goal.returns
 unfolding ascii
-returns c =
-    answer_ok c.args.refusal (counted_pieces c.args.values.now c.args.counts.now)
+returns c = let all = answer_ok c.args.refusal (counted_pieces c.args.values.now c.args.counts.now)
     c.args.out.now _ _ _ c.args.at _ _ _ c.if-refusal-ne0.false
-    c.put_text.ensures
-    (all_cons _ _ _ _ _ _ _ _ c.put_floats-behind.ensures c.put_decimals-end.ensures)
-    c.put_text.ensures
+    (c.put_text.ensures.value, c.put_text.ensures.left)
+    (all_cons _ _ _ _ _ _ _ _ (c.put_floats-behind.ensures.value, c.put_floats-behind.ensures.left) (c.put_decimals-end.ensures.value, c.put_decimals-end.ensures.left))
+    (c.put_text.ensures.value, c.put_text.ensures.left) in record { value = all.0; left = all.1 }

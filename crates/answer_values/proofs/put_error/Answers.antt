@@ -6,4 +6,4 @@ use Rattle.answer_values.proofs.put_error.Goals as goal
 
 pub returns : goal.returns
 unfolding error_text ascii
-returns c = c.put_text.ensures
+returns c = record { value = c.put_text.ensures.value; left = c.put_text.ensures.left }

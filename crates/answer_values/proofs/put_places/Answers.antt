@@ -8,15 +8,13 @@ use borrow.Author.Rules.{rules}
 use Rattle.answer_values.proofs.put_places.Goals as goal
 
 pub returns-then-refusal-ne0 : goal.returns-then-refusal-ne0
-returns-then-refusal-ne0 c =
-    answer-refused c.args.refusal (places_pieces c.args.places.now c.args.count)
-    c.args.out.now _ c.args.at _ c.if-refusal-ne0.true c.put_refused.ensures
+returns-then-refusal-ne0 c = let all = answer-refused c.args.refusal (places_pieces c.args.places.now c.args.count)
+    c.args.out.now _ c.args.at _ c.if-refusal-ne0.true (c.put_refused.ensures.value, c.put_refused.ensures.left) in record { value = all.0; left = all.1 }
 
 pub returns : goal.returns
 unfolding ascii
-returns c =
-    answer_ok c.args.refusal (places_pieces c.args.places.now c.args.count)
+returns c = let all = answer_ok c.args.refusal (places_pieces c.args.places.now c.args.count)
     c.args.out.now _ _ _ c.args.at _ _ _ c.if-refusal-ne0.false
-    c.put_text.ensures
-    (all_append (whole_pieces c.args.count) _ _ _ _ _ _ _ c.put_decimal-behind.ensures c.put_decimals-end.ensures)
-    c.put_text.ensures
+    (c.put_text.ensures.value, c.put_text.ensures.left)
+    (all_append (whole_pieces c.args.count) _ _ _ _ _ _ _ (c.put_decimal-behind.ensures.value, c.put_decimal-behind.ensures.left) (c.put_decimals-end.ensures.value, c.put_decimals-end.ensures.left))
+    (c.put_text.ensures.value, c.put_text.ensures.left) in record { value = all.0; left = all.1 }

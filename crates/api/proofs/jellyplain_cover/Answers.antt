@@ -4,8 +4,6 @@ use borrow.Author.Rules.{rules}
 use Rattle.api.proofs.jellyplain_cover.Goals as goal
 
 pub returns : goal.returns
-returns c =
-    let a = c.args in
-    cover-clauses a.motion.now a.b.now a.depth _ _ a.bounds.now
-    (rw (c.put_bounds.ensures.0, c.cover.ensures.0, c.bounds.ensures, c.from_rows.ensures))
-    (rw (c.put_bounds.ensures.1, c.cover.ensures.0, c.bounds.ensures, c.from_rows.ensures))
+returns c = let a = c.args in let all = cover-clauses a.motion.now a.b.now a.depth _ _ a.bounds.now
+    (rw (c.put_bounds.ensures.refusal, c.cover.ensures.value, c.bounds.ensures.value, c.from_rows.ensures.value))
+    (rw (c.put_bounds.ensures.left, c.cover.ensures.value, c.bounds.ensures.value, c.from_rows.ensures.value)) in record { refusal = all.0; left = all.1; contains_motion = all.2; finer = all.3 }

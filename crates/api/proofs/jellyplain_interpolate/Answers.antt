@@ -5,11 +5,4 @@ use borrow.Author.Rules.{rules}
 use Rattle.api.proofs.jellyplain_interpolate.Goals as goal
 
 pub returns : goal.returns
-returns c =
-    let a = c.args in (
-      rw (c.put_transform.ensures.0, c.interpolate.ensures),
-      (
-        rw (c.put_transform.ensures.1, c.interpolate.ensures),
-        λ (m : AnimatedTransform). kept-interpolate a.motion.now m a.time,
-      ),
-    )
+returns c = let a = c.args in record { refusal = rw (c.put_transform.ensures.refusal, c.interpolate.ensures.value); left = rw (c.put_transform.ensures.left, c.interpolate.ensures.value); built = λ (m : AnimatedTransform). kept-interpolate a.motion.now m a.time }

@@ -3,4 +3,4 @@ use borrow.Author.Rules.{rules}
 use Rattle.api.proofs.jellyplain_moves_covers.Goals as goal
 
 pub returns : goal.returns
-returns c = rw (← c.asked.ensures) c.covers.ensures
+returns c = let all = rw (← c.asked.ensures.value) (c.covers.ensures.refusal, c.covers.ensures.covers, c.covers.ensures.union, c.covers.ensures.contains_motion, c.covers.ensures.finer) in record { refusal = all.0; covers = all.1; union = all.2; contains_motion = all.3; finer = all.4 }

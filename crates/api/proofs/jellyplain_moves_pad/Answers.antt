@@ -6,13 +6,4 @@ use borrow.Author.Rules.{rules}
 use Rattle.api.proofs.jellyplain_moves_pad.Goals as goal
 
 pub returns : goal.returns
-returns c =
-    let a = c.args in
-    let asked = c.asked in
-    let pad = c.pad in (
-      rw (c.put_pad.ensures.0, pad.ensures.0, asked.ensures),
-      (
-        rw (c.put_pad.ensures.1, pad.ensures.0, asked.ensures),
-        λ (k : Chain). kept-pad (Moves-asked a.moves.now) k a.time,
-      ),
-    )
+returns c = let a = c.args in let asked = c.asked in let pad = c.pad in record { refusal = rw (c.put_pad.ensures.refusal, pad.ensures.value, asked.ensures.value); left = rw (c.put_pad.ensures.left, pad.ensures.value, asked.ensures.value); kept = λ (k : Chain). kept-pad (Moves-asked a.moves.now) k a.time }

@@ -9,17 +9,4 @@ use borrow.Author.Rules.{rules}
 use Rattle.api.proofs.jellyplain_moves_point.Goals as goal
 
 pub returns : goal.returns
-returns c =
-    let a = c.args in
-    let asked = c.asked in
-    let moved = c.transform_point in
-    let point = c.point in (
-      rw (c.put_point.ensures.0, moved.ensures.0, point.ensures, asked.ensures),
-      (
-        rw (c.put_point.ensures.1, moved.ensures.0, point.ensures, asked.ensures),
-        (
-          λ (k : Chain). kept-point (Moves-asked a.moves.now) k a.time (Point3f-of_list a.p.now),
-          λ (block : Rows). block-point (Moves-asked a.moves.now) block a.time (Point3f-of_list a.p.now),
-        ),
-      ),
-    )
+returns c = let a = c.args in let asked = c.asked in let moved = c.transform_point in let point = c.point in record { refusal = rw (c.put_point.ensures.refusal, moved.ensures.value, point.ensures.value, asked.ensures.value); left = rw (c.put_point.ensures.left, moved.ensures.value, point.ensures.value, asked.ensures.value); kept = λ (k : Chain). kept-point (Moves-asked a.moves.now) k a.time (Point3f-of_list a.p.now); lone = λ (block : Rows). block-point (Moves-asked a.moves.now) block a.time (Point3f-of_list a.p.now) }

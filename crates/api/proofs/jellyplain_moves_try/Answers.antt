@@ -4,9 +4,5 @@ use borrow.Author.Rules.{rules}
 use Rattle.api.proofs.jellyplain_moves_try.Goals as goal
 
 pub returns : goal.returns
-returns c =
-    let a = c.args in
-    let shown = c.try_pose in
-    let b = c.bounds.ensures in
-    moves-try-clauses a.moves.now a.place a.pose.now a.b.now a.depth _ _ a.bounds.now shown.result
-    (rw (shown.ensures.0, b)) (rw (← b) shown.ensures.1.1) c.put_bounds.ensures.0 c.put_bounds.ensures.1
+returns c = let a = c.args in let shown = c.try_pose in let b = c.bounds.ensures.value in let all = moves-try-clauses a.moves.now a.place a.pose.now a.b.now a.depth _ _ a.bounds.now shown.result
+    (rw (shown.ensures.value, b)) (rw (← b) shown.ensures.kept.1) c.put_bounds.ensures.refusal c.put_bounds.ensures.left in record { refusal = all.0; left = all.1; kept = all.2; contains_motion = all.3 }

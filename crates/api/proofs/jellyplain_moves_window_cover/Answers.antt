@@ -5,11 +5,6 @@ use borrow.Author.Rules.{rules}
 use Rattle.api.proofs.jellyplain_moves_window_cover.Goals as goal
 
 pub returns : goal.returns
-returns c =
-    let a = c.args in
-    let asked = c.asked in
-    let cover = c.cover in
-    let bounds = c.bounds in
-    moves-window-clauses (Moves-asked a.moves.now) a.b.now a.depth (record { earlier = a.earlier; later = a.later }) _ _ a.bounds.now
-    (rw (c.put_bounds.ensures.0, cover.ensures.0, bounds.ensures, asked.ensures))
-    (rw (c.put_bounds.ensures.1, cover.ensures.0, bounds.ensures, asked.ensures))
+returns c = let a = c.args in let asked = c.asked in let cover = c.cover in let bounds = c.bounds in let all = moves-window-clauses (Moves-asked a.moves.now) a.b.now a.depth (record { earlier = a.earlier; later = a.later }) _ _ a.bounds.now
+    (rw (c.put_bounds.ensures.refusal, cover.ensures.value, bounds.ensures.value, asked.ensures.value))
+    (rw (c.put_bounds.ensures.left, cover.ensures.value, bounds.ensures.value, asked.ensures.value)) in record { refusal = all.0; left = all.1; kept = all.2; contains_motion = all.3; finer = all.4 }

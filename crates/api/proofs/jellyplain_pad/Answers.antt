@@ -5,12 +5,4 @@ use borrow.Author.Rules.{rules}
 use Rattle.api.proofs.jellyplain_pad.Goals as goal
 
 pub returns : goal.returns
-returns c =
-    let a = c.args in
-    let asked = c.pad in (
-      rw (c.put_pad.ensures.0, asked.ensures),
-      (
-        rw (c.put_pad.ensures.1, asked.ensures),
-        λ (m : AnimatedTransform) e. rw e (pad-kept m a.time),
-      ),
-    )
+returns c = let a = c.args in let asked = c.pad in record { refusal = rw (c.put_pad.ensures.refusal, asked.ensures.value); left = rw (c.put_pad.ensures.left, asked.ensures.value); built = λ (m : AnimatedTransform) e. rw e (pad-kept m a.time) }

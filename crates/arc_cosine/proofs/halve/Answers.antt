@@ -5,11 +5,7 @@ use Rattle.arc_cosine.proofs.Halving.{halve-upper, halve-lower}
 use Rattle.arc_cosine.proofs.halve.Goals as goal
 
 pub returns-then-cosine-w : goal.returns-then-cosine-w
-returns-then-cosine-w c =
-    let r = c.counted_cos-cosine in
-    (halve-upper c.args.w c.args.b r.result r.ensures.0 c.if-cosine-w.true, (r.ensures.0, r.ensures.1))
+returns-then-cosine-w c = let r = c.counted_cos-cosine in record { value = halve-upper c.args.w c.args.b r.result r.ensures.value c.if-cosine-w.true; carried = r.ensures.value; counted = r.ensures.counted }
 
 pub returns : goal.returns
-returns c =
-    let r = c.counted_cos-cosine in
-    (halve-lower c.args.w c.args.b r.result r.ensures.0 c.if-cosine-w.false, (c.requires.1.1.0, r.ensures.1))
+returns c = let r = c.counted_cos-cosine in record { value = halve-lower c.args.w c.args.b r.result r.ensures.value c.if-cosine-w.false; carried = c.requires.fact_2.1.0; counted = r.ensures.counted }

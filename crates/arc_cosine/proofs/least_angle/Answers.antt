@@ -8,35 +8,28 @@ use Rattle.arc_cosine.proofs.Halving.{searching-closer, searching-counted, halvi
 use Rattle.arc_cosine.proofs.least_angle.Goals as goal
 
 pub loop-b-init : goal.loop-b-init
-loop-b-init c = let first = c.counted_cos.ensures in searching-starts c.args.w first.1 first.0
+loop-b-init c = let first = (c.counted_cos.ensures.value, c.counted_cos.ensures.counted) in searching-starts c.args.w first.1 first.0
 
 pub overflow_sub-b : goal.overflow_sub-b
 overflow_sub-b c = let l = c.loop-b.invariant.halving.order in omega (arith, l)
 
 pub halve-half-requires : goal.halve-half-requires
-halve-half-requires c =
-    let s = c.loop-b.invariant in
-    let opened = c.loop-b-test.true in
-    (c.requires, (searching-inside s opened, (s.halving.carried, searching-counts s opened)))
+halve-half-requires c = let s = c.loop-b.invariant in let opened = c.loop-b-test.true in record { fact_1 = c.requires; fact_2 = searching-inside s opened; fact_3 = s.halving.carried; fact_4 = searching-counts s opened }
 
 pub loop-b-smaller : goal.loop-b-smaller
 loop-b-smaller c =
-    searching-closer c.loop-b.invariant c.loop-b-test.true c.halve-half.ensures.0
+    searching-closer c.loop-b.invariant c.loop-b-test.true c.halve-half.ensures.value
 
 pub loop-b-preserved : goal.loop-b-preserved
 loop-b-preserved c =
-    searching-again c.loop-b.invariant c.loop-b-test.true c.halve-half.ensures.0 c.halve-half.ensures.1.1
+    searching-again c.loop-b.invariant c.loop-b-test.true c.halve-half.ensures.value c.halve-half.ensures.carried.1
 
 pub overflow_add-result : goal.overflow_add-result
 overflow_add-result c =
     let i = c.loop-b.invariant.halving in omega (arith, i.order, i.inside)
 
 pub returns-then-b-w : goal.returns-then-b-w
-returns-then-b-w c =
-    let s = c.loop-b.invariant in
-    (halving-ends s.halving c.if-b-w.true c.loop-b-test.false, searching-counted s c.loop-b-test.false)
+returns-then-b-w c = let s = c.loop-b.invariant in record { angle = halving-ends s.halving c.if-b-w.true c.loop-b-test.false; cosines = searching-counted s c.loop-b-test.false }
 
 pub returns : goal.returns
-returns c =
-    let s = c.loop-b.invariant in
-    (halving-zero s.halving c.if-b-w.false, searching-counted s c.loop-b-test.false)
+returns c = let s = c.loop-b.invariant in record { angle = halving-zero s.halving c.if-b-w.false; cosines = searching-counted s c.loop-b-test.false }

@@ -5,5 +5,4 @@ use Rattle.axis_derivative.proofs.along_x.Goals as goal
 
 pub returns : goal.returns
 unfolding derivative
-returns c =
-    rw (c.from_columns.ensures, c.column_x-z.ensures, c.column_x-y.ensures, c.column_x-x.ensures)
+returns c = record { value = rw (c.from_columns.ensures.value, c.column_x-z.ensures.value, c.column_x-y.ensures.value, c.column_x-x.ensures.value) }

@@ -5,5 +5,4 @@ use Rattle.axis_derivative.proofs.along_y.Goals as goal
 
 pub returns : goal.returns
 unfolding derivative
-returns c =
-    rw (c.from_columns.ensures, c.column_y-z.ensures, c.column_y-y.ensures, c.column_y-x.ensures)
+returns c = record { value = rw (c.from_columns.ensures.value, c.column_y-z.ensures.value, c.column_y-y.ensures.value, c.column_y-x.ensures.value) }

@@ -5,5 +5,4 @@ use Rattle.axis_derivative.proofs.along_z.Goals as goal
 
 pub returns : goal.returns
 unfolding derivative
-returns c =
-    rw (c.from_columns.ensures, c.column_z-z.ensures, c.column_z-y.ensures, c.column_z-x.ensures)
+returns c = record { value = rw (c.from_columns.ensures.value, c.column_z-z.ensures.value, c.column_z-y.ensures.value, c.column_z-x.ensures.value) }

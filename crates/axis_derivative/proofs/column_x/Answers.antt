@@ -5,5 +5,4 @@ use Rattle.axis_derivative.proofs.column_x.Goals as goal
 
 pub returns : goal.returns
 unfolding column_terms
-returns c =
-    rw (c.c5x.ensures, c.c4x.ensures, c.c3x.ensures, c.c2x.ensures, c.c1x.ensures)
+returns c = record { value = rw (c.c5x.ensures.value, c.c4x.ensures.value, c.c3x.ensures.value, c.c2x.ensures.value, c.c1x.ensures.value) }

@@ -5,5 +5,4 @@ use Rattle.axis_derivative.proofs.column_y.Goals as goal
 
 pub returns : goal.returns
 unfolding column_terms
-returns c =
-    rw (c.c5y.ensures, c.c4y.ensures, c.c3y.ensures, c.c2y.ensures, c.c1y.ensures)
+returns c = record { value = rw (c.c5y.ensures.value, c.c4y.ensures.value, c.c3y.ensures.value, c.c2y.ensures.value, c.c1y.ensures.value) }

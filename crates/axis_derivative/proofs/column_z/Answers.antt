@@ -5,5 +5,4 @@ use Rattle.axis_derivative.proofs.column_z.Goals as goal
 
 pub returns : goal.returns
 unfolding column_terms
-returns c =
-    rw (c.c5z.ensures, c.c4z.ensures, c.c3z.ensures, c.c2z.ensures, c.c1z.ensures)
+returns c = record { value = rw (c.c5z.ensures.value, c.c4z.ensures.value, c.c3z.ensures.value, c.c2z.ensures.value, c.c1z.ensures.value) }

@@ -5,4 +5,4 @@ use Rattle.bounds_overlap.proofs.meets.Goals as goal
 
 pub returns : goal.returns
 unfolding Bounds3f-meets
-returns c = rw (c.ranges_meet.ensures, c.ranges_meet-2.ensures, c.ranges_meet-3.ensures)
+returns c = record { value = rw (c.ranges_meet.ensures.value, c.ranges_meet-2.ensures.value, c.ranges_meet-3.ensures.value) }

@@ -6,4 +6,4 @@ use Rattle.bounds_query.proofs.is_ordered.Goals as goal
 
 pub returns : goal.returns
 unfolding lt Bounds3f-is_ordered
-returns c = refl
+returns c = record { value = refl }

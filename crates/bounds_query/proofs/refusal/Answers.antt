@@ -17,21 +17,18 @@ neither f o e u = rw (e, u)
 
 pub returns-then-not-finite : goal.returns-then-not-finite
 unfolding Bounds3f-refusal
-returns-then-not-finite c =
-    let f = c.is_finite-finite in
+returns-then-not-finite c = record { value = let f = c.is_finite-finite in
     let o = c.is_ordered-ordered in
-    rw (← f.ensures, ← o.ensures) (not_finite f.result o.result c.if-not-finite.true)
+    rw (← f.ensures.value, ← o.ensures.value) (not_finite f.result o.result c.if-not-finite.true) }
 
 pub returns-then-not-ordered : goal.returns-then-not-ordered
 unfolding Bounds3f-refusal
-returns-then-not-ordered c =
-    let f = c.is_finite-finite in
+returns-then-not-ordered c = record { value = let f = c.is_finite-finite in
     let o = c.is_ordered-ordered in
-    rw (← f.ensures, ← o.ensures) (not-ordered f.result o.result c.if-not-finite.false c.if-not-ordered.true)
+    rw (← f.ensures.value, ← o.ensures.value) (not-ordered f.result o.result c.if-not-finite.false c.if-not-ordered.true) }
 
 pub returns : goal.returns
 unfolding Bounds3f-refusal
-returns c =
-    let f = c.is_finite-finite in
+returns c = record { value = let f = c.is_finite-finite in
     let o = c.is_ordered-ordered in
-    rw (← f.ensures, ← o.ensures) (neither f.result o.result c.if-not-finite.false c.if-not-ordered.false)
+    rw (← f.ensures.value, ← o.ensures.value) (neither f.result o.result c.if-not-finite.false c.if-not-ordered.false) }

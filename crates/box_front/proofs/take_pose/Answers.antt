@@ -9,40 +9,29 @@ use Rattle.box_front.proofs.Put.{taken_none, Taking, taking-first, taking-next, 
 use Rattle.box_front.proofs.take_pose.Goals as goal
 
 pub returns-then-n-boxes : goal.returns-then-n-boxes
-returns-then-n-boxes c =
-    let a = c.args in
-    taken_none a.first a.pose a.boxes.now a.front a.places.now (none_lent a.front a.boxes.now c.if-n-boxes.true)
+returns-then-n-boxes c = let a = c.args in let all = taken_none a.first a.pose a.boxes.now a.front a.places.now (none_lent a.front a.boxes.now c.if-n-boxes.true) in record { front = all.0; places = all.1 }
 
 pub returns-then-n-gt-PLACE_COUNT : goal.returns-then-n-gt-PLACE_COUNT
-returns-then-n-gt-PLACE_COUNT c =
-    let a = c.args in
-    taken_none a.first a.pose a.boxes.now a.front a.places.now
-    (none-placed a.front a.boxes.now c.if-n-boxes.false c.if-n-gt-PLACE_COUNT.true)
+returns-then-n-gt-PLACE_COUNT c = let a = c.args in let all = taken_none a.first a.pose a.boxes.now a.front a.places.now
+    (none-placed a.front a.boxes.now c.if-n-boxes.false c.if-n-gt-PLACE_COUNT.true) in record { front = all.0; places = all.1 }
 
 pub loop-i-init : goal.loop-i-init
 loop-i-init c = (refl, (search rules, taking-first _ _ _ _ _))
 
 pub returns-then-refusal-ne0 : goal.returns-then-refusal-ne0
-returns-then-refusal-ne0 c =
-    let l = c.loop-i in
-    let a = c.args in
-    taking-refused a.first a.pose a.boxes.now a.front l.invariant.1.1 (omega (arith, l.invariant.0, c.loop-i-test.true))
-    c.if-n-boxes.false c.if-n-gt-PLACE_COUNT.false c.take_box-refusal.ensures.0 c.if-refusal-ne0.true (ap (set l.places l.i) c.take_box-refusal.ensures.1)
+returns-then-refusal-ne0 c = let l = c.loop-i in let a = c.args in let all = taking-refused a.first a.pose a.boxes.now a.front l.invariant.1.1 (omega (arith, l.invariant.0, c.loop-i-test.true))
+    c.if-n-boxes.false c.if-n-gt-PLACE_COUNT.false c.take_box-refusal.ensures.refusal c.if-refusal-ne0.true (ap (set l.places l.i) c.take_box-refusal.ensures.left) in record { front = all.0; places = all.1 }
 
 pub loop-i-preserved : goal.loop-i-preserved
 loop-i-preserved c =
     let l = c.loop-i in
     let a = c.args in
     let t = c.loop-i-test.true in
-    let taken = c.take_box-refusal.ensures in
+    let taken = (c.take_box-refusal.ensures.refusal, c.take_box-refusal.ensures.left) in
     let written = ap (set l.places l.i) taken.1 in
     let none = sym taken.0 ∙ c.if-refusal-ne0.false in
     let next = taking-next a.first a.pose a.boxes.now a.front l.invariant.1.1 (omega (arith, t, l.invariant.0)) c.if-n-boxes.false none written in
     (l.invariant.0, (omega (arith, t), next))
 
 pub returns : goal.returns
-returns c =
-    let l = c.loop-i in
-    let a = c.args in
-    let e : l.i ≡ a.front.count = omega (arith, l.invariant.0, l.invariant.1.0, c.loop-i-test.false) in
-    taking-last a.first a.pose a.boxes.now a.front l.invariant.1.1 e c.if-n-boxes.false c.if-n-gt-PLACE_COUNT.false
+returns c = let l = c.loop-i in let a = c.args in let e : l.i ≡ a.front.count = omega (arith, l.invariant.0, l.invariant.1.0, c.loop-i-test.false) in let all = taking-last a.first a.pose a.boxes.now a.front l.invariant.1.1 e c.if-n-boxes.false c.if-n-gt-PLACE_COUNT.false in record { front = all.0; places = all.1 }

@@ -10,14 +10,6 @@ use Rattle.chain_build.proofs.Answer.{pair-clauses}
 use Rattle.chain_build.proofs.put_pair.Goals as goal
 
 pub returns : goal.returns
-returns c =
-    let a = c.args in
-    let new = c.new in
-    let p = Pose-of_list (get_or a.poses.now a.i []) in
-    let q = Pose-of_list (get_or a.poses.now (a.i + 1) []) in
-    let ps = c.pose-start.ensures in
-    let qs = c.pose-end.ensures in
-    let (number, (rows, built)) =
-    pair-clauses a.rigid p q new.result (get_or a.moves.now a.i []) (rw (new.ensures.0, qs, ps)) new.ensures.1
-    c.put_motion.ensures.0 c.put_motion.ensures.1 in
-    (number, (λ z. ap (λ (r : Rows). set a.moves.now a.i r) (rows z), built))
+returns c = let a = c.args in let new = c.new in let p = Pose-of_list (get_or a.poses.now a.i []) in let q = Pose-of_list (get_or a.poses.now (a.i + 1) []) in let ps = c.pose-start.ensures.value in let qs = c.pose-end.ensures.value in let (number, (rows, built)) =
+    pair-clauses a.rigid p q new.result (get_or a.moves.now a.i []) (rw (new.ensures.value, qs, ps)) new.ensures.built
+    c.put_motion.ensures.refusal c.put_motion.ensures.left in record { refusal = number; left = λ z. ap (λ (r : Rows). set a.moves.now a.i r) (rows z); built = built }

@@ -20,12 +20,7 @@ loop-i-init c = (refl, (omega arith, (refl, (refl, λ h. h))))
 
 pub returns-then-refusal-ne0 : goal.returns-then-refusal-ne0
 unfolding first_number
-returns-then-refusal-ne0 c =
-    let l = c.loop-i in
-    let a = c.args in
-    let next = pairs_next a.poses.now l.i l.invariant.1.0 c.loop-i-test.true in
-    let f = c.if-refusal-ne0.true in
-    (rw (← l.invariant.1.1.0, next, ← c.put_pair-refusal.ensures.0, ne_eqb _ 0 f), (λ z. absurd (f z), λ z. absurd (f z)))
+returns-then-refusal-ne0 c = let l = c.loop-i in let a = c.args in let next = pairs_next a.poses.now l.i l.invariant.1.0 c.loop-i-test.true in let f = c.if-refusal-ne0.true in record { refusal = rw (← l.invariant.1.1.0, next, ← c.put_pair-refusal.ensures.refusal, ne_eqb _ 0 f); left = λ z. absurd (f z); built = λ z. absurd (f z) }
 
 pub loop-i-preserved : goal.loop-i-preserved
 unfolding first_number
@@ -33,7 +28,7 @@ loop-i-preserved c =
     let l = c.loop-i in
     let a = c.args in
     let next = pairs_next a.poses.now l.i l.invariant.1.0 c.loop-i-test.true in
-    let put = c.put_pair-refusal.ensures in
+    let put = (c.put_pair-refusal.ensures.refusal, c.put_pair-refusal.ensures.left, c.put_pair-refusal.ensures.built) in
     let z = c.if-refusal-ne0.false in
     let pair = Poses-pair_at a.poses.now (l.i - 1) in (
       refl,
@@ -52,17 +47,4 @@ loop-i-preserved c =
 
 pub returns : goal.returns
 unfolding first_number put
-returns c =
-    let l = c.loop-i in
-    let a = c.args in
-    let pre = c.requires in
-    let end = pairs_end a.poses.now l.i l.invariant.1.0 c.loop-i-test.false in
-    let poses = Poses-of_lists a.poses.now in
-    let n = poses-length a.poses.now in
-    let k = pairs-count poses in (
-      rw (← l.invariant.1.1.0, end),
-      (
-        λ z. rw end at l.invariant.1.1.1.0 ∙ put_front a.rigid (pairs_from a.poses.now 1) a.moves.now (omega (arith, n, k, pre)),
-        λ z. l.invariant.1.1.1.1 (rw end tt),
-      ),
-    )
+returns c = let l = c.loop-i in let a = c.args in let pre = (c.requires.poses_len_bound, c.requires.moves_len) in let end = pairs_end a.poses.now l.i l.invariant.1.0 c.loop-i-test.false in let poses = Poses-of_lists a.poses.now in let n = poses-length a.poses.now in let k = pairs-count poses in record { refusal = rw (← l.invariant.1.1.0, end); left = λ z. rw end at l.invariant.1.1.1.0 ∙ put_front a.rigid (pairs_from a.poses.now 1) a.moves.now (omega (arith, n, k, pre)); built = λ z. l.invariant.1.1.1.1 (rw end tt) }

@@ -3,4 +3,4 @@ use borrow.Author.Rules.{rules}
 use Rattle.chain_cover.proofs.union_move.Goals as goal
 
 pub returns : goal.returns
-returns c = rw (c.union_bounds.ensures, c.cover.ensures.0, c.from_rows.ensures)
+returns c = record { value = rw (c.union_bounds.ensures.value, c.cover.ensures.value, c.from_rows.ensures.value) }

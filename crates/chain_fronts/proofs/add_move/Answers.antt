@@ -14,7 +14,7 @@ use Rattle.chain_fronts.proofs.Joined.{front-small, move-refused, move-accepted,
 use Rattle.chain_fronts.proofs.add_move.Goals as goal
 
 pub returns-then-n-boxes : goal.returns-then-n-boxes
-returns-then-n-boxes c = λ answer first r. let l = front-small r in absurd (omega (arith, l, c.if-n-boxes.true))
+returns-then-n-boxes c = record { covered = λ answer first r. let l = front-small r in absurd (omega (arith, l, c.if-n-boxes.true)) }
 
 pub slice_bounds-covers-end : goal.slice_bounds-covers-end
 slice_bounds-covers-end c =
@@ -22,30 +22,23 @@ slice_bounds-covers-end c =
     sym (length-take-le a.front.count a.boxes.now c.if-n-boxes.false)
 
 pub returns-then-got-n : goal.returns-then-got-n
-returns-then-got-n c =
-    let a = c.args in
+returns-then-got-n c = record { covered = let a = c.args in
     let l = c.requires in
-    let m = c.from_rows-m.ensures in
+    let m = c.from_rows-m.ensures.value in
     let in_front = Boxes-asked (take a.front.count a.boxes.now) in
-    let g = c.covers-got.ensures.0 ∙ ap (λ x. Front-of (Boxes-answers (λ b. AnimatedTransform-cover x b a.depth) in_front)) m in
+    let g = c.covers-got.ensures.front ∙ ap (λ x. Front-of (Boxes-answers (λ b. AnimatedTransform-cover x b a.depth) in_front)) m in
     let cover : Bounds3f → BoundsAnswer = λ b. AnimatedTransform-cover (AnimatedTransform-from_rows a.rows.now) b a.depth in
-    λ answer first r. move-refused cover l r g c.if-got-n.true
+    λ answer first r. move-refused cover l r g c.if-got-n.true }
 
 pub join_boxes-requires : goal.join_boxes-requires
-join_boxes-requires c =
-    let a = c.args in
-    let l = c.requires in
-    let h = c.if-n-boxes.false in
-    let cover : Bounds3f → BoundsAnswer = λ b. AnimatedTransform-cover c.from_rows-m.result b a.depth in
-    (omega (arith, h, l), move-size cover a.boxes.now a.front.count h l c.covers-got.ensures.1)
+join_boxes-requires c = let a = c.args in let l = c.requires in let h = c.if-n-boxes.false in let cover : Bounds3f → BoundsAnswer = λ b. AnimatedTransform-cover c.from_rows-m.result b a.depth in record { count_le_place_count = omega (arith, h, l); count_in_bounds = move-size cover a.boxes.now a.front.count h l c.covers-got.ensures.places }
 
 pub returns : goal.returns
-returns c =
-    let a = c.args in
+returns c = record { covered = let a = c.args in
     let l = c.requires in
-    let m = c.from_rows-m.ensures in
+    let m = c.from_rows-m.ensures.value in
     let in_front = Boxes-asked (take a.front.count a.boxes.now) in
-    let g = c.covers-got.ensures.0 ∙ ap (λ x. Front-of (Boxes-answers (λ b. AnimatedTransform-cover x b a.depth) in_front)) m in
-    let moved = c.covers-got.ensures.1 ∙ ap (λ x. Places-answered (Boxes-answers (λ b. AnimatedTransform-cover x b a.depth) in_front)) m in
+    let g = c.covers-got.ensures.front ∙ ap (λ x. Front-of (Boxes-answers (λ b. AnimatedTransform-cover x b a.depth) in_front)) m in
+    let moved = c.covers-got.ensures.places ∙ ap (λ x. Places-answered (Boxes-answers (λ b. AnimatedTransform-cover x b a.depth) in_front)) m in
     let cover : Bounds3f → BoundsAnswer = λ b. AnimatedTransform-cover (AnimatedTransform-from_rows a.rows.now) b a.depth in
-    λ answer first r. move-accepted cover l r g moved c.if-got-n.false c.join_boxes.ensures
+    λ answer first r. move-accepted cover l r g moved c.if-got-n.false c.join_boxes.ensures.left }

@@ -3,4 +3,4 @@ use borrow.Author.Rules.{rules}
 use Rattle.chain_fronts.proofs.join_box.Goals as goal
 
 pub returns : goal.returns
-returns c = cc
+returns c = record { left = cc }

@@ -10,17 +10,16 @@ use Rattle.chain_fronts.proofs.join_moves.Goals as goal
 pub loop-i-init : goal.loop-i-init
 loop-i-init c =
     let a = c.args in
-    let h = c.requires in
-    let first = reached-first a.moves.now a.boxes.now a.depth c.from_rows.ensures h.1 c.covers-front.ensures in
+    let h = (c.requires.fact, c.requires.boxes_len_bound) in
+    let first = reached-first a.moves.now a.boxes.now a.depth c.from_rows.ensures.value h.1 (c.covers-front.ensures.front, c.covers-front.ensures.places) in
     (refl, (omega (arith, h), first))
 
 pub loop-i-preserved : goal.loop-i-preserved
 loop-i-preserved c =
     let l = c.loop-i in
     let t = c.loop-i-test.true in
-    (refl, (omega (arith, t), reached-next _ _ _ l.invariant.1.1 t c.add_move-next.ensures))
+    (refl, (omega (arith, t), reached-next _ _ _ l.invariant.1.1 t c.add_move-next.ensures.covered))
 
 pub returns : goal.returns
-returns c =
-    let l = c.loop-i in
-    reached-last _ _ _ l.invariant.1.1 (omega (arith, l.invariant.0, c.loop-i-test.false)) c.requires.0
+returns c = record { covered = let l = c.loop-i in
+    reached-last _ _ _ l.invariant.1.1 (omega (arith, l.invariant.0, c.loop-i-test.false)) c.requires.fact }

@@ -4,4 +4,4 @@ use Rattle.built_poses.proofs.Lists.{list-inverse}
 use Rattle.chain_held.proofs.put_values.Goals as goal
 
 pub returns : goal.returns
-returns c = let (words, (shape, each)) = c.well_formed.0 in sym (list-inverse c.args.values shape.1)
+returns c = record { left = let (words, (shape, each)) = c.well_formed.0 in sym (list-inverse c.args.values shape.1) }

@@ -3,4 +3,4 @@ use borrow.Author.Rules.{rules}
 use Rattle.chain_join.proofs.same_kind.Goals as goal
 
 pub returns : goal.returns
-returns c = rw (c.is_rigid.ensures, c.is_rigid-2.ensures)
+returns c = record { value = rw (c.is_rigid.ensures.value, c.is_rigid-2.ensures.value) }

@@ -25,7 +25,4 @@ loop-i-preserved c =
     (omega (arith, more), (put-length a.blocks a.at a.others.now (l.i + 1) (omega (arith, room, places, more)) (omega (arith, more)) turn, turn))
 
 pub returns : goal.returns
-returns c =
-    let l = c.loop-i in
-    let e : l.i ≡ length c.args.others.now = omega arith in
-    (c.well_formed.1.1.0.1.0.1, rw (← e) l.invariant.1.1)
+returns c = let l = c.loop-i in let e : l.i ≡ length c.args.others.now = omega arith in record { places = c.well_formed.1.1.0.1.0.1; value = rw (← e) l.invariant.1.1 }

@@ -4,8 +4,8 @@ use Rattle.chain_poses.proofs.kind_stage.Goals as goal
 
 pub returns-then-rigid : goal.returns-then-rigid
 unfolding kind_stage
-returns-then-rigid c = rw c.if-rigid.true c.pose_stage.ensures
+returns-then-rigid c = record { value = rw c.if-rigid.true c.pose_stage.ensures.value }
 
 pub returns : goal.returns
 unfolding kind_stage
-returns c = rw c.if-rigid.false
+returns c = record { value = rw c.if-rigid.false }

@@ -6,16 +6,16 @@ use Rattle.chain_poses.proofs.pair_number_at.Goals as goal
 
 pub returns-then-start-end : goal.returns-then-start-end
 unfolding Pair-number
-returns-then-start-end c = rw (eq-eqb _ 12 c.if-k-eq12.true, c.if-start-end.true)
+returns-then-start-end c = record { value = rw (eq-eqb _ 12 c.if-k-eq12.true, c.if-start-end.true) }
 
 pub returns-then-k-eq12 : goal.returns-then-k-eq12
 unfolding Pair-number
-returns-then-k-eq12 c = rw (eq-eqb _ 12 c.if-k-eq12.true, c.if-start-end.false)
+returns-then-k-eq12 c = record { value = rw (eq-eqb _ 12 c.if-k-eq12.true, c.if-start-end.false) }
 
 pub returns-then-k-eq3 : goal.returns-then-k-eq3
 unfolding Pair-number
-returns-then-k-eq3 c = rw (ne_eqb _ 12 c.if-k-eq12.false, eq-eqb _ 3 c.if-k-eq3.true, c.times_refusal.ensures)
+returns-then-k-eq3 c = record { value = rw (ne_eqb _ 12 c.if-k-eq12.false, eq-eqb _ 3 c.if-k-eq3.true, c.times_refusal.ensures.value) }
 
 pub returns : goal.returns
 unfolding Pair-number
-returns c = rw (ne_eqb _ 12 c.if-k-eq12.false, ne_eqb _ 3 c.if-k-eq3.false)
+returns c = record { value = rw (ne_eqb _ 12 c.if-k-eq12.false, ne_eqb _ 3 c.if-k-eq3.false) }

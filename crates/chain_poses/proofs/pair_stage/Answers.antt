@@ -14,11 +14,10 @@ loop-i-init c = (refl, (omega arith, refl))
 
 pub returns-then-number-ne0 : goal.returns-then-number-ne0
 unfolding first_number
-returns-then-number-ne0 c =
-    let l = c.loop-i in
+returns-then-number-ne0 c = record { value = let l = c.loop-i in
     let a = c.args in
     let next = pairs_next a.poses.now l.i l.invariant.1.0 c.loop-i-test.true in
-    rw (← l.invariant.1.1, next, ← c.pair_number_at-number.ensures, ne_eqb _ 0 c.if-number-ne0.true)
+    rw (← l.invariant.1.1, next, ← c.pair_number_at-number.ensures.value, ne_eqb _ 0 c.if-number-ne0.true) }
 
 pub loop-i-preserved : goal.loop-i-preserved
 unfolding first_number
@@ -26,11 +25,10 @@ loop-i-preserved c =
     let l = c.loop-i in
     let a = c.args in
     let next = pairs_next a.poses.now l.i l.invariant.1.0 c.loop-i-test.true in
-    (refl, (omega arith, rw (← l.invariant.1.1, next, ← c.pair_number_at-number.ensures, eq-eqb _ 0 c.if-number-ne0.false)))
+    (refl, (omega arith, rw (← l.invariant.1.1, next, ← c.pair_number_at-number.ensures.value, eq-eqb _ 0 c.if-number-ne0.false)))
 
 pub returns : goal.returns
 unfolding first_number
-returns c =
-    let l = c.loop-i in
+returns c = record { value = let l = c.loop-i in
     let a = c.args in
-    rw (← l.invariant.1.1, pairs_end a.poses.now l.i l.invariant.1.0 c.loop-i-test.false)
+    rw (← l.invariant.1.1, pairs_end a.poses.now l.i l.invariant.1.0 c.loop-i-test.false) }

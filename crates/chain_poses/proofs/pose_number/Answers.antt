@@ -6,51 +6,45 @@ use Rattle.chain_poses.proofs.pose_number.Goals as goal
 
 pub returns-then-is_finite : goal.returns-then-is_finite
 unfolding Pose-number
-returns-then-is_finite c = rw (eq-eqb _ 1 c.if-k-eq1.true, ← c.is_finite.ensures, c.if-is_finite.true)
+returns-then-is_finite c = record { value = rw (eq-eqb _ 1 c.if-k-eq1.true, ← c.is_finite.ensures.value, c.if-is_finite.true) }
 
 pub returns-then-k-eq1 : goal.returns-then-k-eq1
 unfolding Pose-number
-returns-then-k-eq1 c = rw (eq-eqb _ 1 c.if-k-eq1.true, ← c.is_finite.ensures, c.if-is_finite.false)
+returns-then-k-eq1 c = record { value = rw (eq-eqb _ 1 c.if-k-eq1.true, ← c.is_finite.ensures.value, c.if-is_finite.false) }
 
 pub returns-then-is_affine : goal.returns-then-is_affine
 unfolding Pose-number
-returns-then-is_affine c =
-    rw (ne_eqb _ 1 c.if-k-eq1.false, eq-eqb _ 2 c.if-k-eq2.true, ← c.is_affine.ensures, c.if-is_affine.true)
+returns-then-is_affine c = record { value = rw (ne_eqb _ 1 c.if-k-eq1.false, eq-eqb _ 2 c.if-k-eq2.true, ← c.is_affine.ensures.value, c.if-is_affine.true) }
 
 pub returns-then-k-eq2 : goal.returns-then-k-eq2
 unfolding Pose-number
-returns-then-k-eq2 c =
-    rw (ne_eqb _ 1 c.if-k-eq1.false, eq-eqb _ 2 c.if-k-eq2.true, ← c.is_affine.ensures, c.if-is_affine.false)
+returns-then-k-eq2 c = record { value = rw (ne_eqb _ 1 c.if-k-eq1.false, eq-eqb _ 2 c.if-k-eq2.true, ← c.is_affine.ensures.value, c.if-is_affine.false) }
 
 pub returns-then-is_padded : goal.returns-then-is_padded
 unfolding Pose-number
-returns-then-is_padded c =
-    rw (
+returns-then-is_padded c = record { value = rw (
       ne_eqb _ 1 c.if-k-eq1.false,
       ne_eqb _ 2 c.if-k-eq2.false,
       eq-eqb _ 16 c.if-k-eq16.true,
-      ← c.is_padded.ensures,
+      ← c.is_padded.ensures.value,
       c.if-is_padded.true,
-    )
+    ) }
 
 pub returns-then-k-eq16 : goal.returns-then-k-eq16
 unfolding Pose-number
-returns-then-k-eq16 c =
-    rw (
+returns-then-k-eq16 c = record { value = rw (
       ne_eqb _ 1 c.if-k-eq1.false,
       ne_eqb _ 2 c.if-k-eq2.false,
       eq-eqb _ 16 c.if-k-eq16.true,
-      ← c.is_padded.ensures,
+      ← c.is_padded.ensures.value,
       c.if-is_padded.false,
-    )
+    ) }
 
 pub returns-then-k-eq17 : goal.returns-then-k-eq17
 unfolding Pose-number
-returns-then-k-eq17 c =
-    rw (ne_eqb _ 1 c.if-k-eq1.false, ne_eqb _ 2 c.if-k-eq2.false, ne_eqb _ 16 c.if-k-eq16.false, eq-eqb _ 17 c.if-k-eq17.true)
-    c.kind_number.ensures
+returns-then-k-eq17 c = record { value = rw (ne_eqb _ 1 c.if-k-eq1.false, ne_eqb _ 2 c.if-k-eq2.false, ne_eqb _ 16 c.if-k-eq16.false, eq-eqb _ 17 c.if-k-eq17.true)
+    c.kind_number.ensures.value }
 
 pub returns : goal.returns
 unfolding Pose-number
-returns c =
-    rw (ne_eqb _ 1 c.if-k-eq1.false, ne_eqb _ 2 c.if-k-eq2.false, ne_eqb _ 16 c.if-k-eq16.false, ne_eqb _ 17 c.if-k-eq17.false)
+returns c = record { value = rw (ne_eqb _ 1 c.if-k-eq1.false, ne_eqb _ 2 c.if-k-eq2.false, ne_eqb _ 16 c.if-k-eq16.false, ne_eqb _ 17 c.if-k-eq17.false) }

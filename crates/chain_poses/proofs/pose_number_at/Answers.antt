@@ -3,4 +3,4 @@ use borrow.Author.Rules.{rules}
 use Rattle.chain_poses.proofs.pose_number_at.Goals as goal
 
 pub returns : goal.returns
-returns c = rw (c.pose_number.ensures, c.pose.ensures)
+returns c = record { value = rw (c.pose_number.ensures.value, c.pose.ensures.value) }

@@ -8,22 +8,21 @@ use Rattle.chain_poses.proofs.refusal.Goals as goal
 
 pub returns : goal.returns
 unfolding chain_refusal first_number
-returns c =
-    let a = c.args in
+returns c = record { value = let a = c.args in
     rw (
-      c.first_refusal.ensures,
-      c.first_refusal-later.ensures,
-      c.first_refusal-pads.ensures,
-      c.first_refusal-chain.ensures,
-      c.first_refusal-pairs.ensures,
-      c.first_refusal.ensures,
-      c.kind_stage-kind.ensures,
-      c.pair_stage-times.ensures,
-      c.pair_stage-rise.ensures,
-      c.count_number-count.ensures,
-      c.pose_stage-padded.ensures,
-      c.pose_stage-affine.ensures,
-      c.pose_stage-finite.ensures,
+      c.first_refusal.ensures.value,
+      c.first_refusal-later.ensures.value,
+      c.first_refusal-pads.ensures.value,
+      c.first_refusal-chain.ensures.value,
+      c.first_refusal-pairs.ensures.value,
+      c.first_refusal.ensures.value,
+      c.kind_stage-kind.ensures.value,
+      c.pair_stage-times.ensures.value,
+      c.pair_stage-rise.ensures.value,
+      c.count_number-count.ensures.value,
+      c.pose_stage-padded.ensures.value,
+      c.pose_stage-affine.ensures.value,
+      c.pose_stage-finite.ensures.value,
       poses-length a.poses.now,
       first-only (kind_stage a.rigid (Poses-of_lists a.poses.now)),
-    )
+    ) }

@@ -7,11 +7,9 @@ use Rattle.chain_rows.proofs.transform_point.Goals as goal
 
 pub returns-then-moves-eq0 : goal.returns-then-moves-eq0
 unfolding Moves-transform_point
-returns-then-moves-eq0 c = let a = c.args in point-clauses a.moves.now a.time a.p (rw (eq-eqb _ 0 c.if-moves-eq0.true))
+returns-then-moves-eq0 c = let a = c.args in let all = point-clauses a.moves.now a.time a.p (rw (eq-eqb _ 0 c.if-moves-eq0.true)) in record { value = all.0; kept = all.1 }
 
 pub returns : goal.returns
 unfolding Moves-transform_point
-returns c =
-    let a = c.args in
-    point-clauses a.moves.now a.time a.p
-    (rw (ne_eqb _ 0 c.if-moves-eq0.false, ← c.place-i.ensures.0, c.transform_point.ensures))
+returns c = let a = c.args in let all = point-clauses a.moves.now a.time a.p
+    (rw (ne_eqb _ 0 c.if-moves-eq0.false, ← c.place-i.ensures.value, c.transform_point.ensures.value)) in record { value = all.0; kept = all.1 }

@@ -8,9 +8,5 @@ use Rattle.chain_text.proofs.put.Goals as goal
 
 pub returns : goal.returns
 unfolding ascii
-returns c =
-    let a = c.args in (
-      put_all a.moves.now a.b c.requires.0 a.out.now c.requires.1 c.start_pose.ensures _ _ _ _ c.write_text.ensures.1
-          c.put_pose.ensures.0 c.put_ends.ensures.0 c.put_bounds.ensures,
-      lines-floats a.moves.now _ c.requires.0 c.start_pose.ensures c.put_pose.ensures.1 c.put_ends.ensures.1,
-    )
+returns c = let a = c.args in record { left = put_all a.moves.now a.b c.requires.moves_nonzero a.out.now c.requires.moves_in_bounds c.start_pose.ensures.value _ _ _ _ c.write_text.ensures.text
+          c.put_pose.ensures.left c.put_ends.ensures.left c.put_bounds.ensures; floats = lines-floats a.moves.now _ c.requires.moves_nonzero c.start_pose.ensures.value c.put_pose.ensures.floats c.put_ends.ensures.floats }

@@ -36,13 +36,9 @@ loop-i-preserved c =
     let l = c.loop-i in
     let a = c.args in
     let h = c.loop-i-test.true in
-    let turn = put-end a.out.now a.moves.now c.requires l.i h c.end_pose.ensures l.out _ l.invariant.2 c.put_pose.ensures.0 in
-    let floats = ends_next a.moves.now l.i _ h l.invariant.3 c.end_pose.ensures c.put_pose.ensures.1 in
+    let turn = put-end a.out.now a.moves.now c.requires l.i h c.end_pose.ensures.value l.out _ l.invariant.2 c.put_pose.ensures.left in
+    let floats = ends_next a.moves.now l.i _ h l.invariant.3 c.end_pose.ensures.value c.put_pose.ensures.floats in
     (omega (arith, h), ap length turn ∙ ends-size a.out.now a.moves.now c.requires (l.i + 1) (omega (arith, h)), turn, floats)
 
 pub returns : goal.returns
-returns c =
-    let l = c.loop-i in
-    let e : l.i ≡ length c.args.moves.now = omega arith in
-    let rows = c.args.moves.now in
-    (rw (← e) l.invariant.2, rw (take_all l.i rows (omega (arith, e))) at l.invariant.3)
+returns c = let l = c.loop-i in let e : l.i ≡ length c.args.moves.now = omega arith in let rows = c.args.moves.now in record { left = rw (← e) l.invariant.2; floats = rw (take_all l.i rows (omega (arith, e))) at l.invariant.3 }

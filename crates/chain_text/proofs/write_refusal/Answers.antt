@@ -10,4 +10,4 @@ pub returns : goal.returns
 returns c =
     let a = c.args in
     some_number a.moves.now a.b a.size c.if-moves-eq0.false c.text_length.ensures
-    c.refusal-judged.ensures c.room_refusal-room.ensures c.first_refusal.ensures
+    c.refusal-judged.ensures.value c.room_refusal-room.ensures c.first_refusal.ensures.value

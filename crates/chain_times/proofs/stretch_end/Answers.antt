@@ -14,13 +14,7 @@ pub loop-i-init : goal.loop-i-init
 loop-i-init c = (refl, (omega arith, (search rules, refl)))
 
 pub returns-then-not-times-i : goal.returns-then-not-times-i
-returns-then-not-times-i c =
-    let l = c.loop-i in
-    let a = c.args in
-    let h = c.loop-i-test.true in (
-      sym (count-here a.end a.times.now l.i h (not-true (le (get_or a.times.now l.i nan) a.end) c.if-not-times-i.true)) ∙ l.invariant.1.1.1,
-      (omega (arith, h), l.invariant.1.0),
-    )
+returns-then-not-times-i c = let l = c.loop-i in let a = c.args in let h = c.loop-i-test.true in record { value = sym (count-here a.end a.times.now l.i h (not-true (le (get_or a.times.now l.i nan) a.end) c.if-not-times-i.true)) ∙ l.invariant.1.1.1; below = omega (arith, h); above = l.invariant.1.0 }
 
 pub loop-i-preserved : goal.loop-i-preserved
 loop-i-preserved c =
@@ -30,7 +24,4 @@ loop-i-preserved c =
     (refl, (omega (arith, l.invariant.1.0), (omega (arith, h), count_next a.end a.times.now l.i h (not-false _ c.if-not-times-i.false) ∙ l.invariant.1.1.1)))
 
 pub returns : goal.returns
-returns c =
-    let l = c.loop-i in
-    let a = c.args in
-    (sym (count-end a.end a.times.now l.i c.loop-i-test.false) ∙ l.invariant.1.1.1, (l.invariant.1.1.0, l.invariant.1.0))
+returns c = let l = c.loop-i in let a = c.args in record { value = sym (count-end a.end a.times.now l.i c.loop-i-test.false) ∙ l.invariant.1.1.1; below = l.invariant.1.1.0; above = l.invariant.1.0 }

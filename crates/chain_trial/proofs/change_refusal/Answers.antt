@@ -8,22 +8,10 @@ use borrow.Author.Rules.{rules}
 use Rattle.chain_trial.proofs.change_refusal.Goals as goal
 
 pub returns-then-judged-ne0 : goal.returns-then-judged-ne0
-returns-then-judged-ne0 c =
-    let a = c.args in
-    let judged = c.place_refusal-judged.ensures ∙ ap (λ (n : ℕ). place_refusal n a.place) c.pose_count.ensures in
-    let f = c.if-judged-ne0.true in
-    (place-refused a.moves.now a.place (Pose-of_list a.pose.now) judged f, (λ z. absurd (f z), c.requires))
+returns-then-judged-ne0 c = let a = c.args in let judged = c.place_refusal-judged.ensures.value ∙ ap (λ (n : ℕ). place_refusal n a.place) c.pose_count.ensures.value in let f = c.if-judged-ne0.true in record { refusal = place-refused a.moves.now a.place (Pose-of_list a.pose.now) judged f; built = λ z. absurd (f z); same = c.requires }
 
 pub build_beside-requires : goal.build_beside-requires
-build_beside-requires c =
-    let a = c.args in
-    let judged = c.place_refusal-judged.ensures ∙ ap (λ (n : ℕ). place_refusal n a.place) c.pose_count.ensures in
-    let passed = place-passed a.moves.now a.place (sym judged ∙ c.if-judged-ne0.false) in
-    (passed.some, (passed.inside, c.requires))
+build_beside-requires c = let a = c.args in let judged = c.place_refusal-judged.ensures.value ∙ ap (λ (n : ℕ). place_refusal n a.place) c.pose_count.ensures.value in let passed = place-passed a.moves.now a.place (sym judged ∙ c.if-judged-ne0.false) in record { moves_nonzero = passed.some; place_in_bounds = passed.inside; blocks_len = c.requires }
 
 pub returns : goal.returns
-returns c =
-    let a = c.args in
-    let judged = c.place_refusal-judged.ensures ∙ ap (λ (n : ℕ). place_refusal n a.place) c.pose_count.ensures in
-    let none = sym judged ∙ c.if-judged-ne0.false in
-    (c.build_beside.ensures.0 ∙ sym (place-accepted a.moves.now a.place (Pose-of_list a.pose.now) none), c.build_beside.ensures.1)
+returns c = let a = c.args in let judged = c.place_refusal-judged.ensures.value ∙ ap (λ (n : ℕ). place_refusal n a.place) c.pose_count.ensures.value in let none = sym judged ∙ c.if-judged-ne0.false in let all = (c.build_beside.ensures.refusal ∙ sym (place-accepted a.moves.now a.place (Pose-of_list a.pose.now) none), c.build_beside.ensures.built) in record { refusal = all.0; built = all.1; same = all.2 }

@@ -6,8 +6,8 @@ use Rattle.chain_trial.proofs.pose_count.Goals as goal
 
 pub returns-then-moves-eq0 : goal.returns-then-moves-eq0
 unfolding poses_in
-returns-then-moves-eq0 c = rw (eq-eqb _ 0 c.if-moves-eq0.true)
+returns-then-moves-eq0 c = record { value = rw (eq-eqb _ 0 c.if-moves-eq0.true) }
 
 pub returns : goal.returns
 unfolding poses_in
-returns c = rw (ne_eqb _ 0 c.if-moves-eq0.false)
+returns c = record { value = rw (ne_eqb _ 0 c.if-moves-eq0.false) }

@@ -5,4 +5,4 @@ use Rattle.cover_groups.proofs.ends.Goals as goal
 
 pub returns : goal.returns
 unfolding Lanes-ends
-returns c = refl
+returns c = record { value = refl }

@@ -4,8 +4,8 @@ use Rattle.cover_groups.proofs.second_quaternion.Goals as goal
 
 pub returns-then-a : goal.returns-then-a
 unfolding second_by
-returns-then-a c = rw c.if-a.true
+returns-then-a c = record { value = rw c.if-a.true }
 
 pub returns-else-a : goal.returns-else-a
 unfolding second_by
-returns-else-a c = rw (c.if-a.false, c.perpendicular_to-perp.ensures)
+returns-else-a c = record { value = rw (c.if-a.false, c.perpendicular_to-perp.ensures.value) }

@@ -15,26 +15,19 @@ use Rattle.cover_groups.proofs.Lanewise.{groups-lanes}
 use Rattle.cover_groups.proofs.union_groups.Goals as goal
 
 pub join_groups-joined-requires : goal.join_groups-joined-requires
-join_groups-joined-requires c =
-    let a = c.args.a in
-    let held = c.held_depth-h in
-    let d = held.result in
-    let h : d ≤ max_depth = omega (arith, held.ensures) in
-    let start = c.border_at-from.ensures ∙ λ i. Border-at (is_near a) a.theta (sym (slice_end-first d) i) in
-    (c.table-table.ensures.0, (h, (omega (arith, slice-count d h), start)))
+join_groups-joined-requires c = let a = c.args.a in let held = c.held_depth-h in let d = held.result in let h : d ≤ max_depth = omega (arith, held.ensures.value) in let start = c.border_at-from.ensures.value ∙ λ i. Border-at (is_near a) a.theta (sym (slice_end-first d) i) in record { fact_1 = c.table-table.ensures.value; fact_2 = h; fact_3 = omega (arith, slice-count d h); fact_4 = start }
 
 pub returns : goal.returns
 unfolding Groups-union
-returns c =
-    let a = c.args in
+returns c = record { value = let a = c.args in
     let held = c.held_depth-h in
     let d = held.result in
-    let h : d ≤ max_depth = omega (arith, held.ensures) in
+    let h : d ≤ max_depth = omega (arith, held.ensures.value) in
     let count : 1 * 2 ^ d % 2 ^ 64 / 4 ≡ 2 ^ d / 4 = omega (arith, slice-count d h) in
-    c.joined.ensures
+    c.joined.ensures.value
     ∙ ap LanesVector-joined
-    (c.join_groups-joined.ensures
-    ∙ (λ i. loop (LanesVector-group a.a (c.second_quaternion-second.ensures i) a.s0 a.s1 a.pad0 a.pad1 (c.repeated-p.ensures i) d) (count i)
-    (c.repeated-union.ensures i))
+    (c.join_groups-joined.ensures.value
+    ∙ (λ i. loop (LanesVector-group a.a (c.second_quaternion-second.ensures.value i) a.s0 a.s1 a.pad0 a.pad1 (c.repeated-p.ensures.value i) d) (count i)
+    (c.repeated-union.ensures.value i))
     ∙ groups-lanes a.a a.s0 a.s1 a.pad0 a.pad1 a.b d (2 ^ d / 4) (Bounds3f-intervals a.first))
-    ∙ ap (λ (e : ℕ). Groups-union a.a a.s0 a.s1 a.pad0 a.pad1 a.b e (2 ^ e / 4) a.first) held.ensures
+    ∙ ap (λ (e : ℕ). Groups-union a.a a.s0 a.s1 a.pad0 a.pad1 a.b e (2 ^ e / 4) a.first) held.ensures.value }

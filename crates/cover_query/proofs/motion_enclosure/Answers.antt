@@ -11,33 +11,30 @@ use Rattle.cover_query.proofs.motion_enclosure.Goals as goal
 
 pub returns-then-not-m : goal.returns-then-not-m
 unfolding AnimatedTransform-enclose_motion
-returns-then-not-m c =
-    rw (
+returns-then-not-m c = record { value = rw (
       not-true c.args.m.actually_animated c.if-not-m.true,
       stored-composition _ _ _,
-      c.positive_zeros.ensures,
-      c.box_enclosure.ensures,
-      c.stored_enclosure.ensures,
-      c.max-pad.ensures,
-    )
+      c.positive_zeros.ensures.value,
+      c.box_enclosure.ensures.value,
+      c.stored_enclosure.ensures.value,
+      c.max-pad.ensures.value,
+    ) }
 
 pub returns-in-Bounds : goal.returns-in-Bounds
 unfolding AnimatedTransform-enclose_motion
-returns-in-Bounds c =
-    rw (
-      ← c.ends_enclosure-ends.ensures,
+returns-in-Bounds c = record { value = rw (
+      ← c.ends_enclosure-ends.ensures.value,
       c.ends-1.given.1,
-      c.union_slices.ensures,
+      c.union_slices.ensures.value,
       min-eq_left c.requires,
       not-false c.args.m.actually_animated c.if-not-m.false,
-    )
+    ) }
 
 pub returns-in-Refused : goal.returns-in-Refused
 unfolding AnimatedTransform-enclose_motion BoundsAnswer-positive_zeros
-returns-in-Refused c =
-    rw (
-      ← c.ends_enclosure-ends.ensures,
+returns-in-Refused c = record { value = rw (
+      ← c.ends_enclosure-ends.ensures.value,
       c.ends-in-Refused-1.given.1,
       refused-first _ _ _ _ _ _,
       not-false c.args.m.actually_animated c.if-not-m.false,
-    )
+    ) }

@@ -4,4 +4,4 @@ use lib.Dec.{T}
 use Rattle.cover_test.proofs.is_finite.Goals as goal
 
 pub returns : goal.returns
-returns c = (c.is_finite.ensures, subst T (sym c.well_formed.0.1) tt)
+returns c = record { value = c.is_finite.ensures.value; number = subst T (sym c.well_formed.0.1) tt }

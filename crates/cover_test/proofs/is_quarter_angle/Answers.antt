@@ -6,4 +6,4 @@ use Rattle.cover_test.proofs.is_quarter_angle.Goals as goal
 
 pub returns : goal.returns
 unfolding is_quarter_angle
-returns c = (refl, subst T (sym c.well_formed.0.1) tt)
+returns c = record { value = refl; number = subst T (sym c.well_formed.0.1) tt }

@@ -5,8 +5,8 @@ use Rattle.cut_parts.proofs.cut_refusal.Goals as goal
 
 pub returns-then-n : goal.returns-then-n
 unfolding cut_refusal
-returns-then-n c = rw c.if-n.true
+returns-then-n c = record { value = rw c.if-n.true }
 
 pub returns : goal.returns
 unfolding cut_refusal
-returns c = rw c.if-n.false c.refusal.ensures
+returns c = record { value = rw c.if-n.false c.refusal.ensures.value }

@@ -4,12 +4,11 @@ use Rattle.cut_parts.proofs.Faces.{face-zero, face-end, face-between}
 use Rattle.cut_parts.proofs.face.Goals as goal
 
 pub returns-then-i-eq0 : goal.returns-then-i-eq0
-returns-then-i-eq0 c = λ N few le. face-zero _ _ _ _ c.if-i-eq0.true
+returns-then-i-eq0 c = record { value = λ N few le. face-zero _ _ _ _ c.if-i-eq0.true }
 
 pub returns-then-i-n : goal.returns-then-i-n
-returns-then-i-n c = λ N few le. face-end _ _ _ _ c.if-i-eq0.false c.if-i-n.true
+returns-then-i-n c = record { value = λ N few le. face-end _ _ _ _ c.if-i-eq0.false c.if-i-n.true }
 
 pub returns : goal.returns
-returns c =
-    face-between _ _ _ _ c.if-i-eq0.false c.if-i-n.false
-    c.from_fixed-k.ensures c.from_fixed-m.ensures c.inner_face.ensures
+returns c = record { value = face-between _ _ _ _ c.if-i-eq0.false c.if-i-n.false
+    c.from_fixed-k.ensures.value c.from_fixed-m.ensures.value c.inner_face.ensures.value }

@@ -5,4 +5,4 @@ use Rattle.cut_parts.proofs.inner_face.Goals as goal
 
 pub returns : goal.returns
 unfolding inner_face
-returns c = c.min.ensures
+returns c = record { value = c.min.ensures.value }

@@ -6,4 +6,4 @@ use Rattle.cut_parts.proofs.longest_x.Goals as goal
 
 pub returns : goal.returns
 unfolding longest_x
-returns c = refl
+returns c = record { value = refl }

@@ -6,4 +6,4 @@ use Rattle.cut_parts.proofs.longest_y.Goals as goal
 
 pub returns : goal.returns
 unfolding longest_y
-returns c = refl
+returns c = record { value = refl }

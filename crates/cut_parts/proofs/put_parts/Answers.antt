@@ -16,10 +16,8 @@ loop-i-preserved c =
     let l = c.loop-i in
     let a = c.args in
     let t = c.loop-i-test.true in
-    let same = c.part.ensures (omega (arith, t)) c.requires t (omega arith) in
-    cutting-next a.b a.n a.old l.invariant t c.bounds_values.ensures same
+    let same = c.part.ensures.value (omega (arith, t)) c.requires t (omega arith) in
+    cutting-next a.b a.n a.old l.invariant t c.bounds_values.ensures.value same
 
 pub returns : goal.returns
-returns c =
-    let a = c.args in
-    (cutting-last a.b a.n a.old c.loop-i.invariant c.loop-i-test.false, c.well_formed.1.1.0.1.0.1)
+returns c = let a = c.args in record { left = cutting-last a.b a.n a.old c.loop-i.invariant c.loop-i-test.false; length = c.well_formed.1.1.0.1.0.1 }

@@ -5,4 +5,4 @@ use Rattle.derivative_x.proofs.c1x.Goals as goal
 
 pub returns : goal.returns
 unfolding c1x
-returns c = refl
+returns c = record { value = refl }

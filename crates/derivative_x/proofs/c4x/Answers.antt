@@ -5,4 +5,4 @@ use Rattle.derivative_x.proofs.c4x.Goals as goal
 
 pub returns : goal.returns
 unfolding c4x
-returns c = refl
+returns c = record { value = refl }

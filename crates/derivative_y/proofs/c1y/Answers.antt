@@ -5,4 +5,4 @@ use Rattle.derivative_y.proofs.c1y.Goals as goal
 
 pub returns : goal.returns
 unfolding c1y
-returns c = refl
+returns c = record { value = refl }

@@ -5,4 +5,4 @@ use Rattle.derivative_y.proofs.c2y.Goals as goal
 
 pub returns : goal.returns
 unfolding c2y
-returns c = refl
+returns c = record { value = refl }

@@ -5,4 +5,4 @@ use Rattle.derivative_y.proofs.c3y.Goals as goal
 
 pub returns : goal.returns
 unfolding c3y
-returns c = refl
+returns c = record { value = refl }

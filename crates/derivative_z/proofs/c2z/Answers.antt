@@ -5,4 +5,4 @@ use Rattle.derivative_z.proofs.c2z.Goals as goal
 
 pub returns : goal.returns
 unfolding c2z
-returns c = refl
+returns c = record { value = refl }

@@ -5,4 +5,4 @@ use Rattle.derivative_z.proofs.c3z.Goals as goal
 
 pub returns : goal.returns
 unfolding c3z
-returns c = refl
+returns c = record { value = refl }

@@ -5,4 +5,4 @@ use Rattle.derivative_z.proofs.c4z.Goals as goal
 
 pub returns : goal.returns
 unfolding c4z
-returns c = refl
+returns c = record { value = refl }

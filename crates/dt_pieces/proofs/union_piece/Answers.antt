@@ -5,4 +5,4 @@ use Rattle.dt_pieces.proofs.union_piece.Goals as goal
 
 pub returns : goal.returns
 unfolding piece_box
-returns c = rw (c.union_bounds.ensures, c.box_enclosure.ensures, c.padded_enclosure.ensures)
+returns c = record { value = rw (c.union_bounds.ensures.value, c.box_enclosure.ensures.value, c.padded_enclosure.ensures.value) }

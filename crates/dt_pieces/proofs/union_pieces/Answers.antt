@@ -3,4 +3,4 @@ use borrow.Author.Rules.{rules}
 use Rattle.dt_pieces.proofs.union_pieces.Goals as goal
 
 pub returns : goal.returns
-returns c = rw (c.union_halves.ensures, c.held_depth.ensures)
+returns c = record { value = rw (c.union_halves.ensures.value, c.held_depth.ensures.value) }

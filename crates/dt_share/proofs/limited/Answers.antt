@@ -5,4 +5,4 @@ use Rattle.dt_share.proofs.limited.Goals as goal
 
 pub returns : goal.returns
 unfolding limited
-returns c = c.clamp.ensures
+returns c = record { value = c.clamp.ensures.value }

@@ -5,5 +5,4 @@ use Rattle.dt_share.proofs.share.Goals as goal
 
 pub returns : goal.returns
 unfolding share
-returns c =
-    rw (c.limited-2.ensures, c.dt-2.ensures, c.limited.ensures, c.dt.ensures)
+returns c = record { value = rw (c.limited-2.ensures.value, c.dt-2.ensures.value, c.limited.ensures.value, c.dt.ensures.value) }

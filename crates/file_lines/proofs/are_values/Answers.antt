@@ -19,14 +19,14 @@ pub returns-in-Malformed : goal.returns-in-Malformed
 unfolding fits
 returns-in-Malformed c =
     let l = c.loop-at in
-    let e = sym c.read_word.ensures ∙ c.enum_told-in-Malformed-1.given.1 in
+    let e = sym c.read_word.ensures.value ∙ c.enum_told-in-Malformed-1.given.1 in
     sym (l.invariant.1 ∙ values-malformed c.args.line.now l.at l.left e)
 
 pub overflow_add-at : goal.overflow_add-at
 overflow_add-at c =
     let l = c.loop-at in
     let bits = c.enum_told-1.given in
-    let e = sym c.read_word.ensures ∙ bits.1 in
+    let e = sym c.read_word.ensures.value ∙ bits.1 in
     omega (arith, bits_inside c.args.line.now l.at bits.0.0 e)
 
 pub returns-then-left-eq0 : goal.returns-then-left-eq0
@@ -35,7 +35,7 @@ returns-then-left-eq0 c =
     let l = c.loop-at in
     let line = c.args.line.now in
     let bits = c.enum_told-1.given in
-    let e = sym c.read_word.ensures ∙ bits.1 in
+    let e = sym c.read_word.ensures.value ∙ bits.1 in
     let final : l.left ≡ 1 = omega (arith, l.invariant.0, c.if-left-eq0.true) in
     sym (l.invariant.1 ∙ rw final (values-final line l.at bits.0.0 e))
 
@@ -45,7 +45,7 @@ returns-then-line-at c =
     let l = c.loop-at in
     let line = c.args.line.now in
     let bits = c.enum_told-1.given in
-    let e = sym c.read_word.ensures ∙ bits.1 in
+    let e = sym c.read_word.ensures.value ∙ bits.1 in
     let more : l.left ≡ suc (suc (l.left - 2)) = omega (arith, l.invariant.0, c.if-left-eq0.false) in
     sym (l.invariant.1 ∙ rw more (values-short line l.at bits.0.0 e (l.left - 2) c.if-line-at.true))
 
@@ -55,7 +55,7 @@ returns-then-line-at-ne32 c =
     let l = c.loop-at in
     let line = c.args.line.now in
     let bits = c.enum_told-1.given in
-    let e = sym c.read_word.ensures ∙ bits.1 in
+    let e = sym c.read_word.ensures.value ∙ bits.1 in
     sym (l.invariant.1 ∙ values-unspaced line l.at bits.0.0 e l.left c.if-line-at.false c.if-line-at-ne32.true)
 
 pub loop-at-preserved : goal.loop-at-preserved
@@ -63,7 +63,7 @@ loop-at-preserved c =
     let l = c.loop-at in
     let line = c.args.line.now in
     let bits = c.enum_told-1.given in
-    let e = sym c.read_word.ensures ∙ bits.1 in
+    let e = sym c.read_word.ensures.value ∙ bits.1 in
     let more : l.left ≡ suc (l.left - 1) = omega (arith, l.invariant.0) in (
       omega (arith, l.invariant.0, c.if-left-eq0.false),
       l.invariant.1

@@ -9,11 +9,8 @@ put_values-requires c = sym c.are_values-kept.ensures ∙ c.if-kept.true
 
 pub returns-then-kept : goal.returns-then-kept
 unfolding values_left
-returns-then-kept c =
-    (c.are_values-kept.ensures, rw (← c.are_values-kept.ensures, c.if-kept.true) c.put_values.ensures)
+returns-then-kept c = record { value = c.are_values-kept.ensures; left = rw (← c.are_values-kept.ensures, c.if-kept.true) c.put_values.ensures }
 
 pub returns-else-kept : goal.returns-else-kept
 unfolding values_left
-returns-else-kept c =
-    let judged = c.are_values-kept in
-    (judged.ensures, rw (← judged.ensures, c.if-kept.false))
+returns-else-kept c = let judged = c.are_values-kept in record { value = judged.ensures; left = rw (← judged.ensures, c.if-kept.false) }

@@ -17,7 +17,7 @@ pub loop-i-preserved : goal.loop-i-preserved
 loop-i-preserved c =
     let l = c.loop-i in
     let a = c.args in
-    let next = rw l.invariant.0 at c.values_line-next.ensures.0 in
+    let next = rw l.invariant.0 at c.values_line-next.ensures.value in
     let led = place-next (values (length a.scratch.now)) a.s.now a.count l.i l.place (omega arith) in
     (search rules, (omega arith, rw next (sym led ∙ l.invariant.1.1)))
 

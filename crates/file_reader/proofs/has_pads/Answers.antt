@@ -17,7 +17,7 @@ unfolding has_pads ascii
 returns-then-end-s c =
     let s = c.args.s.now in
     rw (split-first line_feed s).1
-    (c.is_names.ensures ∙ ap (λ (l : List ℕ). fits (names padded_names) l) (line-slice s 0 c.line_end-end.result c.line_end-end.ensures))
+    (c.is_names.ensures.value ∙ ap (λ (l : List ℕ). fits (names padded_names) l) (line-slice s 0 c.line_end-end.result c.line_end-end.ensures))
 
 pub returns : goal.returns
 returns c =

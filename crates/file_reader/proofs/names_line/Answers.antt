@@ -12,13 +12,13 @@ returns-then-is_names c =
     let a = c.args in
     let end = c.line_end-end in
     c.after_line_feed.ensures
-    ∙ after-fits (names a.text.now) a.s.now a.at end.result end.ensures (sym c.is_names.ensures ∙ c.if-is_names.true)
+    ∙ after-fits (names a.text.now) a.s.now a.at end.result end.ensures (sym c.is_names.ensures.value ∙ c.if-is_names.true)
 
 pub returns-else-is_names : goal.returns-else-is_names
 returns-else-is_names c =
     let a = c.args in
     let end = c.line_end-end in
-    after-unfit (names a.text.now) a.s.now a.at end.result end.ensures (sym c.is_names.ensures ∙ c.if-is_names.false)
+    after-unfit (names a.text.now) a.s.now a.at end.result end.ensures (sym c.is_names.ensures.value ∙ c.if-is_names.false)
 
 pub returns-else-end-s : goal.returns-else-end-s
 returns-else-end-s c =

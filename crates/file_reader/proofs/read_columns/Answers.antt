@@ -13,62 +13,30 @@ use Rattle.motion_file.proofs.Files.{file-long, file-departs, file-poses, file-r
 use Rattle.file_reader.proofs.read_columns.Goals as goal
 
 pub returns-then-bytes-gt65536 : goal.returns-then-bytes-gt65536
-returns-then-bytes-gt65536 c =
-    let a = c.args in
-    rw c.departs.ensures (file-long a.text.now a.columns a.bytes.now a.poses.now (omega arith))
+returns-then-bytes-gt65536 c = let a = c.args in let all = rw c.departs.ensures (file-long a.text.now a.columns a.bytes.now a.poses.now (omega arith)) in record { value = all.0; left = all.1; count = all.2 }
 
 pub slice_bounds-after_values-end : goal.slice_bounds-after_values-end
 slice_bounds-after_values-end c =
-    sym (length-take-le c.args.columns _ c.requires.1)
+    sym (length-take-le c.args.columns _ c.requires.columns_bound)
 
 pub returns-then-end-bytes : goal.returns-then-end-bytes
 unfolding ascii
-returns-then-end-bytes c =
-    let s = c.args.bytes.now in
-    let (least, most) = c.requires in
-    let size : length s ≤ max_bytes = omega (arith, c.if-bytes-gt65536.false) in
-    let part = length-take-le c.args.columns (replicate 14 (of_bits binary32 0)) most in
-    let led = subst (λ (n : ℕ). c.after_values-behind.result ≡ through (replicate c.pose_lines-count.result (values' n)) s c.names_line-first.result) part
-    c.after_values-behind.ensures in
-    rw c.departs-then-end-bytes.ensures
+returns-then-end-bytes c = let s = c.args.bytes.now in let (least, most) = (c.requires.le_columns, c.requires.columns_bound) in let size : length s ≤ max_bytes = omega (arith, c.if-bytes-gt65536.false) in let part = length-take-le c.args.columns (replicate 14 (of_bits binary32 0)) most in let led = subst (λ (n : ℕ). c.after_values-behind.result ≡ through (replicate c.pose_lines-count.result (values' n)) s c.names_line-first.result) part
+    c.after_values-behind.ensures in let all = rw c.departs-then-end-bytes.ensures
     (file-departs c.args.text.now c.args.columns least s size _ _ _ _ _ c.pose_lines-count.ensures c.names_line-first.ensures led
-    c.names_line-values.ensures c.values_line-end.ensures.0
-    c.args.poses.now c.if-end-bytes.true)
+    c.names_line-values.ensures c.values_line-end.ensures.value
+    c.args.poses.now c.if-end-bytes.true) in record { value = all.0; left = all.1; count = all.2 }
 
 pub with_poses-requires : goal.with_poses-requires
 unfolding ascii
-with_poses-requires c =
-    let s = c.args.bytes.now in
-    let (least, most) = c.requires in
-    let size : length s ≤ max_bytes = omega (arith, c.if-bytes-gt65536.false) in
-    let part = length-take-le c.args.columns (replicate 14 (of_bits binary32 0)) most in
-    let led = subst (λ (n : ℕ). c.after_values-behind.result ≡ through (replicate c.pose_lines-count.result (values' n)) s c.names_line-first.result) part
-    c.after_values-behind.ensures in
-    let whole = c.if-end-bytes.false in (
-      size,
-      (
-        file-room c.args.text.now c.args.columns least s size _ _ _ _ _ c.pose_lines-count.ensures c.names_line-first.ensures led
-            c.names_line-values.ensures c.values_line-end.ensures.0 whole,
-        (
-          least,
-          (
-            most,
-            file-poses c.args.text.now c.args.columns least s size _ _ _ _ _ c.pose_lines-count.ensures c.names_line-first.ensures led
-                c.names_line-values.ensures c.values_line-end.ensures.0 whole,
-          ),
-        ),
-      ),
-    )
+with_poses-requires c = let s = c.args.bytes.now in let (least, most) = (c.requires.le_columns, c.requires.columns_bound) in let size : length s ≤ max_bytes = omega (arith, c.if-bytes-gt65536.false) in let part = length-take-le c.args.columns (replicate 14 (of_bits binary32 0)) most in let led = subst (λ (n : ℕ). c.after_values-behind.result ≡ through (replicate c.pose_lines-count.result (values' n)) s c.names_line-first.result) part
+    c.after_values-behind.ensures in let whole = c.if-end-bytes.false in record { s_len_bound = size; count_le_max_pose_lines = file-room c.args.text.now c.args.columns least s size _ _ _ _ _ c.pose_lines-count.ensures c.names_line-first.ensures led
+            c.names_line-values.ensures c.values_line-end.ensures.value whole; le_columns = least; columns_bound = most; at_in_bounds = file-poses c.args.text.now c.args.columns least s size _ _ _ _ _ c.pose_lines-count.ensures c.names_line-first.ensures led
+                c.names_line-values.ensures c.values_line-end.ensures.value whole }
 
 pub returns : goal.returns
 unfolding ascii
-returns c =
-    let s = c.args.bytes.now in
-    let (least, most) = c.requires in
-    let size : length s ≤ max_bytes = omega (arith, c.if-bytes-gt65536.false) in
-    let part = length-take-le c.args.columns (replicate 14 (of_bits binary32 0)) most in
-    let led = subst (λ (n : ℕ). c.after_values-behind.result ≡ through (replicate c.pose_lines-count.result (values' n)) s c.names_line-first.result) part
-    c.after_values-behind.ensures in
-    file-contents c.args.text.now c.args.columns least s size _ _ _ _ _ c.pose_lines-count.ensures c.names_line-first.ensures led
-    c.names_line-values.ensures c.values_line-end.ensures.0 c.if-end-bytes.false
-    c.args.poses.now _ _ c.with_poses.ensures c.values_line-end.ensures.1
+returns c = let s = c.args.bytes.now in let (least, most) = (c.requires.le_columns, c.requires.columns_bound) in let size : length s ≤ max_bytes = omega (arith, c.if-bytes-gt65536.false) in let part = length-take-le c.args.columns (replicate 14 (of_bits binary32 0)) most in let led = subst (λ (n : ℕ). c.after_values-behind.result ≡ through (replicate c.pose_lines-count.result (values' n)) s c.names_line-first.result) part
+    c.after_values-behind.ensures in let all = file-contents c.args.text.now c.args.columns least s size _ _ _ _ _ c.pose_lines-count.ensures c.names_line-first.ensures led
+    c.names_line-values.ensures c.values_line-end.ensures.value c.if-end-bytes.false
+    c.args.poses.now _ _ c.with_poses.ensures c.values_line-end.ensures.out_after in record { value = all.0; left = all.1; count = all.2 }

@@ -8,5 +8,5 @@ use Rattle.file_stretch.proofs.put_two.Goals as goal
 pub returns : goal.returns
 returns c =
     let a = c.args in
-    rw c.write_text-2.ensures.1
-    (both-written a.first.now a.second.now a.out.now _ (length a.first.now) refl c.requires c.write_text.ensures.1 _ refl)
+    rw c.write_text-2.ensures.text
+    (both-written a.first.now a.second.now a.out.now _ (length a.first.now) refl c.requires c.write_text.ensures.text _ refl)

@@ -9,7 +9,7 @@ pub float_from_bits-result : goal.float_from_bits-result
 float_from_bits-result c = abs-bits-number c.args.x c.well_formed.0.1 c.if-x.true
 
 pub returns-then-x : goal.returns-then-x
-returns-then-x c = abs-bits c.args.x c.well_formed.0.1 c.if-x.true
+returns-then-x c = record { value = abs-bits c.args.x c.well_formed.0.1 c.if-x.true }
 
 pub returns : goal.returns
-returns c = abs-nan c.args.x c.if-x.false
+returns c = record { value = abs-nan c.args.x c.if-x.false }

@@ -9,8 +9,8 @@ float_from_bits-infinity c = tt
 
 pub returns-then-x-infinity : goal.returns-then-x-infinity
 unfolding of_bits neg
-returns-then-x-infinity c = finite-below c.args.x c.if-x-infinity.true
+returns-then-x-infinity c = record { value = finite-below c.args.x c.if-x-infinity.true }
 
 pub returns : goal.returns
 unfolding of_bits neg
-returns c = finite-beyond c.args.x c.if-x-infinity.false
+returns c = record { value = finite-beyond c.args.x c.if-x-infinity.false }

@@ -5,4 +5,4 @@ use Rattle.float32.proofs.lerp.Goals as goal
 
 pub returns : goal.returns
 unfolding lerp
-returns c = refl
+returns c = record { value = refl }

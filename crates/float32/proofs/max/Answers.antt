@@ -5,12 +5,12 @@ use Rattle.float32.proofs.max.Goals as goal
 
 pub returns-then-x : goal.returns-then-x
 unfolding max_num
-returns-then-x c = rw (← differs-nan c.args.x, c.if-x.true)
+returns-then-x c = record { value = rw (← differs-nan c.args.x, c.if-x.true) }
 
 pub returns-then-x-y : goal.returns-then-x-y
 unfolding max_num
-returns-then-x-y c = rw (← differs-nan c.args.x, c.if-x.false, c.if-x-y.true)
+returns-then-x-y c = record { value = rw (← differs-nan c.args.x, c.if-x.false, c.if-x-y.true) }
 
 pub returns-else-x-y : goal.returns-else-x-y
 unfolding max_num
-returns-else-x-y c = rw (← differs-nan c.args.x, c.if-x.false, c.if-x-y.false)
+returns-else-x-y c = record { value = rw (← differs-nan c.args.x, c.if-x.false, c.if-x-y.false) }

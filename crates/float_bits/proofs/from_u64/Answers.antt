@@ -5,4 +5,4 @@ use Rattle.float_bits.proofs.from_u64.Goals as goal
 
 pub returns : goal.returns
 unfolding of_int
-returns c = c.from_fixed.ensures
+returns c = record { value = c.from_fixed.ensures.value }

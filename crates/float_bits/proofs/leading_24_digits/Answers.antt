@@ -4,4 +4,4 @@ use Rattle.float_bits.proofs.Fixed.{closest-carry}
 use Rattle.float_bits.proofs.leading_24_digits.Goals as goal
 
 pub returns : goal.returns
-returns c = closest-carry c.args.w
+returns c = record { value = closest-carry c.args.w }

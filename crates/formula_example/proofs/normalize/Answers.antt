@@ -2,4 +2,4 @@
 use Rattle.formula_example.proofs.normalize.Goals as goal
 
 pub returns : goal.returns
-returns c = cc
+returns c = record { value = cc }

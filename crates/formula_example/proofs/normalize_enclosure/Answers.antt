@@ -8,12 +8,10 @@ use Rattle.formula_example.proofs.Encloses.{normalize-encloses}
 use Rattle.formula_example.proofs.normalize_enclosure.Goals as goal
 
 pub returns : goal.returns
-returns c =
-    let e = ap JudgedVector2-of (traced (enclosure c.args.m (IntervalVector2-list c.args.v)) (normalize (var 0) (var 1))
-    _ c.mul_enclosure-xx.ensures
-    _ c.mul_enclosure-yy.ensures
-    _ c.add_enclosure-d.ensures
-    _ c.sqrt_enclosure-n.ensures
-    _ c.div_enclosure-x.ensures
-    _ c.div_enclosure-y.ensures) in
-    (e, normalize-encloses c.args.m c.args.v _ e)
+returns c = let e = ap JudgedVector2-of (traced (enclosure c.args.m (IntervalVector2-list c.args.v)) (normalize (var 0) (var 1))
+    _ c.mul_enclosure-xx.ensures.value
+    _ c.mul_enclosure-yy.ensures.value
+    _ c.add_enclosure-d.ensures.value
+    _ c.sqrt_enclosure-n.ensures.value
+    _ c.div_enclosure-x.ensures.value
+    _ c.div_enclosure-y.ensures.value) in record { value = e; encloses = normalize-encloses c.args.m c.args.v _ e }

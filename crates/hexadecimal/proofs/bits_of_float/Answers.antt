@@ -21,4 +21,4 @@ pub float_to_bits-result : goal.float_to_bits-result
 float_to_bits-result c = no_nan c.args.x c.if-x.true
 
 pub returns : goal.returns
-returns c = nan-bits c.args.x c.if-x.false
+returns c = record { value = nan-bits c.args.x c.if-x.false }

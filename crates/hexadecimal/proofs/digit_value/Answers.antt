@@ -15,7 +15,7 @@ pub overflow_sub-result : goal.overflow_sub-result
 overflow_sub-result c = leb-true _ _ ((and-eq-true_iff _ _).0 c.if-c.true).0
 
 pub returns-then-c : goal.returns-then-c
-returns-then-c c = bounded _ _ (digit_value-decimal c.args.b c.ranges.b.fits c.if-c.true)
+returns-then-c c = let all = bounded _ _ (digit_value-decimal c.args.b c.ranges.b.fits c.if-c.true) in record { value = all.0; bound = all.1 }
 
 pub overflow_sub-result-then-c-2 : goal.overflow_sub-result-then-c-2
 overflow_sub-result-then-c-2 c =
@@ -23,8 +23,7 @@ overflow_sub-result-then-c-2 c =
     omega arith
 
 pub returns-then-c-2 : goal.returns-then-c-2
-returns-then-c-2 c =
-    bounded _ _ (digit_value-lower c.args.b c.ranges.b.fits c.if-c.false c.if-c-2.true)
+returns-then-c-2 c = let all = bounded _ _ (digit_value-lower c.args.b c.ranges.b.fits c.if-c.false c.if-c-2.true) in record { value = all.0; bound = all.1 }
 
 pub overflow_sub-result-then-c-3 : goal.overflow_sub-result-then-c-3
 overflow_sub-result-then-c-3 c =
@@ -32,9 +31,7 @@ overflow_sub-result-then-c-3 c =
     omega arith
 
 pub returns-then-c-3 : goal.returns-then-c-3
-returns-then-c-3 c =
-    bounded _ _ (digit_value-upper c.args.b c.ranges.b.fits c.if-c.false c.if-c-2.false c.if-c-3.true)
+returns-then-c-3 c = let all = bounded _ _ (digit_value-upper c.args.b c.ranges.b.fits c.if-c.false c.if-c-2.false c.if-c-3.true) in record { value = all.0; bound = all.1 }
 
 pub returns : goal.returns
-returns c =
-    bounded _ _ (digit_value-none c.args.b c.ranges.b.fits c.if-c.false c.if-c-2.false c.if-c-3.false)
+returns c = let all = bounded _ _ (digit_value-none c.args.b c.ranges.b.fits c.if-c.false c.if-c-2.false c.if-c-3.false) in record { value = all.0; bound = all.1 }

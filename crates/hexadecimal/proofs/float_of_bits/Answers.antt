@@ -26,7 +26,6 @@ pub float_from_bits-result : goal.float_from_bits-result
 float_from_bits-result c = no_nan c.args.n c.if-n-le2139095040.true
 
 pub returns : goal.returns
-returns c =
-    zero-quotient
+returns c = record { value = zero-quotient
     ∙ only_nan (of_bits binary32 c.args.n)
-    (sym (nan_bits_is binary32 c.args.n) ∙ nan_bits_above binary32 c.args.n ∙ lt-ltb _ _ c.if-n-le2139095040.false)
+    (sym (nan_bits_is binary32 c.args.n) ∙ nan_bits_above binary32 c.args.n ∙ lt-ltb _ _ c.if-n-le2139095040.false) }

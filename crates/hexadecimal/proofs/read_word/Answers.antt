@@ -15,10 +15,10 @@ both_below m n h =
     (ltb-true m 65536 tests.0, ltb-true n 65536 tests.1)
 
 pub returns-then-s-lt8 : goal.returns-then-s-lt8
-returns-then-s-lt8 c = read_short _ _ (omega arith)
+returns-then-s-lt8 c = record { value = read_short _ _ (omega arith) }
 
 pub returns-then-s-at : goal.returns-then-s-at
-returns-then-s-at c = read_short _ _ (omega arith)
+returns-then-s-at c = record { value = read_short _ _ (omega arith) }
 
 pub overflow_mul-result : goal.overflow_mul-result
 overflow_mul-result c = omega (arith, both_below c.read_half-high.result c.read_half-low.result c.if-high-low.true)
@@ -27,11 +27,9 @@ pub overflow_add-result : goal.overflow_add-result
 overflow_add-result c = omega (arith, both_below c.read_half-high.result c.read_half-low.result c.if-high-low.true)
 
 pub returns-then-high-low : goal.returns-then-high-low
-returns-then-high-low c =
-    let a = c.args in
-    rw (← c.read_half-high.ensures, ← c.read_half-low.ensures, c.if-high-low.true) at (read-halves a.s.now a.at (omega arith))
+returns-then-high-low c = record { value = let a = c.args in
+    rw (← c.read_half-high.ensures.value, ← c.read_half-low.ensures.value, c.if-high-low.true) at (read-halves a.s.now a.at (omega arith)) }
 
 pub returns : goal.returns
-returns c =
-    let a = c.args in
-    rw (← c.read_half-high.ensures, ← c.read_half-low.ensures, c.if-high-low.false) at (read-halves a.s.now a.at (omega arith))
+returns c = record { value = let a = c.args in
+    rw (← c.read_half-high.ensures.value, ← c.read_half-low.ensures.value, c.if-high-low.false) at (read-halves a.s.now a.at (omega arith)) }

@@ -11,17 +11,13 @@ use Rattle.hexadecimal.proofs.Words.{digits-store, write-fits, write-short}
 use Rattle.hexadecimal.proofs.write_word.Goals as goal
 
 pub returns-then-out-lt8 : goal.returns-then-out-lt8
-returns-then-out-lt8 c =
-    let a = c.args in
-    (write-short a.out.now a.at a.n (omega arith), sym (lt-leb (a.at + 8) (length a.out.now) (omega arith)))
+returns-then-out-lt8 c = let a = c.args in record { value = write-short a.out.now a.at a.n (omega arith); fits = sym (lt-leb (a.at + 8) (length a.out.now) (omega arith)) }
 
 pub overflow_sub-out : goal.overflow_sub-out
 overflow_sub-out c = omega arith
 
 pub returns-then-out-at : goal.returns-then-out-at
-returns-then-out-at c =
-    let a = c.args in
-    (write-short a.out.now a.at a.n (omega arith), sym (lt-leb (a.at + 8) (length a.out.now) (omega arith)))
+returns-then-out-at c = let a = c.args in record { value = write-short a.out.now a.at a.n (omega arith); fits = sym (lt-leb (a.at + 8) (length a.out.now) (omega arith)) }
 
 pub loop-i-init : goal.loop-i-init
 loop-i-init c =
@@ -59,12 +55,8 @@ loop-i-preserved c =
       omega arith,
       l.invariant.1,
       length-set l.out (a.at + l.i) c.digit.result ∙ l.invariant.2,
-      digits-store a.out.now l.out a.at a.n l.i c.digit.result (omega arith) l.invariant.1 l.invariant.3 c.digit.ensures,
+      digits-store a.out.now l.out a.at a.n l.i c.digit.result (omega arith) l.invariant.1 l.invariant.3 c.digit.ensures.value,
     )
 
 pub returns : goal.returns
-returns c =
-    let a = c.args in
-    let l = c.loop-i in
-    let e : l.i ≡ 8 = omega arith in
-    (rw e at l.invariant.3 ∙ write-fits a.out.now a.at a.n l.invariant.1, sym (le-leb (a.at + 8) (length a.out.now) l.invariant.1))
+returns c = let a = c.args in let l = c.loop-i in let e : l.i ≡ 8 = omega arith in record { value = rw e at l.invariant.3 ∙ write-fits a.out.now a.at a.n l.invariant.1; fits = sym (le-leb (a.at + 8) (length a.out.now) l.invariant.1) }

@@ -7,15 +7,14 @@ use Rattle.interpolate_kept.proofs.pose_at.Goals as goal
 
 pub returns : goal.returns
 unfolding Pose-transform AnimatedTransform-from_rows PoseConstants-from_rows
-returns c =
-    rw (
-      c.composed.ensures,
-      c.scale_by-scale.ensures,
-      c.matrix_at-2.ensures,
-      c.matrix_at.ensures,
-      c.slerp-rotate.ensures,
-      c.translation-trans.ensures,
-      c.constants_from_rows-a.ensures,
+returns c = record { value = rw (
+      c.composed.ensures.value,
+      c.scale_by-scale.ensures.value,
+      c.matrix_at-2.ensures.value,
+      c.matrix_at.ensures.value,
+      c.slerp-rotate.ensures.value,
+      c.translation-trans.ensures.value,
+      c.constants_from_rows-a.ensures.value,
       translation-same _ _ _,
       scale-by-same _ _ _ _,
-    )
+    ) }

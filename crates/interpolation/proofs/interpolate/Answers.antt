@@ -19,20 +19,17 @@ known m time b =
 
 pub returns-then-time : goal.returns-then-time
 unfolding AnimatedTransform-interpolate_by
-returns-then-time c = rw (← differs-nan c.args.time, c.if-time.true, c.refused.ensures)
+returns-then-time c = record { value = rw (← differs-nan c.args.time, c.if-time.true, c.refused.ensures.value) }
 
 pub returns-then-m-time : goal.returns-then-m-time
 unfolding AnimatedTransform-interpolate_by
-returns-then-m-time c =
-    let args = c.args in
-    rw (← differs-nan args.time, c.if-time.false) (c.judged.ensures ∙ sym (ap (known args.m args.time) c.if-m-time.true))
+returns-then-m-time c = record { value = let args = c.args in
+    rw (← differs-nan args.time, c.if-time.false) (c.judged.ensures.value ∙ sym (ap (known args.m args.time) c.if-m-time.true)) }
 
 pub returns-then-time-m : goal.returns-then-time-m
 unfolding AnimatedTransform-interpolate_by
-returns-then-time-m c =
-    rw (← differs-nan c.args.time, c.if-time.false, c.if-m-time.false, c.if-time-m.true, c.judged-then-time-m.ensures)
+returns-then-time-m c = record { value = rw (← differs-nan c.args.time, c.if-time.false, c.if-m-time.false, c.if-time-m.true, c.judged-then-time-m.ensures.value) }
 
 pub returns : goal.returns
 unfolding AnimatedTransform-interpolate_by
-returns c =
-    rw (← differs-nan c.args.time, c.if-time.false, c.if-m-time.false, c.if-time-m.false, c.pose_at.ensures, c.dt.ensures)
+returns c = record { value = rw (← differs-nan c.args.time, c.if-time.false, c.if-m-time.false, c.if-time-m.false, c.pose_at.ensures.value, c.dt.ensures.value) }

@@ -5,5 +5,4 @@ use Rattle.interpolation.proofs.is_finite.Goals as goal
 
 pub returns : goal.returns
 unfolding Transform-is_finite
-returns c =
-    rw (c.is_finite-2.ensures, c.to_rows-2.ensures, c.is_finite.ensures, c.to_rows.ensures)
+returns c = record { value = rw (c.is_finite-2.ensures.value, c.to_rows-2.ensures.value, c.is_finite.ensures.value, c.to_rows.ensures.value) }

@@ -6,5 +6,4 @@ use Rattle.interpolation.proofs.pose_at.Goals as goal
 
 pub returns : goal.returns
 unfolding AnimatedTransform-pose_at
-returns c =
-    rw (c.composed.ensures, c.scale_by-scale.ensures, c.slerp-rotate.ensures, c.translation-trans.ensures, translation-same _ _ _, scale-by-same _ _ _ _)
+returns c = record { value = rw (c.composed.ensures.value, c.scale_by-scale.ensures.value, c.slerp-rotate.ensures.value, c.translation-trans.ensures.value, translation-same _ _ _, scale-by-same _ _ _ _) }

@@ -6,10 +6,8 @@ use Rattle.interpolation.proofs.scaled.Goals as goal
 
 pub returns-then-s-eq0 : goal.returns-then-s-eq0
 unfolding scaled
-returns-then-s-eq0 c =
-    rw (← c.to_rows.ensures, ← c.from_matrix-s.ensures, eq-eqb _ 0 c.if-s-eq0.true, ← c.mul.ensures, c.judged.ensures)
+returns-then-s-eq0 c = record { value = rw (← c.to_rows.ensures.value, ← c.from_matrix-s.ensures.value, eq-eqb _ 0 c.if-s-eq0.true, ← c.mul.ensures.value, c.judged.ensures.value) }
 
 pub returns-else-s-eq0 : goal.returns-else-s-eq0
 unfolding scaled
-returns-else-s-eq0 c =
-    rw (← c.to_rows.ensures, ← c.from_matrix-s.ensures, ne_eqb _ 0 c.if-s-eq0.false, c.refused.ensures)
+returns-else-s-eq0 c = record { value = rw (← c.to_rows.ensures.value, ← c.from_matrix-s.ensures.value, ne_eqb _ 0 c.if-s-eq0.false, c.refused.ensures.value) }

@@ -3,4 +3,4 @@ use Rattle.interval.proofs.Places.{lies-is}
 use Rattle.interval.proofs.lies.Goals as goal
 
 pub returns : goal.returns
-returns c = lies-is c.args.w c.args.u c.args.v
+returns c = record { value = lies-is c.args.w c.args.u c.args.v }

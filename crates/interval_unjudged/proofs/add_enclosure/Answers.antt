@@ -5,4 +5,4 @@ use Rattle.interval_unjudged.proofs.add_enclosure.Goals as goal
 
 pub returns : goal.returns
 unfolding Interval-add_enclosure
-returns c = refl
+returns c = record { value = refl }

@@ -6,8 +6,8 @@ use Rattle.interval_unjudged.proofs.lesser.Goals as goal
 
 pub returns-then-y-x : goal.returns-then-y-x
 unfolding lesser
-returns-then-y-x c = sym (ap (λ (b : Bool). cond b c.args.y c.args.x) c.if-y-x.true)
+returns-then-y-x c = record { value = sym (ap (λ (b : Bool). cond b c.args.y c.args.x) c.if-y-x.true) }
 
 pub returns-else-y-x : goal.returns-else-y-x
 unfolding lesser
-returns-else-y-x c = sym (ap (λ (b : Bool). cond b c.args.y c.args.x) c.if-y-x.false)
+returns-else-y-x c = record { value = sym (ap (λ (b : Bool). cond b c.args.y c.args.x) c.if-y-x.false) }

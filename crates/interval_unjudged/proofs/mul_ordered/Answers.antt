@@ -4,4 +4,4 @@ use Rattle.interval_unjudged.proofs.mul_ordered.Goals as goal
 
 pub returns : goal.returns
 unfolding Interval-mul_ordered
-returns c = c.of_four_ordered.ensures
+returns c = record { value = c.of_four_ordered.ensures.value }

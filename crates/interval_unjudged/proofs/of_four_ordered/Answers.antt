@@ -4,5 +4,4 @@ use Rattle.interval_unjudged.proofs.of_four_ordered.Goals as goal
 
 pub returns : goal.returns
 unfolding Interval-of_four_ordered
-returns c =
-    rw (c.greater-3.ensures, c.greater-2.ensures, c.greater.ensures, c.lesser-3.ensures, c.lesser-2.ensures, c.lesser.ensures)
+returns c = record { value = rw (c.greater-3.ensures.value, c.greater-2.ensures.value, c.greater.ensures.value, c.lesser-3.ensures.value, c.lesser-2.ensures.value, c.lesser.ensures.value) }

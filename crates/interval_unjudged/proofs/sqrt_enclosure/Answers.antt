@@ -4,4 +4,4 @@ use Rattle.interval_unjudged.proofs.sqrt_enclosure.Goals as goal
 
 pub returns : goal.returns
 unfolding Interval-sqrt_enclosure
-returns c = rw (c.sqrt-2.ensures, c.sqrt.ensures)
+returns c = record { value = rw (c.sqrt-2.ensures.value, c.sqrt.ensures.value) }

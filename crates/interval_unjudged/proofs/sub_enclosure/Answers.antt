@@ -5,4 +5,4 @@ use Rattle.interval_unjudged.proofs.sub_enclosure.Goals as goal
 
 pub returns : goal.returns
 unfolding Interval-sub_enclosure
-returns c = refl
+returns c = record { value = refl }

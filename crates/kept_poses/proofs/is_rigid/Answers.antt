@@ -6,4 +6,4 @@ use Rattle.kept_poses.proofs.is_rigid.Goals as goal
 
 pub returns : goal.returns
 unfolding AnimatedTransform-from_rows
-returns c = refl
+returns c = record { value = refl }

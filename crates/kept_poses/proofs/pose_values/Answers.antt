@@ -8,10 +8,9 @@ use Rattle.kept_poses.proofs.Row.{row-entries}
 use Rattle.kept_poses.proofs.pose_values.Goals as goal
 
 pub returns : goal.returns
-returns c =
-    let a = c.args in
+returns c = record { value = let a = c.args in
     let h0 : length a.t2 ≡ 4 = search rules in
     let h1 : length a.t3 ≡ 4 = search rules in
     let h2 : length a.t4 ≡ 4 = search rules in
     let h3 : length a.t5 ≡ 4 = search rules in
-    λ i. pose a.time (row-entries a.t2 h0 i) (row-entries a.t3 h1 i) (row-entries a.t4 h2 i) (row-entries a.t5 h3 i) a.pad
+    λ i. pose a.time (row-entries a.t2 h0 i) (row-entries a.t3 h1 i) (row-entries a.t4 h2 i) (row-entries a.t5 h3 i) a.pad }

@@ -5,4 +5,4 @@ use Rattle.kept_poses.proofs.start_pose.Goals as goal
 
 pub returns : goal.returns
 unfolding AnimatedTransform-from_rows transform_at
-returns c = c.pose_values.ensures
+returns c = record { value = c.pose_values.ensures.value }

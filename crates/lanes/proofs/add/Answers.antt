@@ -5,5 +5,4 @@ use Rattle.lanes.proofs.add.Goals as goal
 
 pub returns : goal.returns
 unfolding Lanes-zip Lanes-of Lanes-lane Interval-add_enclosure
-returns c =
-    rw (c.add4-high.ensures, c.add4-low.ensures)
+returns c = record { value = rw (c.add4-high.ensures.value, c.add4-low.ensures.value) }

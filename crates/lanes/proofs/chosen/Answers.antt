@@ -4,8 +4,8 @@ use Rattle.lanes.proofs.chosen.Goals as goal
 
 pub returns-then-first : goal.returns-then-first
 unfolding Lanes-chosen
-returns-then-first c = rw c.if-first.true
+returns-then-first c = record { value = rw c.if-first.true }
 
 pub returns-else-first : goal.returns-else-first
 unfolding Lanes-chosen
-returns-else-first c = rw c.if-first.false
+returns-else-first c = record { value = rw c.if-first.false }

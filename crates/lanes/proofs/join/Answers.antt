@@ -4,5 +4,4 @@ use Rattle.lanes.proofs.join.Goals as goal
 
 pub returns : goal.returns
 unfolding Lanes-zip Lanes-of Lanes-lane Interval-join
-returns c =
-    rw (c.greater4-high.ensures, c.lesser4-low.ensures)
+returns c = record { value = rw (c.greater4-high.ensures.value, c.lesser4-low.ensures.value) }

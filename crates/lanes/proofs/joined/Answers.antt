@@ -4,4 +4,4 @@ use Rattle.lanes.proofs.joined.Goals as goal
 
 pub returns : goal.returns
 unfolding Lanes-joined
-returns c = rw (c.greatest-high.ensures, c.least-low.ensures)
+returns c = record { value = rw (c.greatest-high.ensures.value, c.least-low.ensures.value) }

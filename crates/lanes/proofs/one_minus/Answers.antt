@@ -5,5 +5,4 @@ use Rattle.lanes.proofs.one_minus.Goals as goal
 
 pub returns : goal.returns
 unfolding Lanes-map Lanes-of Lanes-lane Interval-sub_enclosure
-returns c =
-    rw (c.sub4-high.ensures, c.sub4-low.ensures, c.all-one.ensures)
+returns c = record { value = rw (c.sub4-high.ensures.value, c.sub4-low.ensures.value, c.all-one.ensures.value) }

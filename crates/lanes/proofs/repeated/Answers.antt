@@ -4,4 +4,4 @@ use Rattle.lanes.proofs.repeated.Goals as goal
 
 pub returns : goal.returns
 unfolding Lanes-of
-returns c = rw (c.all-high.ensures, c.all-low.ensures)
+returns c = record { value = rw (c.all-high.ensures.value, c.all-low.ensures.value) }

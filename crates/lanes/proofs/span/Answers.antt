@@ -4,5 +4,4 @@ use Rattle.lanes.proofs.span.Goals as goal
 
 pub returns : goal.returns
 unfolding Lanes-span Lanes-of Interval-span
-returns c =
-    rw (c.greater4-high.ensures, c.lesser4-low.ensures)
+returns c = record { value = rw (c.greater4-high.ensures.value, c.lesser4-low.ensures.value) }

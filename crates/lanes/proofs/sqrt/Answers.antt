@@ -5,5 +5,4 @@ use Rattle.lanes.proofs.sqrt.Goals as goal
 
 pub returns : goal.returns
 unfolding Lanes-map Lanes-of Lanes-lane Interval-sqrt_enclosure
-returns c =
-    rw (c.sqrt4-high.ensures, c.sqrt4-low.ensures)
+returns c = record { value = rw (c.sqrt4-high.ensures.value, c.sqrt4-low.ensures.value) }

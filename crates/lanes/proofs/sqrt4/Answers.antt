@@ -3,5 +3,4 @@ use borrow.Author.Rules.{rules}
 use Rattle.lanes.proofs.sqrt4.Goals as goal
 
 pub returns : goal.returns
-returns c =
-    rw (c.sqrt-4.ensures, c.sqrt-3.ensures, c.sqrt-2.ensures, c.sqrt.ensures)
+returns c = record { value = rw (c.sqrt-4.ensures.value, c.sqrt-3.ensures.value, c.sqrt-2.ensures.value, c.sqrt.ensures.value) }

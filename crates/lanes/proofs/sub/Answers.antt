@@ -5,5 +5,4 @@ use Rattle.lanes.proofs.sub.Goals as goal
 
 pub returns : goal.returns
 unfolding Lanes-zip Lanes-of Lanes-lane Interval-sub_enclosure
-returns c =
-    rw (c.sub4-high.ensures, c.sub4-low.ensures)
+returns c = record { value = rw (c.sub4-high.ensures.value, c.sub4-low.ensures.value) }

@@ -6,6 +6,5 @@ use Rattle.lanes.proofs.times.Goals as goal
 
 pub returns : goal.returns
 unfolding Lanes-span Lanes-of Lanes-lane
-returns c =
-    let a = c.args in
-    c.span.ensures ∙ rw (c.mul4-h.ensures, c.mul4-l.ensures, c.all-by.ensures) (times-lanes a.x a.a)
+returns c = record { value = let a = c.args in
+    c.span.ensures.value ∙ rw (c.mul4-h.ensures.value, c.mul4-l.ensures.value, c.all-by.ensures.value) (times-lanes a.x a.a) }

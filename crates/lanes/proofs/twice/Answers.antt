@@ -4,5 +4,4 @@ use Rattle.lanes.proofs.twice.Goals as goal
 
 pub returns : goal.returns
 unfolding Lanes-map Lanes-of Lanes-lane
-returns c =
-    rw (c.mul4-high.ensures, c.mul4-low.ensures, c.all-by.ensures)
+returns c = record { value = rw (c.mul4-high.ensures.value, c.mul4-low.ensures.value, c.all-by.ensures.value) }

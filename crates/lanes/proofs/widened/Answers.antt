@@ -4,4 +4,4 @@ use Rattle.lanes.proofs.widened.Goals as goal
 
 pub returns : goal.returns
 unfolding Lanes-of Lanes-lane Interval-widened
-returns c = rw (c.add4-high.ensures, c.sub4-low.ensures)
+returns c = record { value = rw (c.add4-high.ensures.value, c.sub4-low.ensures.value) }

@@ -6,5 +6,4 @@ use Rattle.lanes_box.proofs.grown.Goals as goal
 
 pub returns : goal.returns
 unfolding Interval-widened Interval-grown IntervalVector-grown LanesVector-of LanesVector-lane
-returns c =
-    λ i. record { x = c.widened-x.ensures i; y = c.widened-y.ensures i; z = c.widened-z.ensures i }
+returns c = record { value = λ i. record { x = c.widened-x.ensures.value i; y = c.widened-y.ensures.value i; z = c.widened-z.ensures.value i } }

@@ -6,4 +6,4 @@ use Rattle.lanes_box.proofs.join.Goals as goal
 
 pub returns : goal.returns
 unfolding IntervalVector-join Lanes-zip LanesVector-lane LanesVector-of
-returns c = λ i. record { x = c.join-x.ensures i; y = c.join-y.ensures i; z = c.join-z.ensures i }
+returns c = record { value = λ i. record { x = c.join-x.ensures.value i; y = c.join-y.ensures.value i; z = c.join-z.ensures.value i } }

@@ -4,4 +4,4 @@ use Rattle.lanes_box.proofs.joined.Goals as goal
 
 pub returns : goal.returns
 unfolding LanesVector-joined
-returns c = rw (c.joined-z.ensures, c.joined-y.ensures, c.joined-x.ensures)
+returns c = record { value = rw (c.joined-z.ensures.value, c.joined-y.ensures.value, c.joined-x.ensures.value) }

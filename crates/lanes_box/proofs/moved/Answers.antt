@@ -6,5 +6,4 @@ use Rattle.lanes_box.proofs.moved.Goals as goal
 
 pub returns : goal.returns
 unfolding Lanes-lane Lanes-of Lanes-zip moved LanesVector-lane
-returns c =
-    rw (c.add-3.ensures, c.add-2.ensures, c.add.ensures, c.mul-z.ensures, c.mul-y.ensures, c.mul-x.ensures)
+returns c = record { value = rw (c.add-3.ensures.value, c.add-2.ensures.value, c.add.ensures.value, c.mul-z.ensures.value, c.mul-y.ensures.value, c.mul-x.ensures.value) }

@@ -5,5 +5,4 @@ use Rattle.lanes_box.proofs.moved_by.Goals as goal
 
 pub returns : goal.returns
 unfolding moved_by LanesVector-of LanesVector-lane LanesMatrix-lane
-returns c =
-    λ i. record { x = c.moved-x.ensures i; y = c.moved-y.ensures i; z = c.moved-z.ensures i }
+returns c = record { value = λ i. record { x = c.moved-x.ensures.value i; y = c.moved-y.ensures.value i; z = c.moved-z.ensures.value i } }

@@ -4,4 +4,4 @@ use Rattle.lanes_box.proofs.repeated.Goals as goal
 
 pub returns : goal.returns
 unfolding LanesVector-of
-returns c = λ i. record { x = c.repeated-x.ensures i; y = c.repeated-y.ensures i; z = c.repeated-z.ensures i }
+returns c = record { value = λ i. record { x = c.repeated-x.ensures.value i; y = c.repeated-y.ensures.value i; z = c.repeated-z.ensures.value i } }

@@ -6,5 +6,4 @@ use Rattle.lanes_pose.proofs.dot.Goals as goal
 
 pub returns : goal.returns
 unfolding Lanes-lane Lanes-of Lanes-zip dot LanesVector-lane
-returns c =
-    rw (c.add-2.ensures, c.mul-3.ensures, c.add.ensures, c.mul-2.ensures, c.mul.ensures)
+returns c = record { value = rw (c.add-2.ensures.value, c.mul-3.ensures.value, c.add.ensures.value, c.mul-2.ensures.value, c.mul.ensures.value) }

@@ -5,5 +5,4 @@ use Rattle.lanes_pose.proofs.lerp.Goals as goal
 
 pub returns : goal.returns
 unfolding Lanes-lane Lanes-of Lanes-map Lanes-zip lerp
-returns c =
-    rw (c.add.ensures, c.scaled-2.ensures, c.scaled.ensures)
+returns c = record { value = rw (c.add.ensures.value, c.scaled-2.ensures.value, c.scaled.ensures.value) }

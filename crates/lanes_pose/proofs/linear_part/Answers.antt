@@ -6,13 +6,12 @@ use Rattle.lanes_pose.proofs.linear_part.Goals as goal
 
 pub returns-then-rigid : goal.returns-then-rigid
 unfolding LanesMatrix-linear_by
-returns-then-rigid c = let a = c.args in λ i. LanesMatrix-linear_by (sym c.if-rigid.true i) a.m a.s0 a.s1 a.u a.t
+returns-then-rigid c = record { value = let a = c.args in λ i. LanesMatrix-linear_by (sym c.if-rigid.true i) a.m a.s0 a.s1 a.u a.t }
 
 pub returns-else-rigid : goal.returns-else-rigid
 unfolding product_lanes scale_lanes
-returns-else-rigid c =
-    let a = c.args in
-    c.product.ensures
-    ∙ (λ i. product_lanes a.m (c.scale.ensures i))
+returns-else-rigid c = record { value = let a = c.args in
+    c.product.ensures.value
+    ∙ (λ i. product_lanes a.m (c.scale.ensures.value i))
     ∙ plain-lanes a.m a.s0 a.s1 a.u a.t
-    ∙ λ i. LanesMatrix-linear_by (sym c.if-rigid.false i) a.m a.s0 a.s1 a.u a.t
+    ∙ λ i. LanesMatrix-linear_by (sym c.if-rigid.false i) a.m a.s0 a.s1 a.u a.t }

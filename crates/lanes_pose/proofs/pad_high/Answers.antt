@@ -5,4 +5,4 @@ use Rattle.lanes_pose.proofs.pad_high.Goals as goal
 
 pub returns : goal.returns
 unfolding Lanes-of Lanes-zip pad_high
-returns c = λ i. (c.lerp-pad.ensures i).high
+returns c = record { value = λ i. (c.lerp-pad.ensures.value i).high }

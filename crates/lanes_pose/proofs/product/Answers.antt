@@ -5,5 +5,4 @@ use Rattle.lanes_pose.proofs.product.Goals as goal
 
 pub returns : goal.returns
 unfolding product LanesMatrix-of LanesMatrix-lane
-returns c =
-    λ i. record { r0 = c.row_by-r0.ensures i; r1 = c.row_by-r1.ensures i; r2 = c.row_by-r2.ensures i }
+returns c = record { value = λ i. record { r0 = c.row_by-r0.ensures.value i; r1 = c.row_by-r1.ensures.value i; r2 = c.row_by-r2.ensures.value i } }

@@ -5,5 +5,4 @@ use Rattle.lanes_pose.proofs.row_by.Goals as goal
 
 pub returns : goal.returns
 unfolding row_by LanesVector-of LanesVector-lane LanesMatrix-lane
-returns c =
-    λ i. record { x = c.dot-x.ensures i; y = c.dot-y.ensures i; z = c.dot-z.ensures i }
+returns c = record { value = λ i. record { x = c.dot-x.ensures.value i; y = c.dot-y.ensures.value i; z = c.dot-z.ensures.value i } }

@@ -5,5 +5,4 @@ use Rattle.lanes_pose.proofs.scale.Goals as goal
 
 pub returns : goal.returns
 unfolding scale LanesMatrix-of
-returns c =
-    λ i. record { r0 = c.scale_row-r0.ensures i; r1 = c.scale_row-r1.ensures i; r2 = c.scale_row-r2.ensures i }
+returns c = record { value = λ i. record { r0 = c.scale_row-r0.ensures.value i; r1 = c.scale_row-r1.ensures.value i; r2 = c.scale_row-r2.ensures.value i } }

@@ -7,5 +7,4 @@ use Rattle.lanes_pose.proofs.scale_row.Goals as goal
 
 pub returns : goal.returns
 unfolding Lanes-zip scale_row LanesVector-of
-returns c =
-    λ i. record { x = c.lerp-x.ensures i; y = c.lerp-y.ensures i; z = c.lerp-z.ensures i }
+returns c = record { value = λ i. record { x = c.lerp-x.ensures.value i; y = c.lerp-y.ensures.value i; z = c.lerp-z.ensures.value i } }

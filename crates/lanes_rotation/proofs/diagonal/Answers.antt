@@ -5,5 +5,4 @@ use Rattle.lanes_rotation.proofs.diagonal.Goals as goal
 
 pub returns : goal.returns
 unfolding Lanes-lane Lanes-of Lanes-map Lanes-zip diagonal
-returns c =
-    rw (c.one_minus.ensures, c.twice.ensures, c.add.ensures)
+returns c = record { value = rw (c.one_minus.ensures.value, c.twice.ensures.value, c.add.ensures.value) }

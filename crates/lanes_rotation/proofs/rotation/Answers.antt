@@ -5,4 +5,4 @@ use Rattle.lanes_rotation.proofs.Lanewise.{rotation-lanes}
 use Rattle.lanes_rotation.proofs.rotation.Goals as goal
 
 pub returns : goal.returns
-returns c = c.entries.ensures ∙ ap LanesMatrix-entries c.products.ensures ∙ rotation-lanes c.args.q
+returns c = record { value = c.entries.ensures.value ∙ ap LanesMatrix-entries c.products.ensures.value ∙ rotation-lanes c.args.q }

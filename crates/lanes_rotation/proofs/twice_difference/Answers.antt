@@ -5,5 +5,4 @@ use Rattle.lanes_rotation.proofs.twice_difference.Goals as goal
 
 pub returns : goal.returns
 unfolding Lanes-lane Lanes-of Lanes-map Lanes-zip twice_difference
-returns c =
-    rw (c.twice.ensures, c.sub.ensures)
+returns c = record { value = rw (c.twice.ensures.value, c.sub.ensures.value) }

@@ -5,5 +5,4 @@ use Rattle.lanes_rotation.proofs.twice_sum.Goals as goal
 
 pub returns : goal.returns
 unfolding Lanes-lane Lanes-of Lanes-map Lanes-zip twice_sum
-returns c =
-    rw (c.twice.ensures, c.add.ensures)
+returns c = record { value = rw (c.twice.ensures.value, c.add.ensures.value) }

@@ -6,14 +6,13 @@ use Rattle.lanes_slerp.proofs.length.Goals as goal
 
 pub returns : goal.returns
 unfolding Lanes-lane Lanes-of Lanes-zip Lanes-map length LanesQuaternion-lane
-returns c =
-    rw (
-      c.sqrt.ensures,
-      c.add-3.ensures,
-      c.add-2.ensures,
-      c.add.ensures,
-      c.mul-w.ensures,
-      c.mul-z.ensures,
-      c.mul-y.ensures,
-      c.mul-x.ensures,
-    )
+returns c = record { value = rw (
+      c.sqrt.ensures.value,
+      c.add-3.ensures.value,
+      c.add-2.ensures.value,
+      c.add.ensures.value,
+      c.mul-w.ensures.value,
+      c.mul-z.ensures.value,
+      c.mul-y.ensures.value,
+      c.mul-x.ensures.value,
+    ) }

@@ -5,5 +5,4 @@ use Rattle.lanes_slerp.proofs.mix.Goals as goal
 
 pub returns : goal.returns
 unfolding Lanes-lane Lanes-of Lanes-map Lanes-zip mix
-returns c =
-    rw (c.add.ensures, c.times-2.ensures, c.times.ensures)
+returns c = record { value = rw (c.add.ensures.value, c.times-2.ensures.value, c.times.ensures.value) }

@@ -6,4 +6,4 @@ use Rattle.lanes_slerp.proofs.normalized.Goals as goal
 
 pub returns : goal.returns
 unfolding Lanes-lane Lanes-of LanesQuaternion-of normalized
-returns c = rw (c.over.ensures, c.length.ensures)
+returns c = record { value = rw (c.over.ensures.value, c.length.ensures.value) }

@@ -6,5 +6,4 @@ use Rattle.lanes_slerp.proofs.over.Goals as goal
 
 pub returns : goal.returns
 unfolding Lanes-zip over LanesQuaternion-of LanesQuaternion-lane
-returns c =
-    λ i. record { x = c.div-x.ensures i; y = c.div-y.ensures i; z = c.div-z.ensures i; w = c.div-w.ensures i }
+returns c = record { value = λ i. record { x = c.div-x.ensures.value i; y = c.div-y.ensures.value i; z = c.div-z.ensures.value i; w = c.div-w.ensures.value i } }

@@ -6,5 +6,4 @@ use Rattle.lanes_slerp.proofs.turned.Goals as goal
 
 pub returns : goal.returns
 unfolding Lanes-zip turned LanesQuaternion-of
-returns c =
-    λ i. record { x = c.mix-x.ensures i; y = c.mix-y.ensures i; z = c.mix-z.ensures i; w = c.mix-w.ensures i }
+returns c = record { value = λ i. record { x = c.mix-x.ensures.value i; y = c.mix-y.ensures.value i; z = c.mix-z.ensures.value i; w = c.mix-w.ensures.value i } }

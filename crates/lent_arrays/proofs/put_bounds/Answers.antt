@@ -4,4 +4,4 @@ use borrow.Author.Rules.{rules}
 use Rattle.lent_arrays.proofs.put_bounds.Goals as goal
 
 pub returns-in-Bounds : goal.returns-in-Bounds
-returns-in-Bounds c = rw (c.answer-1.given.1, c.bounds_values.ensures) (refl, refl)
+returns-in-Bounds c = let all = rw (c.answer-1.given.1, c.bounds_values.ensures.value) (refl, refl) in record { refusal = all.0; left = all.1 }

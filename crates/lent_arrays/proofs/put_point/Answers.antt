@@ -4,4 +4,4 @@ use borrow.Author.Rules.{rules}
 use Rattle.lent_arrays.proofs.put_point.Goals as goal
 
 pub returns-in-Moved : goal.returns-in-Moved
-returns-in-Moved c = rw c.answer-1.given.1 (refl, refl)
+returns-in-Moved c = let all = rw c.answer-1.given.1 (refl, refl) in record { refusal = all.0; left = all.1 }

@@ -9,5 +9,4 @@ use borrow.Author.Rules.{rules}
 use Rattle.mask_lines.proofs.mask_text.Goals as goal
 
 pub returns : goal.returns
-returns c =
-    rw (c.write_word-2.ensures.0, c.write_word.ensures.0) (words-text _)
+returns c = record { value = rw (c.write_word-2.ensures.value, c.write_word.ensures.value) (words-text _) }

@@ -5,5 +5,4 @@ use Rattle.matrix4x4.proofs.eq.Goals as goal
 
 pub returns : goal.returns
 unfolding Matrix4x4-eq
-returns c =
-    rw (c.row_eq.ensures, c.row_eq-2.ensures, c.row_eq-3.ensures, c.row_eq-4.ensures)
+returns c = record { value = rw (c.row_eq.ensures.value, c.row_eq-2.ensures.value, c.row_eq-3.ensures.value, c.row_eq-4.ensures.value) }

@@ -6,4 +6,4 @@ use Rattle.matrix4x4.proofs.is_affine.Goals as goal
 
 pub returns : goal.returns
 unfolding Matrix4x4-is_affine
-returns c = refl
+returns c = record { value = refl }

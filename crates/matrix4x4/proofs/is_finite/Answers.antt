@@ -5,5 +5,4 @@ use Rattle.matrix4x4.proofs.is_finite.Goals as goal
 
 pub returns : goal.returns
 unfolding Matrix4x4-is_finite
-returns c =
-    rw (c.row_is_finite.ensures, c.row_is_finite-2.ensures, c.row_is_finite-3.ensures, c.row_is_finite-4.ensures)
+returns c = record { value = rw (c.row_is_finite.ensures.value, c.row_is_finite-2.ensures.value, c.row_is_finite-3.ensures.value, c.row_is_finite-4.ensures.value) }

@@ -6,5 +6,4 @@ use Rattle.matrix4x4.proofs.mul.Goals as goal
 
 pub returns : goal.returns
 unfolding Matrix4x4-transpose Matrix4x4-mul
-returns c =
-    rw (c.mul_row.ensures, c.mul_row-2.ensures, c.mul_row-3.ensures, c.mul_row-4.ensures, c.transpose-t.ensures)
+returns c = record { value = rw (c.mul_row.ensures.value, c.mul_row-2.ensures.value, c.mul_row-3.ensures.value, c.mul_row-4.ensures.value, c.transpose-t.ensures.value) }

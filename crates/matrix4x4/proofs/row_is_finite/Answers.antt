@@ -3,5 +3,4 @@ use borrow.Author.Rules.{rules}
 use Rattle.matrix4x4.proofs.row_is_finite.Goals as goal
 
 pub returns : goal.returns
-returns c =
-    rw (c.is_finite.ensures, c.is_finite-2.ensures, c.is_finite-3.ensures, c.is_finite-4.ensures)
+returns c = record { value = rw (c.is_finite.ensures.value, c.is_finite-2.ensures.value, c.is_finite-3.ensures.value, c.is_finite-4.ensures.value) }

@@ -5,4 +5,4 @@ use Rattle.matrix_inverse.proofs.clear_row.Goals as goal
 
 pub returns : goal.returns
 unfolding clear_row
-returns c = rw c.replace-s.ensures
+returns c = record { value = rw c.replace-s.ensures.value }

@@ -29,12 +29,10 @@ module _ (r : Row) (ipiv : List ℕ) (j k : ℕ) (p : Pivot) where
   used e = rw (ne_eqb _ _ e)
 
 pub returns-then-abs-p : goal.returns-then-abs-p
-returns-then-abs-p c =
-    rw c.abs-abs.ensures (taken _ _ _ _ _ c.if-ipiv-k-eq0.true (rw c.abs-abs.ensures at c.if-abs-p.true))
+returns-then-abs-p c = record { value = rw c.abs-abs.ensures.value (taken _ _ _ _ _ c.if-ipiv-k-eq0.true (rw c.abs-abs.ensures.value at c.if-abs-p.true)) }
 
 pub returns-else-abs-p : goal.returns-else-abs-p
-returns-else-abs-p c =
-    below _ _ _ _ _ c.if-ipiv-k-eq0.true (rw c.abs-abs.ensures at c.if-abs-p.false)
+returns-else-abs-p c = record { value = below _ _ _ _ _ c.if-ipiv-k-eq0.true (rw c.abs-abs.ensures.value at c.if-abs-p.false) }
 
 pub returns-else-ipiv-k-eq0 : goal.returns-else-ipiv-k-eq0
-returns-else-ipiv-k-eq0 c = used _ _ _ _ _ c.if-ipiv-k-eq0.false
+returns-else-ipiv-k-eq0 c = record { value = used _ _ _ _ _ c.if-ipiv-k-eq0.false }

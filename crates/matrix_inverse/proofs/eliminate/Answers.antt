@@ -34,4 +34,4 @@ loop-j-preserved c = (
 
 pub returns : goal.returns
 unfolding eliminate
-returns c = rw (← c.scale_row.ensures) (loop-end _ _ 4 _ _ (omega arith) c.loop-j.invariant.1)
+returns c = record { value = rw (← c.scale_row.ensures.value) (loop-end _ _ 4 _ _ (omega arith) c.loop-j.invariant.1) }

@@ -10,11 +10,10 @@ pub loop-i-init : goal.loop-i-init
 loop-i-init c = (search rules, reached-start _)
 
 pub returns-then-s-icol : goal.returns-then-s-icol
-returns-then-s-icol c =
-    let found = c.search-p in
+returns-then-s-icol c = record { value = let found = c.search-p in
     let swapped = c.swap_rows-s in
-    rw (reached-zero_pivot c.loop-i.invariant.1 found.result swapped.result found.ensures.0 swapped.ensures (search rules) c.if-s-icol.true)
-    c.refused.ensures
+    rw (reached-zero_pivot c.loop-i.invariant.1 found.result swapped.result found.ensures.value swapped.ensures.value (search rules) c.if-s-icol.true)
+    c.refused.ensures.value }
 
 pub overflow_add-ipiv : goal.overflow_add-ipiv
 overflow_add-ipiv c =
@@ -25,13 +24,12 @@ loop-i-preserved c =
     let found = c.search-p in
     let swapped = c.swap_rows-s in (
       search rules,
-      reached-next c.loop-i.invariant.1 found.result swapped.result found.ensures.0 swapped.ensures
-          c.eliminate-e.result found.ensures.1 c.if-s-icol.false c.eliminate-e.ensures,
+      reached-next c.loop-i.invariant.1 found.result swapped.result found.ensures.value swapped.ensures.value
+          c.eliminate-e.result found.ensures.in_range c.if-s-icol.false c.eliminate-e.ensures.value,
     )
 
 pub restore_columns-requires : goal.restore_columns-requires
 restore_columns-requires c = (c.loop-i.invariant.1.rows, c.loop-i.invariant.1.columns)
 
 pub returns : goal.returns
-returns c =
-    rw (reached-end c.loop-i.invariant.1 (omega arith), ← c.restore_columns.ensures) c.judged.ensures
+returns c = record { value = rw (reached-end c.loop-i.invariant.1 (omega arith), ← c.restore_columns.ensures.value) c.judged.ensures.value }

@@ -5,8 +5,8 @@ use Rattle.matrix_inverse.proofs.judged.Goals as goal
 
 pub returns-then-is_finite : goal.returns-then-is_finite
 unfolding InverseAnswer-judged
-returns-then-is_finite c = rw (← c.is_finite.ensures, c.if-is_finite.true) c.new.ensures
+returns-then-is_finite c = record { value = rw (← c.is_finite.ensures.value, c.if-is_finite.true) c.new.ensures.value }
 
 pub returns-else-is_finite : goal.returns-else-is_finite
 unfolding InverseAnswer-judged
-returns-else-is_finite c = rw (← c.is_finite.ensures, c.if-is_finite.false) c.refused.ensures
+returns-else-is_finite c = record { value = rw (← c.is_finite.ensures.value, c.if-is_finite.false) c.refused.ensures.value }

@@ -5,5 +5,4 @@ use Rattle.matrix_inverse.proofs.replace.Goals as goal
 
 pub returns : goal.returns
 unfolding replace
-returns c =
-    rw (c.select.ensures, c.select-2.ensures, c.select-3.ensures, c.select-4.ensures)
+returns c = record { value = rw (c.select.ensures.value, c.select-2.ensures.value, c.select-3.ensures.value, c.select-4.ensures.value) }

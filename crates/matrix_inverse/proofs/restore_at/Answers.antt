@@ -15,11 +15,11 @@ unfolding restore_at
 same-places indxr indxc i m e = rw (eq-eqb _ _ e)
 
 pub returns-then-a-b : goal.returns-then-a-b
-returns-then-a-b c = same-places _ _ _ _ c.if-a-b.true
+returns-then-a-b c = record { value = same-places _ _ _ _ c.if-a-b.true }
 
 pub swap_columns-requires : goal.swap_columns-requires
 swap_columns-requires c = (c.requires.1 _, c.requires.2 _)
 
 pub returns : goal.returns
 unfolding restore_at
-returns c = rw (ne_eqb _ _ c.if-a-b.false) c.swap_columns.ensures
+returns c = record { value = rw (ne_eqb _ _ c.if-a-b.false) c.swap_columns.ensures.value }

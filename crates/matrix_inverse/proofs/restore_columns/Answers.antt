@@ -15,8 +15,8 @@ pub restore_at-s-requires : goal.restore_at-s-requires
 restore_at-s-requires c = (omega arith, c.requires.0, c.requires.1)
 
 pub loop-i-preserved : goal.loop-i-preserved
-loop-i-preserved c = (search rules, loop-next _ _ _ _ _ c.loop-i.invariant.1 c.restore_at-s.ensures)
+loop-i-preserved c = (search rules, loop-next _ _ _ _ _ c.loop-i.invariant.1 c.restore_at-s.ensures.value)
 
 pub returns : goal.returns
 unfolding restore_columns
-returns c = loop-end _ _ 4 _ _ (omega arith) c.loop-i.invariant.1
+returns c = record { value = loop-end _ _ 4 _ _ (omega arith) c.loop-i.invariant.1 }

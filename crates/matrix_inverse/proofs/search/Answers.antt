@@ -13,11 +13,9 @@ pub loop-j-init : goal.loop-j-init
 loop-j-init c = (search rules, loop-start _ _)
 
 pub loop-j-preserved : goal.loop-j-preserved
-loop-j-preserved c = (search rules, loop-next _ _ _ _ _ c.loop-j.invariant.1 c.search_row-best.ensures)
+loop-j-preserved c = (search rules, loop-next _ _ _ _ _ c.loop-j.invariant.1 c.search_row-best.ensures.value)
 
 pub returns : goal.returns
 unfolding Pivot-search
-returns c =
-    let v : c.loop-j.best ≡ Pivot-search c.args.m c.args.ipiv =
-    loop-end _ _ 4 _ _ (omega arith) c.loop-j.invariant.1 in
-    (v, search-in_range _ _ _ v)
+returns c = let v : c.loop-j.best ≡ Pivot-search c.args.m c.args.ipiv =
+    loop-end _ _ 4 _ _ (omega arith) c.loop-j.invariant.1 in record { value = v; in_range = search-in_range _ _ _ v }

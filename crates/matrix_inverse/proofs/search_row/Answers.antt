@@ -11,15 +11,14 @@ use Rattle.matrix_inverse.proofs.search_row.Goals as goal
 
 pub returns-then-ipiv-j-eq1 : goal.returns-then-ipiv-j-eq1
 unfolding search_row
-returns-then-ipiv-j-eq1 c = rw (eq-eqb _ _ c.if-ipiv-j-eq1.true)
+returns-then-ipiv-j-eq1 c = record { value = rw (eq-eqb _ _ c.if-ipiv-j-eq1.true) }
 
 pub loop-k-init : goal.loop-k-init
 loop-k-init c = (search rules, loop-start _ _)
 
 pub loop-k-preserved : goal.loop-k-preserved
-loop-k-preserved c = (search rules, loop-next _ _ _ _ _ c.loop-k.invariant.1 c.consider-best.ensures)
+loop-k-preserved c = (search rules, loop-next _ _ _ _ _ c.loop-k.invariant.1 c.consider-best.ensures.value)
 
 pub returns : goal.returns
 unfolding search_row
-returns c =
-    rw (ne_eqb _ _ c.if-ipiv-j-eq1.false) (loop-end _ _ 4 _ _ (omega arith) c.loop-k.invariant.1)
+returns c = record { value = rw (ne_eqb _ _ c.if-ipiv-j-eq1.false) (loop-end _ _ 4 _ _ (omega arith) c.loop-k.invariant.1) }

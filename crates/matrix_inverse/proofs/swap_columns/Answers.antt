@@ -5,5 +5,4 @@ use Rattle.matrix_inverse.proofs.swap_columns.Goals as goal
 
 pub returns : goal.returns
 unfolding swap_columns
-returns c =
-    rw (c.swap_entries.ensures, c.swap_entries-2.ensures, c.swap_entries-3.ensures, c.swap_entries-4.ensures)
+returns c = record { value = rw (c.swap_entries.ensures.value, c.swap_entries-2.ensures.value, c.swap_entries-3.ensures.value, c.swap_entries-4.ensures.value) }

@@ -6,8 +6,8 @@ use Rattle.matrix_inverse.proofs.swap_rows.Goals as goal
 
 pub returns-then-i-k : goal.returns-then-i-k
 unfolding swap_rows
-returns-then-i-k c = rw (ne_eqb _ _ c.if-i-k.true)
+returns-then-i-k c = record { value = rw (ne_eqb _ _ c.if-i-k.true) }
 
 pub returns-else-i-k : goal.returns-else-i-k
 unfolding swap_rows
-returns-else-i-k c = rw (eq-eqb _ _ c.if-i-k.false)
+returns-else-i-k c = record { value = rw (eq-eqb _ _ c.if-i-k.false) }

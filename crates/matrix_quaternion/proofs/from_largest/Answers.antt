@@ -5,4 +5,4 @@ use Rattle.matrix_quaternion.proofs.from_largest.Goals as goal
 
 pub returns : goal.returns
 unfolding from_largest
-returns c = rw (c.half_over-r.ensures, c.sqrt-s.ensures)
+returns c = record { value = rw (c.half_over-r.ensures.value, c.sqrt-s.ensures.value) }

@@ -5,4 +5,4 @@ use Rattle.matrix_quaternion.proofs.from_trace.Goals as goal
 
 pub returns : goal.returns
 unfolding from_trace
-returns c = rw c.sqrt-s.ensures
+returns c = record { value = rw c.sqrt-s.ensures.value }

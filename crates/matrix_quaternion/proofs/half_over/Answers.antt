@@ -4,8 +4,8 @@ use Rattle.matrix_quaternion.proofs.half_over.Goals as goal
 
 pub returns-then-s : goal.returns-then-s
 unfolding half_over
-returns-then-s c = rw c.if-s.true
+returns-then-s c = record { value = rw c.if-s.true }
 
 pub returns-else-s : goal.returns-else-s
 unfolding half_over
-returns-else-s c = rw c.if-s.false
+returns-else-s c = record { value = rw c.if-s.false }

@@ -5,4 +5,4 @@ use borrow.Author.Rules.{rules}
 use Rattle.matrix_quaternion.proofs.nxt.Goals as goal
 
 pub returns-else-i-eq1 : goal.returns-else-i-eq1
-returns-else-i-eq1 c = let two : c.args.i ≡ 2 = omega arith in (rw two, search rules)
+returns-else-i-eq1 c = let two : c.args.i ≡ 2 = omega arith in record { value = rw two; axis = search rules }

@@ -5,15 +5,14 @@ use Rattle.matrix_quaternion.proofs.quaternion_from_matrix.Goals as goal
 
 pub returns-then-trace : goal.returns-then-trace
 unfolding Quaternion-from_matrix
-returns-then-trace c = rw (c.if-trace.true, c.from_trace.ensures)
+returns-then-trace c = record { value = rw (c.if-trace.true, c.from_trace.ensures.value) }
 
 pub returns : goal.returns
 unfolding Quaternion-from_matrix
-returns c =
-    rw (
+returns c = record { value = rw (
       c.if-trace.false,
-      c.from_largest.ensures,
-      c.nxt-k.ensures.0,
-      c.nxt-j.ensures.0,
-      c.largest-i.ensures.0,
-    )
+      c.from_largest.ensures.value,
+      c.nxt-k.ensures.value,
+      c.nxt-j.ensures.value,
+      c.largest-i.ensures.value,
+    ) }

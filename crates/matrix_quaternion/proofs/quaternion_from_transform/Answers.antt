@@ -5,4 +5,4 @@ use Rattle.matrix_quaternion.proofs.quaternion_from_transform.Goals as goal
 
 pub returns : goal.returns
 unfolding Quaternion-from_transform
-returns c = rw (c.quaternion_from_matrix.ensures, c.to_rows.ensures)
+returns c = record { value = rw (c.quaternion_from_matrix.ensures.value, c.to_rows.ensures.value) }

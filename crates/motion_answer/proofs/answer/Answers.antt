@@ -4,6 +4,4 @@ use Rattle.motion_answer.proofs.Contains.{answer-clauses}
 use Rattle.motion_answer.proofs.answer.Goals as goal
 
 pub returns : goal.returns
-returns c =
-    let a = c.args in
-    answer-clauses a.rigid a.bytes.now a.out.now _ _ c.file_cover.result c.file_cover.ensures c.write.ensures
+returns c = let a = c.args in let all = answer-clauses a.rigid a.bytes.now a.out.now _ _ c.file_cover.result c.file_cover.ensures.value (c.write.ensures.value, c.write.ensures.text, c.write.ensures.counts) in record { value = all.0; text = all.1; counts = all.2; contains_motion = all.3 }

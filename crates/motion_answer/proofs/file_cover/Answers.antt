@@ -8,26 +8,24 @@ use Rattle.motion_answer.proofs.Posed.{poses-room, file-refused, file-cover}
 use Rattle.motion_answer.proofs.file_cover.Goals as goal
 
 pub returns-then-file-ne0 : goal.returns-then-file-ne0
-returns-then-file-ne0 c =
-    let read = c.read-file in
-    file-refused c.args.rigid c.args.bytes.now read.result read.ensures.0 c.if-file-ne0.true
+returns-then-file-ne0 c = record { value = let read = c.read-file in
+    file-refused c.args.rigid c.args.bytes.now read.result read.ensures.value c.if-file-ne0.true }
 
 pub slice_bounds-poses-end : goal.slice_bounds-poses-end
 slice_bounds-poses-end c =
     let read = c.read-file in
     let bytes = c.args.bytes.now in
-    omega (arith, read.ensures.1.1, poses-room (MoveFile-poses bytes) _ read.ensures.1.0)
+    omega (arith, read.ensures.left.1, poses-room (MoveFile-poses bytes) _ read.ensures.left.0)
 
 pub slice_bounds-poses_cover-end : goal.slice_bounds-poses_cover-end
 slice_bounds-poses_cover-end c =
     let read = c.read-file in
-    let room = poses-room (MoveFile-poses c.args.bytes.now) _ read.ensures.1.0 in
-    sym (length-take-le _ _ (omega (arith, read.ensures.1.1, room)))
+    let room = poses-room (MoveFile-poses c.args.bytes.now) _ read.ensures.left.0 in
+    sym (length-take-le _ _ (omega (arith, read.ensures.left.1, room)))
 
 pub returns : goal.returns
-returns c =
-    let bytes = c.args.bytes.now in
+returns c = record { value = let bytes = c.args.bytes.now in
     let read = c.read-file in
     let none = c.if-file-ne0.false in
-    file-cover c.args.rigid bytes read.result read.ensures.0 _ _ _ c.poses_cover.result none read.ensures.1.0
-    c.bounds.ensures c.poses_cover.ensures
+    file-cover c.args.rigid bytes read.result read.ensures.value _ _ _ c.poses_cover.result none read.ensures.left.0
+    c.bounds.ensures.value c.poses_cover.ensures.value }

@@ -5,4 +5,4 @@ use Rattle.motion_bounds.proofs.eval.Goals as goal
 
 pub returns : goal.returns
 unfolding DerivativeTerm-eval
-returns c = refl
+returns c = record { value = refl }

@@ -4,4 +4,4 @@ use Rattle.motion_bounds.proofs.point_at.Goals as goal
 
 pub returns : goal.returns
 unfolding point_at
-returns c = rw (c.moved_point.ensures, c.lerp.ensures)
+returns c = record { value = rw (c.moved_point.ensures.value, c.lerp.ensures.value) }

@@ -5,16 +5,14 @@ use Rattle.motion_bounds.proofs.point_bounds.Goals as goal
 
 pub returns-then-not-m : goal.returns-then-not-m
 unfolding point_bounds point_examined
-returns-then-not-m c =
-    rw (c.if-not-m.true, c.counted.ensures, c.from_moved.ensures, c.transform_point-start.ensures.0)
+returns-then-not-m c = record { value = rw (c.if-not-m.true, c.counted.ensures.value, c.from_moved.ensures.value, c.transform_point-start.ensures.value) }
 
 pub returns : goal.returns
 unfolding point_bounds point_examined
-returns c =
-    rw (
+returns c = record { value = rw (
       c.if-not-m.false,
-      c.union_axes.ensures,
-      c.from_ends.ensures,
-      c.transform_point.ensures.0,
-      c.transform_point.ensures.0,
-    )
+      c.union_axes.ensures.value,
+      c.from_ends.ensures.value,
+      c.transform_point.ensures.value,
+      c.transform_point.ensures.value,
+    ) }

@@ -12,39 +12,36 @@ add-requires c =
     let a = c.args in
     let below : 511 * a.c ≤ 3577 = omega (arith, c.requires.0) in (
       counted-few _ c.requires.1 c.r-1.given.1 (few-below below (corners-examined a.m a.a a.b a.c)),
-      counted-few _ c.point_bounds-s.ensures c.s-1.given.1 (point-examined a.m a.a _),
+      counted-few _ c.point_bounds-s.ensures.value c.s-1.given.1 (point-examined a.m a.a _),
     )
 
 pub returns-in-Bounds-s : goal.returns-in-Bounds-s
 unfolding MotionBoundsAnswer-union_bounds
-returns-in-Bounds-s c =
-    let a = c.args in
+returns-in-Bounds-s c = record { value = let a = c.args in
     rw (
       next-corner a.m a.a a.b a.c,
       ← c.requires.1,
-      ← c.corner.ensures,
-      ← c.point_bounds-s.ensures,
+      ← c.corner.ensures.value,
+      ← c.point_bounds-s.ensures.value,
       c.r-1.given.1,
       c.s-1.given.1,
-      c.union_bounds.ensures,
-      c.add.ensures,
-    )
+      c.union_bounds.ensures.value,
+      c.add.ensures.value,
+    ) }
 
 pub returns-in-Refused-s : goal.returns-in-Refused-s
 unfolding MotionBoundsAnswer-union_bounds
-returns-in-Refused-s c =
-    let a = c.args in
+returns-in-Refused-s c = record { value = let a = c.args in
     rw (
       next-corner a.m a.a a.b a.c,
       ← c.requires.1,
-      ← c.corner.ensures,
-      ← c.point_bounds-s.ensures,
+      ← c.corner.ensures.value,
+      ← c.point_bounds-s.ensures.value,
       c.r-1.given.1,
       c.enum_told-1.given.1,
-    )
+    ) }
 
 pub returns-in-Refused : goal.returns-in-Refused
 unfolding MotionBoundsAnswer-union_bounds
-returns-in-Refused c =
-    let a = c.args in
-    rw (next-corner a.m a.a a.b a.c, ← c.requires.1, c.enum_told-in-Refused-1.given.1)
+returns-in-Refused c = record { value = let a = c.args in
+    rw (next-corner a.m a.a a.b a.c, ← c.requires.1, c.enum_told-in-Refused-1.given.1) }

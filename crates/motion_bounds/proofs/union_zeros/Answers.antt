@@ -16,17 +16,15 @@ pub loop-k-init : goal.loop-k-init
 loop-k-init c = (search rules, loop-start _ _)
 
 pub loop-k-preserved : goal.loop-k-preserved
-loop-k-preserved c = (search rules, loop-next _ _ _ _ _ c.loop-k.invariant.1 c.union_zero-s.ensures)
+loop-k-preserved c = (search rules, loop-next _ _ _ _ _ c.loop-k.invariant.1 c.union_zero-s.ensures.value)
 
 pub returns-then-count-lt8 : goal.returns-then-count-lt8
 unfolding union_zeros
-returns-then-count-lt8 c =
-    let a = c.args in
+returns-then-count-lt8 c = record { value = let a = c.args in
     let joined = loop-end _ _ a.found.count _ _ (omega (arith, c.loop-k-test.false, c.loop-k.invariant.0)) c.loop-k.invariant.1 in
-    c.union_zero.ensures ∙ ap (union_zero a.m a.a a.p positive_zero) joined
-    ∙ sym (unused-once a.m a.a a.p a.found.zeros a.found.count c.requires.unused a.r 7 (omega arith) (omega arith))
+    c.union_zero.ensures.value ∙ ap (union_zero a.m a.a a.p positive_zero) joined
+    ∙ sym (unused-once a.m a.a a.p a.found.zeros a.found.count c.requires.unused a.r 7 (omega arith) (omega arith)) }
 
 pub returns : goal.returns
 unfolding union_zeros
-returns c =
-    let full = c.requires.count in loop-end _ _ 8 _ _ (omega (arith, full)) c.loop-k.invariant.1
+returns c = record { value = let full = c.requires.count in loop-end _ _ 8 _ _ (omega (arith, full)) c.loop-k.invariant.1 }

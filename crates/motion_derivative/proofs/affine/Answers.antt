@@ -4,10 +4,9 @@ use Rattle.motion_derivative.proofs.affine.Goals as goal
 
 pub returns : goal.returns
 unfolding affine
-returns c =
-    rw (
-      c.add.ensures,
-      c.mul.ensures,
-      c.point-2.ensures,
-      c.point.ensures,
-    )
+returns c = record { value = rw (
+      c.add.ensures.value,
+      c.mul.ensures.value,
+      c.point-2.ensures.value,
+      c.point.ensures.value,
+    ) }

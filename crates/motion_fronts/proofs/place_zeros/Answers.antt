@@ -6,4 +6,4 @@ use Rattle.motion_fronts.proofs.place_zeros.Goals as goal
 
 pub returns : goal.returns
 unfolding Bounds3f-positive_zeros
-returns c = refl
+returns c = record { left = refl }

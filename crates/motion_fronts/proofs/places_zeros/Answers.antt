@@ -17,12 +17,11 @@ loop-i-preserved c =
     let l = c.loop-i in
     let a = c.args in
     let t = c.loop-i-test.true in
-    let written = ap (set l.places l.i) c.place_zeros.ensures in
+    let written = ap (set l.places l.i) c.place_zeros.ensures.left in
     (l.invariant.0, (omega (arith, t), zeros-next a.boxes.now a.places.now l.invariant.1.1 (omega (arith, t, l.invariant.0)) written))
 
 pub returns : goal.returns
-returns c =
-    let l = c.loop-i in
+returns c = record { left = let l = c.loop-i in
     let a = c.args in
     let all = take_all l.i a.boxes.now (omega (arith, l.invariant.0, c.loop-i-test.false)) in
-    l.invariant.1.1 ∙ ap (λ bs. Places-positive_zeros bs a.places.now) all
+    l.invariant.1.1 ∙ ap (λ bs. Places-positive_zeros bs a.places.now) all }

@@ -10,12 +10,11 @@ use Rattle.motion_fronts.proofs.slice.Goals as goal
 
 pub overflow_add-k : goal.overflow_add-k
 overflow_add-k c =
-    let h = c.requires in
+    let h = (c.requires.d_le_max_depth, c.requires.k_bound) in
     omega (arith, h, pow-lt {i = c.args.d} {j = 13} (omega (arith, h)))
 
 pub returns : goal.returns
 unfolding slice
-returns c =
-    let a = c.args in
-    let h : a.d ≤ max_depth = c.requires.0 in
-    rw (c.from_fixed.ensures, c.from_fixed-2.ensures, slice-end a.d a.k h, slice-end a.d (a.k + 1) h)
+returns c = record { value = let a = c.args in
+    let h : a.d ≤ max_depth = c.requires.d_le_max_depth in
+    rw (c.from_fixed.ensures.value, c.from_fixed-2.ensures.value, slice-end a.d a.k h, slice-end a.d (a.k + 1) h) }

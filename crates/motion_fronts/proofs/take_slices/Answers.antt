@@ -11,34 +11,30 @@ use Rattle.motion_fronts.proofs.Sliced.{Sliced, sliced-first, sliced-next, slice
 use Rattle.motion_fronts.proofs.take_slices.Goals as goal
 
 pub overflow_shl-slices : goal.overflow_shl-slices
-overflow_shl-slices c = let h = c.requires in omega (arith, h)
+overflow_shl-slices c = let h = (c.requires.d_le_max_depth, c.requires.boxes_len_bound) in omega (arith, h)
 
 pub loop-k-init : goal.loop-k-init
 loop-k-init c = (omega arith, sliced-first _ _ _ _ _ _)
 
 pub slice-requires : goal.slice-requires
-slice-requires c =
-    let d = c.args.d in
-    let h : d ≤ max_depth = c.requires.0 in
-    (h, omega (arith, slice-count d h, c.loop-k-test.true))
+slice-requires c = let d = c.args.d in let h : d ≤ max_depth = c.requires.d_le_max_depth in record { d_le_max_depth = h; k_bound = omega (arith, slice-count d h, c.loop-k-test.true) }
 
 pub overflow_add-k : goal.overflow_add-k
 overflow_add-k c =
     let d = c.args.d in
-    let h : d ≤ max_depth = c.requires.0 in
+    let h : d ≤ max_depth = c.requires.d_le_max_depth in
     omega (arith, slice-count d h, pow-lt {i = d} {j = 13} (omega (arith, h)), c.loop-k-test.true)
 
 pub loop-k-preserved : goal.loop-k-preserved
 loop-k-preserved c =
     let a = c.args in
     let t = c.loop-k-test.true in
-    let slice = c.slice.ensures in
-    let e = c.padded_enclosure-pose.ensures ∙ ap (PaddedPose-over c.constants-a.result a.m.s0 a.m.s1 a.m.pad0 a.m.pad1) slice in
-    (omega (arith, t), sliced-next _ _ _ _ _ _ c.loop-k.invariant.1 c.requires.1 e c.take_pose-next.ensures.0 c.take_pose-next.ensures.1)
+    let slice = c.slice.ensures.value in
+    let e = c.padded_enclosure-pose.ensures.value ∙ ap (PaddedPose-over c.constants-a.result a.m.s0 a.m.s1 a.m.pad0 a.m.pad1) slice in
+    (omega (arith, t), sliced-next _ _ _ _ _ _ c.loop-k.invariant.1 c.requires.boxes_len_bound e c.take_pose-next.ensures.front c.take_pose-next.ensures.places)
 
 pub returns : goal.returns
-returns c =
-    let l = c.loop-k in
+returns c = record { covered = let l = c.loop-k in
     let a = c.args in
-    let h : a.d ≤ max_depth = c.requires.0 in
-    sliced-last _ _ _ _ _ _ l.invariant.1 (omega (arith, slice-count a.d h, l.invariant.0, c.loop-k-test.false)) c.constants-a.ensures
+    let h : a.d ≤ max_depth = c.requires.d_le_max_depth in
+    sliced-last _ _ _ _ _ _ l.invariant.1 (omega (arith, slice-count a.d h, l.invariant.0, c.loop-k-test.false)) c.constants-a.ensures.value }

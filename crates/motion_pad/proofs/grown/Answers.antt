@@ -5,4 +5,4 @@ use Rattle.motion_pad.proofs.grown.Goals as goal
 
 pub returns : goal.returns
 unfolding Bounds3f-grow
-returns c = refl
+returns c = record { value = refl }

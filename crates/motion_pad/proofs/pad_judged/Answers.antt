@@ -7,11 +7,10 @@ use Rattle.motion_pad.proofs.pad_judged.Goals as goal
 
 pub returns : goal.returns
 unfolding Pad-enclose
-returns c =
-    let a = c.args in
+returns c = record { value = let a = c.args in
     ap Judged-of
     (traced (enclosure 0 (Pad-inputs a.pad0 a.pad1 a.dt)) pad_stage
-    _ c.sub_enclosure-s.ensures
-    _ c.mul_enclosure-p.ensures
-    _ c.mul_enclosure-q.ensures
-    _ c.add_enclosure.ensures)
+    _ c.sub_enclosure-s.ensures.value
+    _ c.mul_enclosure-p.ensures.value
+    _ c.mul_enclosure-q.ensures.value
+    _ c.add_enclosure.ensures.value) }

@@ -24,13 +24,8 @@ loop-k-preserved c =
     let a = c.args in
     let turn =
     rows-turn a.motion.now l.k l.out _ l.end _ (omega arith)
-    (rw c.part_size.ensures at c.put_floats-end.ensures) in
+    (rw c.part_size.ensures at (c.put_floats-end.ensures.value, c.put_floats-end.ensures.left)) in
     (omega arith, search rules, turn.0 ∙ l.invariant.2, turn.1 ∙ l.invariant.3)
 
 pub returns : goal.returns
-returns c =
-    let l = c.loop-k in
-    let a = c.args in
-    let last : l.k ≡ 35 = omega arith in
-    let end = rows_end a.motion.now l.out l.end in
-    (sym end.0 ∙ rw last at l.invariant.2, sym end.1 ∙ rw last at l.invariant.3)
+returns c = let l = c.loop-k in let a = c.args in let last : l.k ≡ 35 = omega arith in let end = rows_end a.motion.now l.out l.end in record { value = sym end.0 ∙ rw last at l.invariant.2; left = sym end.1 ∙ rw last at l.invariant.3 }

@@ -6,8 +6,8 @@ use Rattle.motion_piece.proofs.from_enclosure.Goals as goal
 
 pub returns-then-j-eq0 : goal.returns-then-j-eq0
 unfolding BoundsAnswer-from_enclosure
-returns-then-j-eq0 c = rw (eq-eqb _ 0 c.if-j-eq0.true, c.bounds.ensures)
+returns-then-j-eq0 c = record { value = rw (eq-eqb _ 0 c.if-j-eq0.true, c.bounds.ensures.value) }
 
 pub returns-else-j-eq0 : goal.returns-else-j-eq0
 unfolding BoundsAnswer-from_enclosure
-returns-else-j-eq0 c = rw (ne_eqb _ 0 c.if-j-eq0.false)
+returns-else-j-eq0 c = record { value = rw (ne_eqb _ 0 c.if-j-eq0.false) }

@@ -2,4 +2,4 @@
 use Rattle.motion_piece.proofs.padded_enclosure.Goals as goal
 
 pub returns : goal.returns
-returns c = rw (c.pad_enclosure-pad.ensures, c.pose_enclosure-matrix.ensures)
+returns c = record { value = rw (c.pad_enclosure-pad.ensures.value, c.pose_enclosure-matrix.ensures.value) }

@@ -5,4 +5,4 @@ use Rattle.motion_piece.proofs.pose_enclosure.Goals as goal
 
 pub returns : goal.returns
 unfolding Pose-enclose_matrix
-returns c = rw (c.composition_enclosure.ensures, c.slerp_enclosure-rotate.ensures, c.translation_enclosure-trans.ensures)
+returns c = record { value = rw (c.composition_enclosure.ensures.value, c.slerp_enclosure-rotate.ensures.value, c.translation_enclosure-trans.ensures.value) }

@@ -5,8 +5,8 @@ use Rattle.motion_piece.proofs.slerp_enclosure.Goals as goal
 
 pub returns-then-a : goal.returns-then-a
 unfolding Pose-enclose_slerp enclose_slerp_by
-returns-then-a c = rw (c.if-a.true, c.slerp_near_enclosure.ensures)
+returns-then-a c = record { value = rw (c.if-a.true, c.slerp_near_enclosure.ensures.value) }
 
 pub returns-else-a : goal.returns-else-a
 unfolding Pose-enclose_slerp enclose_slerp_by
-returns-else-a c = rw (c.if-a.false, c.slerp_far_enclosure.ensures)
+returns-else-a c = record { value = rw (c.if-a.false, c.slerp_far_enclosure.ensures.value) }

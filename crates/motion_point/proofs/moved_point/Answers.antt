@@ -19,16 +19,14 @@ late m a time p b = cond b (Transform-transform_point m.end_transform p) (Pose-m
 
 pub returns-then-m-time : goal.returns-then-m-time
 unfolding AnimatedTransform-moved_point
-returns-then-m-time c = rw (c.if-m-time.true, c.transform_point.ensures.0)
+returns-then-m-time c = record { value = rw (c.if-m-time.true, c.transform_point.ensures.value) }
 
 pub returns-then-time-m : goal.returns-then-time-m
 unfolding AnimatedTransform-moved_point
-returns-then-time-m c =
-    let args = c.args in
-    rw c.if-m-time.false (c.transform_point-then-time-m.ensures.0 ∙ sym (ap (late args.m args.a args.time args.p) c.if-time-m.true))
+returns-then-time-m c = record { value = let args = c.args in
+    rw c.if-m-time.false (c.transform_point-then-time-m.ensures.value ∙ sym (ap (late args.m args.a args.time args.p) c.if-time-m.true)) }
 
 pub returns : goal.returns
 unfolding AnimatedTransform-moved_point
-returns c =
-    let args = c.args in
-    rw (c.if-m-time.false, c.moved_point.ensures, c.dt.ensures) (sym (ap (late args.m args.a args.time args.p) c.if-time-m.false))
+returns c = record { value = let args = c.args in
+    rw (c.if-m-time.false, c.moved_point.ensures.value, c.dt.ensures.value) (sym (ap (late args.m args.a args.time args.p) c.if-time-m.false)) }

@@ -5,4 +5,4 @@ use Rattle.motion_rows.proofs.coefficients_at.Goals as goal
 
 pub returns : goal.returns
 unfolding coefficients_at
-returns c = cc
+returns c = record { value = cc }

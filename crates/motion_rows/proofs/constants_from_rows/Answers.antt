@@ -5,4 +5,4 @@ use Rattle.motion_rows.proofs.constants_from_rows.Goals as goal
 
 pub returns : goal.returns
 unfolding PoseConstants-from_rows
-returns c = cc
+returns c = record { value = cc }

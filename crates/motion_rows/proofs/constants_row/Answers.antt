@@ -5,4 +5,4 @@ use Rattle.motion_rows.proofs.constants_row.Goals as goal
 
 pub returns : goal.returns
 unfolding constants_row
-returns c = rw (c.flag-2.ensures, c.flag.ensures, c.constants-a.ensures)
+returns c = record { value = rw (c.flag-2.ensures.value, c.flag.ensures.value, c.constants-a.ensures.value) }

@@ -5,4 +5,4 @@ use Rattle.motion_rows.proofs.derivative_at.Goals as goal
 
 pub returns : goal.returns
 unfolding derivative_at
-returns c = cc
+returns c = record { value = cc }

@@ -5,4 +5,4 @@ use Rattle.motion_rows.proofs.end_scale.Goals as goal
 
 pub returns : goal.returns
 unfolding AnimatedTransform-from_rows
-returns c = c.matrix_at.ensures
+returns c = record { value = c.matrix_at.ensures.value }

@@ -5,4 +5,4 @@ use Rattle.motion_rows.proofs.fields_rows.Goals as goal
 
 pub returns : goal.returns
 unfolding fields_rows
-returns c = refl
+returns c = record { value = refl }

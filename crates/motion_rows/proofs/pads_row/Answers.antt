@@ -2,4 +2,4 @@
 use Rattle.motion_rows.proofs.pads_row.Goals as goal
 
 pub returns : goal.returns
-returns c = rw c.flag.ensures
+returns c = record { value = rw c.flag.ensures.value }

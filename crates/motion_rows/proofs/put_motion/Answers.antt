@@ -7,8 +7,8 @@ use Rattle.motion_rows.proofs.put_motion.Goals as goal
 
 pub returns-then-answer-eq0 : goal.returns-then-answer-eq0
 unfolding AnimatedTransformAnswer-left
-returns-then-answer-eq0 c = (refl, rw (eq-eqb _ 0 c.if-answer-eq0.true, c.to_rows.ensures))
+returns-then-answer-eq0 c = record { refusal = refl; left = rw (eq-eqb _ 0 c.if-answer-eq0.true, c.to_rows.ensures.value) }
 
 pub returns-else-answer-eq0 : goal.returns-else-answer-eq0
 unfolding AnimatedTransformAnswer-left
-returns-else-answer-eq0 c = (refl, rw (ne_eqb _ 0 c.if-answer-eq0.false))
+returns-else-answer-eq0 c = record { refusal = refl; left = rw (ne_eqb _ 0 c.if-answer-eq0.false) }

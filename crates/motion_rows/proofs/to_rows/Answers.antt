@@ -5,4 +5,4 @@ use Rattle.motion_rows.proofs.to_rows.Goals as goal
 
 pub returns : goal.returns
 unfolding AnimatedTransform-to_rows
-returns c = cc
+returns c = record { value = cc }

@@ -5,4 +5,4 @@ use Rattle.motion_rows.proofs.transform_at.Goals as goal
 
 pub returns : goal.returns
 unfolding transform_at
-returns c = cc
+returns c = record { value = cc }

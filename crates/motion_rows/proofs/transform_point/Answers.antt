@@ -6,9 +6,8 @@ use Rattle.motion_rows.proofs.transform_point.Goals as goal
 
 pub returns-then-time-is_finite : goal.returns-then-time-is_finite
 unfolding Rows-transform_point
-returns-then-time-is_finite c = rw (← differs-nan c.args.time, ← c.is_finite.ensures, c.if-time-is_finite.true)
+returns-then-time-is_finite c = record { value = rw (← differs-nan c.args.time, ← c.is_finite.ensures.value, c.if-time-is_finite.true) }
 
 pub returns : goal.returns
 unfolding Rows-transform_point
-returns c =
-    rw (← differs-nan c.args.time, ← c.is_finite.ensures, c.if-time-is_finite.false, c.moved_point.ensures)
+returns c = record { value = rw (← differs-nan c.args.time, ← c.is_finite.ensures.value, c.if-time-is_finite.false, c.moved_point.ensures.value) }

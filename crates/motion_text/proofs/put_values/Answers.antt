@@ -20,7 +20,7 @@ loop-k-preserved c =
     let write = c.write_word in
     let turn =
     values-turn a.values.now l.k (omega arith) a.out.now l.out _ a.at _ _ (omega arith) l.invariant.2
-    c.bits_of_float.ensures write.ensures.0 c.separator.ensures in
+    c.bits_of_float.ensures.value write.ensures.value c.separator.ensures in
     (omega arith, ap length turn ∙ values-size a.values.now (l.k + 1) a.out.now a.at (omega arith) (omega arith), turn)
 
 pub returns : goal.returns

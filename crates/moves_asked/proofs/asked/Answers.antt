@@ -6,8 +6,8 @@ use Rattle.moves_asked.proofs.asked.Goals as goal
 
 pub returns-then-moves-gt-MAX_MOVES : goal.returns-then-moves-gt-MAX_MOVES
 unfolding Moves-asked
-returns-then-moves-gt-MAX_MOVES c = rw (lt-ltb max_moves _ c.if-moves-gt-MAX_MOVES.true)
+returns-then-moves-gt-MAX_MOVES c = record { value = rw (lt-ltb max_moves _ c.if-moves-gt-MAX_MOVES.true) }
 
 pub returns : goal.returns
 unfolding Moves-asked
-returns c = rw (le-ltb max_moves _ c.if-moves-gt-MAX_MOVES.false)
+returns c = record { value = rw (le-ltb max_moves _ c.if-moves-gt-MAX_MOVES.false) }

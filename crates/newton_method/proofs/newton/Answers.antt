@@ -29,14 +29,13 @@ loop-init c = (omega arith, refl)
 
 pub sin_cos_beside-beside-requires : goal.sin_cos_beside-beside-requires
 sin_cos_beside-beside-requires c =
-    c.sin_cos_in-angle.ensures
+    c.sin_cos_in-angle.ensures.value
 
 pub returns-then-value-slope : goal.returns-then-value-slope
-returns-then-value-slope c =
-    let loop = c.loop in
-    let v = c.value_at-value.ensures ∙ value-known _ _ _ _ c.sin_cos_in-angle.ensures in
-    let s = c.slope_at-slope.ensures ∙ slope-known _ _ _ _ c.sin_cos_beside-beside.ensures in
-    sym (newton-stops _ _ (4 - loop.counter) _ _ _ v s c.if-value-slope.true) ∙ loop.invariant.1
+returns-then-value-slope c = record { value = let loop = c.loop in
+    let v = c.value_at-value.ensures.value ∙ value-known _ _ _ _ c.sin_cos_in-angle.ensures.value in
+    let s = c.slope_at-slope.ensures.value ∙ slope-known _ _ _ _ c.sin_cos_beside-beside.ensures.value in
+    sym (newton-stops _ _ (4 - loop.counter) _ _ _ v s c.if-value-slope.true) ∙ loop.invariant.1 }
 
 pub overflow_step : goal.overflow_step
 overflow_step c = omega arith
@@ -48,13 +47,12 @@ pub loop-preserved : goal.loop-preserved
 loop-preserved c =
     let loop = c.loop in
     let k = loop.counter in
-    let v = c.value_at-value.ensures ∙ value-known _ _ _ _ c.sin_cos_in-angle.ensures in
-    let s = c.slope_at-slope.ensures ∙ slope-known _ _ _ _ c.sin_cos_beside-beside.ensures in
+    let v = c.value_at-value.ensures.value ∙ value-known _ _ _ _ c.sin_cos_in-angle.ensures.value in
+    let s = c.slope_at-slope.ensures.value ∙ slope-known _ _ _ _ c.sin_cos_beside-beside.ensures.value in
     let one_less : 4 - (k + 1) ≡ 4 - k - 1 = omega arith in
     (omega arith, rw one_less (sym (newton-steps _ _ (4 - k) _ _ _ (λ z. omega (arith, z)) v s c.if-value-slope.false) ∙ loop.invariant.1))
 
 pub returns : goal.returns
-returns c =
-    let loop = c.loop in
+returns c = record { value = let loop = c.loop in
     let none : 4 - loop.counter ≡ 0 = omega arith in
-    sym (newton-none _ _ _) ∙ (rw none at loop.invariant.1)
+    sym (newton-none _ _ _) ∙ (rw none at loop.invariant.1) }

@@ -5,8 +5,8 @@ use Rattle.pad_query.proofs.judged.Goals as goal
 
 pub returns-then-is_finite : goal.returns-then-is_finite
 unfolding PadAnswer-judged
-returns-then-is_finite c = rw (← c.is_finite.ensures, c.if-is_finite.true)
+returns-then-is_finite c = record { value = rw (← c.is_finite.ensures.value, c.if-is_finite.true) }
 
 pub returns : goal.returns
 unfolding PadAnswer-judged
-returns c = rw (← c.is_finite.ensures, c.if-is_finite.false)
+returns c = record { value = rw (← c.is_finite.ensures.value, c.if-is_finite.false) }

@@ -6,9 +6,8 @@ use Rattle.pad_query.proofs.pad.Goals as goal
 
 pub returns-then-time : goal.returns-then-time
 unfolding AnimatedTransform-pad Rows-pad
-returns-then-time c = rw (← differs-nan c.args.time, c.if-time.true)
+returns-then-time c = record { value = rw (← differs-nan c.args.time, c.if-time.true) }
 
 pub returns : goal.returns
 unfolding AnimatedTransform-pad Rows-pad
-returns c =
-    rw (← differs-nan c.args.time, c.if-time.false, ← c.pad_at.ensures, c.judged.ensures)
+returns c = record { value = rw (← differs-nan c.args.time, c.if-time.false, ← c.pad_at.ensures.value, c.judged.ensures.value) }

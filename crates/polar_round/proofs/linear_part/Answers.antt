@@ -6,4 +6,4 @@ use Rattle.polar_round.proofs.linear_part.Goals as goal
 
 pub returns : goal.returns
 unfolding linear_part
-returns c = refl
+returns c = record { value = refl }

@@ -5,5 +5,4 @@ use Rattle.polar_round.proofs.mean.Goals as goal
 
 pub returns : goal.returns
 unfolding mean
-returns c =
-    rw (c.mean_row-4.ensures, c.mean_row-3.ensures, c.mean_row-2.ensures, c.mean_row.ensures)
+returns c = record { value = rw (c.mean_row-4.ensures.value, c.mean_row-3.ensures.value, c.mean_row-2.ensures.value, c.mean_row.ensures.value) }

@@ -5,4 +5,4 @@ use Rattle.polar_round.proofs.row_distance.Goals as goal
 
 pub returns : goal.returns
 unfolding row_distance
-returns c = cc
+returns c = record { value = cc }

@@ -3,4 +3,4 @@ use borrow.Author.Rules.{rules}
 use Rattle.pose.proofs.all_finite.Goals as goal
 
 pub returns : goal.returns
-returns c = cc
+returns c = record { value = cc }

@@ -5,10 +5,8 @@ use Rattle.pose.proofs.composed_point.Goals as goal
 
 pub returns-then-pose-is_finite : goal.returns-then-pose-is_finite
 unfolding Pose-composed_point
-returns-then-pose-is_finite c =
-    rw (← c.composition-pose.ensures, ← c.transform_point-q.ensures, ← c.is_finite.ensures, c.if-pose-is_finite.true)
+returns-then-pose-is_finite c = record { value = rw (← c.composition-pose.ensures.value, ← c.transform_point-q.ensures.value, ← c.is_finite.ensures.value, c.if-pose-is_finite.true) }
 
 pub returns-else-pose-is_finite : goal.returns-else-pose-is_finite
 unfolding Pose-composed_point
-returns-else-pose-is_finite c =
-    rw (← c.composition-pose.ensures, ← c.transform_point-q.ensures, ← c.is_finite.ensures, c.if-pose-is_finite.false)
+returns-else-pose-is_finite c = record { value = rw (← c.composition-pose.ensures.value, ← c.transform_point-q.ensures.value, ← c.is_finite.ensures.value, c.if-pose-is_finite.false) }

@@ -5,19 +5,18 @@ use Rattle.pose.proofs.composition.Goals as goal
 
 pub returns : goal.returns
 unfolding Pose-composition
-returns c =
-    rw (
-      c.judged.ensures,
-      c.all_finite-5.ensures,
-      c.all_finite-4.ensures,
-      c.all_finite-3.ensures,
-      c.all_finite-2.ensures,
-      c.all_finite.ensures,
-      c.is_finite.ensures,
-      c.product-whole.ensures,
-      c.product-first.ensures,
-      c.rotation-rotating.ensures,
-      c.translation_matrix-translate.ensures,
-      c.scale_by-scaling.ensures,
-      c.translation-trans.ensures,
-    )
+returns c = record { value = rw (
+      c.judged.ensures.value,
+      c.all_finite-5.ensures.value,
+      c.all_finite-4.ensures.value,
+      c.all_finite-3.ensures.value,
+      c.all_finite-2.ensures.value,
+      c.all_finite.ensures.value,
+      c.is_finite.ensures.value,
+      c.product-whole.ensures.value,
+      c.product-first.ensures.value,
+      c.rotation-rotating.ensures.value,
+      c.translation_matrix-translate.ensures.value,
+      c.scale_by-scaling.ensures.value,
+      c.translation-trans.ensures.value,
+    ) }

@@ -4,8 +4,8 @@ use Rattle.pose.proofs.judged.Goals as goal
 
 pub returns-then-finite : goal.returns-then-finite
 unfolding PoseAnswer-judged
-returns-then-finite c = rw c.if-finite.true
+returns-then-finite c = record { value = rw c.if-finite.true }
 
 pub returns-else-finite : goal.returns-else-finite
 unfolding PoseAnswer-judged
-returns-else-finite c = rw c.if-finite.false
+returns-else-finite c = record { value = rw c.if-finite.false }

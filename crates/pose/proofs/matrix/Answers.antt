@@ -5,20 +5,19 @@ use Rattle.pose.proofs.matrix.Goals as goal
 
 pub returns : goal.returns
 unfolding Pose-matrix
-returns c =
-    rw (
-      c.judged.ensures,
-      c.all_finite-5.ensures,
-      c.all_finite-4.ensures,
-      c.all_finite-3.ensures,
-      c.all_finite-2.ensures,
-      c.all_finite.ensures,
-      c.is_finite.ensures,
-      c.product-last.ensures,
-      c.product-first.ensures,
-      c.rotation-rotating.ensures,
-      c.translation_matrix-translate.ensures,
-      c.scale_by-scaling.ensures,
-      c.slerp-rotate.ensures,
-      c.translation-trans.ensures,
-    )
+returns c = record { value = rw (
+      c.judged.ensures.value,
+      c.all_finite-5.ensures.value,
+      c.all_finite-4.ensures.value,
+      c.all_finite-3.ensures.value,
+      c.all_finite-2.ensures.value,
+      c.all_finite.ensures.value,
+      c.is_finite.ensures.value,
+      c.product-last.ensures.value,
+      c.product-first.ensures.value,
+      c.rotation-rotating.ensures.value,
+      c.translation_matrix-translate.ensures.value,
+      c.scale_by-scaling.ensures.value,
+      c.slerp-rotate.ensures.value,
+      c.translation-trans.ensures.value,
+    ) }

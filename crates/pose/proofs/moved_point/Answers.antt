@@ -5,10 +5,8 @@ use Rattle.pose.proofs.moved_point.Goals as goal
 
 pub returns-then-pose-is_finite : goal.returns-then-pose-is_finite
 unfolding Pose-moved_point
-returns-then-pose-is_finite c =
-    rw (← c.matrix-pose.ensures, ← c.transform_point-q.ensures, ← c.is_finite.ensures, c.if-pose-is_finite.true)
+returns-then-pose-is_finite c = record { value = rw (← c.matrix-pose.ensures.value, ← c.transform_point-q.ensures.value, ← c.is_finite.ensures.value, c.if-pose-is_finite.true) }
 
 pub returns-else-pose-is_finite : goal.returns-else-pose-is_finite
 unfolding Pose-moved_point
-returns-else-pose-is_finite c =
-    rw (← c.matrix-pose.ensures, ← c.transform_point-q.ensures, ← c.is_finite.ensures, c.if-pose-is_finite.false)
+returns-else-pose-is_finite c = record { value = rw (← c.matrix-pose.ensures.value, ← c.transform_point-q.ensures.value, ← c.is_finite.ensures.value, c.if-pose-is_finite.false) }

@@ -4,4 +4,4 @@ use Rattle.pose_ends.proofs.matrix_ends_sum.Goals as goal
 
 pub returns : goal.returns
 unfolding IntervalMatrix-ends_sum
-returns c = rw (c.row_ends_sum-3.ensures, c.row_ends_sum-2.ensures, c.row_ends_sum.ensures)
+returns c = record { value = rw (c.row_ends_sum-3.ensures.value, c.row_ends_sum-2.ensures.value, c.row_ends_sum.ensures.value) }

@@ -4,5 +4,4 @@ use Rattle.pose_ends.proofs.quaternion_ends_sum.Goals as goal
 
 pub returns : goal.returns
 unfolding IntervalQuaternion-ends_sum
-returns c =
-    rw (c.ends_sum-4.ensures, c.ends_sum-3.ensures, c.ends_sum-2.ensures, c.ends_sum.ensures)
+returns c = record { value = rw (c.ends_sum-4.ensures.value, c.ends_sum-3.ensures.value, c.ends_sum-2.ensures.value, c.ends_sum.ensures.value) }

@@ -4,4 +4,4 @@ use Rattle.pose_ends.proofs.vector_ends_sum.Goals as goal
 
 pub returns : goal.returns
 unfolding IntervalVector-ends_sum
-returns c = rw (c.ends_sum-3.ensures, c.ends_sum-2.ensures, c.ends_sum.ensures)
+returns c = record { value = rw (c.ends_sum-3.ensures.value, c.ends_sum-2.ensures.value, c.ends_sum.ensures.value) }

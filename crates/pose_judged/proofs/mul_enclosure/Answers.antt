@@ -5,5 +5,4 @@ use Rattle.pose_judged.proofs.mul_enclosure.Goals as goal
 
 pub returns : goal.returns
 unfolding Pose-enclose_mul
-returns c =
-    rw (c.mul_row_enclosure-r.ensures, c.mul_row_enclosure-q.ensures, c.mul_row_enclosure-p.ensures)
+returns c = record { value = rw (c.mul_row_enclosure-r.ensures.value, c.mul_row_enclosure-q.ensures.value, c.mul_row_enclosure-p.ensures.value) }

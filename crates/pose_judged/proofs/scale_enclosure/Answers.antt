@@ -5,5 +5,4 @@ use Rattle.pose_judged.proofs.scale_enclosure.Goals as goal
 
 pub returns : goal.returns
 unfolding Pose-enclose_scale
-returns c =
-    rw (c.scale_row_enclosure-r.ensures, c.scale_row_enclosure-q.ensures, c.scale_row_enclosure-p.ensures)
+returns c = record { value = rw (c.scale_row_enclosure-r.ensures.value, c.scale_row_enclosure-q.ensures.value, c.scale_row_enclosure-p.ensures.value) }

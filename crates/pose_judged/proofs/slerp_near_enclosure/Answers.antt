@@ -9,31 +9,30 @@ use Rattle.pose_judged.proofs.slerp_near_enclosure.Goals as goal
 
 pub returns : goal.returns
 unfolding Pose-enclose_slerp_near
-returns c =
-    ap JudgedQuaternion-of (traced
+returns c = record { value = ap JudgedQuaternion-of (traced
     (enclosure c.args.m (IntervalQuaternion-list c.args.q1 ++ IntervalQuaternion-list c.args.q2 ++ c.args.t ∷ [])) slerp_near_stage
-    _ c.sub_enclosure-s.ensures
-    _ c.mul_enclosure-px.ensures
-    _ c.mul_enclosure-qx.ensures
-    _ c.add_enclosure-x.ensures
-    _ c.mul_enclosure-py.ensures
-    _ c.mul_enclosure-qy.ensures
-    _ c.add_enclosure-y.ensures
-    _ c.mul_enclosure-pz.ensures
-    _ c.mul_enclosure-qz.ensures
-    _ c.add_enclosure-z.ensures
-    _ c.mul_enclosure-pw.ensures
-    _ c.mul_enclosure-qw.ensures
-    _ c.add_enclosure-w.ensures
-    _ c.mul_enclosure-xx.ensures
-    _ c.mul_enclosure-yy.ensures
-    _ c.add_enclosure-xy.ensures
-    _ c.mul_enclosure-zz.ensures
-    _ c.add_enclosure-xyz.ensures
-    _ c.mul_enclosure-ww.ensures
-    _ c.add_enclosure-dot.ensures
-    _ c.sqrt_enclosure-n.ensures
-    _ c.div_enclosure-nx.ensures
-    _ c.div_enclosure-ny.ensures
-    _ c.div_enclosure-nz.ensures
-    _ c.div_enclosure-nw.ensures)
+    _ c.sub_enclosure-s.ensures.value
+    _ c.mul_enclosure-px.ensures.value
+    _ c.mul_enclosure-qx.ensures.value
+    _ c.add_enclosure-x.ensures.value
+    _ c.mul_enclosure-py.ensures.value
+    _ c.mul_enclosure-qy.ensures.value
+    _ c.add_enclosure-y.ensures.value
+    _ c.mul_enclosure-pz.ensures.value
+    _ c.mul_enclosure-qz.ensures.value
+    _ c.add_enclosure-z.ensures.value
+    _ c.mul_enclosure-pw.ensures.value
+    _ c.mul_enclosure-qw.ensures.value
+    _ c.add_enclosure-w.ensures.value
+    _ c.mul_enclosure-xx.ensures.value
+    _ c.mul_enclosure-yy.ensures.value
+    _ c.add_enclosure-xy.ensures.value
+    _ c.mul_enclosure-zz.ensures.value
+    _ c.add_enclosure-xyz.ensures.value
+    _ c.mul_enclosure-ww.ensures.value
+    _ c.add_enclosure-dot.ensures.value
+    _ c.sqrt_enclosure-n.ensures.value
+    _ c.div_enclosure-nx.ensures.value
+    _ c.div_enclosure-ny.ensures.value
+    _ c.div_enclosure-nz.ensures.value
+    _ c.div_enclosure-nw.ensures.value) }

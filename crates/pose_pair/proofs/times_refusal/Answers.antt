@@ -12,8 +12,8 @@ refusal b = cond b 3 0
 
 pub returns-then-end-start : goal.returns-then-end-start
 unfolding times_refusal
-returns-then-end-start c = sym (ap refusal (rw c.is_finite.ensures at c.if-end-start.true))
+returns-then-end-start c = record { value = sym (ap refusal (rw c.is_finite.ensures.value at c.if-end-start.true)) }
 
 pub returns-else-end-start : goal.returns-else-end-start
 unfolding times_refusal
-returns-else-end-start c = sym (ap refusal (rw c.is_finite.ensures at c.if-end-start.false))
+returns-else-end-start c = record { value = sym (ap refusal (rw c.is_finite.ensures.value at c.if-end-start.false)) }

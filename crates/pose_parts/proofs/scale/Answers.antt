@@ -5,4 +5,4 @@ use Rattle.pose_parts.proofs.scale.Goals as goal
 
 pub returns : goal.returns
 unfolding Pose-scale
-returns c = cc
+returns c = record { value = cc }

@@ -4,8 +4,8 @@ use Rattle.pose_parts.proofs.scale_by.Goals as goal
 
 pub returns-then-rigid : goal.returns-then-rigid
 unfolding Pose-scale_by
-returns-then-rigid c = rw c.if-rigid.true
+returns-then-rigid c = record { value = rw c.if-rigid.true }
 
 pub returns-else-rigid : goal.returns-else-rigid
 unfolding Pose-scale_by
-returns-else-rigid c = rw c.if-rigid.false c.scale.ensures
+returns-else-rigid c = record { value = rw c.if-rigid.false c.scale.ensures.value }

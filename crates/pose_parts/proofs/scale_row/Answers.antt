@@ -5,4 +5,4 @@ use Rattle.pose_parts.proofs.scale_row.Goals as goal
 
 pub returns : goal.returns
 unfolding Pose-scale_row
-returns c = search rules
+returns c = record { value = search rules }

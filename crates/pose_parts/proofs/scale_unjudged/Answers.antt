@@ -4,4 +4,4 @@ use Rattle.pose_parts.proofs.scale_unjudged.Goals as goal
 
 pub returns : goal.returns
 unfolding Pose-unjudged_scale
-returns c = rw (c.scale_row_unjudged-r2.ensures, c.scale_row_unjudged-r1.ensures, c.scale_row_unjudged-r0.ensures)
+returns c = record { value = rw (c.scale_row_unjudged-r2.ensures.value, c.scale_row_unjudged-r1.ensures.value, c.scale_row_unjudged-r0.ensures.value) }

@@ -5,4 +5,4 @@ use Rattle.pose_parts.proofs.translation.Goals as goal
 
 pub returns : goal.returns
 unfolding Pose-translation
-returns c = refl
+returns c = record { value = refl }

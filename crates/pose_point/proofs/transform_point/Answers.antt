@@ -5,4 +5,4 @@ use Rattle.pose_point.proofs.transform_point.Goals as goal
 
 pub returns : goal.returns
 unfolding Pose-transform_point
-returns c = search rules
+returns c = record { value = search rules }

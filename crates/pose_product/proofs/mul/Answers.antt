@@ -5,4 +5,4 @@ use Rattle.pose_product.proofs.mul.Goals as goal
 
 pub returns : goal.returns
 unfolding Pose-mul
-returns c = rw (c.mul_row-r2.ensures, c.mul_row-r1.ensures, c.mul_row-r0.ensures)
+returns c = record { value = rw (c.mul_row-r2.ensures.value, c.mul_row-r1.ensures.value, c.mul_row-r0.ensures.value) }

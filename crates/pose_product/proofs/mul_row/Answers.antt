@@ -5,4 +5,4 @@ use Rattle.pose_product.proofs.mul_row.Goals as goal
 
 pub returns : goal.returns
 unfolding Pose-mul_row
-returns c = search rules
+returns c = record { value = search rules }

@@ -4,4 +4,4 @@ use Rattle.pose_product.proofs.times.Goals as goal
 
 pub returns : goal.returns
 unfolding IntervalVector-times
-returns c = rw (c.mul_ordered-z.ensures, c.mul_ordered-y.ensures, c.mul_ordered-x.ensures)
+returns c = record { value = rw (c.mul_ordered-z.ensures.value, c.mul_ordered-y.ensures.value, c.mul_ordered-x.ensures.value) }

@@ -4,21 +4,20 @@ use Rattle.pose_product.proofs.translated_column.Goals as goal
 
 pub returns : goal.returns
 unfolding Pose-translated_column
-returns c =
-    rw (
-      c.add_enclosure-uz.ensures,
-      c.add_enclosure-tz.ensures,
-      c.add_enclosure-sz.ensures,
-      c.add_enclosure-uy.ensures,
-      c.add_enclosure-ty.ensures,
-      c.add_enclosure-sy.ensures,
-      c.add_enclosure-ux.ensures,
-      c.add_enclosure-tx.ensures,
-      c.add_enclosure-sx.ensures,
-      c.mul_ordered-zz.ensures,
-      c.mul_ordered-zy.ensures,
-      c.mul_ordered-zx.ensures,
-      c.mul_ordered-oz.ensures,
-      c.mul_ordered-oy.ensures,
-      c.mul_ordered-ox.ensures,
-    )
+returns c = record { value = rw (
+      c.add_enclosure-uz.ensures.value,
+      c.add_enclosure-tz.ensures.value,
+      c.add_enclosure-sz.ensures.value,
+      c.add_enclosure-uy.ensures.value,
+      c.add_enclosure-ty.ensures.value,
+      c.add_enclosure-sy.ensures.value,
+      c.add_enclosure-ux.ensures.value,
+      c.add_enclosure-tx.ensures.value,
+      c.add_enclosure-sx.ensures.value,
+      c.mul_ordered-zz.ensures.value,
+      c.mul_ordered-zy.ensures.value,
+      c.mul_ordered-zx.ensures.value,
+      c.mul_ordered-oz.ensures.value,
+      c.mul_ordered-oy.ensures.value,
+      c.mul_ordered-ox.ensures.value,
+    ) }

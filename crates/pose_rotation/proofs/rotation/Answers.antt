@@ -5,4 +5,4 @@ use Rattle.pose_rotation.proofs.rotation.Goals as goal
 
 pub returns : goal.returns
 unfolding Pose-rotation
-returns c = refl
+returns c = record { value = refl }

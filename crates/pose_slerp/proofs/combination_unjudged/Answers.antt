@@ -4,20 +4,19 @@ use Rattle.pose_slerp.proofs.combination_unjudged.Goals as goal
 
 pub returns : goal.returns
 unfolding IntervalQuaternion-combination
-returns c =
-    rw (
-      c.add_enclosure-w.ensures,
-      c.mul_ordered-qw.ensures,
-      c.mul_ordered-pw.ensures,
-      c.add_enclosure-z.ensures,
-      c.mul_ordered-qz.ensures,
-      c.mul_ordered-pz.ensures,
-      c.add_enclosure-y.ensures,
-      c.mul_ordered-qy.ensures,
-      c.mul_ordered-py.ensures,
-      c.add_enclosure-x.ensures,
-      c.mul_ordered-qx.ensures,
-      c.mul_ordered-px.ensures,
-      c.quaternion_point-u.ensures,
-      c.quaternion_point-v.ensures,
-    )
+returns c = record { value = rw (
+      c.add_enclosure-w.ensures.value,
+      c.mul_ordered-qw.ensures.value,
+      c.mul_ordered-pw.ensures.value,
+      c.add_enclosure-z.ensures.value,
+      c.mul_ordered-qz.ensures.value,
+      c.mul_ordered-pz.ensures.value,
+      c.add_enclosure-y.ensures.value,
+      c.mul_ordered-qy.ensures.value,
+      c.mul_ordered-py.ensures.value,
+      c.add_enclosure-x.ensures.value,
+      c.mul_ordered-qx.ensures.value,
+      c.mul_ordered-px.ensures.value,
+      c.quaternion_point-u.ensures.value,
+      c.quaternion_point-v.ensures.value,
+    ) }

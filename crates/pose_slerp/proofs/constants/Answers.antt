@@ -5,4 +5,4 @@ use Rattle.pose_slerp.proofs.constants.Goals as goal
 
 pub returns : goal.returns
 unfolding PoseConstants-new
-returns c = cc
+returns c = record { value = cc }

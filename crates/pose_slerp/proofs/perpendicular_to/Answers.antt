@@ -4,4 +4,4 @@ use Rattle.pose_slerp.proofs.perpendicular_to.Goals as goal
 
 pub returns : goal.returns
 unfolding Perpendicular-of
-returns c = rw c.sqrt-n.ensures
+returns c = record { value = rw c.sqrt-n.ensures.value }

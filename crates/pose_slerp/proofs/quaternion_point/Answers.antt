@@ -3,4 +3,4 @@ use borrow.Author.Rules.{rules}
 use Rattle.pose_slerp.proofs.quaternion_point.Goals as goal
 
 pub returns : goal.returns
-returns c = cc
+returns c = record { value = cc }

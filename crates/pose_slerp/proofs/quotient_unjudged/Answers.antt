@@ -4,10 +4,9 @@ use Rattle.pose_slerp.proofs.quotient_unjudged.Goals as goal
 
 pub returns : goal.returns
 unfolding IntervalQuaternion-quotient
-returns c =
-    rw (
-      c.div_ordered-w.ensures,
-      c.div_ordered-z.ensures,
-      c.div_ordered-y.ensures,
-      c.div_ordered-x.ensures,
-    )
+returns c = record { value = rw (
+      c.div_ordered-w.ensures.value,
+      c.div_ordered-z.ensures.value,
+      c.div_ordered-y.ensures.value,
+      c.div_ordered-x.ensures.value,
+    ) }

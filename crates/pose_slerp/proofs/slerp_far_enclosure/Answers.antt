@@ -2,11 +2,10 @@
 use Rattle.pose_slerp.proofs.slerp_far_enclosure.Goals as goal
 
 pub returns : goal.returns
-returns c =
-    rw (
-      c.slerp_far_enclosure.ensures,
-      c.point-theta.ensures,
-      c.point-cos_theta.ensures,
-      c.quaternion_point-q.ensures,
-      c.quaternion_point-p.ensures,
-    )
+returns c = record { value = rw (
+      c.slerp_far_enclosure.ensures.value,
+      c.point-theta.ensures.value,
+      c.point-cos_theta.ensures.value,
+      c.quaternion_point-q.ensures.value,
+      c.quaternion_point-p.ensures.value,
+    ) }

@@ -5,4 +5,4 @@ use Rattle.pose_slerp.proofs.slerp_near.Goals as goal
 
 pub returns : goal.returns
 unfolding Pose-slerp_near
-returns c = cc
+returns c = record { value = cc }

@@ -4,13 +4,12 @@ use Rattle.pose_slerp.proofs.squared_unjudged.Goals as goal
 
 pub returns : goal.returns
 unfolding IntervalQuaternion-squared
-returns c =
-    rw (
-      c.add_enclosure.ensures,
-      c.mul_ordered-ww.ensures,
-      c.add_enclosure-xyz.ensures,
-      c.mul_ordered-zz.ensures,
-      c.add_enclosure.ensures,
-      c.mul_ordered-yy.ensures,
-      c.mul_ordered-xx.ensures,
-    )
+returns c = record { value = rw (
+      c.add_enclosure.ensures.value,
+      c.mul_ordered-ww.ensures.value,
+      c.add_enclosure-xyz.ensures.value,
+      c.mul_ordered-zz.ensures.value,
+      c.add_enclosure.ensures.value,
+      c.mul_ordered-yy.ensures.value,
+      c.mul_ordered-xx.ensures.value,
+    ) }

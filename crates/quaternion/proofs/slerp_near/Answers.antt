@@ -5,5 +5,4 @@ use Rattle.quaternion.proofs.slerp_near.Goals as goal
 
 pub returns : goal.returns
 unfolding slerp_near
-returns c =
-    rw (c.normalize.ensures, c.add.ensures, c.mul-b.ensures, c.mul-a.ensures)
+returns c = record { value = rw (c.normalize.ensures.value, c.add.ensures.value, c.mul-b.ensures.value, c.mul-a.ensures.value) }

@@ -22,7 +22,6 @@ loop-i-preserved c =
     (length-set l.boxes l.i _ ∙ l.invariant.0, omega arith, turn)
 
 pub returns : goal.returns
-returns c =
-    let a = c.args in
+returns c = record { left = let a = c.args in
     let l = c.loop-i in
-    groups-all 6 a.values.now a.boxes.now l.boxes l.i (omega arith) l.invariant.2
+    groups-all 6 a.values.now a.boxes.now l.boxes l.i (omega arith) l.invariant.2 }

@@ -5,5 +5,4 @@ use Rattle.question_values.proofs.row_at.Goals as goal
 
 pub returns : goal.returns
 unfolding values_at
-returns c =
-    c.put_values.ensures
+returns c = record { value = c.put_values.ensures.left }

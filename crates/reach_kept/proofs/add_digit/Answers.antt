@@ -13,15 +13,14 @@ use Rattle.reach_kept.proofs.add_digit.Goals as goal
 pub overflow_add-result : goal.overflow_add-result
 overflow_add-result c =
     let a = c.args in
-    let h = digit_room a.mask a.k c.requires.0 c.requires.1 in
+    let h = digit_room a.mask a.k c.requires.k_bound c.requires.mask_bound in
     omega (arith, h)
 
 pub returns-then-named : goal.returns-then-named
 unfolding added_mask
-returns-then-named c =
-    let a = c.args in
-    rw c.if-named.true (ap (λ n. a.mask + n) (digit-exact a.k c.requires.0))
+returns-then-named c = record { value = let a = c.args in
+    rw c.if-named.true (ap (λ n. a.mask + n) (digit-exact a.k c.requires.k_bound)) }
 
 pub returns : goal.returns
 unfolding added_mask
-returns c = rw c.if-named.false
+returns c = record { value = rw c.if-named.false }

@@ -9,8 +9,8 @@ use Rattle.reach_kept.proofs.count_refusal.Goals as goal
 
 pub returns-then-n-most : goal.returns-then-n-most
 unfolding count_refusal
-returns-then-n-most c = rw c.if-n-most.true
+returns-then-n-most c = record { value = rw c.if-n-most.true }
 
 pub returns : goal.returns
 unfolding count_refusal
-returns c = rw c.if-n-most.false
+returns c = record { value = rw c.if-n-most.false }

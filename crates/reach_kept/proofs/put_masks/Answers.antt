@@ -20,6 +20,4 @@ loop-i-preserved c =
     (omega (arith, t), putting-next _ _ l.invariant.1 (omega (arith, t, size, few)))
 
 pub returns : goal.returns
-returns c =
-    let l = c.loop-i in
-    (putting-last _ _ {n = c.args.n} l.invariant.1 (omega (arith, l.invariant.0, c.loop-i-test.false)), c.well_formed.1.1.0.1.0.1)
+returns c = let l = c.loop-i in record { left = putting-last _ _ {n = c.args.n} l.invariant.1 (omega (arith, l.invariant.0, c.loop-i-test.false)); length = c.well_formed.1.1.0.1.0.1 }

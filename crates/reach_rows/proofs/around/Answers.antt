@@ -15,10 +15,9 @@ pub loop-i-preserved : goal.loop-i-preserved
 loop-i-preserved c =
     let l = c.loop-i in
     let t = c.loop-i-test.true in
-    let e = c.union_bounds-next.ensures ∙ ap (Bounds3f-union_bounds l.union) c.bounds.ensures in
+    let e = c.union_bounds-next.ensures.value ∙ ap (Bounds3f-union_bounds l.union) c.bounds.ensures.value in
     (l.invariant.0, around-next _ l.invariant.1 (omega (arith, t, l.invariant.0)) e)
 
 pub returns : goal.returns
-returns c =
-    let l = c.loop-i in
-    around-last _ l.invariant.1 (omega (arith, l.invariant.0, c.loop-i-test.false))
+returns c = record { around = let l = c.loop-i in
+    around-last _ l.invariant.1 (omega (arith, l.invariant.0, c.loop-i-test.false)) }

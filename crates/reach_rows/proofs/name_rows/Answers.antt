@@ -14,26 +14,24 @@ use Rattle.reach_rows.proofs.Named.{boxes_of, Naming, naming-first, naming-next,
 use Rattle.reach_rows.proofs.name_rows.Goals as goal
 
 pub returns-then-n-gt-MAX_ROWS : goal.returns-then-n-gt-MAX_ROWS
-returns-then-n-gt-MAX_ROWS c =
-    let a = c.args in naming-none (boxes_of a.boxes.now) a.rows.now a.names.now c.if-n-gt-MAX_ROWS.true
+returns-then-n-gt-MAX_ROWS c = record { left = let a = c.args in naming-none (boxes_of a.boxes.now) a.rows.now a.names.now c.if-n-gt-MAX_ROWS.true }
 
 pub loop-i-init : goal.loop-i-init
 loop-i-init c = (refl, naming-first _ _ _)
 
 pub is_named-requires : goal.is_named-requires
 is_named-requires c =
-    c.around-union.ensures
+    c.around-union.ensures.around
 
 pub loop-i-preserved : goal.loop-i-preserved
 loop-i-preserved c =
     let l = c.loop-i in
     let a = c.args in
     let t = c.loop-i-test.true in
-    let e = c.is_named.ensures ∙ ap (λ row. get_or l.names l.i false || met_by (boxes_of a.boxes.now) row) c.bounds.ensures in
+    let e = c.is_named.ensures.value ∙ ap (λ row. get_or l.names l.i false || met_by (boxes_of a.boxes.now) row) c.bounds.ensures.value in
     (l.invariant.0, naming-next (boxes_of a.boxes.now) a.rows.now a.names.now l.invariant.1 (omega (arith, t, l.invariant.0)) e)
 
 pub returns : goal.returns
-returns c =
-    let l = c.loop-i in
+returns c = record { left = let l = c.loop-i in
     let a = c.args in
-    naming-last (boxes_of a.boxes.now) a.rows.now a.names.now l.invariant.1 (omega (arith, l.invariant.0, c.loop-i-test.false)) c.if-n-gt-MAX_ROWS.false
+    naming-last (boxes_of a.boxes.now) a.rows.now a.names.now l.invariant.1 (omega (arith, l.invariant.0, c.loop-i-test.false)) c.if-n-gt-MAX_ROWS.false }

@@ -12,7 +12,7 @@ use Rattle.reach_window.proofs.Poses.{Halving, halving-first, halving-lower, hal
 use Rattle.reach_window.proofs.piece.Goals as goal
 
 pub loop-n-init : goal.loop-n-init
-loop-n-init c = (c.requires.0, halving-first _ c.requires.1)
+loop-n-init c = (c.requires.d_le_max_depth, halving-first _ c.requires.k_bound)
 
 pub overflow_shl-half : goal.overflow_shl-half
 overflow_shl-half c = let h = c.loop-n.invariant.0 in omega (arith, h)
@@ -25,7 +25,7 @@ loop-n-preserved-then-rest-half c =
     let n = l.n - 1 in
     let less : n ≤ max_depth = omega (arith, few) in
     let same = slice-count n less in
-    let next = ap {B = Interval} (λ (m : Float). record { low = l.part.low; high = m }) c.midpoint-mid.ensures in
+    let next = ap {B = Interval} (λ (m : Float). record { low = l.part.low; high = m }) c.midpoint-mid.ensures.value in
     (less, halving-lower l.invariant.1 (λ e. absurd (omega (arith, t, e))) (omega (arith, same)) c.if-rest-half.true next)
 
 pub loop-n-preserved : goal.loop-n-preserved
@@ -36,10 +36,9 @@ loop-n-preserved c =
     let n = l.n - 1 in
     let less : n ≤ max_depth = omega (arith, few) in
     let same = slice-count n less in
-    let next = ap {B = Interval} (λ (m : Float). record { low = m; high = l.part.high }) c.midpoint-mid.ensures in
+    let next = ap {B = Interval} (λ (m : Float). record { low = m; high = l.part.high }) c.midpoint-mid.ensures.value in
     (less, halving-upper l.invariant.1 (λ e. absurd (omega (arith, t, e))) (omega (arith, same)) c.if-rest-half.false next)
 
 pub returns : goal.returns
-returns c =
-    let l = c.loop-n in
-    halving-last l.invariant.1 (omega (arith, c.loop-n-test.false))
+returns c = record { value = let l = c.loop-n in
+    halving-last l.invariant.1 (omega (arith, c.loop-n-test.false)) }

@@ -12,26 +12,24 @@ use borrow.Author.Rules.{rules}
 use Rattle.reach_window.proofs.take_pose.Goals as goal
 
 pub returns-then-n-gt-MAX_BOXES : goal.returns-then-n-gt-MAX_BOXES
-returns-then-n-gt-MAX_BOXES c =
-    let a = c.args in
-    let taken = c.take_pose-next.ensures in
-    walks-few a.boxes.now a.rows.now a.pose a.front (replicate 16 (replicate 6 positive_zero)) a.names.now c.requires taken.0 taken.1 c.if-n-gt-MAX_BOXES.true
+returns-then-n-gt-MAX_BOXES c = record { walks = let a = c.args in
+    let taken = (c.take_pose-next.ensures.front, c.take_pose-next.ensures.places) in
+    walks-few a.boxes.now a.rows.now a.pose a.front (replicate 16 (replicate 6 positive_zero)) a.names.now c.requires taken.0 taken.1 c.if-n-gt-MAX_BOXES.true }
 
 pub slice_bounds-moved-end : goal.slice_bounds-moved-end
 slice_bounds-moved-end c =
     let a = c.args in
-    let h = places-length a.pose a.boxes.now a.front (replicate 16 (replicate 6 positive_zero)) c.take_pose-next.ensures.1 in
+    let h = places-length a.pose a.boxes.now a.front (replicate 16 (replicate 6 positive_zero)) c.take_pose-next.ensures.places in
     omega (arith, h, c.if-n-gt-MAX_BOXES.false)
 
 pub slice_bounds-name_rows-end : goal.slice_bounds-name_rows-end
 slice_bounds-name_rows-end c =
     let a = c.args in
-    let h = places-length a.pose a.boxes.now a.front (replicate 16 (replicate 6 positive_zero)) c.take_pose-next.ensures.1 in
+    let h = places-length a.pose a.boxes.now a.front (replicate 16 (replicate 6 positive_zero)) c.take_pose-next.ensures.places in
     sym (length-take-le _ _ (omega (arith, h, c.if-n-gt-MAX_BOXES.false)))
 
 pub returns : goal.returns
-returns c =
-    let a = c.args in
-    let taken = c.take_pose-next.ensures in
+returns c = record { walks = let a = c.args in
+    let taken = (c.take_pose-next.ensures.front, c.take_pose-next.ensures.places) in
     walks-pose a.boxes.now a.rows.now a.pose a.front (replicate 16 (replicate 6 positive_zero)) a.names.now c.requires taken.0 taken.1 refl
-    c.name_rows.ensures
+    c.name_rows.ensures.left }

@@ -12,14 +12,12 @@ use borrow.Author.Rules.{rules}
 use Rattle.reach_window.proofs.take_slices.Goals as goal
 
 pub returns-then-not-m-overlaps : goal.returns-then-not-m-overlaps
-returns-then-not-m-overlaps c =
-    let a = c.args in
+returns-then-not-m-overlaps c = record { walks = let a = c.args in
     let t = c.overlaps-overlaps in
-    rw (slices-none a.d a.w a.m (rw t.ensures at (not-true (a.m.actually_animated && t.result) c.if-not-m-overlaps.true))) walks-none
+    rw (slices-none a.d a.w a.m (rw t.ensures.value at (not-true (a.m.actually_animated && t.result) c.if-not-m-overlaps.true))) walks-none }
 
 pub returns : goal.returns
-returns c =
-    let a = c.args in
+returns c = record { walks = let a = c.args in
     let t = c.overlaps-overlaps in
-    let asked = slices-asked a.d a.w a.m (rw t.ensures at (not-false (a.m.actually_animated && t.result) c.if-not-m-overlaps.false)) in
-    rw (asked, ← c.share-dt.ensures) c.take_pieces.ensures
+    let asked = slices-asked a.d a.w a.m (rw t.ensures.value at (not-false (a.m.actually_animated && t.result) c.if-not-m-overlaps.false)) in
+    rw (asked, ← c.share-dt.ensures.value) c.take_pieces.ensures.walks }

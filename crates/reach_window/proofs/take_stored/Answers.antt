@@ -12,8 +12,7 @@ use borrow.Author.Rules.{rules}
 use Rattle.reach_window.proofs.take_stored.Goals as goal
 
 pub returns-then-not-asked : goal.returns-then-not-asked
-returns-then-not-asked c = rw (not-true c.args.asked c.if-not-asked.true) walks-none
+returns-then-not-asked c = record { walks = rw (not-true c.args.asked c.if-not-asked.true) walks-none }
 
 pub returns : goal.returns
-returns c =
-    rw (not-false c.args.asked c.if-not-asked.false, ← c.stored_enclosure.ensures) c.take_pose.ensures
+returns c = record { walks = rw (not-false c.args.asked c.if-not-asked.false, ← c.stored_enclosure.ensures.value) c.take_pose.ensures.walks }

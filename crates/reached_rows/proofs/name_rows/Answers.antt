@@ -39,14 +39,13 @@ loop-i-preserved c =
     let l = c.loop-i in
     let a = c.args in
     let h : l.i < length a.rows.now = omega (arith, l.invariant.0, c.loop-i-test.true) in
-    let m = sym (c.meets.ensures ∙ ap (Bounds3f-meets a.cover) c.bounds.ensures) in (
+    let m = sym (c.meets.ensures.value ∙ ap (Bounds3f-meets a.cover) c.bounds.ensures.value) in (
       refl,
       ⊎_elim (λ w. loop-met a.cover a.rows.now l.invariant.1 h c.requires (m ∙ w.0.taken) w.1 w.2)
           (λ w. loop-missed a.cover a.rows.now l.invariant.1 h (m ∙ w.0.left) w.1 w.2) c.if-meets.branch,
     )
 
 pub returns : goal.returns
-returns c =
-    let l = c.loop-i in
+returns c = record { named = let l = c.loop-i in
     let a = c.args in
-    loop-last a.cover a.rows.now l.invariant.1 (omega (arith, l.invariant.0, c.loop-i-test.false))
+    loop-last a.cover a.rows.now l.invariant.1 (omega (arith, l.invariant.0, c.loop-i-test.false)) }

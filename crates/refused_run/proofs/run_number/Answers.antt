@@ -5,8 +5,7 @@ use Rattle.refused_run.proofs.Lent.{one-pose, other-run}
 use Rattle.refused_run.proofs.run_number.Goals as goal
 
 pub returns-then-run-eq1 : goal.returns-then-run-eq1
-returns-then-run-eq1 c =
-    c.move_number.ensures ∙ one-pose c.args.rigid c.args.run.now c.if-run-eq1.true
+returns-then-run-eq1 c = record { value = c.move_number.ensures.value ∙ one-pose c.args.rigid c.args.run.now c.if-run-eq1.true }
 
 pub returns : goal.returns
-returns c = c.number.ensures ∙ other-run c.args.rigid c.args.run.now c.if-run-eq1.false
+returns c = record { value = c.number.ensures.value ∙ other-run c.args.rigid c.args.run.now c.if-run-eq1.false }

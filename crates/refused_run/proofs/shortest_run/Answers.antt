@@ -5,16 +5,10 @@ use Rattle.refused_run.proofs.Search.{accepted-clauses, twelve-clauses, found-cl
 use Rattle.refused_run.proofs.shortest_run.Goals as goal
 
 pub returns-then-number-eq0 : goal.returns-then-number-eq0
-returns-then-number-eq0 c =
-    let a = c.args in
-    accepted-clauses a.rigid (Poses-of_lists a.poses.now) c.number-number.ensures c.if-number-eq0.true
+returns-then-number-eq0 c = let a = c.args in let all = accepted-clauses a.rigid (Poses-of_lists a.poses.now) c.number-number.ensures.value c.if-number-eq0.true in record { value = all.0; shortest = all.1 }
 
 pub returns-then-number-eq12 : goal.returns-then-number-eq12
-returns-then-number-eq12 c =
-    let a = c.args in
-    twelve-clauses a.rigid (Poses-of_lists a.poses.now) c.number-number.ensures c.if-number-eq0.false c.if-number-eq12.true
+returns-then-number-eq12 c = let a = c.args in let all = twelve-clauses a.rigid (Poses-of_lists a.poses.now) c.number-number.ensures.value c.if-number-eq0.false c.if-number-eq12.true in record { value = all.0; shortest = all.1 }
 
 pub returns : goal.returns
-returns c =
-    let a = c.args in
-    found-clauses a.rigid (Poses-of_lists a.poses.now) c.number-number.ensures c.if-number-eq0.false c.if-number-eq12.false c.first_of.ensures
+returns c = let a = c.args in let all = found-clauses a.rigid (Poses-of_lists a.poses.now) c.number-number.ensures.value c.if-number-eq0.false c.if-number-eq12.false c.first_of.ensures.value in record { value = all.0; shortest = all.1 }

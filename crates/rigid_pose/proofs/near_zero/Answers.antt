@@ -5,4 +5,4 @@ use Rattle.rigid_pose.proofs.near_zero.Goals as goal
 
 pub returns : goal.returns
 unfolding near_zero
-returns c = rw c.abs.ensures
+returns c = record { value = rw c.abs.ensures.value }

@@ -5,4 +5,4 @@ use Rattle.rotation.proofs.inverse_rotation.Goals as goal
 
 pub returns : goal.returns
 unfolding inverse_rotation
-returns c = refl
+returns c = record { value = refl }

@@ -5,4 +5,4 @@ use Rattle.rotation.proofs.transform_from_quaternion.Goals as goal
 
 pub returns : goal.returns
 unfolding Transform-from_quaternion
-returns c = rw (c.from_matrices.ensures, c.transpose.ensures, c.inverse_rotation-m.ensures)
+returns c = record { value = rw (c.from_matrices.ensures.value, c.transpose.ensures.value, c.inverse_rotation-m.ensures.value) }

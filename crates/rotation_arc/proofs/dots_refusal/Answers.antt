@@ -5,8 +5,8 @@ use Rattle.rotation_arc.proofs.dots_refusal.Goals as goal
 
 pub returns-then-is_finite : goal.returns-then-is_finite
 unfolding dots_refusal
-returns-then-is_finite c = rw (rw (c.is_finite.ensures, c.is_finite-2.ensures) at c.if-is_finite.true)
+returns-then-is_finite c = record { value = rw (rw (c.is_finite.ensures.value, c.is_finite-2.ensures.value) at c.if-is_finite.true) }
 
 pub returns-else-is_finite : goal.returns-else-is_finite
 unfolding dots_refusal
-returns-else-is_finite c = rw (rw (c.is_finite.ensures, c.is_finite-2.ensures) at c.if-is_finite.false)
+returns-else-is_finite c = record { value = rw (rw (c.is_finite.ensures.value, c.is_finite-2.ensures.value) at c.if-is_finite.false) }

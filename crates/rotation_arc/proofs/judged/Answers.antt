@@ -14,11 +14,9 @@ answer c b = cond b (record { value = c; refusal = 0 }) (record { value = Coeffi
 
 pub returns-then-is_finite : goal.returns-then-is_finite
 unfolding CoefficientsAnswer-judged
-returns-then-is_finite c =
-    sym (ap (answer c.args.value) (rw (c.is_finite.ensures, c.is_finite-2.ensures) at c.if-is_finite.true))
+returns-then-is_finite c = record { value = sym (ap (answer c.args.value) (rw (c.is_finite.ensures.value, c.is_finite-2.ensures.value) at c.if-is_finite.true)) }
 
 pub returns-else-is_finite : goal.returns-else-is_finite
 unfolding CoefficientsAnswer-judged
-returns-else-is_finite c =
-    rw c.zero-zero.ensures
-    (sym (ap (answer c.args.value) (rw (c.is_finite.ensures, c.is_finite-2.ensures) at c.if-is_finite.false)))
+returns-else-is_finite c = record { value = rw c.zero-zero.ensures.value
+    (sym (ap (answer c.args.value) (rw (c.is_finite.ensures.value, c.is_finite-2.ensures.value) at c.if-is_finite.false))) }

@@ -5,15 +5,14 @@ use Rattle.rotation_arc.proofs.rotation_coefficients.Goals as goal
 
 pub returns : goal.returns
 unfolding rotation_coefficients
-returns c =
-    rw (
-      c.judged.ensures,
-      c.new.ensures,
-      c.to_rows-2.ensures,
-      c.to_rows.ensures,
-      c.normalize-qperp.ensures,
-      c.sub.ensures,
-      c.mul.ensures,
-      c.acos-theta.ensures.0,
-      c.clamp.ensures,
-    )
+returns c = record { value = rw (
+      c.judged.ensures.value,
+      c.new.ensures.value,
+      c.to_rows-2.ensures.value,
+      c.to_rows.ensures.value,
+      c.normalize-qperp.ensures.value,
+      c.sub.ensures.value,
+      c.mul.ensures.value,
+      c.acos-theta.ensures.value,
+      c.clamp.ensures.value,
+    ) }

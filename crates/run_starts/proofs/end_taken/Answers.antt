@@ -7,17 +7,16 @@ use Rattle.run_starts.proofs.end_taken.Goals as goal
 
 pub returns-then-end-ne0 : goal.returns-then-end-ne0
 unfolding end_taken
-returns-then-end-ne0 c = rw (ne_eqb _ 0 c.if-end-ne0.true)
+returns-then-end-ne0 c = record { value = rw (ne_eqb _ 0 c.if-end-ne0.true) }
 
 pub returns-then-meets_running : goal.returns-then-meets_running
 unfolding end_taken
-returns-then-meets_running c = rw (eq-eqb _ 0 c.if-end-ne0.false, ← c.meets_running.ensures, c.if-meets_running.true)
+returns-then-meets_running c = record { value = rw (eq-eqb _ 0 c.if-end-ne0.false, ← c.meets_running.ensures.value, c.if-meets_running.true) }
 
 pub overflow_add-result : goal.overflow_add-result
 overflow_add-result c =
-    omega (arith, (c.requires.1.1.0 c.args.i c.requires.1.0).1, c.requires.1.1.1)
+    omega (arith, (c.requires.i_lt_count.1.0 c.args.i c.requires.i_lt_count.0).1, c.requires.i_lt_count.1.1)
 
 pub returns : goal.returns
 unfolding end_taken
-returns c =
-    rw (eq-eqb _ 0 c.if-end-ne0.false, ← c.meets_running.ensures, c.if-meets_running.false)
+returns c = record { value = rw (eq-eqb _ 0 c.if-end-ne0.false, ← c.meets_running.ensures.value, c.if-meets_running.false) }

@@ -15,11 +15,10 @@ loop-i-preserved c =
     let a = c.args in
     let l = c.loop-i in (
       omega (arith, c.loop-i-test.true),
-      subst (λ (n : ℕ). NextStop (l.i + 1) a.t2 a.t n) (sym c.sooner-next.ensures) (stop_step a.t2 a.t l.i l.next l.invariant.1),
+      subst (λ (n : ℕ). NextStop (l.i + 1) a.t2 a.t n) (sym c.sooner-next.ensures.value) (stop_step a.t2 a.t l.i l.next l.invariant.1),
     )
 
 pub returns : goal.returns
-returns c =
-    let a = c.args in
+returns c = record { value = let a = c.args in
     let l = c.loop-i in
-    subst (λ (n : ℕ). NextStop n a.t2 a.t l.next) (omega (arith, l.invariant.0, c.loop-i-test.false)) l.invariant.1
+    subst (λ (n : ℕ). NextStop n a.t2 a.t l.next) (omega (arith, l.invariant.0, c.loop-i-test.false)) l.invariant.1 }

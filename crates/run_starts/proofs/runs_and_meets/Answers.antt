@@ -3,14 +3,13 @@ use borrow.Author.Rules.{rules}
 use Rattle.run_starts.proofs.runs_and_meets.Goals as goal
 
 pub returns-then-is_running : goal.returns-then-is_running
-returns-then-is_running c =
-    rw (
-      ← c.is_running.ensures,
+returns-then-is_running c = record { value = rw (
+      ← c.is_running.ensures.value,
       c.if-is_running.true,
-      c.meets.ensures,
-      c.bounds.ensures,
-      c.bounds-then-is_running.ensures,
-    )
+      c.meets.ensures.value,
+      c.bounds.ensures.value,
+      c.bounds-then-is_running.ensures.value,
+    ) }
 
 pub returns : goal.returns
-returns c = rw (← c.is_running.ensures, c.if-is_running.false)
+returns c = record { value = rw (← c.is_running.ensures.value, c.if-is_running.false) }

@@ -2,7 +2,7 @@
 use Rattle.run_starts.proofs.sooner.Goals as goal
 
 pub returns-then-t-end : goal.returns-then-t-end
-returns-then-t-end c = rw c.if-t-end.true
+returns-then-t-end c = record { value = rw c.if-t-end.true }
 
 pub returns : goal.returns
-returns c = rw c.if-t-end.false
+returns c = record { value = rw c.if-t-end.false }

@@ -12,17 +12,16 @@ loop-i-init c = (search rules, starts_none c.args.lengths.now c.args.t3)
 
 pub overflow_sub-starts : goal.overflow_sub-starts
 overflow_sub-starts c =
-    c.requires.1 c.loop-i.i c.loop-i-test.true
+    c.requires.by_index c.loop-i.i c.loop-i-test.true
 
 pub loop-i-preserved : goal.loop-i-preserved
 loop-i-preserved c =
     let a = c.args in
     let l = c.loop-i in
     let h = c.loop-i-test.true in
-    (omega (arith, h), starts-step a.lengths.now a.t3 l.starts l.i (omega (arith, h, c.requires.0)) l.invariant.1)
+    (omega (arith, h), starts-step a.lengths.now a.t3 l.starts l.i (omega (arith, h, c.requires.count_bound)) l.invariant.1)
 
 pub returns : goal.returns
-returns c =
-    let a = c.args in
+returns c = record { value = let a = c.args in
     let l = c.loop-i in
-    subst (λ n. StartsOf n a.lengths.now a.t3 l.starts) (omega (arith, l.invariant.0, c.loop-i-test.false)) l.invariant.1
+    subst (λ n. StartsOf n a.lengths.now a.t3 l.starts) (omega (arith, l.invariant.0, c.loop-i-test.false)) l.invariant.1 }

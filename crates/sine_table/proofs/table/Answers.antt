@@ -5,4 +5,4 @@ use Rattle.sine_table.proofs.table.Goals as goal
 
 pub returns : goal.returns
 unfolding sine_entry taylor_sum
-returns c = tested tt
+returns c = let all = tested tt in record { value = all.0; rule = all.1 }

@@ -7,16 +7,16 @@ use Rattle.square_root.proofs.Heron.{Iterate, isqrt-lt, mean-pos, iterate-next, 
 use Rattle.square_root.proofs.isqrt.Goals as goal
 
 pub loop-y-init : goal.loop-y-init
-loop-y-init c = record { above = omega (arith, isqrt-lt c.args.n c.requires.1); small = omega arith; mean = refl }
+loop-y-init c = record { above = omega (arith, isqrt-lt c.args.n c.requires.fact_2); small = omega arith; mean = refl }
 
 pub nonzero_div-y-in-loop-y : goal.nonzero_div-y-in-loop-y
-nonzero_div-y-in-loop-y c = mean-pos c.args.n c.requires.0 c.loop-y.invariant
+nonzero_div-y-in-loop-y c = mean-pos c.args.n c.requires.fact_1 c.loop-y.invariant
 
 pub overflow_add-y-in-loop-y : goal.overflow_add-y-in-loop-y
 overflow_add-y-in-loop-y c = let l = div-le_self c.args.n c.loop-y.y in omega (arith, l)
 
 pub loop-y-preserved : goal.loop-y-preserved
-loop-y-preserved c = iterate-next c.args.n c.requires.0 c.loop-y.invariant c.loop-y-test.true
+loop-y-preserved c = iterate-next c.args.n c.requires.fact_1 c.loop-y.invariant c.loop-y-test.true
 
 pub returns : goal.returns
-returns c = iterate-last c.args.n c.requires.0 c.loop-y.invariant c.loop-y-test.false
+returns c = iterate-last c.args.n c.requires.fact_1 c.loop-y.invariant c.loop-y-test.false

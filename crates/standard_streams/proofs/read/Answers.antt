@@ -11,10 +11,10 @@ pub loop-count-init : goal.loop-count-init
 loop-count-init c = (refl, omega arith)
 
 pub returns-then-got-lt0 : goal.returns-then-got-lt0
-returns-then-got-lt0 c = (search rules, sym (length-take-le _ _ (search rules)))
+returns-then-got-lt0 c = record { counts = (search rules, sym (length-take-le _ _ (search rules))) }
 
 pub returns-then-more-eq0 : goal.returns-then-more-eq0
-returns-then-more-eq0 c = (search rules, sym (length-take-le _ _ (search rules)))
+returns-then-more-eq0 c = record { counts = (search rules, sym (length-take-le _ _ (search rules))) }
 
 pub returns : goal.returns
-returns c = (search rules, sym (length-take-le _ _ (search rules)))
+returns c = record { counts = (search rules, sym (length-take-le _ _ (search rules))) }

@@ -15,27 +15,26 @@ use Rattle.stretch_points.proofs.Fill.{put-length, filled, filled_next, filled-e
 use Rattle.stretch_points.proofs.fill_stretch.Goals as goal
 
 pub returns-then-n-eq0 : goal.returns-then-n-eq0
-returns-then-n-eq0 c =
-    let a = c.args in
+returns-then-n-eq0 c = record { left = let a = c.args in
     let f : Float → PointAnswer = λ t. Rows-transform_point a.motion.now t a.p in
     sym (filled-end f a.times.now a.answers.now 0 (let h = c.if-n-eq0.true in omega (arith, h)))
-    ∙ filled-floats f a.times.now a.answers.now c.requires
+    ∙ filled-floats f a.times.now a.answers.now c.requires }
 
 pub loop-i-init : goal.loop-i-init
 loop-i-init c =
-    ((c.table-table.ensures.0, c.stretch_of-stretch.ensures), (refl, (omega arith, (c.requires, refl))))
+    ((c.table-table.ensures.value, c.stretch_of-stretch.ensures.value), (refl, (omega arith, (c.requires, refl))))
 
 pub point_at-requires : goal.point_at-requires
-point_at-requires c = c.loop-i.invariant.0
+point_at-requires c = let all = c.loop-i.invariant.0 in record { fact_1 = all.0; fact_2 = all.1 }
 
 pub loop-i-preserved : goal.loop-i-preserved
 loop-i-preserved c =
     let l = c.loop-i in
     let a = c.args in
     let h = c.loop-i-test.true in
-    let put = c.put_three.ensures in
-    let point = c.point_of-q.ensures in
-    let answer = c.point_at.ensures in
+    let put = c.put_three.ensures.left in
+    let point = c.point_of-q.ensures.value in
+    let answer = c.point_at.ensures.value in
     let f : Float → PointAnswer = λ t. Rows-transform_point a.motion.now t a.p in (
       l.invariant.0,
       (
@@ -55,9 +54,8 @@ shape_of-answers c =
     let e = c.loop-i.invariant.1.1.1.0 in let h = c.requires in e ∙ sym h
 
 pub returns : goal.returns
-returns c =
-    let l = c.loop-i in
+returns c = record { left = let l = c.loop-i in
     let a = c.args in
     let f : Float → PointAnswer = λ t. Rows-transform_point a.motion.now t a.p in
     sym (filled-end f a.times.now l.answers l.i c.loop-i-test.false)
-    ∙ (l.invariant.1.1.1.1 ∙ filled-floats f a.times.now a.answers.now c.requires)
+    ∙ (l.invariant.1.1.1.1 ∙ filled-floats f a.times.now a.answers.now c.requires) }

@@ -15,38 +15,35 @@ use Rattle.stretch_points.proofs.Pass.{refusal-here, refusal-next, refusal-end}
 use Rattle.stretch_points.proofs.first_refusal.Goals as goal
 
 pub returns-then-n-eq0 : goal.returns-then-n-eq0
-returns-then-n-eq0 c =
-    let a = c.args in
+returns-then-n-eq0 c = record { value = let a = c.args in
     let f : Float → PointAnswer = λ t. Rows-transform_point a.motion.now t a.p in
-    refusal-end f a.times.now 0 (let h = c.if-n-eq0.true in omega (arith, h))
+    refusal-end f a.times.now 0 (let h = c.if-n-eq0.true in omega (arith, h)) }
 
 pub loop-i-init : goal.loop-i-init
-loop-i-init c = ((c.table-table.ensures.0, c.stretch_of-stretch.ensures), (refl, (omega arith, refl)))
+loop-i-init c = ((c.table-table.ensures.value, c.stretch_of-stretch.ensures.value), (refl, (omega arith, refl)))
 
 pub point_at-answer-requires : goal.point_at-answer-requires
-point_at-answer-requires c = c.loop-i.invariant.0
+point_at-answer-requires c = let all = c.loop-i.invariant.0 in record { fact_1 = all.0; fact_2 = all.1 }
 
 pub loop-i-preserved : goal.loop-i-preserved
 loop-i-preserved c =
     let l = c.loop-i in
     let a = c.args in
     let h = c.loop-i-test.true in
-    let e = c.point_at-answer.ensures in
+    let e = c.point_at-answer.ensures.value in
     let f : Float → PointAnswer = λ t. Rows-transform_point a.motion.now t a.p in
     (l.invariant.0, (refl, (omega (arith, h), refusal-next f a.times.now l.i h e c.answer-1.given.1 ∙ l.invariant.1.1.1)))
 
 pub returns-in-Refused : goal.returns-in-Refused
-returns-in-Refused c =
-    let l = c.loop-i in
+returns-in-Refused c = record { value = let l = c.loop-i in
     let a = c.args in
     let h = c.loop-i-test.true in
-    let e = c.point_at-answer.ensures in
+    let e = c.point_at-answer.ensures.value in
     let f : Float → PointAnswer = λ t. Rows-transform_point a.motion.now t a.p in
-    refusal-here f a.times.now l.i h e c.answer-in-Refused-1.given.1 ∙ l.invariant.1.1.1
+    refusal-here f a.times.now l.i h e c.answer-in-Refused-1.given.1 ∙ l.invariant.1.1.1 }
 
 pub returns : goal.returns
-returns c =
-    let l = c.loop-i in
+returns c = record { value = let l = c.loop-i in
     let a = c.args in
     let f : Float → PointAnswer = λ t. Rows-transform_point a.motion.now t a.p in
-    refusal-end f a.times.now l.i c.loop-i-test.false ∙ l.invariant.1.1.1
+    refusal-end f a.times.now l.i c.loop-i-test.false ∙ l.invariant.1.1.1 }

@@ -11,12 +11,10 @@ use Rattle.stretch_points.proofs.point_at.Goals as goal
 
 pub slerp-requires : goal.slerp-requires
 unfolding Stretch-of
-slerp-requires c =
-    (c.requires.0, rw c.requires.1)
+slerp-requires c = record { fact_1 = c.requires.fact_1; fact_2 = rw c.requires.fact_2 }
 
 pub returns : goal.returns
 unfolding AnimatedTransform-from_rows Stretch-of div dt
-returns c =
-    let a = c.args in
-    rw (c.composed_point.ensures, c.slerp.ensures, c.requires.1)
-    (between-query a.motion.now a.time a.p (rw (← c.is_finite.ensures) c.if-time-is_finite.false) _ _ refl refl)
+returns c = record { value = let a = c.args in
+    rw (c.composed_point.ensures.value, c.slerp.ensures.value, c.requires.fact_2)
+    (between-query a.motion.now a.time a.p (rw (← c.is_finite.ensures.value) c.if-time-is_finite.false) _ _ refl refl) }

@@ -6,9 +6,8 @@ use Rattle.stretch_points.proofs.put_points.Goals as goal
 
 pub returns-then-answers-times : goal.returns-then-answers-times
 unfolding Rows-points_put
-returns-then-answers-times c =
-    rw (eq-eqb _ _ c.if-answers-times.true) c.fill_stretch.ensures
+returns-then-answers-times c = record { left = rw (eq-eqb _ _ c.if-answers-times.true) c.fill_stretch.ensures.left }
 
 pub returns-else-answers-times : goal.returns-else-answers-times
 unfolding Rows-points_put
-returns-else-answers-times c = rw (ne_eqb _ _ c.if-answers-times.false)
+returns-else-answers-times c = record { left = rw (ne_eqb _ _ c.if-answers-times.false) }

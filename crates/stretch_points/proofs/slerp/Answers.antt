@@ -8,14 +8,13 @@ use Rattle.stretch_points.proofs.slerp.Goals as goal
 
 pub returns-then-a : goal.returns-then-a
 unfolding Pose-slerp slerp_by
-returns-then-a c = rw (c.if-a.true, c.slerp_near.ensures)
+returns-then-a c = record { value = rw (c.if-a.true, c.slerp_near.ensures.value) }
 
 pub returns : goal.returns
 unfolding Pose-slerp slerp_by
-returns c =
-    let a = c.args.a in
+returns c = record { value = let a = c.args.a in
     let x = a.theta ⊗ c.args.t in
-    let lent = c.requires.0 in
-    let s = c.sin_cos_in-angle.ensures in
-    rw (c.if-a.false, c.turned.ensures, sin-lent lent x s.0, cos-lent lent x s.1, c.requires.1)
-    (slerp_far-turned a.r0 a.r1 a.cos_theta a.theta c.args.t)
+    let lent = c.requires.fact_1 in
+    let s = c.sin_cos_in-angle.ensures.value in
+    rw (c.if-a.false, c.turned.ensures.value, sin-lent lent x s.0, cos-lent lent x s.1, c.requires.fact_2)
+    (slerp_far-turned a.r0 a.r1 a.cos_theta a.theta c.args.t) }

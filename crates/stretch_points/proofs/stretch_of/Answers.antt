@@ -5,5 +5,4 @@ use Rattle.stretch_points.proofs.stretch_of.Goals as goal
 
 pub returns : goal.returns
 unfolding Stretch-of
-returns c =
-    rw (c.end_scale-s1.ensures, c.start_scale-s0.ensures, c.perpendicular_to-perpendicular.ensures, c.constants_from_rows-a.ensures)
+returns c = record { value = rw (c.end_scale-s1.ensures.value, c.start_scale-s0.ensures.value, c.perpendicular_to-perpendicular.ensures.value, c.constants_from_rows-a.ensures.value) }

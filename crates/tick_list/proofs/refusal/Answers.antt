@@ -7,12 +7,12 @@ use Rattle.tick_list.proofs.Loops.{count-refused}
 use Rattle.tick_list.proofs.refusal.Goals as goal
 
 pub returns-then-n : goal.returns-then-n
-returns-then-n c = count-refused c.args.ticks.now c.if-n.true
+returns-then-n c = record { value = count-refused c.args.ticks.now c.if-n.true }
 
 pub returns-then-not-rise : goal.returns-then-not-rise
 unfolding Ticks-refusal
-returns-then-not-rise c = rw (c.if-n.false, sym c.rise.ensures ∙ not-true _ c.if-not-rise.true)
+returns-then-not-rise c = record { value = rw (c.if-n.false, sym c.rise.ensures.value ∙ not-true _ c.if-not-rise.true) }
 
 pub returns : goal.returns
 unfolding Ticks-refusal
-returns c = rw (c.if-n.false, sym c.rise.ensures ∙ not-false _ c.if-not-rise.false)
+returns c = record { value = rw (c.if-n.false, sym c.rise.ensures.value ∙ not-false _ c.if-not-rise.false) }

@@ -5,12 +5,11 @@ use Rattle.transform.proofs.has_scale.Goals as goal
 
 pub returns : goal.returns
 unfolding Matrix4x4-has_scale
-returns c =
-    rw (
-      c.not_one-3.ensures,
-      c.image_squared-3.ensures,
-      c.not_one-2.ensures,
-      c.image_squared-2.ensures,
-      c.not_one.ensures,
-      c.image_squared.ensures,
-    )
+returns c = record { value = rw (
+      c.not_one-3.ensures.value,
+      c.image_squared-3.ensures.value,
+      c.not_one-2.ensures.value,
+      c.image_squared-2.ensures.value,
+      c.not_one.ensures.value,
+      c.image_squared.ensures.value,
+    ) }

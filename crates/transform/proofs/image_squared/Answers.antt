@@ -5,4 +5,4 @@ use Rattle.transform.proofs.image_squared.Goals as goal
 
 pub returns : goal.returns
 unfolding image_squared
-returns c = rw (c.dot.ensures, c.moved_vector-v.ensures)
+returns c = record { value = rw (c.dot.ensures.value, c.moved_vector-v.ensures.value) }

@@ -5,4 +5,4 @@ use Rattle.transform.proofs.moved_vector.Goals as goal
 
 pub returns : goal.returns
 unfolding moved_vector
-returns c = rw (c.mul_vector.ensures, c.mul_vector-2.ensures, c.mul_vector-3.ensures)
+returns c = record { value = rw (c.mul_vector.ensures.value, c.mul_vector-2.ensures.value, c.mul_vector-3.ensures.value) }

@@ -4,4 +4,4 @@ use mathlib.Core.Path.{refl}
 use Rattle.transform.proofs.mul_point.Goals as goal
 
 pub returns : goal.returns
-returns c = refl
+returns c = record { value = refl }

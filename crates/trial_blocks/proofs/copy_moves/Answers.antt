@@ -27,8 +27,7 @@ loop-i-preserved c =
     )
 
 pub returns : goal.returns
-returns c =
-    let l = c.loop-i in
+returns c = record { left = let l = c.loop-i in
     let a = c.args in
     let whole : l.i ≡ length a.moves.now = omega (arith, c.loop-i-test.false) in
-    l.invariant.1.1 ∙ ap (sets a.blocks.now 0) (take_all l.i a.moves.now (omega (arith, whole)))
+    l.invariant.1.1 ∙ ap (sets a.blocks.now 0) (take_all l.i a.moves.now (omega (arith, whole))) }

@@ -10,13 +10,11 @@ bounds-blocks-place c =
     omega (arith, h)
 
 pub returns-then-place-n : goal.returns-then-place-n
-returns-then-place-n c =
-    let a = c.args in
+returns-then-place-n c = record { left = let a = c.args in
     let t = c.if-place-n.true in
-    rw c.first_beside-first.ensures
-    (put_two a.blocks.now a.beside.now a.n a.place t (between a.place a.n t).0)
+    rw c.first_beside-first.ensures.value
+    (put_two a.blocks.now a.beside.now a.n a.place t (between a.place a.n t).0) }
 
 pub returns-else-place-n : goal.returns-else-place-n
-returns-else-place-n c =
-    let a = c.args in
-    rw c.first_beside-first.ensures (put_one a.blocks.now a.beside.now a.n a.place c.if-place-n.false)
+returns-else-place-n c = record { left = let a = c.args in
+    rw c.first_beside-first.ensures.value (put_one a.blocks.now a.beside.now a.n a.place c.if-place-n.false) }

@@ -10,4 +10,4 @@ pub int_to_float-result-2 : goal.int_to_float-result-2
 int_to_float-result-2 c = half-casts _ (omega arith)
 
 pub returns : goal.returns
-returns c = from_halves c.args.n (omega arith)
+returns c = record { value = from_halves c.args.n (omega arith) }

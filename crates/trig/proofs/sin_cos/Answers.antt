@@ -4,8 +4,7 @@ use Rattle.trig.proofs.OverTable.{sin-lent, cos-lent}
 use Rattle.trig.proofs.sin_cos.Goals as goal
 
 pub returns : goal.returns
-returns c =
-    let t = c.table-table.ensures.0 in
-    let s = c.sin_cos_in.ensures in
+returns c = record { value = let t = c.table-table.ensures.value in
+    let s = c.sin_cos_in.ensures.value in
     let a = c.args.a in
-    (sin-lent t a s.0, cos-lent t a s.1)
+    (sin-lent t a s.0, cos-lent t a s.1) }

@@ -6,7 +6,7 @@ use Rattle.trig.proofs.Fixed.{float_negated, float-kept}
 use Rattle.trig.proofs.units_float.Goals as goal
 
 pub returns-then-negative-n : goal.returns-then-negative-n
-returns-then-negative-n c = ap neg c.from_units-x.ensures ∙ float_negated c.args.negative c.args.n c.if-negative-n.true
+returns-then-negative-n c = record { value = ap neg c.from_units-x.ensures.value ∙ float_negated c.args.negative c.args.n c.if-negative-n.true }
 
 pub returns : goal.returns
-returns c = c.from_units-x.ensures ∙ float-kept c.args.negative c.args.n c.if-negative-n.false
+returns c = record { value = c.from_units-x.ensures.value ∙ float-kept c.args.negative c.args.n c.if-negative-n.false }

@@ -7,11 +7,5 @@ use Rattle.trig.proofs.Quarters.{sin-folded, cos-folded}
 use Rattle.trig.proofs.units_sin_cos.Goals as goal
 
 pub returns : goal.returns
-returns c =
-    let a = c.args in
-    let w = c.folded in
-    let h = c.quarter_sin_cos_in-h in (
-      c.units_float.ensures
-          ∙ ap nearest_float (sin-folded (entry a.table.now) a.u w.result h.result.sin w.ensures a.negative h.ensures.0),
-      c.units_float-2.ensures ∙ ap nearest_float (cos-folded (entry a.table.now) a.u w.result h.result.cos w.ensures h.ensures.1),
-    )
+returns c = let a = c.args in let w = c.folded in let h = c.quarter_sin_cos_in-h in record { sin = c.units_float.ensures.value
+          ∙ ap nearest_float (sin-folded (entry a.table.now) a.u w.result h.result.sin w.ensures.value a.negative h.ensures.sin); cos = c.units_float-2.ensures.value ∙ ap nearest_float (cos-folded (entry a.table.now) a.u w.result h.result.cos w.ensures.value h.ensures.cos) }

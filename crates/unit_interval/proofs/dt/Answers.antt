@@ -6,4 +6,4 @@ use Rattle.unit_interval.proofs.dt.Goals as goal
 
 pub returns : goal.returns
 unfolding div dt
-returns c = refl
+returns c = record { value = refl }

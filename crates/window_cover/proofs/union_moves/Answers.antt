@@ -24,14 +24,13 @@ loop-i-preserved c =
       refl,
       (
         omega (arith, t),
-        λ s h. reached-next (stage_boxes a.b (min a.depth max_depth) a.w a.stage) a.moves.now l.i t c.union_move-u.ensures
+        λ s h. reached-next (stage_boxes a.b (min a.depth max_depth) a.w a.stage) a.moves.now l.i t c.union_move-u.ensures.same
             (l.invariant.1.1 s h),
       ),
     )
 
 pub returns : goal.returns
-returns c =
-    let l = c.loop-i in
+returns c = record { same = let l = c.loop-i in
     let a = c.args in
     let boxes = stage_boxes a.b (min a.depth max_depth) a.w a.stage in
-    λ s h. reached-end boxes a.moves.now l.i (omega (arith, c.loop-i-test.false)) (l.invariant.1.1 s h)
+    λ s h. reached-end boxes a.moves.now l.i (omega (arith, c.loop-i-test.false)) (l.invariant.1.1 s h) }

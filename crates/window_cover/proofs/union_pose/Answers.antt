@@ -5,15 +5,14 @@ use Rattle.motion_piece.proofs.Piece.{stored-composition}
 use Rattle.window_cover.proofs.union_pose.Goals as goal
 
 pub returns-then-not-asked : goal.returns-then-not-asked
-returns-then-not-asked c = rw (not-true c.args.asked c.if-not-asked.true)
+returns-then-not-asked c = record { value = rw (not-true c.args.asked c.if-not-asked.true) }
 
 pub returns : goal.returns
-returns c =
-    let a = c.args in
+returns c = record { value = let a = c.args in
     rw (
       not-false a.asked c.if-not-asked.false,
-      c.union_bounds.ensures,
-      c.box_enclosure.ensures,
-      c.stored_enclosure.ensures,
+      c.union_bounds.ensures.value,
+      c.box_enclosure.ensures.value,
+      c.stored_enclosure.ensures.value,
       stored-composition a.pad a.t a.b,
-    )
+    ) }

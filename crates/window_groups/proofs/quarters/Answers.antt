@@ -9,13 +9,12 @@ use Rattle.window_groups.proofs.quarters.Goals as goal
 
 pub returns : goal.returns
 unfolding LanesBorders-from LanesBorders-of LanesBorders-quarters Border-between
-returns c =
-    let a = c.args in
+returns c = record { value = let a = c.args in
     let n = a.near in
     let th = a.theta in
-    let m = c.border_between-mid.ensures in
+    let m = c.border_between-mid.ensures.value in
     let mid = between-dt n th a.from.dt a.to.dt m in
-    let b = c.border_between-b.ensures ∙ λ i. Border-between n th a.from.dt (mid i) in
-    let d = c.border_between-d.ensures ∙ λ i. Border-between n th (mid i) a.to.dt in
-    (λ i. LanesBorders-from (c.ends-dt.ensures i) (c.ends-cos.ensures i) (c.ends-sin.ensures i))
-    ∙ λ i. LanesBorders-of (c.requires.1.0 i) (b i) (m i) (d i) (c.requires.1.1 i)
+    let b = c.border_between-b.ensures.value ∙ λ i. Border-between n th a.from.dt (mid i) in
+    let d = c.border_between-d.ensures.value ∙ λ i. Border-between n th (mid i) a.to.dt in
+    (λ i. LanesBorders-from (c.ends-dt.ensures.value i) (c.ends-cos.ensures.value i) (c.ends-sin.ensures.value i))
+    ∙ λ i. LanesBorders-of (c.requires.fact_2.0 i) (b i) (m i) (d i) (c.requires.fact_2.1 i) }

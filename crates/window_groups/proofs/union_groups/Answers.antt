@@ -14,19 +14,18 @@ join_halves-joined-requires c =
     let a = c.args in
     let near = is_near a.a in
     let theta = a.a.theta in
-    (c.table-table.ensures.0, (border-own near theta a.dt.low c.border_at-from.ensures, border-own near theta a.dt.high c.border_at-to.ensures))
+    (c.table-table.ensures.value, (border-own near theta a.dt.low c.border_at-from.ensures.value, border-own near theta a.dt.high c.border_at-to.ensures.value))
 
 pub returns : goal.returns
 unfolding Halves-union lane_halves
-returns c =
-    let a = c.args in
+returns c = record { value = let a = c.args in
     let near = is_near a.a in
     let theta = a.a.theta in
-    let low = border-dt near theta a.dt.low c.border_at-from.ensures in
-    let high = border-dt near theta a.dt.high c.border_at-to.ensures in
-    c.joined.ensures
+    let low = border-dt near theta a.dt.low c.border_at-from.ensures.value in
+    let high = border-dt near theta a.dt.high c.border_at-to.ensures.value in
+    c.joined.ensures.value
     ∙ ap LanesVector-joined
-    (c.join_halves-joined.ensures
-    ∙ (λ i. fold_halves (LanesVector-quarters a.a (c.second_quaternion-second.ensures i) a.s0 a.s1 a.pad0 a.pad1 (c.repeated-p.ensures i)) a.depth
-    (low i) (high i) (c.repeated-union.ensures i))
-    ∙ halves-lanes a.a a.s0 a.s1 a.pad0 a.pad1 a.b a.depth a.dt.low a.dt.high (λ (l : Lane). Bounds3f-intervals a.first))
+    (c.join_halves-joined.ensures.value
+    ∙ (λ i. fold_halves (LanesVector-quarters a.a (c.second_quaternion-second.ensures.value i) a.s0 a.s1 a.pad0 a.pad1 (c.repeated-p.ensures.value i)) a.depth
+    (low i) (high i) (c.repeated-union.ensures.value i))
+    ∙ halves-lanes a.a a.s0 a.s1 a.pad0 a.pad1 a.b a.depth a.dt.low a.dt.high (λ (l : Lane). Bounds3f-intervals a.first)) }

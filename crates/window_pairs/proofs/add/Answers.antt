@@ -6,8 +6,8 @@ use Rattle.window_pairs.proofs.add.Goals as goal
 
 pub returns-then-not-meets : goal.returns-then-not-meets
 unfolding Found-add
-returns-then-not-meets c = rw (not-true c.args.meets c.if-not-meets.true)
+returns-then-not-meets c = record { value = rw (not-true c.args.meets c.if-not-meets.true) }
 
 pub returns : goal.returns
 unfolding Found-add
-returns c = rw (not-false c.args.meets c.if-not-meets.false)
+returns c = record { value = rw (not-false c.args.meets c.if-not-meets.false) }

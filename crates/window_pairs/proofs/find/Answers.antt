@@ -13,20 +13,16 @@ loop-i-init c =
     let a = c.args in
     let cover = Moves-window_cover a.moves.now a.b a.depth in
     let cover' = Moves-window_cover a.others.now a.other a.depth in
-    (refl, subst (Loop cover cover' a.ticks.now 0 1) (sym c.none-found.ensures) (loop-first cover cover' a.ticks.now))
+    (refl, subst (Loop cover cover' a.ticks.now 0 1) (sym c.none-found.ensures.value) (loop-first cover cover' a.ticks.now))
 
 pub meeting_at-m-requires : goal.meeting_at-m-requires
-meeting_at-m-requires c =
-    let l = c.loop-i in
-    let p = l.invariant.1.place in
-    (omega (arith, p), c.loop-i-test.true)
+meeting_at-m-requires c = let l = c.loop-i in let p = l.invariant.1.place in record { le_i = omega (arith, p); i_in_bounds = c.loop-i-test.true }
 
 pub returns-then-refusal-ne0 : goal.returns-then-refusal-ne0
-returns-then-refusal-ne0 c =
-    let l = c.loop-i in
+returns-then-refusal-ne0 c = record { found = let l = c.loop-i in
     let a = c.args in
     loop-refused (Moves-window_cover a.moves.now a.b a.depth) (Moves-window_cover a.others.now a.other a.depth) a.ticks.now l.invariant.1
-    c.meeting_at-m.result c.loop-i-test.true c.meeting_at-m.ensures c.if-refusal-ne0.true c.none.ensures
+    c.meeting_at-m.result c.loop-i-test.true c.meeting_at-m.ensures.value c.if-refusal-ne0.true c.none.ensures.value }
 
 pub add-next-requires : goal.add-next-requires
 add-next-requires c =
@@ -41,12 +37,11 @@ loop-i-preserved c =
     let a = c.args in (
       refl,
       loop-next (Moves-window_cover a.moves.now a.b a.depth) (Moves-window_cover a.others.now a.other a.depth) a.ticks.now l.invariant.1
-          c.meeting_at-m.result c.loop-i-test.true c.requires c.meeting_at-m.ensures c.if-refusal-ne0.false c.add-next.ensures,
+          c.meeting_at-m.result c.loop-i-test.true c.requires c.meeting_at-m.ensures.value c.if-refusal-ne0.false c.add-next.ensures.value,
     )
 
 pub returns : goal.returns
-returns c =
-    let l = c.loop-i in
+returns c = record { found = let l = c.loop-i in
     let a = c.args in
     loop-last (Moves-window_cover a.moves.now a.b a.depth)
-    (Moves-window_cover a.others.now a.other a.depth) a.ticks.now l.invariant.1 c.loop-i-test.false
+    (Moves-window_cover a.others.now a.other a.depth) a.ticks.now l.invariant.1 c.loop-i-test.false }

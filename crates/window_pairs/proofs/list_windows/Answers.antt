@@ -9,52 +9,39 @@ use Rattle.window_pairs.proofs.list_windows.Goals as goal
 
 pub returns-then-moves-eq0 : goal.returns-then-moves-eq0
 unfolding WindowsAnswer-left
-returns-then-moves-eq0 c =
-    let a = c.args in
-    windows-clauses a.moves.now a.others.now a.b a.other a.depth a.ticks.now (refused 12) a.places.now a.places.now
-    (none_first a.moves.now a.others.now a.b a.other a.depth a.ticks.now c.if-moves-eq0.true) refl refl refl
+returns-then-moves-eq0 c = let a = c.args in let all = windows-clauses a.moves.now a.others.now a.b a.other a.depth a.ticks.now (refused 12) a.places.now a.places.now
+    (none_first a.moves.now a.others.now a.b a.other a.depth a.ticks.now c.if-moves-eq0.true) refl refl refl in record { refusal = all.0; count = all.1; left = all.2; kept = all.3; apart = all.4; finer = all.5 }
 
 pub returns-then-others-eq0 : goal.returns-then-others-eq0
 unfolding WindowsAnswer-left
-returns-then-others-eq0 c =
-    let a = c.args in
-    windows-clauses a.moves.now a.others.now a.b a.other a.depth a.ticks.now (refused 12) a.places.now a.places.now
-    (none-second a.moves.now a.others.now a.b a.other a.depth a.ticks.now c.if-moves-eq0.false c.if-others-eq0.true) refl refl refl
+returns-then-others-eq0 c = let a = c.args in let all = windows-clauses a.moves.now a.others.now a.b a.other a.depth a.ticks.now (refused 12) a.places.now a.places.now
+    (none-second a.moves.now a.others.now a.b a.other a.depth a.ticks.now c.if-moves-eq0.false c.if-others-eq0.true) refl refl refl in record { refusal = all.0; count = all.1; left = all.2; kept = all.3; apart = all.4; finer = all.5 }
 
 pub returns-then-n-ne0 : goal.returns-then-n-ne0
 unfolding WindowsAnswer-left
-returns-then-n-ne0 c =
-    let a = c.args in
-    windows-clauses a.moves.now a.others.now a.b a.other a.depth a.ticks.now (refused _) a.places.now a.places.now
+returns-then-n-ne0 c = let a = c.args in let all = windows-clauses a.moves.now a.others.now a.b a.other a.depth a.ticks.now (refused _) a.places.now a.places.now
     (arguments-refused a.moves.now a.others.now a.b a.other a.depth a.ticks.now
-    c.if-moves-eq0.false c.if-others-eq0.false c.refusal-n.ensures c.if-n-ne0.true)
-    refl refl refl
+    c.if-moves-eq0.false c.if-others-eq0.false c.refusal-n.ensures.value c.if-n-ne0.true)
+    refl refl refl in record { refusal = all.0; count = all.1; left = all.2; kept = all.3; apart = all.4; finer = all.5 }
 
 pub find-found-requires : goal.find-found-requires
 find-found-requires c =
     let a = c.args in
-    accepted-ticks a.b a.other a.depth a.ticks.now (sym c.refusal-n.ensures ∙ c.if-n-ne0.false)
+    accepted-ticks a.b a.other a.depth a.ticks.now (sym c.refusal-n.ensures.value ∙ c.if-n-ne0.false)
 
 pub returns-then-met-ne0 : goal.returns-then-met-ne0
 unfolding WindowsAnswer-left
-returns-then-met-ne0 c =
-    let a = c.args in
-    let work = windows_from (Moves-window_cover a.moves.now a.b a.depth)
-    (Moves-window_cover a.others.now a.other a.depth) 0 (windows_of a.ticks.now) in
-    windows-clauses a.moves.now a.others.now a.b a.other a.depth
+returns-then-met-ne0 c = let a = c.args in let work = windows_from (Moves-window_cover a.moves.now a.b a.depth)
+    (Moves-window_cover a.others.now a.other a.depth) 0 (windows_of a.ticks.now) in let all = windows-clauses a.moves.now a.others.now a.b a.other a.depth
     a.ticks.now (refused c.find-found.result.refusal) a.places.now a.places.now
     (windows-worked a.moves.now a.others.now a.b a.other a.depth a.ticks.now
-    c.if-moves-eq0.false c.if-others-eq0.false (sym c.refusal-n.ensures ∙ c.if-n-ne0.false)
-    ∙ found-refused work c.find-found.result c.find-found.ensures c.if-met-ne0.true)
-    refl refl refl
+    c.if-moves-eq0.false c.if-others-eq0.false (sym c.refusal-n.ensures.value ∙ c.if-n-ne0.false)
+    ∙ found-refused work c.find-found.result c.find-found.ensures.found c.if-met-ne0.true)
+    refl refl refl in record { refusal = all.0; count = all.1; left = all.2; kept = all.3; apart = all.4; finer = all.5 }
 
 pub returns : goal.returns
-returns c =
-    let a = c.args in
-    let work = windows_from (Moves-window_cover a.moves.now a.b a.depth)
-    (Moves-window_cover a.others.now a.other a.depth) 0 (windows_of a.ticks.now) in
-    let l = found-listed work c.find-found.result a.places.now c.find-found.ensures c.if-met-ne0.false in
-    windows-clauses a.moves.now a.others.now a.b a.other a.depth a.ticks.now work a.places.now c.find-found.result.places
+returns c = let a = c.args in let work = windows_from (Moves-window_cover a.moves.now a.b a.depth)
+    (Moves-window_cover a.others.now a.other a.depth) 0 (windows_of a.ticks.now) in let l = found-listed work c.find-found.result a.places.now c.find-found.ensures.found c.if-met-ne0.false in let all = windows-clauses a.moves.now a.others.now a.b a.other a.depth a.ticks.now work a.places.now c.find-found.result.places
     (windows-worked a.moves.now a.others.now a.b a.other a.depth a.ticks.now
-    c.if-moves-eq0.false c.if-others-eq0.false (sym c.refusal-n.ensures ∙ c.if-n-ne0.false))
-    (sym l.accepted) l.count l.places
+    c.if-moves-eq0.false c.if-others-eq0.false (sym c.refusal-n.ensures.value ∙ c.if-n-ne0.false))
+    (sym l.accepted) l.count l.places in record { refusal = all.0; count = all.1; left = all.2; kept = all.3; apart = all.4; finer = all.5 }

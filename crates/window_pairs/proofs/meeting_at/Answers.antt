@@ -3,4 +3,4 @@ use borrow.Author.Rules.{rules}
 use Rattle.window_pairs.proofs.meeting_at.Goals as goal
 
 pub returns : goal.returns
-returns c = rw (c.meet.ensures, c.cover-second.ensures.0, c.cover-first.ensures.0)
+returns c = record { value = rw (c.meet.ensures.value, c.cover-second.ensures.value, c.cover-first.ensures.value) }

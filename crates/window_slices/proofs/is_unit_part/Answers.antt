@@ -8,7 +8,7 @@ use Rattle.float32.specs.Operators.{positive_zero, one}
 use Rattle.window_slices.proofs.is_unit_part.Goals as goal
 
 pub returns : goal.returns
-returns c = λ e.
+returns c = record { value = λ e.
     let a = c.args in
     let p = le positive_zero a.low in
     let q = le a.low a.high in
@@ -22,4 +22,4 @@ returns c = λ e.
       };
       low_fits = subst T (sym c.well_formed.0.1) tt;
       high_fits = subst T (sym c.well_formed.1.0.1) tt;
-    }
+    } }

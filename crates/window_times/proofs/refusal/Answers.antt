@@ -2,7 +2,7 @@
 use Rattle.window_times.proofs.refusal.Goals as goal
 
 pub returns-then-w : goal.returns-then-w
-returns-then-w c = rw c.if-w.true
+returns-then-w c = record { value = rw c.if-w.true }
 
 pub returns-else-w : goal.returns-else-w
-returns-else-w c = rw c.if-w.false
+returns-else-w c = record { value = rw c.if-w.false }

@@ -16,10 +16,9 @@ unfolding MotionDerivative-excludes_zero Interval-sin Interval-cos
 ends-known f i c a b e low high = rw (e, low.0, low.1, high.0, high.1)
 
 pub returns-then-c : goal.returns-then-c
-returns-then-c c =
-    let ends = c.requires in
-    rw (c.excludes_zero_at.ensures, c.cos_between-cos.ensures, c.sin_between-sin.ensures)
-    (ends-known _ _ _ _ _ (mul-ordered _ _ c.if-c.true) ends.0 ends.1)
+returns-then-c c = record { value = let ends = c.requires in
+    rw (c.excludes_zero_at.ensures.value, c.cos_between-cos.ensures.value, c.sin_between-sin.ensures.value)
+    (ends-known _ _ _ _ _ (mul-ordered _ _ c.if-c.true) ends.0 ends.1) }
 
 pub returns : goal.returns
-returns c = c.excludes_zero.ensures
+returns c = record { value = c.excludes_zero.ensures.value }

@@ -4,4 +4,4 @@ use Rattle.zero_search.proofs.interval_find_zeros.Goals as goal
 
 pub returns : goal.returns
 unfolding interval_find_zeros
-returns c = rw (c.judged.ensures, c.unit_search.ensures)
+returns c = record { value = rw (c.judged.ensures.value, c.unit_search.ensures.value) }

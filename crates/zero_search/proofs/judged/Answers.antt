@@ -5,8 +5,8 @@ use Rattle.zero_search.proofs.judged.Goals as goal
 
 pub returns-then-zeros-eq0 : goal.returns-then-zeros-eq0
 unfolding Search-judged
-returns-then-zeros-eq0 c = rw (eq-eqb _ _ c.if-zeros-eq0.true)
+returns-then-zeros-eq0 c = record { value = rw (eq-eqb _ _ c.if-zeros-eq0.true) }
 
 pub returns : goal.returns
 unfolding Search-judged
-returns c = rw (c.empty-zeros.ensures, ne_eqb _ _ c.if-zeros-eq0.false)
+returns c = record { value = rw (c.empty-zeros.ensures.value, ne_eqb _ _ c.if-zeros-eq0.false) }

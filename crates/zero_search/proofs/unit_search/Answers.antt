@@ -5,8 +5,7 @@ use Rattle.zero_search.proofs.unit_search.Goals as goal
 
 pub find_zeros-requires : goal.find_zeros-requires
 find_zeros-requires c =
-    (c.table-table.ensures.0, ((c.end_at-low.ensures, c.end_at-high.ensures), omega arith))
+    (c.table-table.ensures.value, ((c.end_at-low.ensures.value, c.end_at-high.ensures.value), omega arith))
 
 pub returns : goal.returns
-returns c =
-    rw (c.find_zeros.ensures, c.empty.ensures, c.new-i.ensures)
+returns c = record { value = rw (c.find_zeros.ensures.value, c.empty.ensures.value, c.new-i.ensures.value) }

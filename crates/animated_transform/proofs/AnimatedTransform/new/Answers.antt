@@ -8,30 +8,24 @@ use Rattle.animated_transform.proofs.AnimatedTransform.new.Goals as goal
 
 pub returns-then-n-ne0 : goal.returns-then-n-ne0
 unfolding AnimatedTransform-new
-returns-then-n-ne0 c =
-    let start = c.well_formed.1.0.1.1 in
-    let end = c.well_formed.1.1.0.1.1 in
-    new-clauses c.args.rigid c.args.start c.args.end start.0.1 start.1.1.0.1 end.0.1 end.1.1.0.1
+returns-then-n-ne0 c = let start = c.well_formed.1.0.1.1 in let end = c.well_formed.1.1.0.1.1 in let all = new-clauses c.args.rigid c.args.start c.args.end start.0.1 start.1.1.0.1 end.0.1 end.1.1.0.1
     (rw (
-      ← c.poses_refusal-poses.ensures,
-      ← c.kind_number.ensures,
-      ← c.kind_number-2.ensures,
-      ← c.first_refusal-kind.ensures,
-      ← c.first_refusal-n.ensures,
+      ← c.poses_refusal-poses.ensures.value,
+      ← c.kind_number.ensures.value,
+      ← c.kind_number-2.ensures.value,
+      ← c.first_refusal-kind.ensures.value,
+      ← c.first_refusal-n.ensures.value,
       ne_eqb _ 0 c.if-n-ne0.true,
-    ) c.refused.ensures)
+    ) c.refused.ensures.value) in record { value = all.0; built = all.1 }
 
 pub returns : goal.returns
 unfolding AnimatedTransform-new
-returns c =
-    let start = c.well_formed.1.0.1.1 in
-    let end = c.well_formed.1.1.0.1.1 in
-    new-clauses c.args.rigid c.args.start c.args.end start.0.1 start.1.1.0.1 end.0.1 end.1.1.0.1
+returns c = let start = c.well_formed.1.0.1.1 in let end = c.well_formed.1.1.0.1.1 in let all = new-clauses c.args.rigid c.args.start c.args.end start.0.1 start.1.1.0.1 end.0.1 end.1.1.0.1
     (rw (
-      ← c.poses_refusal-poses.ensures,
-      ← c.kind_number.ensures,
-      ← c.kind_number-2.ensures,
-      ← c.first_refusal-kind.ensures,
-      ← c.first_refusal-n.ensures,
+      ← c.poses_refusal-poses.ensures.value,
+      ← c.kind_number.ensures.value,
+      ← c.kind_number-2.ensures.value,
+      ← c.first_refusal-kind.ensures.value,
+      ← c.first_refusal-n.ensures.value,
       eq-eqb _ 0 c.if-n-ne0.false,
-    ) c.from_poses.ensures)
+    ) c.from_poses.ensures.value) in record { value = all.0; built = all.1 }

@@ -5,4 +5,4 @@ use Rattle.bounds3.proofs.Bounds3f.corner.Goals as goal
 
 pub returns : goal.returns
 unfolding Bounds3f-corner
-returns c = rw (c.index-px.ensures, c.index-py.ensures, c.index-pz.ensures)
+returns c = record { value = rw (c.index-px.ensures.value, c.index-py.ensures.value, c.index-pz.ensures.value) }

@@ -4,8 +4,8 @@ use Rattle.bounds3.proofs.Bounds3f.index.Goals as goal
 
 pub returns-then-i : goal.returns-then-i
 unfolding Bounds3f-index
-returns-then-i c = rw c.if-i.true
+returns-then-i c = record { value = rw c.if-i.true }
 
 pub returns-else-i : goal.returns-else-i
 unfolding Bounds3f-index
-returns-else-i c = rw c.if-i.false
+returns-else-i c = record { value = rw c.if-i.false }

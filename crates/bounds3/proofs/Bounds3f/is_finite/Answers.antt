@@ -5,4 +5,4 @@ use Rattle.bounds3.proofs.Bounds3f.is_finite.Goals as goal
 
 pub returns : goal.returns
 unfolding Bounds3f-is_finite
-returns c = rw (c.is_finite.ensures, c.is_finite-2.ensures)
+returns c = record { value = rw (c.is_finite.ensures.value, c.is_finite-2.ensures.value) }

@@ -5,4 +5,4 @@ use Rattle.bounds3.proofs.Bounds3f.union_bounds.Goals as goal
 
 pub returns : goal.returns
 unfolding Bounds3f-union_bounds
-returns c = rw (c.min-p_min.ensures, c.max-p_max.ensures)
+returns c = record { value = rw (c.min-p_min.ensures.value, c.max-p_max.ensures.value) }

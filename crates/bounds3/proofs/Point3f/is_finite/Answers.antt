@@ -5,4 +5,4 @@ use Rattle.bounds3.proofs.Point3f.is_finite.Goals as goal
 
 pub returns : goal.returns
 unfolding Point3f-is_finite
-returns c = rw (c.is_finite.ensures, c.is_finite-2.ensures, c.is_finite-3.ensures)
+returns c = record { value = rw (c.is_finite.ensures.value, c.is_finite-2.ensures.value, c.is_finite-3.ensures.value) }

@@ -5,4 +5,4 @@ use Rattle.bounds3.proofs.Point3f.max.Goals as goal
 
 pub returns : goal.returns
 unfolding Point3f-max
-returns c = rw (c.max.ensures, c.max-2.ensures, c.max-3.ensures)
+returns c = record { value = rw (c.max.ensures.value, c.max-2.ensures.value, c.max-3.ensures.value) }

@@ -5,4 +5,4 @@ use Rattle.bounds3.proofs.Point3f.min.Goals as goal
 
 pub returns : goal.returns
 unfolding Point3f-min
-returns c = rw (c.min.ensures, c.min-2.ensures, c.min-3.ensures)
+returns c = record { value = rw (c.min.ensures.value, c.min-2.ensures.value, c.min-3.ensures.value) }

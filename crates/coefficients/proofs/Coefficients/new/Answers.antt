@@ -7,5 +7,4 @@ use Rattle.coefficients.proofs.Coefficients.new.Goals as goal
 
 pub returns : goal.returns
 unfolding Coefficients-new derivative Matrix4x4-transpose
-returns c =
-    rw (c.along_z-z.ensures, c.along_y-y.ensures, c.along_x-x.ensures, c.transpose-b.ensures, c.transpose-a.ensures)
+returns c = record { value = rw (c.along_z-z.ensures.value, c.along_y-y.ensures.value, c.along_x-x.ensures.value, c.transpose-b.ensures.value, c.transpose-a.ensures.value) }

@@ -4,13 +4,12 @@ use Rattle.interval.proofs.EndAngle.cos_range.Goals as goal
 
 pub returns : goal.returns
 unfolding EndAngle-cos_range
-returns c =
-    rw (
-      c.select-2.ensures,
-      c.max.ensures,
-      c.lies-3.ensures,
-      c.lies-2.ensures,
-      c.select.ensures,
-      c.min.ensures,
-      c.lies.ensures,
-    )
+returns c = record { value = rw (
+      c.select-2.ensures.value,
+      c.max.ensures.value,
+      c.lies-3.ensures.value,
+      c.lies-2.ensures.value,
+      c.select.ensures.value,
+      c.min.ensures.value,
+      c.lies.ensures.value,
+    ) }

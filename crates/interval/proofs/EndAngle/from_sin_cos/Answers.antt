@@ -2,4 +2,4 @@
 use Rattle.interval.proofs.EndAngle.from_sin_cos.Goals as goal
 
 pub returns : goal.returns
-returns c = rw c.angle_units.ensures
+returns c = record { value = rw c.angle_units.ensures.value }

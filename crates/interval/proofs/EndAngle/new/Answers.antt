@@ -3,6 +3,5 @@ use Rattle.interval.proofs.Places.{from-sin-cos}
 use Rattle.interval.proofs.EndAngle.new.Goals as goal
 
 pub returns : goal.returns
-returns c =
-    let s = c.sin_cos in
-    from-sin-cos c.args.a s.result c.from_sin_cos.ensures s.ensures.0 s.ensures.1
+returns c = record { value = let s = c.sin_cos in
+    from-sin-cos c.args.a s.result c.from_sin_cos.ensures.value s.ensures.value.0 s.ensures.value.1 }

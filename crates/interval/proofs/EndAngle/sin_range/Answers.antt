@@ -4,12 +4,11 @@ use Rattle.interval.proofs.EndAngle.sin_range.Goals as goal
 
 pub returns : goal.returns
 unfolding EndAngle-sin_range
-returns c =
-    rw (
-      c.select-2.ensures,
-      c.max.ensures,
-      c.lies-2.ensures,
-      c.select.ensures,
-      c.min.ensures,
-      c.lies.ensures,
-    )
+returns c = record { value = rw (
+      c.select-2.ensures.value,
+      c.max.ensures.value,
+      c.lies-2.ensures.value,
+      c.select.ensures.value,
+      c.min.ensures.value,
+      c.lies.ensures.value,
+    ) }

@@ -4,4 +4,4 @@ use Rattle.interval.proofs.Interval.add.Goals as goal
 
 pub returns : goal.returns
 unfolding Interval-add
-returns c = c.new.ensures
+returns c = record { value = c.new.ensures.value }

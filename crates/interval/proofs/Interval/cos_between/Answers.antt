@@ -4,11 +4,10 @@ use Rattle.interval.proofs.Interval.cos_between.Goals as goal
 
 pub returns : goal.returns
 unfolding Interval-cos_between
-returns c =
-    rw (
-      c.new.ensures,
-      c.select.ensures,
-      c.straddles.ensures,
-      c.select-high.ensures,
-      c.select.ensures,
-    )
+returns c = record { value = rw (
+      c.new.ensures.value,
+      c.select.ensures.value,
+      c.straddles.ensures.value,
+      c.select-high.ensures.value,
+      c.select.ensures.value,
+    ) }

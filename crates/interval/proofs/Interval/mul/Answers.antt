@@ -4,4 +4,4 @@ use Rattle.interval.proofs.Interval.mul.Goals as goal
 
 pub returns : goal.returns
 unfolding Interval-mul
-returns c = rw (← c.of_four-four.ensures) c.new.ensures
+returns c = record { value = rw (← c.of_four-four.ensures.value) c.new.ensures.value }

@@ -4,4 +4,4 @@ use Rattle.interval.proofs.Interval.new.Goals as goal
 
 pub returns : goal.returns
 unfolding Interval-new
-returns c = rw (c.max.ensures, c.min.ensures)
+returns c = record { value = rw (c.max.ensures.value, c.min.ensures.value) }

@@ -5,10 +5,9 @@ use Rattle.interval.proofs.Interval.not_finite.Goals as goal
 
 pub returns-then-is_finite : goal.returns-then-is_finite
 unfolding not_finite
-returns-then-is_finite c =
-    let taken : (c.is_finite.result && c.is_finite-2.result) ≡ true = c.if-is_finite.true in
-    rw (← c.is_finite.ensures, ← c.is_finite-2.ensures, taken)
+returns-then-is_finite c = record { value = let taken : (c.is_finite.result && c.is_finite-2.result) ≡ true = c.if-is_finite.true in
+    rw (← c.is_finite.ensures.value, ← c.is_finite-2.ensures.value, taken) }
 
 pub returns-else-is_finite : goal.returns-else-is_finite
 unfolding not_finite
-returns-else-is_finite c = rw (← c.is_finite.ensures, ← c.is_finite-2.ensures, c.if-is_finite.false)
+returns-else-is_finite c = record { value = rw (← c.is_finite.ensures.value, ← c.is_finite-2.ensures.value, c.if-is_finite.false) }

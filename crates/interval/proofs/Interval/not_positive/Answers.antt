@@ -8,8 +8,8 @@ number b = cond b 10 0
 
 pub returns-then-self : goal.returns-then-self
 unfolding not_positive
-returns-then-self c = sym (ap number c.if-self.true)
+returns-then-self c = record { value = sym (ap number c.if-self.true) }
 
 pub returns-else-self : goal.returns-else-self
 unfolding not_positive
-returns-else-self c = sym (ap number c.if-self.false)
+returns-else-self c = record { value = sym (ap number c.if-self.false) }

@@ -4,4 +4,4 @@ use Rattle.interval.proofs.Interval.of_four.Goals as goal
 
 pub returns : goal.returns
 unfolding Interval-of_four
-returns c = rw (c.hull.ensures, c.new-2.ensures, c.new.ensures)
+returns c = record { value = rw (c.hull.ensures.value, c.new-2.ensures.value, c.new.ensures.value) }

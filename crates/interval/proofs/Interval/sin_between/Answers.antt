@@ -4,13 +4,12 @@ use Rattle.interval.proofs.Interval.sin_between.Goals as goal
 
 pub returns : goal.returns
 unfolding Interval-sin_between
-returns c =
-    rw (
-      c.new.ensures,
-      c.select-2.ensures,
-      c.straddles-2.ensures,
-      c.select.ensures,
-      c.straddles.ensures,
-      c.select-high.ensures,
-      c.select.ensures,
-    )
+returns c = record { value = rw (
+      c.new.ensures.value,
+      c.select-2.ensures.value,
+      c.straddles-2.ensures.value,
+      c.select.ensures.value,
+      c.straddles.ensures.value,
+      c.select-high.ensures.value,
+      c.select.ensures.value,
+    ) }

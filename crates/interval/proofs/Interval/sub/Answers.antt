@@ -4,4 +4,4 @@ use Rattle.interval.proofs.Interval.sub.Goals as goal
 
 pub returns : goal.returns
 unfolding Interval-sub
-returns c = c.new.ensures
+returns c = record { value = c.new.ensures.value }

@@ -4,4 +4,4 @@ use Rattle.interval.proofs.Judged.add_enclosure.Goals as goal
 
 pub returns : goal.returns
 unfolding Interval-add_enclosure Judged-add_enclosure
-returns c = c.judge.ensures
+returns c = record { value = c.judge.ensures.value }

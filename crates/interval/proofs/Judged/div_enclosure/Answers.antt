@@ -4,5 +4,4 @@ use Rattle.interval.proofs.Judged.div_enclosure.Goals as goal
 
 pub returns : goal.returns
 unfolding Interval-div_enclosure Judged-div_enclosure
-returns c =
-    rw (c.judge.ensures, c.first_refusal.ensures, c.not_positive.ensures, c.of_four-four.ensures)
+returns c = record { value = rw (c.judge.ensures.value, c.first_refusal.ensures.value, c.not_positive.ensures.value, c.of_four-four.ensures.value) }

@@ -4,4 +4,4 @@ use Rattle.interval.proofs.Judged.judge.Goals as goal
 
 pub returns : goal.returns
 unfolding Judged-judge
-returns c = rw (c.first_refusal.ensures, c.not_finite.ensures)
+returns c = record { value = rw (c.first_refusal.ensures.value, c.not_finite.ensures.value) }

@@ -4,4 +4,4 @@ use Rattle.interval.proofs.Judged.mul_enclosure.Goals as goal
 
 pub returns : goal.returns
 unfolding Interval-mul_enclosure Judged-mul_enclosure
-returns c = rw (c.judge.ensures, c.of_four.ensures)
+returns c = record { value = rw (c.judge.ensures.value, c.of_four.ensures.value) }

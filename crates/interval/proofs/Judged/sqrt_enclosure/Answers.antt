@@ -4,5 +4,4 @@ use Rattle.interval.proofs.Judged.sqrt_enclosure.Goals as goal
 
 pub returns : goal.returns
 unfolding Interval-sqrt_enclosure Judged-sqrt_enclosure
-returns c =
-    rw (c.judge.ensures, c.first_refusal.ensures, c.not_positive.ensures, c.sqrt-2.ensures, c.sqrt.ensures)
+returns c = record { value = rw (c.judge.ensures.value, c.first_refusal.ensures.value, c.not_positive.ensures.value, c.sqrt-2.ensures.value, c.sqrt.ensures.value) }

@@ -4,4 +4,4 @@ use Rattle.interval.proofs.Judged.sub_enclosure.Goals as goal
 
 pub returns : goal.returns
 unfolding Interval-sub_enclosure Judged-sub_enclosure
-returns c = c.judge.ensures
+returns c = record { value = c.judge.ensures.value }

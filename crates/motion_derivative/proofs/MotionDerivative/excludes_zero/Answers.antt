@@ -4,4 +4,4 @@ use Rattle.motion_derivative.proofs.MotionDerivative.excludes_zero.Goals as goal
 
 pub returns : goal.returns
 unfolding MotionDerivative-excludes_zero
-returns c = rw (c.excludes_zero_at.ensures, c.sin_cos.ensures.0, c.sin_cos.ensures.1)
+returns c = record { value = rw (c.excludes_zero_at.ensures.value, c.sin_cos.ensures.value.0, c.sin_cos.ensures.value.1) }

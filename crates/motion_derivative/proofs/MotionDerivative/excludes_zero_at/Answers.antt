@@ -4,4 +4,4 @@ use Rattle.motion_derivative.proofs.MotionDerivative.excludes_zero_at.Goals as g
 
 pub returns : goal.returns
 unfolding MotionDerivative-excludes_zero_at
-returns c = rw c.range_at-range.ensures
+returns c = record { value = rw c.range_at-range.ensures.value }

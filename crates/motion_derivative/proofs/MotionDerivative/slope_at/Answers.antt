@@ -5,4 +5,4 @@ use Rattle.motion_derivative.proofs.MotionDerivative.slope_at.Goals as goal
 
 pub returns : goal.returns
 unfolding MotionDerivative-slope_at
-returns c = refl
+returns c = record { value = refl }

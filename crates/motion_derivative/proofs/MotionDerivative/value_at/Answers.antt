@@ -5,4 +5,4 @@ use Rattle.motion_derivative.proofs.MotionDerivative.value_at.Goals as goal
 
 pub returns : goal.returns
 unfolding MotionDerivative-value_at
-returns c = refl
+returns c = record { value = refl }

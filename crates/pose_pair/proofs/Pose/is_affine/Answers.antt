@@ -5,4 +5,4 @@ use Rattle.pose_pair.proofs.Pose.is_affine.Goals as goal
 
 pub returns : goal.returns
 unfolding Pose-is_affine
-returns c = cc
+returns c = record { value = cc }

@@ -6,5 +6,4 @@ use Rattle.pose_pair.proofs.Pose.is_finite.Goals as goal
 
 pub returns : goal.returns
 unfolding Pose-is_finite
-returns c =
-    rw (c.is_finite-3.ensures, c.is_finite-2.ensures, c.to_rows.ensures, c.is_finite.ensures)
+returns c = record { value = rw (c.is_finite-3.ensures.value, c.is_finite-2.ensures.value, c.to_rows.ensures.value, c.is_finite.ensures.value) }

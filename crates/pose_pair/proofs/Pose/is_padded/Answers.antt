@@ -5,4 +5,4 @@ use Rattle.pose_pair.proofs.Pose.is_padded.Goals as goal
 
 pub returns : goal.returns
 unfolding Pose-is_padded
-returns c = refl
+returns c = record { value = refl }

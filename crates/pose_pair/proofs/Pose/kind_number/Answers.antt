@@ -4,8 +4,8 @@ use Rattle.pose_pair.proofs.Pose.kind_number.Goals as goal
 
 pub returns-then-rigid : goal.returns-then-rigid
 unfolding Pose-kind_number
-returns-then-rigid c = rw (c.if-rigid.true, ← c.to_rows.ensures) c.refusal.ensures
+returns-then-rigid c = record { value = rw (c.if-rigid.true, ← c.to_rows.ensures.value) c.refusal.ensures.value }
 
 pub returns-else-rigid : goal.returns-else-rigid
 unfolding Pose-kind_number
-returns-else-rigid c = rw c.if-rigid.false
+returns-else-rigid c = record { value = rw c.if-rigid.false }

@@ -5,4 +5,4 @@ use Rattle.quaternion.proofs.Quaternion.add.Goals as goal
 
 pub returns : goal.returns
 unfolding Quaternion-add
-returns c = rw c.add-v.ensures
+returns c = record { value = rw c.add-v.ensures.value }

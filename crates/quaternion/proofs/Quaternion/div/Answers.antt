@@ -5,4 +5,4 @@ use Rattle.quaternion.proofs.Quaternion.div.Goals as goal
 
 pub returns : goal.returns
 unfolding Quaternion-div
-returns c = rw c.div-v.ensures
+returns c = record { value = rw c.div-v.ensures.value }

@@ -5,4 +5,4 @@ use Rattle.quaternion.proofs.Quaternion.dot.Goals as goal
 
 pub returns : goal.returns
 unfolding Quaternion-dot
-returns c = rw c.dot.ensures
+returns c = record { value = rw c.dot.ensures.value }

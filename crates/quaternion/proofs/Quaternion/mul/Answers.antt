@@ -5,4 +5,4 @@ use Rattle.quaternion.proofs.Quaternion.mul.Goals as goal
 
 pub returns : goal.returns
 unfolding Quaternion-mul
-returns c = rw c.mul-v.ensures
+returns c = record { value = rw c.mul-v.ensures.value }

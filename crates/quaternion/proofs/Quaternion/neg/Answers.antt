@@ -5,4 +5,4 @@ use Rattle.quaternion.proofs.Quaternion.neg.Goals as goal
 
 pub returns : goal.returns
 unfolding Quaternion-neg
-returns c = rw c.neg-v.ensures
+returns c = record { value = rw c.neg-v.ensures.value }

@@ -5,4 +5,4 @@ use Rattle.quaternion.proofs.Quaternion.normalize.Goals as goal
 
 pub returns : goal.returns
 unfolding Quaternion-normalize
-returns c = rw (c.div.ensures, c.sqrt.ensures, c.dot.ensures)
+returns c = record { value = rw (c.div.ensures.value, c.sqrt.ensures.value, c.dot.ensures.value) }

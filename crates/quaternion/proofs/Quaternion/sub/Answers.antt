@@ -5,4 +5,4 @@ use Rattle.quaternion.proofs.Quaternion.sub.Goals as goal
 
 pub returns : goal.returns
 unfolding Quaternion-sub
-returns c = rw c.sub-v.ensures
+returns c = record { value = rw c.sub-v.ensures.value }

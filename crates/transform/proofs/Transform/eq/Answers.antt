@@ -5,12 +5,11 @@ use Rattle.transform.proofs.Transform.eq.Goals as goal
 
 pub returns : goal.returns
 unfolding Transform-eq
-returns c =
-    rw (
-      c.eq-2.ensures,
-      c.to_rows-4.ensures,
-      c.to_rows-3.ensures,
-      c.eq.ensures,
-      c.to_rows-2.ensures,
-      c.to_rows.ensures,
-    )
+returns c = record { value = rw (
+      c.eq-2.ensures.value,
+      c.to_rows-4.ensures.value,
+      c.to_rows-3.ensures.value,
+      c.eq.ensures.value,
+      c.to_rows-2.ensures.value,
+      c.to_rows.ensures.value,
+    ) }

@@ -3,4 +3,4 @@ use borrow.Author.Rules.{rules}
 use Rattle.transform.proofs.Transform.from_matrices.Goals as goal
 
 pub returns : goal.returns
-returns c = rw (c.from_rows-a.ensures, c.from_rows-b.ensures)
+returns c = record { value = rw (c.from_rows-a.ensures.value, c.from_rows-b.ensures.value) }

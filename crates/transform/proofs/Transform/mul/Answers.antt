@@ -5,13 +5,12 @@ use Rattle.transform.proofs.Transform.mul.Goals as goal
 
 pub returns : goal.returns
 unfolding Transform-mul
-returns c =
-    rw (
-      c.from_matrices.ensures,
-      c.mul-m_inv.ensures,
-      c.to_rows-4.ensures,
-      c.to_rows-3.ensures,
-      c.mul-m.ensures,
-      c.to_rows-2.ensures,
-      c.to_rows.ensures,
-    )
+returns c = record { value = rw (
+      c.from_matrices.ensures.value,
+      c.mul-m_inv.ensures.value,
+      c.to_rows-4.ensures.value,
+      c.to_rows-3.ensures.value,
+      c.mul-m.ensures.value,
+      c.to_rows-2.ensures.value,
+      c.to_rows.ensures.value,
+    ) }

@@ -6,16 +6,15 @@ use Rattle.transform.proofs.Transform.transform_bounds.Goals as goal
 
 pub returns : goal.returns
 unfolding Transform-transform_bounds
-returns c =
-    bounds-clauses c.args.self
+returns c = let all = bounds-clauses c.args.self
     c.args.b (rw (
-      c.union_corner.ensures,
-      c.union_corner-r6.ensures,
-      c.union_corner-r5.ensures,
-      c.union_corner-r4.ensures,
-      c.union_corner-r3.ensures,
-      c.union_corner-r2.ensures,
-      c.union_corner.ensures,
-      c.from_moved-r0.ensures,
-      c.transform_point.ensures.0,
-    ))
+      c.union_corner.ensures.value,
+      c.union_corner-r6.ensures.value,
+      c.union_corner-r5.ensures.value,
+      c.union_corner-r4.ensures.value,
+      c.union_corner-r3.ensures.value,
+      c.union_corner-r2.ensures.value,
+      c.union_corner.ensures.value,
+      c.from_moved-r0.ensures.value,
+      c.transform_point.ensures.value,
+    )) in record { value = all.0; judged = all.1 }

@@ -3,4 +3,4 @@ use borrow.Author.Rules.{rules}
 use Rattle.transform.proofs.Transform.transform_vector.Goals as goal
 
 pub returns : goal.returns
-returns c = cc
+returns c = record { value = cc }

@@ -5,4 +5,4 @@ use Rattle.transform.proofs.Transform.union_corner.Goals as goal
 
 pub returns : goal.returns
 unfolding union_corner
-returns c = rw (c.union_moved.ensures, c.transform_point.ensures.0)
+returns c = record { value = rw (c.union_moved.ensures.value, c.transform_point.ensures.value) }

@@ -4,8 +4,8 @@ use Rattle.zero_list.proofs.Zeros.accept.Goals as goal
 
 pub returns-then-t-i : goal.returns-then-t-i
 unfolding Zeros-accept
-returns-then-t-i c = rw (c.store.ensures, c.if-t-i.true)
+returns-then-t-i c = record { value = rw (c.store.ensures.value, c.if-t-i.true) }
 
 pub returns : goal.returns
 unfolding Zeros-accept
-returns c = rw c.if-t-i.false
+returns c = record { value = rw c.if-t-i.false }

@@ -6,8 +6,8 @@ use Rattle.zero_list.proofs.Zeros.store.Goals as goal
 
 pub returns-then-n-lt8 : goal.returns-then-n-lt8
 unfolding Zeros-store
-returns-then-n-lt8 c = rw (lt-ltb _ 8 c.if-n-lt8.true)
+returns-then-n-lt8 c = record { value = rw (lt-ltb _ 8 c.if-n-lt8.true) }
 
 pub returns : goal.returns
 unfolding Zeros-store
-returns c = rw (c.empty.ensures, le-ltb _ 8 c.if-n-lt8.false)
+returns c = record { value = rw (c.empty.ensures.value, le-ltb _ 8 c.if-n-lt8.false) }
