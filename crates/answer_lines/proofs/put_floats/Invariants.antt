@@ -11,7 +11,7 @@ use borrow.Author.Rules.{rules}
 use Rattle.answer_lines.proofs.put_floats.Given as goal
 
 abbrev pub invariant-loop-k : goal.invariant-loop-k
-invariant-loop-k l = (l.k ≤ l.count) × (length l.out ≡ length l.at) × (l.out ≡ paste l.at l.initial.out (spaced_floats (take l.count l.values)) (9 * l.k))
+invariant-loop-k l = (l.k ≤ l.count) × (length l.out ≡ length l.initial.out) × (l.out ≡ paste l.initial.out l.at (spaced_floats (take l.count l.values)) (9 * l.k))
 
 abbrev pub decreases-loop-k : goal.decreases-loop-k
 decreases-loop-k l = l.count - l.k

@@ -13,7 +13,7 @@ use Rattle.answer_values.proofs.put_decimals.Given as goal
 
 abbrev pub invariant-loop-k : goal.invariant-loop-k
 invariant-loop-k l =
-    (l.k ≤ l.count) × (length l.out ≡ length l.at) × Left (decimal_pieces (drop l.k (take l.count l.values))) (decimal_pieces (take l.count l.values)) l.at l.out l.initial.out l.end
+    (l.k ≤ l.count) × (length l.out ≡ length l.initial.out) × Left (decimal_pieces (drop l.k (take l.count l.values))) (decimal_pieces (take l.count l.values)) l.initial.out l.out l.at l.end
 
 abbrev pub decreases-loop-k : goal.decreases-loop-k
 decreases-loop-k l = l.count - l.k

@@ -9,7 +9,7 @@ use borrow.Author.Rules.{rules}
 use Rattle.answer_values.proofs.put_rows.Given as goal
 
 abbrev pub invariant-loop-k : goal.invariant-loop-k
-invariant-loop-k l = (length l.out ≡ length l.at) × Left (rows_pieces 4 (drop l.k l.rows)) (rows_pieces 4 l.rows) l.at l.out l.initial.out l.end
+invariant-loop-k l = (length l.out ≡ length l.initial.out) × Left (rows_pieces 4 (drop l.k l.rows)) (rows_pieces 4 l.rows) l.initial.out l.out l.at l.end
 
 abbrev pub decreases-loop-k : goal.decreases-loop-k
 decreases-loop-k l = length l.rows - l.k

@@ -10,7 +10,7 @@ use Rattle.box_front.proofs.take_pose.Given as goal
 
 abbrev pub invariant-loop-i : goal.invariant-loop-i
 invariant-loop-i l =
-    (l.initial.places ≡ l.front.count) × ((l.i ≤ l.initial.places) × Taking l.first l.pose l.boxes l.front l.n l.places l.i)
+    (l.n ≡ l.front.count) × ((l.i ≤ l.n) × Taking l.first l.pose l.boxes l.front l.initial.places l.places l.i)
 
 abbrev pub decreases-loop-i : goal.decreases-loop-i
-decreases-loop-i l = l.initial.places - l.i
+decreases-loop-i l = l.n - l.i

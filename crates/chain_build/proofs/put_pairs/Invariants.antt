@@ -17,11 +17,11 @@ use Rattle.chain_build.proofs.put_pairs.Given as goal
 
 abbrev pub invariant-loop-i : goal.invariant-loop-i
 invariant-loop-i l =
-    (l.initial.moves ≡ length l.poses)
+    (l.n ≡ length l.poses)
     × ((1 ≤ l.i)
     × ((stage (Move-number l.rigid) (pairs_from l.poses l.i) ≡ stage (Move-number l.rigid) (pairs_from l.poses 1))
-    × ((put l.rigid l.moves (l.i - 1) (pairs_from l.poses l.i) ≡ put l.rigid l.n 0 (pairs_from l.poses 1))
+    × ((put l.rigid l.moves (l.i - 1) (pairs_from l.poses l.i) ≡ put l.rigid l.initial.moves 0 (pairs_from l.poses 1))
     × (Each (Pair-Built l.rigid) (pairs_from l.poses l.i) → Each (Pair-Built l.rigid) (pairs_from l.poses 1)))))
 
 abbrev pub decreases-loop-i : goal.decreases-loop-i
-decreases-loop-i l = l.initial.moves - l.i
+decreases-loop-i l = l.n - l.i

@@ -12,7 +12,7 @@ use Rattle.chain_cover.proofs.Union.{covers_from, covers-next, covers-end}
 use Rattle.chain_cover.proofs.cover.Given as goal
 
 abbrev pub invariant-loop-i : goal.invariant-loop-i
-invariant-loop-i l = (l.initial.i ≡ length l.moves) × ((l.i ≤ l.initial.i) × (covers_from l.b l.depth l.r l.moves l.i ≡ covers_from l.b l.depth l.n l.moves 1))
+invariant-loop-i l = (l.n ≡ length l.moves) × ((l.i ≤ l.n) × (covers_from l.b l.depth l.r l.moves l.i ≡ covers_from l.b l.depth l.initial.r l.moves 1))
 
 abbrev pub decreases-loop-i : goal.decreases-loop-i
-decreases-loop-i l = l.initial.i - l.i
+decreases-loop-i l = l.n - l.i

@@ -9,7 +9,7 @@ use Rattle.chain_covers.proofs.Union.{union-next, union-end}
 use Rattle.chain_covers.proofs.union_places.Given as goal
 
 abbrev pub invariant-loop-i : goal.invariant-loop-i
-invariant-loop-i l = (suc l.initial.union ≡ l.n) × ((l.i ≤ suc l.n) × (union_boxes l.union (drop l.i (take l.n l.places)) ≡ union_places l.places l.n))
+invariant-loop-i l = (suc l.last ≡ l.n) × ((l.i ≤ suc l.n) × (union_boxes l.union (drop l.i (take l.n l.places)) ≡ union_places l.places l.n))
 
 abbrev pub decreases-loop-i : goal.decreases-loop-i
 decreases-loop-i l = l.n - l.i

@@ -8,7 +8,7 @@ use Rattle.chain_fronts.proofs.Moves.{Reached, reached-first, reached-next, reac
 use Rattle.chain_fronts.proofs.join_moves.Given as goal
 
 abbrev pub invariant-loop-i : goal.invariant-loop-i
-invariant-loop-i l = (l.initial.front ≡ length l.moves) × ((l.i ≤ l.initial.front) × Reached l.moves l.boxes l.depth l.places l.front l.i)
+invariant-loop-i l = (l.n ≡ length l.moves) × ((l.i ≤ l.n) × Reached l.moves l.boxes l.depth l.places l.front l.i)
 
 abbrev pub decreases-loop-i : goal.decreases-loop-i
-decreases-loop-i l = l.initial.front - l.i
+decreases-loop-i l = l.n - l.i

@@ -11,4 +11,4 @@ returns-then-slot-gt3 c = record { value = rw (le-ltb c.args.slot 4 (omega (arit
 
 pub returns : goal.returns
 unfolding Slots-moves
-returns c = record { value = rw (lt-ltb c.args.slot 4 (omega (arith, c.if-slot-gt3.false))) (rw c.Moves-of.ensures at c.first_moves-2.ensures) }
+returns c = record { value = rw (lt-ltb c.args.slot 4 (omega (arith, c.if-slot-gt3.false))) (rw c.moves_of.ensures at c.first_moves-2.ensures) }

@@ -14,11 +14,11 @@ use Rattle.chain_times.proofs.fill_all.Given as goal
 
 abbrev pub invariant-loop-i : goal.invariant-loop-i
 invariant-loop-i l =
-    (suc l.initial.answers ≡ length l.moves)
-    × ((l.i ≤ l.initial.answers)
+    (suc l.last ≡ length l.moves)
+    × ((l.i ≤ l.last)
     × ((l.from ≤ length l.times)
     × ((length l.answers ≡ places_per_time * length l.times)
     × (take (3 * l.from) l.answers ++ floats_at (asked_from l.moves l.p l.i) (drop l.from l.times) ≡ floats_at (asked_from l.moves l.p 0) l.times))))
 
 abbrev pub decreases-loop-i : goal.decreases-loop-i
-decreases-loop-i l = l.initial.answers - l.i
+decreases-loop-i l = l.last - l.i

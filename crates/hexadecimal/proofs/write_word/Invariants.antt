@@ -11,7 +11,7 @@ use Rattle.hexadecimal.proofs.Words.{digits-store, write-fits, write-short}
 use Rattle.hexadecimal.proofs.write_word.Given as goal
 
 abbrev pub invariant-loop-i : goal.invariant-loop-i
-invariant-loop-i l = (l.i ≤ 8) × (l.initial.out + 8 ≤ length l.at) × (length l.out ≡ length l.at) × (l.out ≡ paste l.at l.initial.out (digits 8 l.n) l.i)
+invariant-loop-i l = (l.i ≤ 8) × (l.at + 8 ≤ length l.initial.out) × (length l.out ≡ length l.initial.out) × (l.out ≡ paste l.initial.out l.at (digits 8 l.n) l.i)
 
 abbrev pub decreases-loop-i : goal.decreases-loop-i
 decreases-loop-i l = 8 - l.i

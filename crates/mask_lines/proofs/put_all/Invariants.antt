@@ -12,7 +12,7 @@ use Rattle.mask_lines.proofs.Text.{masks-turn, masks-end}
 use Rattle.mask_lines.proofs.put_all.Given as goal
 
 abbrev pub invariant-loop-k : goal.invariant-loop-k
-invariant-loop-k l = (length l.out ≡ length l.at) × Left (map mask_text (drop l.k l.masks)) (map mask_text l.masks) l.at l.out l.initial.out l.end
+invariant-loop-k l = (length l.out ≡ length l.initial.out) × Left (map mask_text (drop l.k l.masks)) (map mask_text l.masks) l.initial.out l.out l.at l.end
 
 abbrev pub decreases-loop-k : goal.decreases-loop-k
 decreases-loop-k l = length l.masks - l.k

@@ -10,7 +10,7 @@ use Rattle.motion_fronts.proofs.Zeros.{zeros-first, zeros-next}
 use Rattle.motion_fronts.proofs.places_zeros.Given as goal
 
 abbrev pub invariant-loop-i : goal.invariant-loop-i
-invariant-loop-i l = (l.initial.places ≡ length l.boxes) × ((l.i ≤ l.initial.places) × (l.places ≡ Places-positive_zeros (take l.i l.boxes) l.n))
+invariant-loop-i l = (l.n ≡ length l.boxes) × ((l.i ≤ l.n) × (l.places ≡ Places-positive_zeros (take l.i l.boxes) l.initial.places))
 
 abbrev pub decreases-loop-i : goal.decreases-loop-i
-decreases-loop-i l = l.initial.places - l.i
+decreases-loop-i l = l.n - l.i

@@ -11,7 +11,7 @@ use Rattle.motion_fronts.proofs.Sliced.{Sliced, sliced-first, sliced-next, slice
 use Rattle.motion_fronts.proofs.take_slices.Given as goal
 
 abbrev pub invariant-loop-k : goal.invariant-loop-k
-invariant-loop-k l = (l.k ≤ l.initial.places) × Sliced l.m l.slices l.boxes l.d l.initial.reached l.a l.k l.places l.reached
+invariant-loop-k l = (l.k ≤ l.slices) × Sliced l.m l.a l.boxes l.d l.initial.reached l.initial.places l.k l.places l.reached
 
 abbrev pub decreases-loop-k : goal.decreases-loop-k
-decreases-loop-k l = l.initial.places - l.k
+decreases-loop-k l = l.slices - l.k

@@ -11,9 +11,9 @@ use Rattle.motion_parts.proofs.put_part_rows.Given as goal
 
 abbrev pub invariant-loop-k : goal.invariant-loop-k
 invariant-loop-k l =
-    (l.k ≤ 35) × (length l.out ≡ length l.at)
-    × (behind_all (row_pieces l.motion l.k) l.out l.end ≡ behind_all (row_pieces l.motion 0) l.at l.initial.out)
-    × (put_all (row_pieces l.motion l.k) l.out l.end ≡ put_all (row_pieces l.motion 0) l.at l.initial.out)
+    (l.k ≤ 35) × (length l.out ≡ length l.initial.out)
+    × (behind_all (row_pieces l.motion l.k) l.out l.end ≡ behind_all (row_pieces l.motion 0) l.initial.out l.at)
+    × (put_all (row_pieces l.motion l.k) l.out l.end ≡ put_all (row_pieces l.motion 0) l.initial.out l.at)
 
 abbrev pub decreases-loop-k : goal.decreases-loop-k
 decreases-loop-k l = 35 - l.k

@@ -9,7 +9,7 @@ use Rattle.motion_text.proofs.Written.{values_line, values-size, values-turn}
 use Rattle.motion_text.proofs.put_values.Given as goal
 
 abbrev pub invariant-loop-k : goal.invariant-loop-k
-invariant-loop-k l = (l.k ≤ length l.values) × (length l.out ≡ length l.at) × (l.out ≡ paste l.at l.initial.out (values_line l.values) (9 * l.k))
+invariant-loop-k l = (l.k ≤ length l.values) × (length l.out ≡ length l.initial.out) × (l.out ≡ paste l.initial.out l.at (values_line l.values) (9 * l.k))
 
 abbrev pub decreases-loop-k : goal.decreases-loop-k
 decreases-loop-k l = length l.values - l.k

@@ -12,7 +12,7 @@ use Rattle.reach_kept.proofs.find.Given as goal
 
 abbrev pub invariant-loop-i : goal.invariant-loop-i
 invariant-loop-i l =
-    (l.initial.i ≡ length l.ticks) × Finding l.moves (map Bounds3f-of_list l.boxes) l.depth l.ticks (map Bounds3f-of_list l.rows) l.masks l.k l.i
+    (l.n ≡ length l.ticks) × Finding l.moves (map Bounds3f-of_list l.boxes) l.depth l.ticks (map Bounds3f-of_list l.rows) l.masks l.k l.i
 
 abbrev pub decreases-loop-i : goal.decreases-loop-i
-decreases-loop-i l = l.initial.i - l.i
+decreases-loop-i l = l.n - l.i

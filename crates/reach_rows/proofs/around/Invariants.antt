@@ -9,7 +9,7 @@ use Rattle.bounds3.specs.Bounds3f.{Bounds3f-union_bounds}
 use Rattle.reach_rows.proofs.around.Given as goal
 
 abbrev pub invariant-loop-i : goal.invariant-loop-i
-invariant-loop-i l = (l.initial.union ≡ length l.boxes) × Growing l.boxes l.union l.i
+invariant-loop-i l = (l.n ≡ length l.boxes) × Growing l.boxes l.union l.i
 
 abbrev pub decreases-loop-i : goal.decreases-loop-i
-decreases-loop-i l = l.initial.union - l.i
+decreases-loop-i l = l.n - l.i

@@ -14,7 +14,7 @@ use Rattle.reach_rows.proofs.Named.{boxes_of, Naming, naming-first, naming-next,
 use Rattle.reach_rows.proofs.name_rows.Given as goal
 
 abbrev pub invariant-loop-i : goal.invariant-loop-i
-invariant-loop-i l = (l.union ≡ length l.rows) × Naming (boxes_of l.boxes) l.rows l.n l.names l.i
+invariant-loop-i l = (l.n ≡ length l.rows) × Naming (boxes_of l.boxes) l.rows l.initial.names l.names l.i
 
 abbrev pub decreases-loop-i : goal.decreases-loop-i
-decreases-loop-i l = l.union - l.i
+decreases-loop-i l = l.n - l.i

@@ -9,7 +9,7 @@ use Rattle.reach_window.proofs.Walk.{Passing, passing-first, passing-next, passi
 use Rattle.reach_window.proofs.take_moves.Given as goal
 
 abbrev pub invariant-loop-i : goal.invariant-loop-i
-invariant-loop-i l = (l.initial.i ≡ length l.moves) × Passing l.boxes l.rows (stage_poses l.d l.w l.stage) l.moves l.initial.names l.n l.i l.reached l.names
+invariant-loop-i l = (l.n ≡ length l.moves) × Passing l.boxes l.rows (stage_poses l.d l.w l.stage) l.moves l.initial.reached l.initial.names l.i l.reached l.names
 
 abbrev pub decreases-loop-i : goal.decreases-loop-i
-decreases-loop-i l = l.initial.i - l.i
+decreases-loop-i l = l.n - l.i

@@ -22,7 +22,7 @@ use Rattle.reach_window.proofs.Walk.{walks-none, walks-append}
 use Rattle.reach_window.proofs.take_pieces.Given as goal
 
 abbrev pub invariant-loop-k : goal.invariant-loop-k
-invariant-loop-k l = (l.k ≤ l.initial.names) × Walks l.boxes l.rows (take l.k (piece_poses l.m l.d l.dt)) l.initial.reached l.reached l.a l.names
+invariant-loop-k l = (l.k ≤ l.pieces) × Walks l.boxes l.rows (take l.k (piece_poses l.m l.d l.dt)) l.initial.reached l.reached l.initial.names l.names
 
 abbrev pub decreases-loop-k : goal.decreases-loop-k
-decreases-loop-k l = l.initial.names - l.k
+decreases-loop-k l = l.pieces - l.k

@@ -10,7 +10,7 @@ use Rattle.reached_rows.proofs.Loop.{Loop, loop-first, loop-few, loop-met, loop-
 use Rattle.reached_rows.proofs.name_rows.Given as goal
 
 abbrev pub invariant-loop-i : goal.invariant-loop-i
-invariant-loop-i l = (l.initial.i ≡ length l.rows) × Loop l.cover l.rows l.places l.count l.place l.i
+invariant-loop-i l = (l.n ≡ length l.rows) × Loop l.cover l.rows l.places l.count l.place l.i
 
 abbrev pub decreases-loop-i : goal.decreases-loop-i
-decreases-loop-i l = l.initial.i - l.i
+decreases-loop-i l = l.n - l.i

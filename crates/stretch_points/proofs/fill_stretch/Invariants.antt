@@ -16,11 +16,11 @@ use Rattle.stretch_points.proofs.fill_stretch.Given as goal
 
 abbrev pub invariant-loop-i : goal.invariant-loop-i
 invariant-loop-i l =
-    ((l.stretch ≡ sine_table) × (l.initial.answers ≡ Stretch-of l.motion))
-    × ((l.table ≡ length l.times)
-    × ((l.i ≤ l.table)
+    ((l.table ≡ sine_table) × (l.stretch ≡ Stretch-of l.motion))
+    × ((l.n ≡ length l.times)
+    × ((l.i ≤ l.n)
     × ((length l.answers ≡ places_per_time * length l.times)
-    × (filled (λ t. Rows-transform_point l.motion t l.p) l.answers l.i (drop l.i l.times) ≡ filled (λ t. Rows-transform_point l.motion t l.p) l.n 0 l.times))))
+    × (filled (λ t. Rows-transform_point l.motion t l.p) l.answers l.i (drop l.i l.times) ≡ filled (λ t. Rows-transform_point l.motion t l.p) l.initial.answers 0 l.times))))
 
 abbrev pub decreases-loop-i : goal.decreases-loop-i
-decreases-loop-i l = l.table - l.i
+decreases-loop-i l = l.n - l.i

@@ -11,7 +11,7 @@ use Rattle.trial_blocks.proofs.Blocks.{copy-next}
 use Rattle.trial_blocks.proofs.copy_moves.Given as goal
 
 abbrev pub invariant-loop-i : goal.invariant-loop-i
-invariant-loop-i l = (l.initial.blocks ≡ length l.moves) × ((l.i ≤ l.initial.blocks) × (l.blocks ≡ sets l.n 0 (take l.i l.moves)))
+invariant-loop-i l = (l.n ≡ length l.moves) × ((l.i ≤ l.n) × (l.blocks ≡ sets l.initial.blocks 0 (take l.i l.moves)))
 
 abbrev pub decreases-loop-i : goal.decreases-loop-i
-decreases-loop-i l = l.initial.blocks - l.i
+decreases-loop-i l = l.n - l.i

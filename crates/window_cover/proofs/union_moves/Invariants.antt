@@ -14,7 +14,7 @@ use Rattle.window_cover.proofs.union_moves.Given as goal
 abbrev pub invariant-loop-i : goal.invariant-loop-i
 invariant-loop-i l =
     let boxes = stage_boxes l.b (min l.depth max_depth) l.w l.stage in
-    (l.initial.i ≡ length l.moves) × ((l.i ≤ l.initial.i) × ((s : BoundsAnswer) → BoundsAnswer-Same l.n s → Reached boxes l.r s l.moves l.i))
+    (l.n ≡ length l.moves) × ((l.i ≤ l.n) × ((s : BoundsAnswer) → BoundsAnswer-Same l.initial.r s → Reached boxes l.r s l.moves l.i))
 
 abbrev pub decreases-loop-i : goal.decreases-loop-i
-decreases-loop-i l = l.initial.i - l.i
+decreases-loop-i l = l.n - l.i

@@ -10,7 +10,7 @@ use Rattle.window_pairs.proofs.find.Given as goal
 
 abbrev pub invariant-loop-i : goal.invariant-loop-i
 invariant-loop-i l =
-    (l.initial.i ≡ length l.ticks) × Loop (Moves-window_cover l.moves l.b l.depth) (Moves-window_cover l.others l.other l.depth) l.ticks l.k l.i l.found
+    (l.n ≡ length l.ticks) × Loop (Moves-window_cover l.moves l.b l.depth) (Moves-window_cover l.others l.other l.depth) l.ticks l.k l.i l.found
 
 abbrev pub decreases-loop-i : goal.decreases-loop-i
-decreases-loop-i l = l.initial.i - l.i
+decreases-loop-i l = l.n - l.i
