@@ -14,6 +14,6 @@ pub returns : goal.returns
 unfolding ascii
 returns c = let all = answer_ok c.args.refusal (counted_pieces c.args.values.now c.args.counts.now)
     c.args.out.now _ _ _ c.args.at _ _ _ c.if-refusal-ne0.false
-    (c.put_text.ensures.value, c.put_text.ensures.left)
+    (c.put_text-ok.ensures.value, c.put_text-ok.ensures.left)
     (all_cons _ _ _ _ _ _ _ _ (c.put_floats-behind.ensures.value, c.put_floats-behind.ensures.left) (c.put_decimals-end.ensures.value, c.put_decimals-end.ensures.left))
     (c.put_text.ensures.value, c.put_text.ensures.left) in record { value = all.0; left = all.1 }

@@ -15,6 +15,6 @@ pub returns : goal.returns
 unfolding ascii
 returns c = let all = answer_ok c.args.refusal (places_pieces c.args.places.now c.args.count)
     c.args.out.now _ _ _ c.args.at _ _ _ c.if-refusal-ne0.false
-    (c.put_text.ensures.value, c.put_text.ensures.left)
+    (c.put_text-ok.ensures.value, c.put_text-ok.ensures.left)
     (all_append (whole_pieces c.args.count) _ _ _ _ _ _ _ (c.put_decimal-behind.ensures.value, c.put_decimal-behind.ensures.left) (c.put_decimals-end.ensures.value, c.put_decimals-end.ensures.left))
     (c.put_text.ensures.value, c.put_text.ensures.left) in record { value = all.0; left = all.1 }

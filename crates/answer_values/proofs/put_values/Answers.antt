@@ -15,6 +15,6 @@ pub returns : goal.returns
 unfolding ascii
 returns c = let all = answer_ok c.args.refusal (floats_text c.args.values.now c.args.count ∷ [])
     c.args.out.now _ _ _ c.args.at _ _ _ c.if-refusal-ne0.false
-    (c.put_text.ensures.value, c.put_text.ensures.left)
+    (c.put_text-ok.ensures.value, c.put_text-ok.ensures.left)
     (all_cons _ [] _ _ _ _ _ _ (c.put_floats-end.ensures.value, c.put_floats-end.ensures.left) (all_none _ _))
     (c.put_text.ensures.value, c.put_text.ensures.left) in record { value = all.0; left = all.1 }

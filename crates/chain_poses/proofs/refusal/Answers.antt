@@ -15,7 +15,7 @@ returns c = record { value = let a = c.args in
       c.first_refusal-pads.ensures.value,
       c.first_refusal-chain.ensures.value,
       c.first_refusal-pairs.ensures.value,
-      c.first_refusal.ensures.value,
+      c.first_refusal-last.ensures.value,
       c.kind_stage-kind.ensures.value,
       c.pair_stage-times.ensures.value,
       c.pair_stage-rise.ensures.value,

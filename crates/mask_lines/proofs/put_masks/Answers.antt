@@ -17,4 +17,4 @@ returns-then-refusal-ne0 c = let all = answer-refused c.args.refusal (map mask_t
 pub returns : goal.returns
 unfolding ascii
 returns c = let all = answer_ok c.args.refusal (map mask_text c.args.masks.now) c.args.out.now _ _ _ c.args.at _ _ _ c.if-refusal-ne0.false
-    (c.put_text.ensures.value, c.put_text.ensures.left) (c.put_all-end.ensures.value, c.put_all-end.ensures.left) (c.put_text.ensures.value, c.put_text.ensures.left) in record { value = all.0; left = all.1 }
+    (c.put_text-ok.ensures.value, c.put_text-ok.ensures.left) (c.put_all-end.ensures.value, c.put_all-end.ensures.left) (c.put_text.ensures.value, c.put_text.ensures.left) in record { value = all.0; left = all.1 }

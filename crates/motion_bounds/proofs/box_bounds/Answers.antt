@@ -15,7 +15,7 @@ returns-then-not-m-2 c = record { value = rw (
       c.counted-then-not-m-2.ensures.value,
       c.union_bounds-ends.ensures.value,
       c.transform_bounds.ensures.value,
-      c.transform_bounds.ensures.value,
+      c.transform_bounds-start.ensures.value,
     ) }
 
 pub returns : goal.returns

@@ -14,5 +14,5 @@ returns c = record { value = rw (
       c.union_axes.ensures.value,
       c.from_ends.ensures.value,
       c.transform_point.ensures.value,
-      c.transform_point.ensures.value,
+      c.transform_point-start.ensures.value,
     ) }

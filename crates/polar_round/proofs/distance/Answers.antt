@@ -5,4 +5,4 @@ use Rattle.polar_round.proofs.distance.Goals as goal
 
 pub returns : goal.returns
 unfolding distance
-returns c = record { value = rw (c.max.ensures.value, c.row_distance-3.ensures.value, c.max-b.ensures.value, c.row_distance-2.ensures.value, c.max.ensures.value, c.row_distance.ensures.value) }
+returns c = record { value = rw (c.max.ensures.value, c.row_distance-3.ensures.value, c.max-b.ensures.value, c.row_distance-2.ensures.value, c.max-a.ensures.value, c.row_distance.ensures.value) }

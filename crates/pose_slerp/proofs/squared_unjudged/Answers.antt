@@ -9,7 +9,7 @@ returns c = record { value = rw (
       c.mul_ordered-ww.ensures.value,
       c.add_enclosure-xyz.ensures.value,
       c.mul_ordered-zz.ensures.value,
-      c.add_enclosure.ensures.value,
+      c.add_enclosure-xy.ensures.value,
       c.mul_ordered-yy.ensures.value,
       c.mul_ordered-xx.ensures.value,
     ) }

@@ -30,8 +30,8 @@ unfolding first_pose_boxes
 returns c = let a = c.args in let none = sym c.cover_refusal-n.ensures.value ∙ c.if-n-ne0.false in let held = held-depth a.b a.depth none in let all = window-clauses a.moves.now a.b a.depth a.w
     (window-worked a.moves.now a.b a.depth a.w c.if-moves-eq0.false (sym c.refusal-ticks.ensures.value ∙ c.if-ticks-ne0.false) none refl
     (c.positive_zeros.ensures.value
-    ∙ worked_same a.moves.now a.b a.depth a.w c.union_moves.result c.union_pose-first.result
+    ∙ worked_same a.moves.now a.b a.depth a.w c.union_moves-slices.result c.union_pose-first.result
     c.union_moves-poses.result c.union_moves.result c.if-moves-eq0.false
-    (rw held at (c.union_moves.ensures.same (Bounds Bounds3f-default) (default-same c.default.ensures.value)))
+    (rw held at (c.union_moves-slices.ensures.same (Bounds Bounds3f-default) (default-same c.default.ensures.value)))
     (rw (c.asks_first-asked.ensures.value, c.from_rows-m.ensures.value) at c.union_pose-first.ensures.value)
     (rw held at c.union_moves-poses.ensures.same) (rw held at c.union_moves.ensures.same))) in record { value = all.0; kept = all.1; contains_motion = all.2; finer = all.3 }

@@ -11,5 +11,5 @@ returns c = record { value = rw (
       c.select.ensures.value,
       c.straddles.ensures.value,
       c.select-high.ensures.value,
-      c.select.ensures.value,
+      c.select-low.ensures.value,
     ) }

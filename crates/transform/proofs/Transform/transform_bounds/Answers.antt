@@ -14,7 +14,7 @@ returns c = let all = bounds-clauses c.args.self
       c.union_corner-r4.ensures.value,
       c.union_corner-r3.ensures.value,
       c.union_corner-r2.ensures.value,
-      c.union_corner.ensures.value,
+      c.union_corner-r1.ensures.value,
       c.from_moved-r0.ensures.value,
       c.transform_point.ensures.value,
     )) in record { value = all.0; judged = all.1 }
