@@ -9,8 +9,8 @@ use Rattle.kept_poses.proofs.pose_values.Goals as goal
 
 pub returns : goal.returns
 returns c = record { value = let a = c.args in
-    let h0 : length a.t2 ≡ 4 = search rules in
-    let h1 : length a.t3 ≡ 4 = search rules in
-    let h2 : length a.t4 ≡ 4 = search rules in
-    let h3 : length a.t5 ≡ 4 = search rules in
-    λ i. pose a.time (row-entries a.t2 h0 i) (row-entries a.t3 h1 i) (row-entries a.t4 h2 i) (row-entries a.t5 h3 i) a.pad }
+    let h0 : length a.r0 ≡ 4 = search rules in
+    let h1 : length a.r1 ≡ 4 = search rules in
+    let h2 : length a.r2 ≡ 4 = search rules in
+    let h3 : length a.r3 ≡ 4 = search rules in
+    λ i. pose a.time (row-entries a.r0 h0 i) (row-entries a.r1 h1 i) (row-entries a.r2 h2 i) (row-entries a.r3 h3 i) a.pad }

@@ -17,16 +17,16 @@ second i b = cond b 2 i
 
 pub returns-then-m2-m1 : goal.returns-then-m2-m1
 unfolding largest
-returns-then-m2-m1 c = record { value = sym (ap (first c.args.t1) c.if-m1-m0.true ∙ ap (second 1) c.if-m2-m1.true); axis = search rules }
+returns-then-m2-m1 c = record { value = sym (ap (first c.args.m) c.if-m1-m0.true ∙ ap (second 1) c.if-m2-m1.true); axis = search rules }
 
 pub returns-else-m2-m1 : goal.returns-else-m2-m1
 unfolding largest
-returns-else-m2-m1 c = record { value = sym (ap (first c.args.t1) c.if-m1-m0.true ∙ ap (second 1) c.if-m2-m1.false); axis = search rules }
+returns-else-m2-m1 c = record { value = sym (ap (first c.args.m) c.if-m1-m0.true ∙ ap (second 1) c.if-m2-m1.false); axis = search rules }
 
 pub returns-then-m2-m0 : goal.returns-then-m2-m0
 unfolding largest
-returns-then-m2-m0 c = record { value = sym (ap (first c.args.t1) c.if-m1-m0.false ∙ ap (second 0) c.if-m2-m0.true); axis = search rules }
+returns-then-m2-m0 c = record { value = sym (ap (first c.args.m) c.if-m1-m0.false ∙ ap (second 0) c.if-m2-m0.true); axis = search rules }
 
 pub returns-else-m2-m0 : goal.returns-else-m2-m0
 unfolding largest
-returns-else-m2-m0 c = record { value = sym (ap (first c.args.t1) c.if-m1-m0.false ∙ ap (second 0) c.if-m2-m0.false); axis = search rules }
+returns-else-m2-m0 c = record { value = sym (ap (first c.args.m) c.if-m1-m0.false ∙ ap (second 0) c.if-m2-m0.false); axis = search rules }

@@ -5,4 +5,4 @@ use Rattle.motion_file.proofs.pose_of.Goals as goal
 
 pub returns : goal.returns
 unfolding items
-returns c = pose-listed c.args.t1 c.well_formed.0.1.0.1
+returns c = pose-listed c.args.line c.well_formed.0.1.0.1

@@ -11,11 +11,11 @@ use Rattle.motion_text.proofs.Written.{values_line, length-values, length-bounds
 use Rattle.motion_text.proofs.write_bounds.Goals as goal
 
 pub returns-then-out-lt72 : goal.returns-then-out-lt72
-returns-then-out-lt72 c = let a = c.args in let six : length a.t1 ≡ 6 = search rules in let all = wrote_none (bounds_text a.t1) a.out.now (omega (arith, length-bounds a.t1 six)) in record { value = all.0; text = all.1; counts = all.2 }
+returns-then-out-lt72 c = let a = c.args in let six : length a.bounds ≡ 6 = search rules in let all = wrote_none (bounds_text a.bounds) a.out.now (omega (arith, length-bounds a.bounds six)) in record { value = all.0; text = all.1; counts = all.2 }
 
 pub returns : goal.returns
 unfolding bounds_text ascii
-returns c = let a = c.args in let six : length a.t1 ≡ 6 = search rules in let all = wrote-two (ascii "x0 y0 z0 x1 y1 z1\n") (values_line a.t1) a.out.now _ _ 18
-    (9 * length a.t1) 72 refl (sym (length-values a.t1)) (omega arith) (omega arith)
+returns c = let a = c.args in let six : length a.bounds ≡ 6 = search rules in let all = wrote-two (ascii "x0 y0 z0 x1 y1 z1\n") (values_line a.bounds) a.out.now _ _ 18
+    (9 * length a.bounds) 72 refl (sym (length-values a.bounds)) (omega arith) (omega arith)
     c.put.ensures
     c.put_values.ensures in record { value = all.0; text = all.1; counts = all.2 }

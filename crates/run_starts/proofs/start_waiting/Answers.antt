@@ -10,9 +10,9 @@ use Rattle.run_starts.proofs.start_waiting.Goals as goal
 pub loop-left-init : goal.loop-left-init
 loop-left-init c =
     let a = c.args in
-    let first = taking-first a.count a.boxes.now a.lengths.now a.t a.t5 in (
+    let first = taking-first a.count a.boxes.now a.lengths.now a.t a.ends in (
       search rules,
-      (search rules, subst (λ (k : ℕ). Taking a.count a.boxes.now a.lengths.now a.t k a.t5 a.t5) (omega arith) first),
+      (search rules, subst (λ (k : ℕ). Taking a.count a.boxes.now a.lengths.now a.t k a.ends a.ends) (omega arith) first),
     )
 
 pub end_taken-requires : goal.end_taken-requires
@@ -26,7 +26,7 @@ loop-left-preserved c =
       omega (arith, l.invariant.0),
       (
         length-set l.now (a.count - l.left) c.end_taken.result ∙ l.invariant.1.0,
-        taking-down a.count a.boxes.now a.lengths.now c.requires.good_lengths.0 a.t l.left a.t5 l.now c.end_taken.result
+        taking-down a.count a.boxes.now a.lengths.now c.requires.good_lengths.0 a.t l.left a.ends l.now c.end_taken.result
             c.requires.count_bound l.invariant.1.0 some
             l.invariant.0 c.end_taken.ensures.value l.invariant.1.1,
       ),
@@ -35,4 +35,4 @@ loop-left-preserved c =
 pub returns : goal.returns
 returns c = record { value = let a = c.args in
     let l = c.loop-left in
-    taking-last a.count a.boxes.now a.lengths.now a.t (a.count - l.left) a.t5 l.now (omega (arith, c.loop-left-test.false)) l.invariant.1.1 }
+    taking-last a.count a.boxes.now a.lengths.now a.t (a.count - l.left) a.ends l.now (omega (arith, c.loop-left-test.false)) l.invariant.1.1 }
