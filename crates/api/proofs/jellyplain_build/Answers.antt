@@ -7,4 +7,4 @@ use Rattle.api.proofs.jellyplain_build.Goals as goal
 pub returns : goal.returns
 returns c = let a = c.args in let new = c.new in let all = build-clauses a.rigid (Pose-of_list a.start.now) (Pose-of_list a.end.now) new.result _ _ a.motion.now
     (rw (new.ensures.value, c.pose-2.ensures.value, c.pose.ensures.value)) new.ensures.built
-    c.put_motion.ensures.refusal c.put_motion.ensures.left in record { refusal = all.0; left = all.1; holds = all.2 }
+    c.put_motion.ensures.refusal c.put_motion.ensures.left in record { refusal = all.0; left = all.1.0; holds = all.1.1 }

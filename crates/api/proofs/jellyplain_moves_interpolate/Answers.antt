@@ -8,4 +8,4 @@ use borrow.Author.Rules.{rules}
 use Rattle.api.proofs.jellyplain_moves_interpolate.Goals as goal
 
 pub returns : goal.returns
-returns c = let a = c.args in let asked = c.asked in let chain = c.interpolate_chain in record { refusal = rw (c.put_transform.ensures.refusal, chain.ensures.value, asked.ensures.value); left = rw (c.put_transform.ensures.left, chain.ensures.value, asked.ensures.value); kept = λ (k : Chain). chain-interpolate-kept (Moves-asked a.moves.now) k a.time; moves_points = left-moves (Moves-asked a.moves.now) a.time chain.result a.transform.now (rw (← asked.ensures.value) chain.ensures.kept.1) c.put_transform.ensures.refusal c.put_transform.ensures.left }
+returns c = let a = c.args in let asked = c.asked in let chain = c.interpolate_chain in record { refusal = rw (c.put_transform.ensures.refusal, chain.ensures.value, asked.ensures.value); left = rw (c.put_transform.ensures.left, chain.ensures.value, asked.ensures.value); kept = λ (k : Chain). chain-interpolate-kept (Moves-asked a.moves.now) k a.time; moves_points = left-moves (Moves-asked a.moves.now) a.time chain.result a.transform.now (rw (← asked.ensures.value) chain.ensures.moves_points) c.put_transform.ensures.refusal c.put_transform.ensures.left }

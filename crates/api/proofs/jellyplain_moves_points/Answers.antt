@@ -9,4 +9,4 @@ use borrow.Author.Rules.{rules}
 use Rattle.api.proofs.jellyplain_moves_points.Goals as goal
 
 pub returns : goal.returns
-returns c = let a = c.args in let asked = c.asked in let moved = c.transform_points in let point = c.point in record { refusal = rw (moved.ensures.refusal, point.ensures.value, asked.ensures.value); left = rw (moved.ensures.left.0, point.ensures.value, asked.ensures.value); kept = λ (k : Chain). kept-points (Moves-asked a.moves.now) k a.times.now (Point3f-of_list a.p.now) (length a.answers.now) }
+returns c = let a = c.args in let asked = c.asked in let moved = c.transform_points in let point = c.point in record { refusal = rw (moved.ensures.refusal, point.ensures.value, asked.ensures.value); left = rw (moved.ensures.left, point.ensures.value, asked.ensures.value); kept = λ (k : Chain). kept-points (Moves-asked a.moves.now) k a.times.now (Point3f-of_list a.p.now) (length a.answers.now) }

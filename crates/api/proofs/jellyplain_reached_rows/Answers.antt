@@ -3,4 +3,4 @@ use borrow.Author.Rules.{rules}
 use Rattle.api.proofs.jellyplain_reached_rows.Goals as goal
 
 pub returns : goal.returns
-returns c = let all = rw (← c.bounds.ensures.value) (c.list_rows.ensures.refusal, c.list_rows.ensures.count, c.list_rows.ensures.left, c.list_rows.ensures.apart, c.list_rows.ensures.kept_apart) in record { refusal = all.0; count = all.1; left = all.2; apart = all.3; kept_apart = all.4 }
+returns c = let all = rw (← c.bounds.ensures.value) (c.list_rows.ensures.refusal, (c.list_rows.ensures.count, (c.list_rows.ensures.left, (c.list_rows.ensures.apart, c.list_rows.ensures.kept_apart)))) in record { refusal = all.0; count = all.1.0; left = all.1.1.0; apart = all.1.1.1.0; kept_apart = all.1.1.1.1 }

@@ -22,7 +22,7 @@ loop-b-smaller c =
 
 pub loop-b-preserved : goal.loop-b-preserved
 loop-b-preserved c =
-    searching-again c.loop-b.invariant c.loop-b-test.true c.halve-half.ensures.value c.halve-half.ensures.carried.1
+    searching-again c.loop-b.invariant c.loop-b-test.true c.halve-half.ensures.value c.halve-half.ensures.counted
 
 pub overflow_add-result : goal.overflow_add-result
 overflow_add-result c =

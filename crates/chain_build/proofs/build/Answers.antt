@@ -6,4 +6,4 @@ use Rattle.chain_build.proofs.Answer.{checks-refused}
 use Rattle.chain_build.proofs.build.Goals as goal
 
 pub returns-then-refusal-ne0 : goal.returns-then-refusal-ne0
-returns-then-refusal-ne0 c = let a = c.args in let all = checks-refused a.rigid (Poses-of_lists a.poses.now) (length a.poses.now) a.moves.now c.refusal-refusal.ensures.value c.if-refusal-ne0.true in record { refusal = all.0; left = all.1; holds = all.2 }
+returns-then-refusal-ne0 c = let a = c.args in let all = checks-refused a.rigid (Poses-of_lists a.poses.now) (length a.poses.now) a.moves.now c.refusal-refusal.ensures.value c.if-refusal-ne0.true in record { refusal = all.0; left = all.1.0; holds = all.1.1 }

@@ -17,8 +17,8 @@ pub put_pairs-refusal-requires : goal.put_pairs-refusal-requires
 put_pairs-refusal-requires c = let lists = c.args.poses.now in let h = (checks-passed c.args.rigid (Poses-of_lists lists) c.requires.poses_value).greatest in let n = poses-length lists in record { poses_len_bound = omega (arith, h, n); moves_len = c.well_formed.1.1.0.1.0.1 }
 
 pub returns-then-refusal-ne0 : goal.returns-then-refusal-ne0
-returns-then-refusal-ne0 c = let lists = c.args.poses.now in let all = pair-refused c.args.rigid (Poses-of_lists lists) (length lists) c.args.moves.now c.requires.poses_value c.put_pairs-refusal.ensures.refusal c.if-refusal-ne0.true in record { refusal = all.0; left = all.1; holds = all.2 }
+returns-then-refusal-ne0 c = let lists = c.args.poses.now in let all = pair-refused c.args.rigid (Poses-of_lists lists) (length lists) c.args.moves.now c.requires.poses_value c.put_pairs-refusal.ensures.refusal c.if-refusal-ne0.true in record { refusal = all.0; left = all.1.0; holds = all.1.1 }
 
 pub returns : goal.returns
-returns c = let lists = c.args.poses.now in let poses = Poses-of_lists lists in let work = (c.put_pairs-refusal.ensures.refusal, c.put_pairs-refusal.ensures.left, c.put_pairs-refusal.ensures.built) in let none = c.if-refusal-ne0.false in let left = work.1.0 none ∙ ap (λ (old : List Rows). blocks_left (map (Pair-rows c.args.rigid) (neighbours poses)) old) c.requires.copy_value in let all = all-built c.args.rigid poses (length lists) c.args.moves.now
-    (sym (poses-length lists)) c.requires.poses_value (sym none ∙ work.0) left (work.1.1 none) in record { refusal = all.0; left = all.1; holds = all.2 }
+returns c = let lists = c.args.poses.now in let poses = Poses-of_lists lists in let work = (c.put_pairs-refusal.ensures.refusal, (c.put_pairs-refusal.ensures.left, c.put_pairs-refusal.ensures.built)) in let none = c.if-refusal-ne0.false in let left = work.1.0 none ∙ ap (λ (old : List Rows). blocks_left (map (Pair-rows c.args.rigid) (neighbours poses)) old) c.requires.copy_value in let all = all-built c.args.rigid poses (length lists) c.args.moves.now
+    (sym (poses-length lists)) c.requires.poses_value (sym none ∙ work.0) left (work.1.1 none) in record { refusal = all.0; left = all.1.0; holds = all.1.1 }

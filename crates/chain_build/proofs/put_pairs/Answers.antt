@@ -28,7 +28,7 @@ loop-i-preserved c =
     let l = c.loop-i in
     let a = c.args in
     let next = pairs_next a.poses.now l.i l.invariant.1.0 c.loop-i-test.true in
-    let put = (c.put_pair-refusal.ensures.refusal, c.put_pair-refusal.ensures.left, c.put_pair-refusal.ensures.built) in
+    let put = (c.put_pair-refusal.ensures.refusal, (c.put_pair-refusal.ensures.left, c.put_pair-refusal.ensures.built)) in
     let z = c.if-refusal-ne0.false in
     let pair = Poses-pair_at a.poses.now (l.i - 1) in (
       refl,

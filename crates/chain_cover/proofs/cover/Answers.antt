@@ -13,7 +13,7 @@ use Rattle.chain_cover.proofs.cover.Goals as goal
 
 pub returns-then-moves-eq0 : goal.returns-then-moves-eq0
 unfolding Moves-cover
-returns-then-moves-eq0 c = let a = c.args in let all = cover-clauses a.moves.now a.b a.depth (rw (eq-eqb _ 0 c.if-moves-eq0.true)) in record { value = all.0; kept = all.1; contains_motion = all.2; finer = all.3 }
+returns-then-moves-eq0 c = let a = c.args in let all = cover-clauses a.moves.now a.b a.depth (rw (eq-eqb _ 0 c.if-moves-eq0.true)) in record { value = all.0; kept = all.1.0; contains_motion = all.1.1.0; finer = all.1.1.1 }
 
 pub loop-i-init : goal.loop-i-init
 loop-i-init c = (refl, (search rules, refl))
@@ -28,4 +28,4 @@ loop-i-preserved c =
 pub returns : goal.returns
 unfolding Moves-cover Moves-chain Chain-cover
 returns c = let l = c.loop-i in let a = c.args in let e = sym (covers-end a.b a.depth l.r a.moves.now l.i (omega (arith, c.loop-i-test.false))) ∙ l.invariant.1.1 in let some = ne_eqb (length a.moves.now) 0 c.if-moves-eq0.false in let all = cover-clauses a.moves.now a.b a.depth
-    (rw (some, ← c.from_rows.ensures.value, ← c.cover-r.ensures.value) e) in record { value = all.0; kept = all.1; contains_motion = all.2; finer = all.3 }
+    (rw (some, ← c.from_rows.ensures.value, ← c.cover-r.ensures.value) e) in record { value = all.0; kept = all.1.0; contains_motion = all.1.1.0; finer = all.1.1.1 }

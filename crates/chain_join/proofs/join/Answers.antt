@@ -6,7 +6,7 @@ use Rattle.chain_join.proofs.Clauses.{some-blocks, no-moves, not-joined, has_roo
 use Rattle.chain_join.proofs.join.Goals as goal
 
 pub returns-then-first-second : goal.returns-then-first-second
-returns-then-first-second c = let a = c.args in let all = no-moves a.first.now a.second.now a.joined.now c.if-first-second.true in record { refusal = all.0; left = all.1; kept = all.2 }
+returns-then-first-second c = let a = c.args in let all = no-moves a.first.now a.second.now a.joined.now c.if-first-second.true in record { refusal = all.0; left = all.1.0; kept = all.1.1 }
 
 pub mismatch_refusal-mismatch-requires : goal.mismatch_refusal-mismatch-requires
 mismatch_refusal-mismatch-requires c = let all = some-blocks _ _ c.if-first-second.false in record { first_nonzero = all.0; second_nonzero = all.1 }
@@ -17,7 +17,7 @@ rise_refusal-rise-requires c = let all = some-blocks _ _ c.if-first-second.false
 pub returns-then-refusal-ne0 : goal.returns-then-refusal-ne0
 returns-then-refusal-ne0 c = let a = c.args in let all = not-joined a.first.now a.second.now a.joined.now c.if-first-second.false
     c.mismatch_refusal-mismatch.ensures.value c.count_refusal-count.ensures.value c.rise_refusal-rise.ensures.value
-    c.first_refusal-later.ensures.value c.first_refusal-refusal.ensures.value c.if-refusal-ne0.true in record { refusal = all.0; left = all.1; kept = all.2 }
+    c.first_refusal-later.ensures.value c.first_refusal-refusal.ensures.value c.if-refusal-ne0.true in record { refusal = all.0; left = all.1.0; kept = all.1.1 }
 
 pub with_blocks-front-requires : goal.with_blocks-front-requires
 with_blocks-front-requires c =
@@ -45,4 +45,4 @@ returns c = let some = c.if-first-second.false in let a = c.args in let first = 
     c.mismatch_refusal-mismatch.ensures.value c.count_refusal-count.ensures.value c.rise_refusal-rise.ensures.value
     c.first_refusal-later.ensures.value c.first_refusal-refusal.ensures.value
     c.mismatch_refusal-mismatch.ensures.same c.if-refusal-ne0.false
-    (two-fronts first second old (omega (arith, h, places)) put.1 c.with_blocks.ensures.value) in record { refusal = all.0; left = all.1; kept = all.2 }
+    (two-fronts first second old (omega (arith, h, places)) put.1 c.with_blocks.ensures.value) in record { refusal = all.0; left = all.1.0; kept = all.1.1 }

@@ -10,5 +10,5 @@ use Rattle.chain_text.proofs.put_bounds.Goals as goal
 pub returns : goal.returns
 returns c =
     let a = c.args in
-    rw (c.write_bounds.ensures.text.0, c.bounds_values.ensures.value)
+    rw (c.write_bounds.ensures.text, c.bounds_values.ensures.value)
     (part-front (bounds_text (Bounds3f-list a.b)) a.out.now a.at 72 (sym (bounds-length a.b)) c.requires)

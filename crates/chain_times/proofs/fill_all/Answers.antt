@@ -13,15 +13,15 @@ use Rattle.chain_times.proofs.Stretches.{asked_from, floats-next, floats-last}
 use Rattle.chain_times.proofs.fill_all.Goals as goal
 
 pub loop-i-init : goal.loop-i-init
-loop-i-init c = let e = (c.requires.moves_nonzero, c.requires.answers_len, c.requires.times_value) in (omega (arith, e.0), (omega arith, (omega arith, (e.1.0, refl))))
+loop-i-init c = let e = (c.requires.moves_nonzero, (c.requires.answers_len, c.requires.times_value)) in (omega (arith, e.0), (omega arith, (omega arith, (e.1.0, refl))))
 
 pub loop-i-preserved : goal.loop-i-preserved
 loop-i-preserved c =
     let l = c.loop-i in
     let a = c.args in
-    let e = (c.requires.moves_nonzero, c.requires.answers_len, c.requires.times_value) in
+    let e = (c.requires.moves_nonzero, (c.requires.answers_len, c.requires.times_value)) in
     let h = c.loop-i-test.true in
-    let s = (c.stretch_end-to.ensures.value, c.stretch_end-to.ensures.below, c.stretch_end-to.ensures.above) in
+    let s = (c.stretch_end-to.ensures.value, (c.stretch_end-to.ensures.below, c.stretch_end-to.ensures.above)) in
     let f = (c.fill_part.ensures.left, c.fill_part.ensures.same) in
     let n : suc l.i < length a.moves.now = omega (arith, h, l.invariant.0) in
     let r = rises-drop l.from a.times.now (subst T (sym e.1.1) tt) in
@@ -31,7 +31,7 @@ loop-i-preserved c =
 
 pub shape_of-answers : goal.shape_of-answers
 shape_of-answers c =
-    c.fill_part-2.ensures.same ∙ (c.loop-i.invariant.1.1.1.0 ∙ sym c.requires.answers_len.0)
+    c.fill_part-2.ensures.same ∙ (c.loop-i.invariant.1.1.1.0 ∙ sym c.requires.answers_len)
 
 pub returns : goal.returns
 returns c = record { left = let l = c.loop-i in

@@ -19,7 +19,7 @@ returns-then-number-ne0 c = record { value = let l = c.loop-i in
     let a = c.args in
     let e = (c.requires.moves_nonzero, c.requires.times_value) in
     let h = c.loop-i-test.true in
-    let s = (c.stretch_end-end.ensures.value, c.stretch_end-end.ensures.below, c.stretch_end-end.ensures.above) in
+    let s = (c.stretch_end-end.ensures.value, (c.stretch_end-end.ensures.below, c.stretch_end-end.ensures.above)) in
     let n : suc l.i < length a.moves.now = omega (arith, h, l.invariant.1.0) in
     let r = rises-drop l.from a.times.now (subst T (sym e.1) tt) in
     number-here a.moves.now a.p a.times.now l.i l.from n r s.0 c.first_refusal-number.ensures.value c.if-number-ne0.true ∙ l.invariant.1.1.1.1 }
@@ -30,7 +30,7 @@ loop-i-preserved c =
     let a = c.args in
     let e = (c.requires.moves_nonzero, c.requires.times_value) in
     let h = c.loop-i-test.true in
-    let s = (c.stretch_end-end.ensures.value, c.stretch_end-end.ensures.below, c.stretch_end-end.ensures.above) in
+    let s = (c.stretch_end-end.ensures.value, (c.stretch_end-end.ensures.below, c.stretch_end-end.ensures.above)) in
     let n : suc l.i < length a.moves.now = omega (arith, h, l.invariant.1.0) in
     let r = rises-drop l.from a.times.now (subst T (sym e.1) tt) in
     let next = number-next a.moves.now a.p a.times.now l.i l.from n r s.0 c.first_refusal-number.ensures.value c.if-number-ne0.false in

@@ -21,7 +21,7 @@ loop-i-preserved c =
     let l = c.loop-i in
     let a = c.args in
     let h = c.loop-i-test.true in
-    (refl, (omega (arith, l.invariant.1.0), (omega (arith, h), count_next a.end a.times.now l.i h (not-false _ c.if-not-times-i.false) ∙ l.invariant.1.1.1)))
+    (refl, (omega (arith, l.invariant.1.0), (omega (arith, h), count_next a.end a.times.now l.i h c.if-not-times-i.false ∙ l.invariant.1.1.1)))
 
 pub returns : goal.returns
 returns c = let l = c.loop-i in let a = c.args in record { value = sym (count-end a.end a.times.now l.i c.loop-i-test.false) ∙ l.invariant.1.1.1; below = l.invariant.1.1.0; above = l.invariant.1.0 }

@@ -14,4 +14,4 @@ pub build_beside-requires : goal.build_beside-requires
 build_beside-requires c = let a = c.args in let judged = c.place_refusal-judged.ensures.value ∙ ap (λ (n : ℕ). place_refusal n a.place) c.pose_count.ensures.value in let passed = place-passed a.moves.now a.place (sym judged ∙ c.if-judged-ne0.false) in record { moves_nonzero = passed.some; place_in_bounds = passed.inside; blocks_len = c.requires }
 
 pub returns : goal.returns
-returns c = let a = c.args in let judged = c.place_refusal-judged.ensures.value ∙ ap (λ (n : ℕ). place_refusal n a.place) c.pose_count.ensures.value in let none = sym judged ∙ c.if-judged-ne0.false in let all = (c.build_beside.ensures.refusal ∙ sym (place-accepted a.moves.now a.place (Pose-of_list a.pose.now) none), c.build_beside.ensures.built) in record { refusal = all.0; built = all.1; same = all.2 }
+returns c = let a = c.args in let judged = c.place_refusal-judged.ensures.value ∙ ap (λ (n : ℕ). place_refusal n a.place) c.pose_count.ensures.value in let none = sym judged ∙ c.if-judged-ne0.false in record { refusal = c.build_beside.ensures.refusal ∙ sym (place-accepted a.moves.now a.place (Pose-of_list a.pose.now) none); built = c.build_beside.ensures.built; same = c.build_beside.ensures.same }

@@ -15,7 +15,7 @@ use Rattle.cover_groups.proofs.join_groups.Goals as goal
 pub loop-g-init : goal.loop-g-init
 loop-g-init c =
     let a = c.args in
-    (omega arith, loop-start (LanesVector-group a.a a.second a.s0 a.s1 a.pad0 a.pad1 a.p a.h) a.start.union, c.requires.fact_2.1.1)
+    (omega arith, loop-start (LanesVector-group a.a a.second a.s0 a.s1 a.pad0 a.pad1 a.p a.h) a.start.union, c.requires.fact_4)
 
 pub reach_next-next-requires : goal.reach_next-next-requires
 reach_next-next-requires c = let l = c.loop-g in let a = c.args.a in record { fact_1 = c.requires.fact_1; fact_2 = border-own (is_near a) a.theta c.args.h (slice_end c.args.h (4 * l.g)) l.invariant.2 }
@@ -28,9 +28,9 @@ loop-g-preserved c =
     let next = c.reach_next-next in
     let near = is_near a.a in
     let theta = a.a.theta in
-    let width = c.from_fixed-width.ensures.value ∙ slice-end a.h 1 c.requires.fact_2.0 in
-    let room : 4 * l.g + 4 ≤ 2 ^ a.h = omega (arith, c.loop-g-test.true, c.requires.fact_2.1.0) in
-    let steps = steps-at near theta a.h (4 * l.g) c.requires.fact_2.0 room width l.invariant.2 in (
+    let width = c.from_fixed-width.ensures.value ∙ slice-end a.h 1 c.requires.fact_2 in
+    let room : 4 * l.g + 4 ≤ 2 ^ a.h = omega (arith, c.loop-g-test.true, c.requires.fact_3) in
+    let steps = steps-at near theta a.h (4 * l.g) c.requires.fact_2 room width l.invariant.2 in (
       omega (arith, c.loop-g-test.true),
       loop-next (LanesVector-group a.a a.second a.s0 a.s1 a.pad0 a.pad1 a.p a.h) a.start.union l.g l.reached.union
           next.result.union l.invariant.1

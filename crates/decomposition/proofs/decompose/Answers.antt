@@ -23,7 +23,7 @@ returns-then-not-is_finite c = record { value = let l = c.loop-m in
     c.refused-then-not-is_finite.ensures.value ∙
     sym
     (matrix-refuses l.invariant rit.result (rw (← c.transpose.ensures.value) rit.ensures.value) c.if-rit-ne0.false
-    rnext.result (rw (← c.matrix.ensures.value) rnext.ensures.value) _ (sym c.is_finite.ensures.value ∙ not-true _ c.if-not-is_finite.true)) }
+    rnext.result (rw (← c.matrix.ensures.value) rnext.ensures.value) _ (sym c.is_finite.ensures.value ∙ c.if-not-is_finite.true)) }
 
 pub loop-m-preserved : goal.loop-m-preserved
 loop-m-preserved c =
@@ -32,7 +32,7 @@ loop-m-preserved c =
     let rnext = c.mean-rnext in
     turn-next l.invariant rit.result (rw (← c.transpose.ensures.value) rit.ensures.value) c.if-rit-ne0.false
     rnext.result (rw (← c.matrix.ensures.value) rnext.ensures.value)
-    (sym c.is_finite.ensures.value ∙ not-false _ c.if-not-is_finite.false) (rw c.distance-norm.ensures.value at c.if-counter-norm.false)
+    (sym c.is_finite.ensures.value ∙ c.if-not-is_finite.false) (rw c.distance-norm.ensures.value at c.if-counter-norm.false)
 
 pub returns : goal.returns
 returns c = record { value = let l = c.loop-m in
@@ -42,4 +42,4 @@ returns c = record { value = let l = c.loop-m in
     sym
     (turn_last l.invariant rit.result (rw (← c.transpose.ensures.value) rit.ensures.value) c.if-rit-ne0.false
     rnext.result (rw (← c.matrix.ensures.value) rnext.ensures.value)
-    (sym c.is_finite.ensures.value ∙ not-false _ c.if-not-is_finite.false) _ (rw c.distance-norm.ensures.value at c.if-counter-norm.true)) }
+    (sym c.is_finite.ensures.value ∙ c.if-not-is_finite.false) _ (rw c.distance-norm.ensures.value at c.if-counter-norm.true)) }

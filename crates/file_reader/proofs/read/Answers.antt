@@ -12,11 +12,11 @@ read_columns-requires c = record { le_columns = omega arith; columns_bound = ome
 
 pub returns-then-has_pads : goal.returns-then-has_pads
 unfolding ascii
-returns-then-has_pads c = let all = told true c.args.bytes.now c.args.poses.now _ _ (sym c.has_pads.ensures ∙ c.if-has_pads.true) (c.read_columns.ensures.value, c.read_columns.ensures.left, c.read_columns.ensures.count) in record { value = all.0; left = all.1; count = all.2 }
+returns-then-has_pads c = let all = told true c.args.bytes.now c.args.poses.now _ _ (sym c.has_pads.ensures ∙ c.if-has_pads.true) (c.read_columns.ensures.value, (c.read_columns.ensures.left, c.read_columns.ensures.count)) in record { value = all.0; left = all.1.0; count = all.1.1 }
 
 pub read_columns-requires-2 : goal.read_columns-requires-2
 read_columns-requires-2 c = record { le_columns = omega arith; columns_bound = omega arith }
 
 pub returns : goal.returns
 unfolding ascii
-returns c = let all = told false c.args.bytes.now c.args.poses.now _ _ (sym c.has_pads.ensures ∙ c.if-has_pads.false) (c.read_columns-2.ensures.value, c.read_columns-2.ensures.left, c.read_columns-2.ensures.count) in record { value = all.0; left = all.1; count = all.2 }
+returns c = let all = told false c.args.bytes.now c.args.poses.now _ _ (sym c.has_pads.ensures ∙ c.if-has_pads.false) (c.read_columns-2.ensures.value, (c.read_columns-2.ensures.left, c.read_columns-2.ensures.count)) in record { value = all.0; left = all.1.0; count = all.1.1 }

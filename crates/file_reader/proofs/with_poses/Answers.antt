@@ -18,11 +18,11 @@ use Rattle.file_reader.proofs.with_poses.Goals as goal
 pub loop-i-init : goal.loop-i-init
 loop-i-init c =
     let all = sub-zero c.args.count in
-    (omega arith, (rw all c.requires.count_le_max_pose_lines.1.1.1, rw all))
+    (omega arith, (rw all c.requires.at_in_bounds, rw all))
 
 pub slice_bounds-values_line-end : goal.slice_bounds-values_line-end
 slice_bounds-values_line-end c =
-    sym (length-take-le c.args.columns _ c.requires.count_le_max_pose_lines.1.1.0)
+    sym (length-take-le c.args.columns _ c.requires.columns_bound)
 
 pub loop-i-preserved : goal.loop-i-preserved
 loop-i-preserved c =
@@ -31,8 +31,8 @@ loop-i-preserved c =
     let s = a.s.now in
     let line = c.values_line-next in
     let kind = values a.columns in
-    let least = c.requires.count_le_max_pose_lines.1.0 in
-    let most = c.requires.count_le_max_pose_lines.1.1.0 in
+    let least = c.requires.le_columns in
+    let most = c.requires.columns_bound in
     let part = length-take-le a.columns (replicate 14 (of_bits binary32 0)) most in
     let next = subst (λ (n : ℕ). line.result ≡ after_line (values n) s l.place) part line.ensures.value in
     let led : place_from kind s a.count (l.i + 1) line.result ≤ length s =

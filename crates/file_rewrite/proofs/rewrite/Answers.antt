@@ -9,21 +9,21 @@ use Rattle.file_rewrite.proofs.Printed.{file-refused, file-printed}
 use Rattle.file_rewrite.proofs.rewrite.Goals as goal
 
 pub returns-then-file-ne0 : goal.returns-then-file-ne0
-returns-then-file-ne0 c = let bytes = c.args.bytes.now in let all = rw (file-refused bytes c.read-file.result c.read-file.ensures.value c.if-file-ne0.true) (c.write_refusal.ensures.value, c.write_refusal.ensures.text, c.write_refusal.ensures.counts) in record { value = all.0; text = all.1; counts = all.2 }
+returns-then-file-ne0 c = let bytes = c.args.bytes.now in let all = rw (file-refused bytes c.read-file.result c.read-file.ensures.value c.if-file-ne0.true) (c.write_refusal.ensures.value, (c.write_refusal.ensures.text, c.write_refusal.ensures.counts)) in record { value = all.0; text = all.1.0; counts = all.1.1 }
 
 pub slice_bounds-poses-end : goal.slice_bounds-poses-end
 slice_bounds-poses-end c =
     let read = c.read-file in
     let bytes = c.args.bytes.now in
-    omega (arith, read.ensures.left.1, poses-room (MoveFile-poses bytes) _ read.ensures.left.0)
+    omega (arith, read.ensures.count, poses-room (MoveFile-poses bytes) _ read.ensures.left)
 
 pub slice_bounds-write_poses-end : goal.slice_bounds-write_poses-end
 slice_bounds-write_poses-end c =
     let read = c.read-file in
-    let room = poses-room (MoveFile-poses c.args.bytes.now) _ read.ensures.left.0 in
-    sym (length-take-le _ _ (omega (arith, read.ensures.left.1, room)))
+    let room = poses-room (MoveFile-poses c.args.bytes.now) _ read.ensures.left in
+    sym (length-take-le _ _ (omega (arith, read.ensures.count, room)))
 
 pub returns : goal.returns
 returns c = let bytes = c.args.bytes.now in let all = rw (file-printed bytes c.read-file.result c.read-file.ensures.value _ _ c.bounds.result
-    c.if-file-ne0.false c.read-file.ensures.left.0 c.bounds.ensures.value)
-    (c.write_poses.ensures.value, c.write_poses.ensures.text, c.write_poses.ensures.counts) in record { value = all.0; text = all.1; counts = all.2 }
+    c.if-file-ne0.false c.read-file.ensures.left c.bounds.ensures.value)
+    (c.write_poses.ensures.value, (c.write_poses.ensures.text, c.write_poses.ensures.counts)) in record { value = all.0; text = all.1.0; counts = all.1.1 }

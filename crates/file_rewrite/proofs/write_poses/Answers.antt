@@ -12,7 +12,7 @@ use Rattle.file_rewrite.proofs.Printed.{refused-printed, built-printed}
 use Rattle.file_rewrite.proofs.write_poses.Goals as goal
 
 pub returns-then-refusal-ne0 : goal.returns-then-refusal-ne0
-returns-then-refusal-ne0 c = let a = c.args in let some = c.if-refusal-ne0.true in let all = rw (refused-printed (Chain-new false (Poses-of_lists a.poses.now)) a.b c.build-refusal.ensures.refusal some) (c.write_refusal.ensures.value, c.write_refusal.ensures.text, c.write_refusal.ensures.counts) in record { value = all.0; text = all.1; counts = all.2 }
+returns-then-refusal-ne0 c = let a = c.args in let some = c.if-refusal-ne0.true in let all = rw (refused-printed (Chain-new false (Poses-of_lists a.poses.now)) a.b c.build-refusal.ensures.refusal some) (c.write_refusal.ensures.value, (c.write_refusal.ensures.text, c.write_refusal.ensures.counts)) in record { value = all.0; text = all.1.0; counts = all.1.1 }
 
 pub overflow_sub-n : goal.overflow_sub-n
 overflow_sub-n c =
@@ -24,22 +24,22 @@ slice_bounds-moves-end c =
     let build = c.build-refusal in
     let lists = c.args.poses.now in
     let few = built-count false lists build.ensures.refusal c.if-refusal-ne0.false in
-    omega (arith, few.1, moves-room (Chain-new false (Poses-of_lists lists)) _ build.ensures.left.0)
+    omega (arith, few.1, moves-room (Chain-new false (Poses-of_lists lists)) _ build.ensures.left)
 
 pub slice_bounds-write_moves-end : goal.slice_bounds-write_moves-end
 slice_bounds-write_moves-end c =
     let build = c.build-refusal in
     let lists = c.args.poses.now in
     let few = built-count false lists build.ensures.refusal c.if-refusal-ne0.false in
-    sym (length-take-le _ _ (omega (arith, few.1, moves-room (Chain-new false (Poses-of_lists lists)) _ build.ensures.left.0)))
+    sym (length-take-le _ _ (omega (arith, few.1, moves-room (Chain-new false (Poses-of_lists lists)) _ build.ensures.left)))
 
 pub write_moves-requires : goal.write_moves-requires
 write_moves-requires c =
     let build = c.build-refusal in
     let lists = c.args.poses.now in
     let (chain, s) = none-built false (Poses-of_lists lists) (sym build.ensures.refusal ∙ c.if-refusal-ne0.false) in
-    rw (build.ensures.left.1 chain s).same (omega arith)
+    rw (build.ensures.holds chain s).same (omega arith)
 
 pub returns : goal.returns
-returns c = let build = c.build-refusal in let a = c.args in let all = rw (built-printed a.poses.now a.b _ build.ensures.refusal c.if-refusal-ne0.false (λ chain s. (build.ensures.left.1 chain s).same))
-    (c.write_moves.ensures.value, c.write_moves.ensures.text, c.write_moves.ensures.counts) in record { value = all.0; text = all.1; counts = all.2 }
+returns c = let build = c.build-refusal in let a = c.args in let all = rw (built-printed a.poses.now a.b _ build.ensures.refusal c.if-refusal-ne0.false (λ chain s. (build.ensures.holds chain s).same))
+    (c.write_moves.ensures.value, (c.write_moves.ensures.text, c.write_moves.ensures.counts)) in record { value = all.0; text = all.1.0; counts = all.1.1 }

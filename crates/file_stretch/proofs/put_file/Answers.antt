@@ -11,21 +11,21 @@ use Rattle.file_stretch.proofs.put_file.Goals as goal
 
 pub returns-then-file-ne0 : goal.returns-then-file-ne0
 returns-then-file-ne0 c = let read = c.read-file in let write = c.write_refusal in let all = rw (file-refused c.args.bytes.now read.result read.ensures.value c.if-file-ne0.true)
-    (refusal-put read.result.refusal c.args.out.now _ _ c.requires write.ensures.value write.ensures.text.0) in record { value = all.0; text = all.1; bound = all.2 }
+    (refusal-put read.result.refusal c.args.out.now _ _ c.requires write.ensures.value write.ensures.text) in record { value = all.0; text = all.1.0; bound = all.1.1 }
 
 pub slice_bounds-poses-end : goal.slice_bounds-poses-end
 slice_bounds-poses-end c =
     let read = c.read-file in
-    omega (arith, read.ensures.left.1, poses-room (MoveFile-poses c.args.bytes.now) _ read.ensures.left.0)
+    omega (arith, read.ensures.count, poses-room (MoveFile-poses c.args.bytes.now) _ read.ensures.left)
 
 pub slice_bounds-put_poses-end : goal.slice_bounds-put_poses-end
 slice_bounds-put_poses-end c =
     let read = c.read-file in
-    let room = poses-room (MoveFile-poses c.args.bytes.now) _ read.ensures.left.0 in
-    sym (length-take-le _ _ (omega (arith, read.ensures.left.1, room)))
+    let room = poses-room (MoveFile-poses c.args.bytes.now) _ read.ensures.left in
+    sym (length-take-le _ _ (omega (arith, read.ensures.count, room)))
 
 pub put_poses-requires : goal.put_poses-requires
-put_poses-requires c = let read = c.read-file in record { poses_len_bound = le_trans (taken-length read.result.count _) read.ensures.left.1; in_bounds = c.requires }
+put_poses-requires c = let read = c.read-file in record { poses_len_bound = le_trans (taken-length read.result.count _) read.ensures.count; in_bounds = c.requires }
 
 pub returns : goal.returns
-returns c = let read = c.read-file in let all = rw (file-printed c.args.bytes.now read.result read.ensures.value _ _ c.if-file-ne0.false read.ensures.left.0) (c.put_poses.ensures.value, c.put_poses.ensures.text, c.put_poses.ensures.bound) in record { value = all.0; text = all.1; bound = all.2 }
+returns c = let read = c.read-file in let all = rw (file-printed c.args.bytes.now read.result read.ensures.value _ _ c.if-file-ne0.false read.ensures.left) (c.put_poses.ensures.value, (c.put_poses.ensures.text, c.put_poses.ensures.bound)) in record { value = all.0; text = all.1.0; bound = all.1.1 }

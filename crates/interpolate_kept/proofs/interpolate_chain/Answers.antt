@@ -11,9 +11,9 @@ use Rattle.interpolate_kept.proofs.interpolate_chain.Goals as goal
 
 pub returns-then-moves-eq0 : goal.returns-then-moves-eq0
 unfolding Moves-interpolate
-returns-then-moves-eq0 c = let a = c.args in let all = chain-clauses a.moves.now a.time (rw (eq-eqb _ 0 c.if-moves-eq0.true, c.refused.ensures.value)) in record { value = all.0; kept = all.1; moves_points = all.2 }
+returns-then-moves-eq0 c = let a = c.args in let all = chain-clauses a.moves.now a.time (rw (eq-eqb _ 0 c.if-moves-eq0.true, c.refused.ensures.value)) in record { value = all.0; kept = all.1.0; moves_points = all.1.1 }
 
 pub returns : goal.returns
 unfolding Moves-interpolate
 returns c = let a = c.args in let all = chain-clauses a.moves.now a.time (rw (ne_eqb _ 0 c.if-moves-eq0.false)
-    (c.interpolate.ensures.value ∙ ap (λ (i : ℕ). Rows-interpolate (get_or a.moves.now i []) a.time) c.place-i.ensures.value)) in record { value = all.0; kept = all.1; moves_points = all.2 }
+    (c.interpolate.ensures.value ∙ ap (λ (i : ℕ). Rows-interpolate (get_or a.moves.now i []) a.time) c.place-i.ensures.value)) in record { value = all.0; kept = all.1.0; moves_points = all.1.1 }

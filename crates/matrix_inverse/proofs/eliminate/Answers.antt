@@ -1,7 +1,6 @@
 -- `eliminate` meets its contract. The invariant: the rows below j are cleared.
 use Prim.Native.Nat.{ℕ, ◌≤◌, ◌-◌}
 use mathlib.Core.Path.{◌≡◌}
-use mathlib.Core.Logic.{⊎_elim}
 use lib.ListN.{set}
 use borrow.Author.Tests.{eq-eqb, ne_eqb}
 use native.Mathlib.Omega.{arith}
@@ -10,6 +9,7 @@ use Rattle.matrix4x4.specs.Rows.{Row, Rows, row}
 use Rattle.control_flow.specs.Loop.{loop}
 use Rattle.matrix_inverse.specs.Eliminate.{clear_row, clear_at, eliminate}
 use Rattle.control_flow.proofs.Loop.{loop-start, loop-next, loop-end}
+use Rattle.matrix_inverse.proofs.eliminate.Goals.{then-j-k, else-j-k}
 use Rattle.matrix_inverse.proofs.eliminate.Goals as goal
 
 pub loop-j-init : goal.loop-j-init
@@ -28,8 +28,12 @@ module _ (k j : ℕ) (m r : Rows) where
 pub loop-j-preserved : goal.loop-j-preserved
 loop-j-preserved c = (
   search rules,
-  loop-next _ _ _ _ _ c.loop-j.invariant.1
-      (⊎_elim (λ w. other_row _ _ _ _ w.0.taken _ w.3.ensures w.4) (λ w. pivot-row _ _ _ _ w.0.left w.1) c.if-j-k.branch),
+  loop-next _ _ _ _ _ c.loop-j.invariant.1 (
+    elim c.if-j-k.branch [
+      then-j-k w ↦ other_row _ _ _ _ w.if-j-k.true _ w.clear_row.ensures.value w.r-is
+    | else-j-k w ↦ pivot-row _ _ _ _ w.if-j-k.false w.r-is
+    ]
+  ),
 )
 
 pub returns : goal.returns

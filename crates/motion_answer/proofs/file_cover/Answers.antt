@@ -15,17 +15,17 @@ pub slice_bounds-poses-end : goal.slice_bounds-poses-end
 slice_bounds-poses-end c =
     let read = c.read-file in
     let bytes = c.args.bytes.now in
-    omega (arith, read.ensures.left.1, poses-room (MoveFile-poses bytes) _ read.ensures.left.0)
+    omega (arith, read.ensures.count, poses-room (MoveFile-poses bytes) _ read.ensures.left)
 
 pub slice_bounds-poses_cover-end : goal.slice_bounds-poses_cover-end
 slice_bounds-poses_cover-end c =
     let read = c.read-file in
-    let room = poses-room (MoveFile-poses c.args.bytes.now) _ read.ensures.left.0 in
-    sym (length-take-le _ _ (omega (arith, read.ensures.left.1, room)))
+    let room = poses-room (MoveFile-poses c.args.bytes.now) _ read.ensures.left in
+    sym (length-take-le _ _ (omega (arith, read.ensures.count, room)))
 
 pub returns : goal.returns
 returns c = record { value = let bytes = c.args.bytes.now in
     let read = c.read-file in
     let none = c.if-file-ne0.false in
-    file-cover c.args.rigid bytes read.result read.ensures.value _ _ _ c.poses_cover.result none read.ensures.left.0
+    file-cover c.args.rigid bytes read.result read.ensures.value _ _ _ c.poses_cover.result none read.ensures.left
     c.bounds.ensures.value c.poses_cover.ensures.value }

@@ -22,7 +22,7 @@ slice_bounds-moves-end c =
     let rigid = c.args.rigid in
     let lists = c.args.poses.now in
     let few = built-count rigid lists build.ensures.refusal c.if-refusal-ne0.false in
-    omega (arith, few.1, moves-room (Chain-new rigid (Poses-of_lists lists)) _ build.ensures.left.0)
+    omega (arith, few.1, moves-room (Chain-new rigid (Poses-of_lists lists)) _ build.ensures.left)
 
 pub slice_bounds-cover-end : goal.slice_bounds-cover-end
 slice_bounds-cover-end c =
@@ -30,11 +30,11 @@ slice_bounds-cover-end c =
     let rigid = c.args.rigid in
     let lists = c.args.poses.now in
     let few = built-count rigid lists build.ensures.refusal c.if-refusal-ne0.false in
-    sym (length-take-le _ _ (omega (arith, few.1, moves-room (Chain-new rigid (Poses-of_lists lists)) _ build.ensures.left.0)))
+    sym (length-take-le _ _ (omega (arith, few.1, moves-room (Chain-new rigid (Poses-of_lists lists)) _ build.ensures.left)))
 
 pub returns : goal.returns
 returns c = record { value = let a = c.args in
     let build = c.build-refusal in
     let none = c.if-refusal-ne0.false in
     built-cover a.rigid a.poses.now build.ensures.refusal none a.b c.cover.result
-    (λ chain s. c.cover.ensures.kept.0 chain (build.ensures.left.1 chain s).same) }
+    (λ chain s. c.cover.ensures.kept chain (build.ensures.holds chain s).same) }

@@ -15,7 +15,7 @@ returns-then-meets_running c = record { value = rw (eq-eqb _ 0 c.if-end-ne0.fals
 
 pub overflow_add-result : goal.overflow_add-result
 overflow_add-result c =
-    omega (arith, (c.requires.i_lt_count.1.0 c.args.i c.requires.i_lt_count.0).1, c.requires.i_lt_count.1.1)
+    omega (arith, (c.requires.good_lengths c.args.i c.requires.i_lt_count).1, c.requires.t_le_last_tick)
 
 pub returns : goal.returns
 unfolding end_taken

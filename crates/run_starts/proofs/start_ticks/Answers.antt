@@ -7,7 +7,7 @@ use borrow.Author.Rules.{rules}
 use Rattle.run_starts.proofs.start_ticks.Goals as goal
 
 pub returns-then-number-ne0 : goal.returns-then-number-ne0
-returns-then-number-ne0 c = let a = c.args in let booms = Booms-of_lists a.count a.boxes.now a.lengths.now in let all = day-refused booms a.starts.now c.refusal-number.result c.refusal-number.ensures.value c.if-number-ne0.true in record { refusal = all.0; left = all.1; day = all.2 }
+returns-then-number-ne0 c = let a = c.args in let booms = Booms-of_lists a.count a.boxes.now a.lengths.now in let all = day-refused booms a.starts.now c.refusal-number.result c.refusal-number.ensures.value c.if-number-ne0.true in record { refusal = all.0; left = all.1.0; day = all.1.1 }
 
 pub ends-requires : goal.ends-requires
 ends-requires c = let a = c.args in let z = sym c.refusal-number.ensures.value ∙ c.if-number-ne0.false in record { count_bound = accepted-few a.count a.boxes.now a.lengths.now z; good_lengths = accepted-lengths a.count a.boxes.now a.lengths.now z }
@@ -17,4 +17,4 @@ starts_of-requires c = let a = c.args in let z = sym c.refusal-number.ensures.va
 
 pub returns : goal.returns
 returns c = let a = c.args in let z = sym c.refusal-number.ensures.value ∙ c.if-number-ne0.false in let few = accepted-few a.count a.boxes.now a.lengths.now z in let good = accepted-lengths a.count a.boxes.now a.lengths.now z in let all = day-given a.count a.boxes.now a.lengths.now few good a.starts.now c.starts_of.result c.ends.result z
-    c.ends.ensures.value c.starts_of.ensures.value in record { refusal = all.0; left = all.1; day = all.2 }
+    c.ends.ensures.value c.starts_of.ensures.value in record { refusal = all.0; left = all.1.0; day = all.1.1 }

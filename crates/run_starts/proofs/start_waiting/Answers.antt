@@ -16,7 +16,7 @@ loop-left-init c =
     )
 
 pub end_taken-requires : goal.end_taken-requires
-end_taken-requires c = let pre = (c.requires.count_bound, c.requires.good_lengths, c.requires.t_le_last_tick) in record { count_bound = pre.0; i_lt_count = omega (arith, c.loop-left-test.true, c.loop-left.invariant.0); good_lengths = pre.1.0; t_le_last_tick = pre.1.1 }
+end_taken-requires c = let pre = (c.requires.count_bound, (c.requires.good_lengths, c.requires.t_le_last_tick)) in record { count_bound = pre.0; i_lt_count = omega (arith, c.loop-left-test.true, c.loop-left.invariant.0); good_lengths = pre.1.0; t_le_last_tick = pre.1.1 }
 
 pub loop-left-preserved : goal.loop-left-preserved
 loop-left-preserved c =
@@ -26,7 +26,7 @@ loop-left-preserved c =
       omega (arith, l.invariant.0),
       (
         length-set l.now (a.count - l.left) c.end_taken.result ∙ l.invariant.1.0,
-        taking-down a.count a.boxes.now a.lengths.now c.requires.good_lengths.0 a.t l.left a.ends l.now c.end_taken.result
+        taking-down a.count a.boxes.now a.lengths.now c.requires.good_lengths a.t l.left a.ends l.now c.end_taken.result
             c.requires.count_bound l.invariant.1.0 some
             l.invariant.0 c.end_taken.ensures.value l.invariant.1.1,
       ),

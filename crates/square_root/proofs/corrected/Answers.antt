@@ -14,13 +14,13 @@ above_root n zero N h = omega arith
 above_root n (suc q) N h = omega arith
 
 pub overflow_mul-square : goal.overflow_mul-square
-overflow_mul-square c = omega (arith, square-fits c.args.estimate c.requires.fact_2.1)
+overflow_mul-square c = omega (arith, square-fits c.args.estimate c.requires.fact_3)
 
 pub overflow_add-square : goal.overflow_add-square
-overflow_add-square c = omega (arith, square-fits c.args.estimate c.requires.fact_2.1)
+overflow_add-square c = omega (arith, square-fits c.args.estimate c.requires.fact_3)
 
 pub returns-then-n-square : goal.returns-then-n-square
-returns-then-n-square c = omega (arith, below_root c.args.n c.args.estimate c.requires.fact_2.0 (omega arith))
+returns-then-n-square c = omega (arith, below_root c.args.n c.args.estimate c.requires.fact_2 (omega arith))
 
 pub overflow_sub-result : goal.overflow_sub-result
 overflow_sub-result c = above_root c.args.n c.args.estimate c.requires.fact_1 c.if-n-estimate.true

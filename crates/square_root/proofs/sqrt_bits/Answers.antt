@@ -8,7 +8,7 @@ pub returns : goal.returns
 returns c =
     let w = c.widening_shift-shift.ensures in
     sqrt-bits c.args.significand c.args.exponent
-    c.widening_shift-shift.result c.nearest_root.result _ c.requires.fact_2.1 w
+    c.widening_shift-shift.result c.nearest_root.result _ c.requires.fact_3 w
     (rw (widened-exact w) at c.nearest_root.ensures) (omega arith)
 
 pub overflow_add-result : goal.overflow_add-result

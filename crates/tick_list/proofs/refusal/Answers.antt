@@ -11,8 +11,8 @@ returns-then-n c = record { value = count-refused c.args.ticks.now c.if-n.true }
 
 pub returns-then-not-rise : goal.returns-then-not-rise
 unfolding Ticks-refusal
-returns-then-not-rise c = record { value = rw (c.if-n.false, sym c.rise.ensures.value ∙ not-true _ c.if-not-rise.true) }
+returns-then-not-rise c = record { value = rw (c.if-n.false, sym c.rise.ensures.value ∙ c.if-not-rise.true) }
 
 pub returns : goal.returns
 unfolding Ticks-refusal
-returns c = record { value = rw (c.if-n.false, sym c.rise.ensures.value ∙ not-false _ c.if-not-rise.false) }
+returns c = record { value = rw (c.if-n.false, sym c.rise.ensures.value ∙ c.if-not-rise.false) }

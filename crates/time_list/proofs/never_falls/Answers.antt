@@ -18,14 +18,14 @@ pub returns-then-not-times-i : goal.returns-then-not-times-i
 returns-then-not-times-i c = record { value = let l = c.loop-i in
     let a = c.args in
     let h = c.loop-i-test.true in
-    sym (fails-here never-falls nan a.times.now l.i l.invariant.1.0 h (not-true _ c.if-not-times-i.true)) ∙ l.invariant.1.1 }
+    sym (fails-here never-falls nan a.times.now l.i l.invariant.1.0 h c.if-not-times-i.true) ∙ l.invariant.1.1 }
 
 pub loop-i-preserved : goal.loop-i-preserved
 loop-i-preserved c =
     let l = c.loop-i in
     let a = c.args in
     let h = c.loop-i-test.true in
-    (refl, (omega arith, holds-next never-falls nan a.times.now l.i l.invariant.1.0 h (not-false _ c.if-not-times-i.false) ∙ l.invariant.1.1))
+    (refl, (omega arith, holds-next never-falls nan a.times.now l.i l.invariant.1.0 h c.if-not-times-i.false ∙ l.invariant.1.1))
 
 pub returns : goal.returns
 returns c = record { value = let l = c.loop-i in

@@ -5,8 +5,8 @@ use Rattle.transform.proofs.from_moved.Goals as goal
 
 pub returns-in-Moved : goal.returns-in-Moved
 unfolding BoundsAnswer-from_moved
-returns-in-Moved c = record { value = rw (c.a-1.given.1, c.from_point.ensures.value) }
+returns-in-Moved c = record { value = rw (c.in-Moved.is, c.from_point.ensures.value) }
 
 pub returns-in-Refused : goal.returns-in-Refused
 unfolding BoundsAnswer-from_moved
-returns-in-Refused c = record { value = rw c.a-in-Refused-1.given.1 }
+returns-in-Refused c = record { value = rw c.in-Refused.is }

@@ -17,4 +17,4 @@ returns c = record { value = let a = c.args in
     let b = c.border_between-b.ensures.value ∙ λ i. Border-between n th a.from.dt (mid i) in
     let d = c.border_between-d.ensures.value ∙ λ i. Border-between n th (mid i) a.to.dt in
     (λ i. LanesBorders-from (c.ends-dt.ensures.value i) (c.ends-cos.ensures.value i) (c.ends-sin.ensures.value i))
-    ∙ λ i. LanesBorders-of (c.requires.fact_2.0 i) (b i) (m i) (d i) (c.requires.fact_2.1 i) }
+    ∙ λ i. LanesBorders-of (c.requires.fact_2 i) (b i) (m i) (d i) (c.requires.fact_3 i) }
