@@ -1,5 +1,6 @@
 // pbrt's AnimatedTransform, built from two poses: a move by translation, rotation and scale.
 #![tactic(auto)]
+
 ghost use Rattle.std.specs.Prelude.{◌≡◌};
 ghost use Rattle.animated_transform.specs.Built.{Built};
 ghost use Rattle.animated_transform.specs.New.{AnimatedTransformAnswer-refused, AnimatedTransform-from_parts};

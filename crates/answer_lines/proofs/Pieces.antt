@@ -1,13 +1,14 @@
--- Pieces that follow each other in a buffer: `all_none`, `all_cons`, `all_append`; `decimal-fewest`, the fewest decimal digits of a number are `decimal_up_to`'s.
+-- Pieces that follow each other in a buffer: `all_none`, `all_cons`, `all_append`; `digits-last` and
+-- `digits-turn`, the digits of a number from the last one on.
 use Prim.Native.Nat.{ℕ, zero, suc, ◌+◌, ◌-◌, ◌/◌, ◌%◌, ◌^◌, ◌≤◌, ◌<◌}
-use native.Mathlib.Nat.{pow-succ', one-le-pow, mod-eq_of_lt}
+use native.Mathlib.Nat.{pow-succ', mod-eq_of_lt}
 use native.Mathlib.Omega.{arith}
 use mathlib.Core.Path.{◌≡◌, refl}
 use mathlib.Core.Bool.{Bool, true, false, cond}
 use mathlib.Core.List.{List, [], ◌∷◌, ◌++◌}
-use lib.Dec.{ltb}
-use borrow.Author.Tests.{lt-ltb, ltb-true, ltb-false}
-use Rattle.io.specs.Digits.{last_digits, hex_digit_ascii, IsDigitCount}
+use Rattle.std.proofs.Common.{append_assoc}
+use lib.Dec.{eqb, ltb}
+use borrow.Author.Tests.{eq-eqb, ne_eqb, ltb-true, ltb-false}
 use Rattle.answer_lines.specs.Pieces.{put_all, behind_all, decimal_up_to}
 use Rattle.answer_lines.proofs.Put.{Puts}
 
@@ -28,38 +29,53 @@ unfolding put_all behind_all
 all_append [] us b o after at s r p q = rw (← p.0, ← p.1) q
 all_append (t ∷ ts) us b o after at s r p q = all_append ts us _ o after _ s r p q
 
-glyph_decimal : (n : ℕ) → hex_digit_ascii (n % 10) ≡ 48 + n % 10
-glyph_decimal n = rw (lt-ltb (n % 10) 10 (omega arith))
+-- the decimal digits of what stands in front of k digits, none for 0
+unfoldable pub digits_before : ℕ → ℕ → List ℕ
+digits_before k n = cond (eqb n 0) [] (decimal_up_to (k - 1) n)
 
-one-digit : (n r : ℕ) → n < 10 → IsDigitCount 10 1 n r → last_digits 10 r n ≡ (48 + n) ∷ []
-one-digit n zero h f = absurd (omega (arith, f.0))
-one-digit n (suc zero) h f = rw (glyph_decimal n, mod-eq_of_lt h)
-one-digit n (suc (suc q)) h f =
-    let e : suc (suc q) - 1 ≡ suc q = omega arith in
-    let g : 10 ^ suc q ≤ n = rw e at (f.2 (omega arith)) in
-    absurd (omega (arith, g, pow-succ' 10 q, one-le-pow q 10 (omega arith)))
+pub before_none : (k n : ℕ) → n ≤ 0 → digits_before k n ≡ []
+unfolding digits_before
+before_none k n h = rw (eq-eqb n 0 (omega arith))
 
-more-digits : (k n r : ℕ) → ((m s : ℕ) → m < 10 ^ suc k → IsDigitCount 10 1 m s → last_digits 10 s m ≡ decimal_up_to k m)
-    → 10 ≤ n → n < 10 ^ suc (suc k) → IsDigitCount 10 1 n r → last_digits 10 r n ≡ decimal_up_to k (n / 10) ++ ((48 + n % 10) ∷ [])
-more-digits k n zero ih g h f = absurd (omega (arith, f.0))
-more-digits k n (suc zero) ih g h f =
-    let b : n < 10 ^ 1 = f.1 in
-    absurd (omega (arith, b))
-more-digits k n (suc (suc q)) ih g h f =
-    let e : suc (suc q) - 1 ≡ suc q = omega arith in
-    let e₁ : suc q - 1 ≡ q = omega arith in
-    let least : 10 ^ suc q ≤ n = rw e at (f.2 (omega arith)) in
-    let below : n < 10 ^ suc (suc q) = f.1 in
-    let fewest : IsDigitCount 10 1 (n / 10) (suc q) =
-    (omega arith, omega (arith, below, pow-succ' 10 (suc q)), λ _. rw e₁ (omega (arith, least, pow-succ' 10 q))) in
-    rw (glyph_decimal n, ih (n / 10) (suc q) (omega (arith, h, pow-succ' 10 (suc k))) fewest)
+few-none : (n : ℕ) → 0 < n → n < 10 ^ 0 → ⊥
+few-none n p h =
+    let none : n < 1 = h in
+    omega arith
 
-pub decimal-fewest : (k n r : ℕ) → n < 10 ^ suc k → IsDigitCount 10 1 n r → last_digits 10 r n ≡ decimal_up_to k n
-unfolding decimal_up_to
-decimal-fewest zero n r h f = one-digit n r h f
-decimal-fewest (suc k) n r h f = go (decimal-fewest k) (ltb n 10) refl
+-- the digits of a number are its last one and those before it
+pub digits-last : (k n : ℕ) → n < 10 ^ suc k → decimal_up_to k n ≡ digits_before k (n / 10) ++ ((48 + n % 10) ∷ [])
+unfolding digits_before decimal_up_to
+digits-last zero n h =
+    let small : n < 10 = h in
+    rw (eq-eqb (n / 10) 0 (omega arith), mod-eq_of_lt small)
+digits-last (suc k) n h =
+    let one : suc k - 1 ≡ k = omega arith in
+    rw one (go (ltb n 10) refl)
   where
-    go : ((m s : ℕ) → m < 10 ^ suc k → IsDigitCount 10 1 m s → last_digits 10 s m ≡ decimal_up_to k m) → (t : Bool) → ltb n 10 ≡ t
-        → last_digits 10 r n ≡ cond t ((48 + n) ∷ []) (decimal_up_to k (n / 10) ++ ((48 + n % 10) ∷ []))
-    go ih true e = one-digit n r (ltb-true n 10 e) f
-    go ih false e = more-digits k n r ih (ltb-false n 10 e) h f
+    go : (t : Bool) → ltb n 10 ≡ t
+        → cond t ((48 + n) ∷ []) (decimal_up_to k (n / 10) ++ ((48 + n % 10) ∷ [])) ≡ cond (eqb (n / 10) 0) [] (decimal_up_to k (n / 10)) ++ ((48 + n % 10) ∷ [])
+    go true e =
+        let small : n < 10 = ltb-true n 10 e in
+        rw (eq-eqb (n / 10) 0 (omega arith), mod-eq_of_lt small)
+    go false e =
+        let large : 10 ≤ n = ltb-false n 10 e in
+        rw (ne_eqb (n / 10) 0 (λ z. omega (arith, z)))
+
+before-some : (k n : ℕ) → 0 < n → digits_before (suc k) n ≡ decimal_up_to k n
+unfolding digits_before
+before-some k n p =
+    let one : suc k - 1 ≡ k = omega arith in
+    rw (ne_eqb n 0 (λ z. omega (arith, z)), one)
+
+-- one digit more in front of those that are written; what is left has a digit fewer
+pub digits-turn : (k n : ℕ) (ds : List ℕ) → 0 < n → n < 10 ^ k → digits_before k n ++ ds ≡ digits_before (k - 1) (n / 10) ++ ((48 + n % 10) ∷ ds)
+digits-turn zero n ds p h = absurd (few-none n p h)
+digits-turn (suc k) n ds p h =
+    let one : suc k - 1 ≡ k = omega arith in
+    rw (one, before-some k n p, digits-last k n h) (append_assoc (digits_before k (n / 10)) ((48 + n % 10) ∷ []) ds)
+
+pub few-turn : (k n : ℕ) → 0 < n → n < 10 ^ k → (0 < k) × (n / 10 < 10 ^ (k - 1))
+few-turn zero n p h = absurd (few-none n p h)
+few-turn (suc k) n p h =
+    let one : suc k - 1 ≡ k = omega arith in
+    rw one (omega arith, omega (arith, pow-succ' 10 k))

@@ -1,9 +1,9 @@
 // Lines of answers: words with one space between them. A float is the eight hexadecimal digits of its bits, a whole number is decimal.
 // An answer is put piece by piece into a buffer: each piece from a place on, and the place behind it is given. A piece that has no room is left out.
 #![tactic(auto)]
-ghost use Rattle.std.specs.Prelude.{◌≡◌, ◌+◌, ◌≤◌, length, [], ◌∷◌};
+ghost use Rattle.std.specs.Prelude.{◌≡◌, ◌+◌, ◌%◌, ◌≤◌, length, [], ◌∷◌};
 ghost use Rattle.std.proofs.Math.Seq.{paste};
-ghost use Rattle.answer_lines.specs.Pieces.{put, behind, put_all, behind_all, whole_pieces, refused_pieces, spaced_floats, floats_text};
+ghost use Rattle.answer_lines.specs.Pieces.{put, behind, put_all, behind_all, decimal, whole_pieces, refused_pieces, spaced_floats, floats_text};
 
 // Puts a text into `out` from `at` on and gives the place behind it; where it has no room, `out` stays and the place is `at`. Accuracy: exact.
 pub fn put_text(text: &[u8], out: &mut [u8], at: usize) -> usize
@@ -55,15 +55,38 @@ fn put_float(x: f32, out: &mut [u8], at: usize)
     hexadecimal::write_word(hexadecimal::bits_of_float(x), out, at + 1);
 }
 
+// Puts a whole number in decimal. Accuracy: exact.
+pub fn put_digits(n: u64, out: &mut [u8], at: usize) -> usize
+    ensures value { result ≡ behind (decimal n) out.old at }
+    ensures left { out.new ≡ put (decimal n) out.old at }
+{
+    // No number has more digits.
+    let mut digits = [b'0'; 20];
+    let mut start = 19;
+    digits[start] = last_digit(n);
+    let mut rest = n / 10;
+    while 0 < rest {
+        start -= 1;
+        digits[start] = last_digit(rest);
+        rest /= 10;
+    }
+    put_text(&digits[start..], out, at)
+}
+
+// The last decimal digit of a number.
+fn last_digit(n: u64) -> u8
+    ensures { result ≡ 48 + n % 10 }
+{
+    48 + (n % 10) as u8
+}
+
 // Puts a space and a whole number in decimal. Accuracy: exact.
 pub fn put_decimal(n: u64, out: &mut [u8], at: usize) -> usize
     ensures value { result ≡ behind_all (whole_pieces n) out.old at }
     ensures left { out.new ≡ put_all (whole_pieces n) out.old at }
 {
-    let mut digits = [0u8; 20];
-    let size = io::decimal(n, &mut digits);
     let start = put_text(b" ", out, at);
-    put_text(&digits[..size], out, start)
+    put_digits(n, out, start)
 }
 
 // Puts the line that answers a refused question. Accuracy: exact.

@@ -3,3 +3,4 @@ pub mod Examined
 pub mod Kept
 pub mod Chains
 pub mod Files
+pub mod Words

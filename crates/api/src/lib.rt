@@ -42,7 +42,7 @@ ghost use Rattle.chain_covers.specs.Kept.{Moves-covers, SetAnswer-covers_left, S
 ghost use Rattle.chain_covers.specs.Theorem.{KeptSetContainsMotion};
 ghost use Rattle.chain_covers.specs.Finer.{KeptSetFiner};
 ghost use Rattle.motion_file.specs.Layout.{MoveFile-read, MoveFile-poses};
-ghost use Rattle.motion_file.specs.Front.{front as posesFront};
+ghost use Rattle.motion_file.specs.Front.{front as poses_front};
 ghost use Rattle.chain_text.specs.Write.{TextAnswer-refusal, TextAnswer-length, TextAnswer-left};
 ghost use Rattle.chain_text.specs.Theorem.{WrittenBack};
 ghost use Rattle.run_schedule.specs.Day.{day_refusal};
@@ -59,13 +59,13 @@ ghost use Rattle.api.specs.Examined.{MotionBoundsAnswer-left, MotionBoundsAnswer
 ghost use Rattle.api.specs.Kept.{KeptCoverContainsMotion, KeptCoverFiner, KeptCover, KeptWindowCover};
 
 use animated_transform::AnimatedTransform;
-use chain_held::ChainHeld;
-use chain_text::Written;
+pub use chain_held::ChainHeld;
+pub use chain_text::Written;
 use motion_bounds::MotionBoundsAnswer;
-use reached_rows::Reached;
-use refused_run::Run;
-use window_pairs::Windows;
-use window_times::Window;
+pub use reached_rows::Reached;
+pub use refused_run::Run;
+pub use window_pairs::Windows;
+pub use window_times::Window;
 
 // Puts a motion box and its counts into two lent arrays, or after a refusal nothing, and gives the refusal's number, 0 for none.
 fn put_motion_bounds(
@@ -90,8 +90,7 @@ fn put_motion_bounds(
 // Builds a move from two poses, each 18 floats: a time, a matrix row by row and a pad; a rigid one has the identity for its scale. Refused with 1 to 5 or
 // 16, and a rigid one with 17 or 18.
 // Accuracy: each operation but the arc cosine is correctly rounded.
-#[unsafe(no_mangle)]
-pub extern "C" fn jellyplain_build(
+pub fn jellyplain_build(
     rigid: bool,
     start: &[f32; 18],
     end: &[f32; 18],
@@ -108,8 +107,7 @@ pub extern "C" fn jellyplain_build(
 }
 
 // Where a point stands at a time. Refused with 5 or 6. Accuracy: each operation but sine and cosine is correctly rounded.
-#[unsafe(no_mangle)]
-pub extern "C" fn jellyplain_point(
+pub fn jellyplain_point(
     motion: &[[f32; 4]; 45],
     time: f32,
     p: &[f32; 3],
@@ -128,8 +126,7 @@ pub extern "C" fn jellyplain_point(
 
 // The pad at a time: between the times of a move lerp of its two pads, before and after them that pose's own, and the larger throughout where the poses are
 // equal. Refused with 5 or 6. Accuracy: each operation is correctly rounded.
-#[unsafe(no_mangle)]
-pub extern "C" fn jellyplain_pad(motion: &[[f32; 4]; 45], time: f32, pad: &mut [f32; 1]) -> u8
+pub fn jellyplain_pad(motion: &[[f32; 4]; 45], time: f32, pad: &mut [f32; 1]) -> u8
     ensures refusal { result ≡ PadAnswer-refusal (Rows-pad motion.now time) }
     ensures left { pad.new ≡ PadAnswer-left (Rows-pad motion.now time) pad.old }
     ensures built { (m : AnimatedTransform) → motion.now ≡ AnimatedTransform-to_rows m
@@ -140,8 +137,7 @@ pub extern "C" fn jellyplain_pad(motion: &[[f32; 4]; 45], time: f32, pad: &mut [
 
 // The transform at a time: the rows of its matrix, and then those of its inverse. Refused with 4, 5 or 6.
 // Accuracy: each operation but sine and cosine is correctly rounded.
-#[unsafe(no_mangle)]
-pub extern "C" fn jellyplain_interpolate(
+pub fn jellyplain_interpolate(
     motion: &[[f32; 4]; 45],
     time: f32,
     transform: &mut [[f32; 4]; 8],
@@ -155,8 +151,7 @@ pub extern "C" fn jellyplain_interpolate(
 }
 
 // pbrt's motion box of a point: no cover; how many intervals its search examined on x, y and z, each at most 511. Refused with 5, 6 or 9. Accuracy: heuristic.
-#[unsafe(no_mangle)]
-pub extern "C" fn jellyplain_bound_point_motion(
+pub fn jellyplain_bound_point_motion(
     motion: &[[f32; 4]; 45],
     p: &[f32; 3],
     bounds: &mut [f32; 6],
@@ -176,8 +171,7 @@ pub extern "C" fn jellyplain_bound_point_motion(
 
 // pbrt's motion box of the box b: no cover; how many intervals were examined on x, y and z, over its eight corners.
 // Refused with 5, 6, 7 or 9. Accuracy: heuristic.
-#[unsafe(no_mangle)]
-pub extern "C" fn jellyplain_motion_bounds(
+pub fn jellyplain_motion_bounds(
     motion: &[[f32; 4]; 45],
     b: &[f32; 6],
     bounds: &mut [f32; 6],
@@ -197,8 +191,7 @@ pub extern "C" fn jellyplain_motion_bounds(
 
 // A box that holds the box b at every time, from 2^depth slices; where 0 is returned it stands in `bounds`. Refused with 5, 6, 7, 8 or 10.
 // Accuracy: encloses.
-#[unsafe(no_mangle)]
-pub extern "C" fn jellyplain_cover(
+pub fn jellyplain_cover(
     motion: &[[f32; 4]; 45],
     b: &[f32; 6],
     depth: u32,
@@ -221,16 +214,14 @@ pub extern "C" fn jellyplain_cover(
 
 // The number of the layout in which poses, moves and chains cross: 18 floats, 45 rows with the move's kind, up to 31 blocks.
 // It changes where one of them does, so that a caller built against another layout is told. Accuracy: exact.
-#[unsafe(no_mangle)]
-pub extern "C" fn jellyplain_layout() -> u32
+pub fn jellyplain_layout() -> u32
     ensures value { result ≡ layout_number }
 {
     3
 }
 
 // The library's version, 10000 * major + 100 * minor + patch: now 2.0.0. A caller tells by it which functions there are. Accuracy: exact.
-#[unsafe(no_mangle)]
-pub extern "C" fn jellyplain_version() -> u32
+pub fn jellyplain_version() -> u32
     ensures value { result ≡ version_number }
 {
     20000
@@ -239,8 +230,7 @@ pub extern "C" fn jellyplain_version() -> u32
 // Builds a chain from 2 to 32 poses; the rows of its moves, one fewer than poses, then stand in the front blocks; a rigid one's moves are rigid.
 // Refused with 1, 2, 16, 12 or 3, a rigid one then with 17 or 18, pose by pose, then with 4 or 5.
 // Accuracy: each operation but the arc cosine is correctly rounded.
-#[unsafe(no_mangle)]
-pub extern "C" fn jellyplain_build_moves(
+pub fn jellyplain_build_moves(
     rigid: bool,
     poses: &[[f32; 18]],
     moves: &mut [[[f32; 4]; 45]; 31],
@@ -256,8 +246,7 @@ pub extern "C" fn jellyplain_build_moves(
 // Makes one chain of two, with the pose that they share once; the rows of the first's moves and then of the second's stand in the front blocks.
 // Refused with 12 where either is no chain, then with 20 where the last pose of the first and the first of the second differ in a bit, or the
 // chains in their kind, then with 12 for more than 32 poses or times that don't rise strictly, as in blocks of a move by itself. Accuracy: exact.
-#[unsafe(no_mangle)]
-pub extern "C" fn jellyplain_moves_join(
+pub fn jellyplain_moves_join(
     first: &[[[f32; 4]; 45]],
     second: &[[[f32; 4]; 45]],
     moves: &mut [[[f32; 4]; 45]; 31],
@@ -272,8 +261,7 @@ pub extern "C" fn jellyplain_moves_join(
 
 // The shortest run of neighbouring poses that is refused with the number of their chain, the leftmost among equals: its first place,
 // from 0, and its length, 1 or 2; 0 and 0 where the chain is accepted. Refused with 12 where the chain is. Accuracy: exact.
-#[unsafe(no_mangle)]
-pub extern "C" fn jellyplain_refused_run(rigid: bool, poses: &[[f32; 18]]) -> Run
+pub fn jellyplain_refused_run(rigid: bool, poses: &[[f32; 18]]) -> Run
     ensures value { result ≡ shortest_run rigid (Poses-of_lists poses.now) }
     ensures shortest { ShortestRefused rigid (Poses-of_lists poses.now) result }
 {
@@ -282,8 +270,7 @@ pub extern "C" fn jellyplain_refused_run(rigid: bool, poses: &[[f32; 18]]) -> Ru
 
 // Where a point stands at a time of a chain. Refused with 5 or 6, and with 12 where they are no chain.
 // Accuracy: each operation but sine and cosine is correctly rounded.
-#[unsafe(no_mangle)]
-pub extern "C" fn jellyplain_moves_point(
+pub fn jellyplain_moves_point(
     moves: &[[[f32; 4]; 45]],
     time: f32,
     p: &[f32; 3],
@@ -304,8 +291,7 @@ pub extern "C" fn jellyplain_moves_point(
 
 // The pad at a time of a chain, that of the move to which the time belongs. Refused with 5 or 6, and with 12 where they are no chain.
 // Accuracy: each operation is correctly rounded.
-#[unsafe(no_mangle)]
-pub extern "C" fn jellyplain_moves_pad(
+pub fn jellyplain_moves_pad(
     moves: &[[[f32; 4]; 45]],
     time: f32,
     pad: &mut [f32; 1],
@@ -320,8 +306,7 @@ pub extern "C" fn jellyplain_moves_pad(
 // The transform at a time of a chain, that of the move to which the time belongs: the rows of its matrix, and then those of its inverse. Where it is answered,
 // it moves a point as the point query does. Refused with 4, 5 or 6, and with 12 where they are no chain.
 // Accuracy: each operation but sine and cosine is correctly rounded.
-#[unsafe(no_mangle)]
-pub extern "C" fn jellyplain_moves_interpolate(
+pub fn jellyplain_moves_interpolate(
     moves: &[[[f32; 4]; 45]],
     time: f32,
     transform: &mut [[f32; 4]; 8],
@@ -338,8 +323,7 @@ pub extern "C" fn jellyplain_moves_interpolate(
 }
 
 // How many poses a chain has, the times of its first and its last, and its kind. Refused with 12 where they are no chain. Accuracy: exact.
-#[unsafe(no_mangle)]
-pub extern "C" fn jellyplain_moves_held(moves: &[[[f32; 4]; 45]]) -> ChainHeld
+pub fn jellyplain_moves_held(moves: &[[[f32; 4]; 45]]) -> ChainHeld
     ensures value { result ≡ Moves-held (Moves-asked moves.now) }
     ensures as_set { HeldAsSet (Moves-asked moves.now) result }
 {
@@ -348,8 +332,7 @@ pub extern "C" fn jellyplain_moves_held(moves: &[[[f32; 4]; 45]]) -> ChainHeld
 
 // The pose of a chain at a place, counted from 0, as it was set: 18 floats. Refused with 12 where they are no chain, then with 19 for a place beyond the last
 // pose. Accuracy: exact.
-#[unsafe(no_mangle)]
-pub extern "C" fn jellyplain_moves_pose(
+pub fn jellyplain_moves_pose(
     moves: &[[[f32; 4]; 45]],
     place: usize,
     pose: &mut [f32; 18],
@@ -363,8 +346,7 @@ pub extern "C" fn jellyplain_moves_pose(
 
 // Where a point stands at each time of a list that never falls, three places a time. Refused with 6, 13 or 5, and with 12 where they are no chain.
 // Accuracy: each operation but sine and cosine is correctly rounded.
-#[unsafe(no_mangle)]
-pub extern "C" fn jellyplain_moves_points(
+pub fn jellyplain_moves_points(
     moves: &[[[f32; 4]; 45]],
     times: &[f32],
     p: &[f32; 3],
@@ -387,8 +369,7 @@ pub extern "C" fn jellyplain_moves_points(
 
 // A box that holds the box b at every time of a chain, from 2^depth slices of each move; where 0 is returned it stands in `bounds`. Refused with 5, 6, 7, 8 or
 // 10, and with 12 where they are no chain. Accuracy: encloses.
-#[unsafe(no_mangle)]
-pub extern "C" fn jellyplain_moves_cover(
+pub fn jellyplain_moves_cover(
     moves: &[[[f32; 4]; 45]],
     b: &[f32; 6],
     depth: u32,
@@ -411,8 +392,7 @@ pub extern "C" fn jellyplain_moves_cover(
 // Places count from 0. Refused with 19 for a place beyond the last pose, then as the changed chain is: 1, 2, 16, 12, 3,
 // of a rigid one 17 and 18, then 4 or 5; then with 6, 7 or 8, then with 5 or 10.
 // The chain is as it was. Accuracy: encloses.
-#[unsafe(no_mangle)]
-pub extern "C" fn jellyplain_moves_try(
+pub fn jellyplain_moves_try(
     moves: &[[[f32; 4]; 45]],
     place: usize,
     pose: &[f32; 18],
@@ -436,8 +416,7 @@ pub extern "C" fn jellyplain_moves_try(
 
 // Boxes that hold 1 to 16 boxes at every time of a chain, each in a place of its own, and their union; unused places are +0. Refused with 14,
 // then with 5, 6, 7, 8 or 10 of the first refused box in order, and with 12 where they are no chain. Accuracy: encloses.
-#[unsafe(no_mangle)]
-pub extern "C" fn jellyplain_moves_covers(
+pub fn jellyplain_moves_covers(
     moves: &[[[f32; 4]; 45]],
     boxes: &[[f32; 6]],
     depth: u32,
@@ -463,15 +442,14 @@ pub struct FileRead {
 
 // The poses that a move file's bytes hold, in the front places, and its box. Refused with 11 where the bytes depart from the layout; poses and box then stay.
 // Whether the poses are a chain's, and the box a query's, is asked where they are handed in. Accuracy: exact; every pattern of a NaN gives NaN.
-#[unsafe(no_mangle)]
-pub extern "C" fn jellyplain_read_file(
+pub fn jellyplain_read_file(
     bytes: &[u8],
     poses: &mut [[f32; 18]; 559],
     bounds: &mut [f32; 6],
 ) -> FileRead
     ensures count { result.count ≡ (MoveFile-read bytes.now).count }
     ensures refusal { result.refusal ≡ (MoveFile-read bytes.now).refusal }
-    ensures poses { poses.new ≡ posesFront (MoveFile-poses bytes.now) poses.old }
+    ensures poses { poses.new ≡ poses_front (MoveFile-poses bytes.now) poses.old }
     ensures bounds { bounds.new ≡ MoveFile-bounds_left (MoveFile-read bytes.now) bounds.old }
 {
     let file = file_reader::read(bytes, poses);
@@ -486,8 +464,7 @@ pub extern "C" fn jellyplain_read_file(
 
 // The poses of a chain and the box b as a move file, in the front bytes; those behind it stay. Gives the length of the text. Refused with 6 or 7,
 // then with 15 where the bytes are too few, and with 12 where they are no chain; all bytes then stay. Accuracy: exact.
-#[unsafe(no_mangle)]
-pub extern "C" fn jellyplain_write_file(
+pub fn jellyplain_write_file(
     moves: &[[[f32; 4]; 45]],
     b: &[f32; 6],
     out: &mut [u8],
@@ -504,8 +481,7 @@ pub extern "C" fn jellyplain_write_file(
 
 // A box that holds the box b at every time of a window of a chain, from one tick to a later one, both included.
 // Refused with 21, then 6, 7 or 8, then 5 or 10, and with 12 where they are no chain. Accuracy: encloses.
-#[unsafe(no_mangle)]
-pub extern "C" fn jellyplain_moves_window_cover(
+pub fn jellyplain_moves_window_cover(
     moves: &[[[f32; 4]; 45]],
     b: &[f32; 6],
     depth: u32,
@@ -532,8 +508,7 @@ pub extern "C" fn jellyplain_moves_window_cover(
 
 // Puts the windows between neighbouring ticks, counted from 0, in which the covers of two chains meet into the first places, 0 into the others, and gives
 // how many there are. Refused with 21 of the ticks, 6 and 7 of each box, 8, then 5 or 10, and with 12 where either is no chain. Accuracy: encloses.
-#[unsafe(no_mangle)]
-pub extern "C" fn jellyplain_moves_windows(
+pub fn jellyplain_moves_windows(
     moves: &[[[f32; 4]; 45]],
     others: &[[[f32; 4]; 45]],
     b: &[f32; 6],
@@ -569,8 +544,7 @@ pub extern "C" fn jellyplain_moves_windows(
 // The starting tick of each of 1 to 8 booms in list order, a box and a run length of 1 to 1,000 ticks each;
 // unused places are 0. No two that run have boxes that meet, and each starts no later than the sum of the
 // others' run lengths. Refused with 22, then with 6 or 7 of the first refused box in order. Accuracy: exact.
-#[unsafe(no_mangle)]
-pub extern "C" fn jellyplain_day(
+pub fn jellyplain_day(
     boxes: &[[f32; 6]; 8],
     lengths: &[u32; 8],
     count: usize,
@@ -586,8 +560,7 @@ pub extern "C" fn jellyplain_day(
 // Puts the places, counted from 0, of the rows that a cover meets, touching included, into the first places, 0 into the others, and gives how many there are.
 // Each of 1 to 256 rows is a box. A row that is not named holds no padded point of a boom whose cover this is. Refused with 14 for no rows or more than 256,
 // then with 6 or 7 of the cover, then with 6 or 7 of the first refused row in order. Accuracy: exact.
-#[unsafe(no_mangle)]
-pub extern "C" fn jellyplain_reached_rows(
+pub fn jellyplain_reached_rows(
     cover: &[f32; 6],
     rows: &[[f32; 6]],
     places: &mut [u32; 256],
@@ -606,8 +579,7 @@ pub extern "C" fn jellyplain_reached_rows(
 
 // Puts the n parts of a box, 1 to 16, along its longest axis into the first places; those behind them stay as they came. Each part lies in the box, and every point
 // of the box is inside one. Refused with 14 for no parts or more than 16, then with 6 and 7 of the box. Accuracy: each operation is correctly rounded.
-#[unsafe(no_mangle)]
-pub extern "C" fn jellyplain_cut(b: &[f32; 6], n: u32, parts: &mut [[f32; 6]; 16]) -> u8
+pub fn jellyplain_cut(b: &[f32; 6], n: u32, parts: &mut [[f32; 6]; 16]) -> u8
     ensures refusal { result ≡ cut_refusal (Bounds3f-of_list b.now) n }
     ensures left { parts.new ≡ Bounds3f-cut (Bounds3f-of_list b.now) n parts.old }
     ensures parts_within { result ≡ 0 → PartsWithin (Bounds3f-of_list b.now) n parts.new }
@@ -620,8 +592,7 @@ pub extern "C" fn jellyplain_cut(b: &[f32; 6], n: u32, parts: &mut [[f32; 6]; 16
 // the boxes whose union is the window's cover, for one of 1 to 16 boxes, meets it, touching included. Places behind the rows' stay as they came. In a window in
 // which a row isn't named no padded point of the boom is in it. Refused with 12 for no chain, 14 for no boxes or more than 16, 14 for no rows or more than 256, 21
 // of the ticks, 6 and 7 of the boxes, 6 and 7 of the rows, 8, then window by window and box by box with the number of that window's cover. Accuracy: encloses.
-#[unsafe(no_mangle)]
-pub extern "C" fn jellyplain_moves_reach(
+pub fn jellyplain_moves_reach(
     moves: &[[[f32; 4]; 45]],
     boxes: &[[f32; 6]],
     depth: u32,

@@ -1,6 +1,7 @@
 // The derivative of a moved point by time along one axis: a sum of five terms, pbrt's c1 to c5, each an affine function of the point.
 // The formulas are those of derivative_x, derivative_y and derivative_z, at the three columns of the two scale matrices.
 #![tactic(auto)]
+
 ghost use Rattle.std.specs.Prelude.{◌≡◌};
 ghost use Rattle.matrix4x4.specs.Rows.{row};
 ghost use Rattle.derivative_x.specs.Terms.{c1x, c2x, c3x, c4x, c5x};

@@ -1,5 +1,6 @@
 // Whether two answered boxes meet, or the first refusal of the two.
 #![tactic(auto)]
+
 ghost use Rattle.std.specs.Prelude.{◌≡◌};
 ghost use Rattle.transform.specs.Answer.{BoundsAnswer-refusal, BoundsAnswer-bounds};
 ghost use Rattle.bounds_meeting.specs.Meeting.{Meeting-of};

@@ -1,6 +1,7 @@
 // Queries about a box: what is asked of the box and of the depth of a cover, unions of two answers, of which the first refusal stands, and the sign of an
 // answer's zeros.
 #![tactic(auto)]
+
 ghost use Rattle.std.specs.Prelude.{◌≡◌};
 ghost use Rattle.bounds_query.specs.Query.{Bounds3f-is_ordered, Bounds3f-refusal, cover_refusal, BoundsAnswer-union_bounds};
 ghost use Rattle.bounds_query.specs.Zeros.{Point3f-positive_zeros, BoundsAnswer-positive_zeros};

@@ -46,7 +46,7 @@ fn boom_end(line: &[u8], at: usize) -> usize
     if line.len() - at <= 55 {
         return line.len();
     }
-    bytes::scan::find(line, at + 55, line.len(), b' ')
+    question_lines::find(line, at + 55, b' ')
 }
 
 // Whether a text is the words of a boom, which then stands at its place. Of more than 8 booms none but the first are kept: their number is refused.

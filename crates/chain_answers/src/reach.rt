@@ -24,7 +24,7 @@ fn read_whole(line: &[u8], at: usize) -> Whole {
             end: usize::MAX,
         };
     }
-    let end = bytes::scan::find(line, at + 1, line.len(), b' ');
+    let end = question_lines::find(line, at + 1, b' ');
     match question_lines::read_decimal(part(line, at + 1, end)) {
         Decimal::Value(value) => Whole { value, end },
         Decimal::Malformed => Whole {

@@ -1,5 +1,6 @@
 // The coefficient set: pbrt's c1 to c5 on each axis, the derivative of a moved point by time.
 #![tactic(auto)]
+
 ghost use Rattle.std.specs.Prelude.{◌≡◌};
 ghost use Rattle.coefficients.specs.Coefficients.{Coefficients-new, Coefficients-zero};
 ghost use Rattle.coefficients.specs.IsFinite.{Coefficients-is_finite};

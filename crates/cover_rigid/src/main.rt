@@ -2,15 +2,19 @@
 // cover or the refusal.
 // One byte more than a file may have is read, so that a longer file is refused.
 #![tactic(auto)]
-fn main() {
+
+use std::process::ExitCode;
+
+fn main(rt: HostRuntime) -> ExitCode {
     let mut input = [0u8; 65537];
-    let read = standard_streams::read(&mut input);
-    if read.failed {
-        standard_streams::say_unread();
-        return;
-    }
-    let n = read.count;
+    let Ok(n) = standard_streams::read(&mut rt.stdin(), &mut input) else {
+        let _ = standard_streams::say_unread(&mut rt.stderr());
+        return ExitCode::FAILURE;
+    };
     let mut out = [0u8; 72];
     let written = motion_answer::answer(true, &input[..n], &mut out);
-    standard_streams::write(&out[..written]);
+    match standard_streams::write(&mut rt.stdout(), &mut rt.stderr(), &out[..written]) {
+        Ok(()) => ExitCode::SUCCESS,
+        Err(_) => ExitCode::FAILURE,
+    }
 }

@@ -1,5 +1,6 @@
 // A box in parts along its longest axis.
 #![tactic(auto)]
+
 ghost use Rattle.std.specs.Prelude.{ℕ, suc, ◌≤◌, ◌<◌, ◌≡◌, length};
 ghost use Rattle.lent_laws.specs.Front.{in_front};
 ghost use Rattle.cut_laws.specs.Theorem.{PartsWithin, PartsCover};

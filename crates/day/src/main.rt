@@ -7,31 +7,24 @@ ghost use Rattle.std.specs.Prelude.{◌≤◌, ◌<◌, length};
 
 use answer_lines::put_text;
 use hexadecimal::Word;
-use question_lines::{Decimal, part};
+use question_lines::{Decimal, find, part, same};
+use std::process::ExitCode;
 
 // What departs from the layout has no number of booms.
 const DEPARTS: usize = usize::MAX;
 
-fn main() {
+fn main(rt: HostRuntime) -> ExitCode {
     let mut input = [0u8; 65537];
-    let read = standard_streams::read(&mut input);
-    if read.failed {
-        standard_streams::say_unread();
-        return;
-    }
-    let n = read.count;
+    let Ok(n) = standard_streams::read(&mut rt.stdin(), &mut input) else {
+        let _ = standard_streams::say_unread(&mut rt.stderr());
+        return ExitCode::FAILURE;
+    };
     let mut out = [0u8; 256];
-    answer(&input[..n], &mut out);
-}
-
-fn answer(text: &[u8], out: &mut [u8; 256]) {
-    let written = put_answer(text, out);
-    send(out, written);
-}
-
-// Writes the first bytes of a text to standard output.
-fn send(text: &[u8], size: usize) {
-    standard_streams::write(part(text, 0, size));
+    let written = put_answer(&input[..n], &mut out);
+    match standard_streams::write(&mut rt.stdout(), &mut rt.stderr(), part(&out, 0, written)) {
+        Ok(()) => ExitCode::SUCCESS,
+        Err(_) => ExitCode::FAILURE,
+    }
 }
 
 // The text that answers a file: a line of the name `start` and a line for each boom, or the line `refused` and one with the number.
@@ -72,9 +65,7 @@ fn put_start(n: u32, is_boom: bool, out: &mut [u8; 256], at: usize) -> usize {
     if !is_boom {
         return at;
     }
-    let mut digits = [0u8; 20];
-    let size = io::decimal(n as u64, &mut digits);
-    let end = put_text(&digits[..size], out, at);
+    let end = answer_lines::put_digits(n as u64, out, at);
     put_text(b"\n", out, end)
 }
 
@@ -83,11 +74,11 @@ fn read_booms(text: &[u8], boxes: &mut [[f32; 6]; 8], lengths: &mut [u32; 8]) ->
     if 65536 < text.len() {
         return DEPARTS;
     }
-    let names = bytes::scan::find(text, 0, text.len(), b'\n');
+    let names = find(text, 0, b'\n');
     if names == text.len() {
         return DEPARTS;
     }
-    if check::same(part(text, 0, names), b"x0 y0 z0 x1 y1 z1 ticks") {
+    if same(part(text, 0, names), b"x0 y0 z0 x1 y1 z1 ticks") {
         return read_lines(text, names + 1, boxes, lengths);
     }
     DEPARTS
@@ -103,7 +94,7 @@ fn read_lines(
     let mut count = 0;
     let mut at = start;
     while at < text.len() {
-        let end = bytes::scan::find(text, at, text.len(), b'\n');
+        let end = find(text, at, b'\n');
         if end == text.len() {
             return DEPARTS;
         }

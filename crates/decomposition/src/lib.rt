@@ -1,6 +1,7 @@
 // pbrt's `AnimatedTransform::decompose`: a matrix as a translation, a rotation and a scale.
 // The rotation is where the polar rounds end, the scale what is left of the matrix.
 #![tactic(auto)]
+
 ghost use Rattle.std.specs.Prelude.{◌≡◌};
 ghost use Rattle.decomposition.specs.Decompose.{Decomposition-refused, Decomposition-judged, scale_by, parts, Matrix4x4-decompose};
 

@@ -1,5 +1,6 @@
 // The share of a move's dt that a window of times has. Its pieces are definitions and laws alone: see specs/ and proofs/.
 #![tactic(auto)]
+
 ghost use Rattle.std.specs.Prelude.{◌≡◌};
 ghost use Rattle.dt_share.specs.Share.{limited, share};
 

@@ -1,5 +1,6 @@
 // A formula from end to end: one text, its float code and its interval code, and the promise that the second encloses the first.
 #![tactic(auto)]
+
 ghost use Rattle.std.specs.Prelude.{◌≡◌};
 ghost use Rattle.formula_example.specs.Normalize.{Vector2-normalize, Vector2-normalize_enclosure, EnclosesNormalized};
 

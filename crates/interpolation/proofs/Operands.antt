@@ -133,6 +133,7 @@ quaternion-finite q h =
 -- ---- the composition
 taken : (b : Bool) (x y : TransformAnswer) → T b → cond b x y ≡ x
 taken true x y h = refl
+taken false x y h = elim h [ ]
 
 module _ (trans : Vector3f) (rotate : Quaternion) (scale : Rows) (z : (Transform-from_matrix scale).refusal ≡ 0)
     (h : T (Transform-is_finite (last_product trans rotate scale))) where
@@ -174,6 +175,7 @@ composed-tested trans rotate scale n last number same test =
 
         bool-true : (x : Bool) → T x → x ≡ true
         bool-true true t = refl
+        bool-true false t = elim t [ ]
 
     passed : (eqb n 0 ≡ true) × T (Transform-is_finite last)
     passed = both_true (eqb n 0) (Transform-is_finite last) test

@@ -1,6 +1,7 @@
 // Closed intervals of 32-bit floats. `Interval` has pbrt's own operations, with which the zero search bounds a function's range. `Judged` has those of document
 // 01's cover: an interval is judged as it is formed, and each operation takes the refusal number met before it, m, and hands the first number on.
 #![tactic(auto)]
+
 ghost use Rattle.std.specs.Prelude.{◌≡◌};
 ghost use Rattle.trig.specs.SinCos.{sin, cos};
 ghost use Rattle.trig.specs.Range.{lies};

@@ -2,6 +2,7 @@
 // compared: where the operands of a product are finite, it is the product of `interval`. One test of what comes out may then stand for judging every interval
 // on the way.
 #![tactic(auto)]
+
 ghost use Rattle.std.specs.Prelude.{◌≡◌};
 ghost use Rattle.interval.specs.Enclosure.{Interval-add_enclosure, Interval-sub_enclosure, Interval-sqrt_enclosure};
 ghost use Rattle.interval_unjudged.specs.means.Ordered.{lesser, greater, Interval-of_four_ordered};

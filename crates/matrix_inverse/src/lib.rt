@@ -1,5 +1,6 @@
 // The inverse of a 4x4 matrix: pbrt's Gauss-Jordan elimination with full pivoting, in its order of operations.
 #![tactic(auto)]
+
 ghost use Rattle.std.specs.Prelude.{◌≡◌, ◌<◌};
 ghost use Rattle.matrix_inverse.specs.Pivot.{consider, search_row, Pivot-search};
 ghost use Rattle.matrix_inverse.specs.Eliminate.{swap_rows, replace, scale_row, clear_row, clear_at, eliminate};

@@ -1,5 +1,6 @@
 // pbrt's `From<Transform> for Quaternion`: the quaternion of a rotation's matrix. Nothing is refused here: each function is stated for all arguments.
 #![tactic(auto)]
+
 ghost use Rattle.std.specs.Prelude.{◌≡◌, ◌<◌};
 ghost use Rattle.matrix_quaternion.specs.FromMatrix.{from_trace, largest, nxt, half_over, from_largest, Quaternion-from_matrix, Quaternion-from_transform};
 

@@ -1,5 +1,6 @@
 // The pad of a move over an interval of dt, and a box grown by it: document 02's 'Pads for the spray'.
 #![tactic(auto)]
+
 ghost use Rattle.std.specs.Prelude.{◌≡◌};
 ghost use Rattle.transform.specs.declared.BoundsAnswer.TheVariants.{Bounds};
 ghost use Rattle.motion_pad.specs.Pad.{Pad-enclose, Pad-stored, Pad-start};

@@ -1,5 +1,6 @@
 // A pose, and what the building of a move asks of two of them before it computes anything; what a rigid one asks of each.
 #![tactic(auto)]
+
 ghost use Rattle.std.specs.Prelude.{◌≡◌};
 ghost use Rattle.pose_pair.specs.Pose.{Pose-is_finite, Pose-is_affine, Pose-is_padded, times_refusal, poses_refusal, Pose-kind_number};
 

@@ -1,6 +1,7 @@
 // pbrt's Quaternion: a vector and a scalar, which rotates where its length is 1. Nothing is refused here: each function is stated for all arguments, NaN and
 // infinities included, and the functions that build and that answer queries judge what comes out.
 #![tactic(auto)]
+
 ghost use Rattle.std.specs.Prelude.{◌≡◌};
 ghost use Rattle.quaternion.specs.Quaternion.{Quaternion-dot, Quaternion-normalize, Quaternion-add};
 ghost use Rattle.quaternion.specs.Quaternion.{Quaternion-sub, Quaternion-neg, Quaternion-mul, Quaternion-div};

@@ -1,3 +1,4 @@
+pub mod Found
 pub mod Kept
 pub mod Decimals
 pub mod HeldNumbers

@@ -10,32 +10,11 @@ use lib.Dec.{eqb, leb}
 use lib.ListN.{length, take, drop, length-drop}
 use lib.Seq.{take_all, take-length, drop-drop}
 use borrow.Author.Tests.{le-leb, lt-leb, eq-eqb, ne_eqb, eqb-true, eqb-false}
-use Rattle.bytes.specs.Bytes.{index_of, index_after, slice}
 use Rattle.hexadecimal.specs.Digit.{position}
 use Rattle.hexadecimal.proofs.Digits.{position-bound}
 use Rattle.motion_file.specs.Text.{space, split, equal}
 use Rattle.motion_file.proofs.Pieces.{split-cut, split-whole}
 use Rattle.question_lines.specs.Words.{position_in, Words-position}
-
-eqb_comm : (a b : ℕ) → eqb a b ≡ eqb b a
-eqb_comm a b = go (eqb b a) refl
-  where
-    go : (t : Bool) → eqb b a ≡ t → eqb a b ≡ t
-    go true e = eq-eqb a b (sym (eqb-true b a e))
-    go false e = ne_eqb a b (λ p. eqb-false b a e (sym p))
-
-index-position : (b : ℕ) (s : List ℕ) → index_of b s ≡ position b s
-unfolding index_of index_after position
-index-position b [] = refl
-index-position b (c ∷ s) = rw (eqb_comm c b, index-position b s) (go (eqb b c))
-  where
-    go : (t : Bool) → index_after t (position b s) ≡ cond t 0 (suc (position b s))
-    go true = refl
-    go false = refl
-
-pub found : (b at : ℕ) (list : List ℕ) → index_of b (slice at (length list) list) ≡ position b (drop at list)
-unfolding slice
-found b at list = rw (take-length list) (index-position b (drop at list))
 
 equal-refl : (a : List ℕ) → equal a a ≡ true
 unfolding equal
@@ -52,11 +31,11 @@ equal-true (x ∷ a) (y ∷ b) e =
     rw (eqb-true x y both.0, equal-true a b both.1)
 
 -- a comparison of two texts
-pub equal-same : (a b : List ℕ) (r : Bool) → (r ≡ true → a ≡ b) × (a ≡ b → r ≡ true) → equal a b ≡ r
-equal-same a b true h = rw (h.0 refl) (equal-refl b)
+pub equal-same : (a b : List ℕ) (r : Bool) → (r ≡ true → a ≡ b) × (a ≡ b → r ≡ true) → r ≡ equal a b
+equal-same a b true h = rw (h.0 refl) (sym (equal-refl b))
 equal-same a b false h = go (equal a b) refl
   where
-    go : (t : Bool) → equal a b ≡ t → t ≡ false
+    go : (t : Bool) → equal a b ≡ t → false ≡ t
     go true e = absurd (false≢true (h.1 (equal-true a b e)))
     go false e = refl
 
@@ -94,16 +73,12 @@ module _ (word list : List ℕ) where
           rw (split-cut space (drop at list) l, le-leb (at + p + 1) (length list) inside, next, ← e, drop-drop (suc p) at list)
 
   -- one word, as `find` gives its end and `same` compares it
-  pub from-here : (at end : ℕ) (r : Bool) → at ≤ length list → end ≡ at + index_of space (slice at (length list) list)
-      → (r ≡ true → take (end - at) (drop at list) ≡ word) × (take (end - at) (drop at list) ≡ word → r ≡ true)
+  pub from-here : (at end : ℕ) (r : Bool) → at ≤ length list → end ≡ at + position space (drop at list) → r ≡ equal (take (end - at) (drop at list)) word
       → from at ≡ cond r 0 (suc (from (end + 1)))
   from-here at end r h e same =
       let p : ℕ = position space (drop at list) in
-      let ends : end ≡ at + p = e ∙ ap (λ (n : ℕ). at + n) (found space at list) in
-      let size : end - at ≡ p = omega (arith, ends) in
-      let told : equal (take p (drop at list)) word ≡ r =
-      ap (λ (n : ℕ). equal (take n (drop at list)) word) (sym size)
-      ∙ equal-same (take (end - at) (drop at list)) word r same in
+      let size : end - at ≡ p = omega (arith, e) in
+      let told : equal (take p (drop at list)) word ≡ r = ap (λ (n : ℕ). equal (take n (drop at list)) word) (sym size) ∙ sym same in
       from_step at p h refl
       ∙ ap (λ (t : Bool). cond t 0 (suc (from (at + p + 1)))) told
-      ∙ ap (λ (n : ℕ). cond r 0 (suc (from (n + 1)))) (sym ends)
+      ∙ ap (λ (n : ℕ). cond r 0 (suc (from (n + 1)))) (sym e)

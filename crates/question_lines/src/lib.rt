@@ -1,17 +1,45 @@
 // Lines of questions: words with one space between them. A float is the eight hexadecimal digits of its bits, a whole number is decimal.
 #![tactic(auto)]
-ghost use Rattle.std.specs.Prelude.{◌≡◌, cond, ◌≤◌, ◌<◌, max, ltb, length, take};
+ghost use Rattle.std.specs.Prelude.{◌≡◌, cond, ◌+◌, ◌≤◌, ◌<◌, max, ltb, length, take, drop, slice_range, IfOk, OnErr};
+ghost use Rattle.std.specs.Io.KnownBytes.{Consumes, IsAtEnd, Keeps};
+ghost use Rattle.hexadecimal.specs.Digit.{position as bytes_before};
+ghost use Rattle.motion_file.specs.Text.{equal};
 ghost use Rattle.motion_text.specs.Answer.{text_left};
 ghost use Rattle.question_lines.specs.Words.{part as Words-part, Words-position, Decimal-append, Decimal-read, Decimal-saturated};
 ghost use Rattle.question_lines.specs.Words.{Decimal-read_saturated, Float-read, Floats-read, Floats-stored};
 
 use hexadecimal::Word;
+use std::io;
+use std::io::Read;
 
 // What a word says.
 #[derive(Clone, Copy)]
 pub enum Decimal {
     Value(u64),
     Malformed,
+}
+
+// The place of the first byte b of a text from a place on, and the text's end where none follows. Accuracy: exact.
+pub fn find(text: &[u8], from: usize, b: u8) -> usize
+    requires { from ≤ length text.now }
+    ensures value { result ≡ from + bytes_before b (drop from text.now) }
+    ensures upper_bound { result ≤ length text.now }
+{
+    let mut at = from;
+    while at < text.len() {
+        if text[at] == b {
+            return at;
+        }
+        at += 1;
+    }
+    at
+}
+
+// Whether two texts are the same bytes. Accuracy: exact.
+pub fn same(a: &[u8], b: &[u8]) -> bool
+    ensures value { result ≡ equal a.now b.now }
+{
+    a == b
 }
 
 // The place of a word among the words of a list, which single spaces part, and how many the list has where it isn't there. Accuracy: exact.
@@ -21,8 +49,8 @@ pub fn position(word: &[u8], list: &[u8]) -> usize
     let mut k = 0;
     let mut at = 0;
     while at <= list.len() {
-        let end = bytes::scan::find(list, at, list.len(), b' ');
-        if check::same(&list[at..end], word) {
+        let end = find(list, at, b' ');
+        if same(&list[at..end], word) {
             return k;
         }
         at = end + 1;
@@ -129,17 +157,20 @@ pub fn saturated(n: u64) -> u32
     if n < 4294967296 { n as u32 } else { u32::MAX }
 }
 
-// Reads once from standard input into `input` from `held` on, and gives how many bytes it then holds; what it held stays. No contract speaks
-// of what standard input has. Accuracy: exact.
-pub fn read_more(input: &mut [u8], held: usize) -> usize
-    ensures held { (held ≤ result) × (result ≤ max held (length input.new)) }
+// Reads once into `input` from `held` on, and gives how many bytes it then holds; what it held stays. Where it is known what `source` has left, so is what was
+// read; an error leaves that as it was. Accuracy: exact.
+pub fn read_more<R: Read>(source: &mut R, input: &mut [u8], held: usize) -> io::Result<usize>
+    ensures held { IfOk result (λ n. (held ≤ n) × (n ≤ max held (length input.new))) }
     ensures left { take held input.new ≡ take held input.old }
+    ensures bytes { IfOk result (λ n. Consumes (R.remaining source.old) (R.remaining source.new) (slice_range input.new held n)) }
+    ensures end { IfOk result (λ n. n ≡ held → held < length input.new → IsAtEnd (R.remaining source.new)) }
+    ensures err { OnErr result (Keeps (R.remaining source.old) (R.remaining source.new)) }
 {
     if held < input.len() {
-        let got = libc::read(libc::STDIN_FILENO, &mut input[held..]);
-        return held + io::count(got, &input[held..]);
+        let got = source.read(&mut input[held..])?;
+        return Ok(held + got);
     }
-    held
+    Ok(held)
 }
 
 // Moves the bytes from `from` up to `to` to the start of `input`, `most` of them where they are more, and gives how many are kept.

@@ -76,7 +76,7 @@ fn word_end(line: &[u8], start: usize) -> usize
     ensures value { result ≡ word_end line.now start }
     ensures upper_bound { result ≤ length line.now }
 {
-    bytes::scan::find(line, start, line.len(), b' ')
+    question_lines::find(line, start, b' ')
 }
 
 // The whole numbers, a space before each, from `at` on. Gives the place behind them, and one that no line has where one is malformed.

@@ -1,5 +1,6 @@
 // What a rigid build asks of the matrix of a pose, before anything is computed from it. Each is stated for all arguments.
 #![tactic(auto)]
+
 ghost use Rattle.std.specs.Prelude.{◌≡◌};
 ghost use Rattle.rigid_pose.specs.Rigid.{dot3, near_zero, Matrix4x4-has_shear, expansion, Matrix4x4-determinant, Matrix4x4-rigid_number};
 

@@ -1,5 +1,6 @@
 // pbrt's `From<Quaternion> for Transform`: the rotation of a quaternion. Nothing is refused here: each function is stated for all arguments.
 #![tactic(auto)]
+
 ghost use Rattle.std.specs.Prelude.{◌≡◌};
 ghost use Rattle.rotation.specs.FromQuaternion.{inverse_rotation, Transform-from_quaternion};
 

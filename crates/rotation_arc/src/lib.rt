@@ -1,5 +1,6 @@
 // The shorter arc between the rotations of two poses, and the coefficients c1 to c5 of a move along it.
 #![tactic(auto)]
+
 ghost use Rattle.std.specs.Prelude.{◌≡◌};
 ghost use Rattle.rotation_arc.specs.ShorterArc.{flip, dots_refusal};
 ghost use Rattle.rotation_arc.specs.ArcCoefficients.{CoefficientsAnswer-judged, rotation_coefficients, pair_coefficients};

@@ -1,5 +1,6 @@
 // The starting ticks of a day of booms, worked out from one stop to the next: between two stops no boom that waits can start.
 #![tactic(auto)]
+
 ghost use Rattle.std.specs.Prelude.{ℕ, ◌≤◌, ◌<◌, ◌≡◌, eqb, ltb, get_or};
 ghost use Rattle.run_schedule.specs.Day.{some_below, first_box_refusal, day_refusal};
 ghost use Rattle.run_schedule.specs.Theorem.{DayKeeps};

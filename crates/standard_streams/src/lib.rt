@@ -1,51 +1,47 @@
 // Standard input and output for the programs. A read that fails is told from the end of the input, and a write that fails is said on standard error.
-// No contract can speak of what is read or written.
+// No contract can speak of what the system gives or takes; where it is known what a reader has left and what a writer holds, the clauses say what happens to it.
 #![tactic(auto)]
-ghost use Rattle.io.specs.Counts.{IsPrefixLen};
+ghost use Rattle.std.specs.Prelude.{◌≡◌, ◌<◌, ℕ, take, length, codes, IfOk, OnOk, OnErr};
+ghost use Rattle.std.specs.Io.{ReadsAtMost};
+ghost use Rattle.std.specs.Io.KnownBytes.{Appends, Consumes, IsAtEnd};
 
-// How many bytes were read, and whether a read failed before the input ended.
-#[derive(Clone, Copy)]
-pub struct Input {
-    pub count: usize,
-    pub failed: bool,
-}
+use std::io;
+use std::io::{Read, Write};
 
-// Reads standard input into the front of `buf` until it is full, the input ends or a read fails.
-pub fn read(buf: &mut [u8]) -> Input
-    ensures counts { IsPrefixLen result.count buf.new }
+// Reads into the front of `buf` until it is full or the input ends, and gives how many bytes were read; the error of a read that fails before that: what was read
+// until then stands in the front of `buf`.
+pub fn read<R: Read>(input: &mut R, buf: &mut [u8]) -> io::Result<usize>
+    ensures counts { ReadsAtMost result buf.new }
+    ensures bytes { IfOk result (λ n. Consumes (R.remaining input.old) (R.remaining input.new) (take n buf.new)) }
+    ensures end { IfOk result (λ n. n < length buf.new → IsAtEnd (R.remaining input.new)) }
+    ensures err { OnErr result ((n : ℕ) × Consumes (R.remaining input.old) (R.remaining input.new) (take n buf.new)) }
 {
     let mut count = 0;
     while count < buf.len() {
-        let got = libc::read(libc::STDIN_FILENO, &mut buf[count..]);
-        if got < 0 {
-            return Input {
-                count: count,
-                failed: true,
-            };
-        }
-        let more = io::count(got, &buf[count..]);
+        let more = input.read(&mut buf[count..])?;
         if more == 0 {
-            return Input {
-                count: count,
-                failed: false,
-            };
+            return Ok(count);
         }
         count += more;
     }
-    Input {
-        count: count,
-        failed: false,
-    }
+    Ok(count)
 }
 
-// Writes a text to standard output; where that fails, says so on standard error.
-pub fn write(text: &[u8]) {
-    if !io::write_all(libc::STDOUT_FILENO, text) {
-        io::write_all(libc::STDERR_FILENO, b"standard output can't be written\n");
+// Writes a text; where that fails, says so on standard error, `errors`, and gives the error.
+pub fn write<W: Write, E: Write>(output: &mut W, errors: &mut E, text: &[u8]) -> io::Result<()>
+    ensures bytes { OnOk result (Appends (W.contents output.old) (W.contents output.new) text.now) }
+    ensures quiet { OnOk result (E.contents errors.new ≡ E.contents errors.old) }
+{
+    let written = output.write_all(text);
+    if written.is_err() {
+        let _ = errors.write_all(b"standard output can't be written\n");
     }
+    written
 }
 
-// Says on standard error that standard input can't be read.
-pub fn say_unread() {
-    io::write_all(libc::STDERR_FILENO, b"standard input can't be read\n");
+// Says on standard error, `errors`, that standard input can't be read.
+pub fn say_unread<E: Write>(errors: &mut E) -> io::Result<()>
+    ensures bytes { OnOk result (Appends (E.contents errors.old) (E.contents errors.new) (codes "standard input can't be read\n")) }
+{
+    errors.write_all(b"standard input can't be read\n")
 }

@@ -120,10 +120,12 @@ module _ (t : Transform) (b : Bounds3f) where
     pub corners-span : Spans moved_corners (Transform-transform_bounds t b)
     unfolding Transform-transform_bounds union_corner
     corners-span =
-        union-spans _ _ _ (corner-moved true true true)
-        (union-spans _ _ _ (corner-moved true false true)
-        (union-spans _ _ _ (corner-moved true true false)
-        (union-spans _ _ _ (corner-moved false true true)
-        (union-spans _ _ _ (corner-moved false false true)
-        (union-spans _ _ _ (corner-moved false true false)
-        (union-spans _ _ _ (corner-moved true false false) (first-spans _ (corner-moved false false false))))))))
+        let c = moved_corner in
+        union-spans (c true true true) (c true false true ∷ c true true false ∷ c false true true ∷ c false false true ∷ c false true false ∷ c true false false ∷ c false false false ∷ []) _ (corner-moved true true true)
+        (union-spans (c true false true) (c true true false ∷ c false true true ∷ c false false true ∷ c false true false ∷ c true false false ∷ c false false false ∷ []) _ (corner-moved true false true)
+        (union-spans (c true true false) (c false true true ∷ c false false true ∷ c false true false ∷ c true false false ∷ c false false false ∷ []) _ (corner-moved true true false)
+        (union-spans (c false true true) (c false false true ∷ c false true false ∷ c true false false ∷ c false false false ∷ []) _ (corner-moved false true true)
+        (union-spans (c false false true) (c false true false ∷ c true false false ∷ c false false false ∷ []) _ (corner-moved false false true)
+        (union-spans (c false true false) (c true false false ∷ c false false false ∷ []) _ (corner-moved false true false)
+        (union-spans (c true false false) (c false false false ∷ []) _ (corner-moved true false false)
+        (first-spans (c false false false) (corner-moved false false false))))))))

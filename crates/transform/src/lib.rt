@@ -2,6 +2,7 @@
 // Who judges what: `transform_point` and `transform_bounds` answer a refusal, 5, for a moved point that isn't finite; `from_matrix` hands on the inverse's,
 // 4 or 5. All others refuse nothing. Neither a matrix nor a point is asked to be finite here: that is for the functions that build and that answer queries.
 #![tactic(auto)]
+
 ghost use Rattle.std.specs.Prelude.{◌≡◌};
 ghost use Rattle.matrix4x4.specs.Rows.{Matrix4x4-to_rows};
 ghost use Rattle.transform.specs.Transform.{TransformAnswer-refused, Transform-from_matrices, Transform-from_matrix};

@@ -1,5 +1,6 @@
 // The parameter dt of a motion, which runs from 0 to 1. Its slices are definitions and laws alone: see specs/ and proofs/.
 #![tactic(auto)]
+
 ghost use Rattle.std.specs.Prelude.{◌≡◌};
 ghost use Rattle.unit_interval.specs.Unit.{dt};
 

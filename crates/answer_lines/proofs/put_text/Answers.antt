@@ -5,7 +5,7 @@ use native.Mathlib.Omega.{arith}
 use mathlib.Core.Path.{◌≡◌, refl, ◌∙◌}
 use lib.ListN.{length, length-set}
 use lib.Seq.{paste, paste-zero, paste-suc}
-use Rattle.answer_lines.proofs.Put.{put-fits, put-short}
+use Rattle.answer_lines.proofs.Put.{Puts, put-fits, put-short}
 use borrow.Author.Rules.{rules}
 use Rattle.answer_lines.proofs.put_text.Goals as goal
 
@@ -30,4 +30,5 @@ loop-i-preserved c =
     )
 
 pub returns : goal.returns
-returns c = let a = c.args in let l = c.loop-i in let e : l.i ≡ length a.text.now = omega arith in let all = rw (l.invariant.2, e) (put-fits a.text.now a.out.now a.at (omega arith)) in record { value = all.0; left = all.1 }
+returns c = let a = c.args in let l = c.loop-i in let e : l.i ≡ length a.text.now = omega arith in
+    let all : Puts a.text.now a.out.now a.at l.out (a.at + length a.text.now) = rw (l.invariant.2, e) (put-fits a.text.now a.out.now a.at (omega arith)) in record { value = all.0; left = all.1 }

@@ -5,4 +5,4 @@ use mathlib.Core.Path.{subst}
 use Rattle.arc_cosine.proofs.acos.Goals as goal
 
 pub returns : goal.returns
-returns c = let r = (c.acos_counted.ensures.value, c.acos_counted.ensures.most) in record { value = r.0.0; most = subst (λ (n : ℕ). n ≤ 31) r.0.1 r.1 }
+returns c = record { value = c.acos_counted.ensures.value.0; most = subst (λ (n : ℕ). n ≤ 31) c.acos_counted.ensures.value.1 c.acos_counted.ensures.most }

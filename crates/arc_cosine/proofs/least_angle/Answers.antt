@@ -8,7 +8,7 @@ use Rattle.arc_cosine.proofs.Halving.{searching-closer, searching-counted, halvi
 use Rattle.arc_cosine.proofs.least_angle.Goals as goal
 
 pub loop-b-init : goal.loop-b-init
-loop-b-init c = let first = (c.counted_cos.ensures.value, c.counted_cos.ensures.counted) in searching-starts c.args.w first.1 first.0
+loop-b-init c = searching-starts c.args.w c.counted_cos.ensures.counted c.counted_cos.ensures.value
 
 pub overflow_sub-b : goal.overflow_sub-b
 overflow_sub-b c = let l = c.loop-b.invariant.halving.order in omega (arith, l)

@@ -3,4 +3,4 @@ use borrow.Author.Rules.{rules}
 use Rattle.bounds_meeting.proofs.corners.Goals as goal
 
 pub returns-in-Refused : goal.returns-in-Refused
-returns-in-Refused c = record { value = rw (c.a-in-Refused-1.given.1, c.from_point.ensures.value) }
+returns-in-Refused c = record { value = rw (c.in-Refused.is, c.from_point.ensures.value) }

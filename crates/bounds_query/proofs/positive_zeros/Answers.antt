@@ -5,8 +5,8 @@ use Rattle.bounds_query.proofs.positive_zeros.Goals as goal
 
 pub returns-in-Bounds : goal.returns-in-Bounds
 unfolding Bounds3f-positive_zeros BoundsAnswer-positive_zeros
-returns-in-Bounds c = record { value = rw (c.a-1.given.1, c.corner_zeros-p_min.ensures.value, c.corner_zeros-p_max.ensures.value) }
+returns-in-Bounds c = record { value = rw (c.in-Bounds.is, c.corner_zeros-p_min.ensures.value, c.corner_zeros-p_max.ensures.value) }
 
 pub returns-in-Refused : goal.returns-in-Refused
 unfolding BoundsAnswer-positive_zeros
-returns-in-Refused c = record { value = rw c.a-in-Refused-1.given.1 }
+returns-in-Refused c = record { value = rw c.in-Refused.is }

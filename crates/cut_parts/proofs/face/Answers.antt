@@ -10,5 +10,7 @@ pub returns-then-i-n : goal.returns-then-i-n
 returns-then-i-n c = record { value = λ N few le. face-end _ _ _ _ c.if-i-eq0.false c.if-i-n.true }
 
 pub returns : goal.returns
-returns c = record { value = face-between _ _ _ _ c.if-i-eq0.false c.if-i-n.false
-    c.from_fixed-k.ensures.value c.from_fixed-m.ensures.value c.inner_face.ensures.value }
+returns c = record {
+  value = face-between _ _ _ _ c.if-i-eq0.false c.if-i-n.false
+      c.from_fixed-k.ensures.value c.from_fixed-m.ensures.value c.inner_face.ensures.value;
+}

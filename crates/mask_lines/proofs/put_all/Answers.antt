@@ -17,7 +17,7 @@ loop-k-init c = (refl, (refl, refl))
 pub loop-k-preserved : goal.loop-k-preserved
 loop-k-preserved c =
     let l = c.loop-k in
-    let turn = masks-turn c.args.masks.now l.k l.out _ l.end _ (omega arith) (rw c.mask_text-text.ensures.value at (c.put_text-end.ensures.value, c.put_text-end.ensures.left)) in
+    let turn = masks-turn c.args.masks.now l.k l.out _ l.end _ (omega arith) (rw c.mask_text-text.ensures.value at c.put_text-end.ensures.value, rw c.mask_text-text.ensures.value at c.put_text-end.ensures.left) in
     (search rules, (turn.0 ∙ l.invariant.1.0, turn.1 ∙ l.invariant.1.1))
 
 pub returns : goal.returns

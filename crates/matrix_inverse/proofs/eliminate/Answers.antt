@@ -29,11 +29,11 @@ pub loop-j-preserved : goal.loop-j-preserved
 loop-j-preserved c = (
   search rules,
   loop-next _ _ _ _ _ c.loop-j.invariant.1 (
-    elim c.if-j-k.branch [
-      then-j-k w ↦ other_row _ _ _ _ w.if-j-k.true _ w.clear_row.ensures.value w.r-is
-    | else-j-k w ↦ pivot-row _ _ _ _ w.if-j-k.false w.r-is
-    ]
-  ),
+      elim c.if-j-k.branch [
+        | then-j-k w ↦ other_row _ _ _ _ w.if-j-k.true _ w.clear_row.ensures.value w.r-is
+        | else-j-k w ↦ pivot-row _ _ _ _ w.if-j-k.false w.r-is
+      ]
+      ),
 )
 
 pub returns : goal.returns

@@ -10,10 +10,12 @@ pub loop-i-init : goal.loop-i-init
 loop-i-init c = (search rules, reached-start _)
 
 pub returns-then-s-icol : goal.returns-then-s-icol
-returns-then-s-icol c = record { value = let found = c.search-p in
-    let swapped = c.swap_rows-s in
-    rw (reached-zero_pivot c.loop-i.invariant.1 found.result swapped.result found.ensures.value swapped.ensures.value (search rules) c.if-s-icol.true)
-    c.refused.ensures.value }
+returns-then-s-icol c = record {
+  value = let found = c.search-p in
+      let swapped = c.swap_rows-s in
+      rw (reached-zero_pivot c.loop-i.invariant.1 found.result swapped.result found.ensures.value swapped.ensures.value (search rules) c.if-s-icol.true)
+      c.refused.ensures.value;
+}
 
 pub overflow_add-ipiv : goal.overflow_add-ipiv
 overflow_add-ipiv c =

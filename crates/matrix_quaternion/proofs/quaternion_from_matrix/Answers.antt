@@ -9,10 +9,12 @@ returns-then-trace c = record { value = rw (c.if-trace.true, c.from_trace.ensure
 
 pub returns : goal.returns
 unfolding Quaternion-from_matrix
-returns c = record { value = rw (
-      c.if-trace.false,
-      c.from_largest.ensures.value,
-      c.nxt-k.ensures.value,
-      c.nxt-j.ensures.value,
-      c.largest-i.ensures.value,
-    ) }
+returns c = record {
+  value = rw (
+    c.if-trace.false,
+    c.from_largest.ensures.value,
+    c.nxt-k.ensures.value,
+    c.nxt-j.ensures.value,
+    c.largest-i.ensures.value,
+  );
+}

@@ -5,8 +5,8 @@ use Rattle.motion_bounds.proofs.counted.Goals as goal
 
 pub returns-in-Bounds : goal.returns-in-Bounds
 unfolding BoundsAnswer-counted
-returns-in-Bounds c = record { value = rw c.r-1.given.1 }
+returns-in-Bounds c = record { value = rw c.in-Bounds.is }
 
 pub returns-in-Refused : goal.returns-in-Refused
 unfolding BoundsAnswer-counted
-returns-in-Refused c = record { value = rw c.r-in-Refused-1.given.1 }
+returns-in-Refused c = record { value = rw c.in-Refused.is }

@@ -7,7 +7,7 @@ use Rattle.motion_bounds.proofs.union_axis.Goals as goal
 
 pub returns-then-zeros-ne0 : goal.returns-then-zeros-ne0
 unfolding union_axis
-returns-then-zeros-ne0 c = record { value = rw (c.enum_told-1.given.1, ← c.axis_search-found.ensures.value, ne_eqb _ _ c.if-zeros-ne0.true) }
+returns-then-zeros-ne0 c = record { value = rw (c.in-Bounds.is, ← c.axis_search-found.ensures.value, ne_eqb _ _ c.if-zeros-ne0.true) }
 
 pub union_zeros-bounds-requires : goal.union_zeros-bounds-requires
 union_zeros-bounds-requires c =
@@ -15,9 +15,9 @@ union_zeros-bounds-requires c =
 
 pub returns-else-zeros-ne0 : goal.returns-else-zeros-ne0
 unfolding union_axis
-returns-else-zeros-ne0 c = record { value = let told = c.enum_told-1.given.1 in
+returns-else-zeros-ne0 c = record { value = let told = c.in-Bounds.is in
     rw (told, ← c.axis_search-found.ensures.value, eq-eqb _ _ c.if-zeros-ne0.false, c.union_zeros-bounds.ensures.value, told) }
 
 pub returns-in-Refused : goal.returns-in-Refused
 unfolding union_axis
-returns-in-Refused c = record { value = rw c.enum_told-in-Refused-1.given.1 }
+returns-in-Refused c = record { value = rw c.in-Refused.is }

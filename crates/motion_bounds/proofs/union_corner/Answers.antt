@@ -11,8 +11,8 @@ pub add-requires : goal.add-requires
 add-requires c =
     let a = c.args in
     let below : 511 * a.c ≤ 3577 = omega (arith, c.requires.0) in (
-      counted-few _ c.requires.1 c.r-1.given.1 (few-below below (corners-examined a.m a.a a.b a.c)),
-      counted-few _ c.point_bounds-s.ensures.value c.s-1.given.1 (point-examined a.m a.a _),
+      counted-few _ c.requires.1 c.in-Bounds.is (few-below below (corners-examined a.m a.a a.b a.c)),
+      counted-few _ c.point_bounds-s.ensures.value c.in-Bounds-s.is (point-examined a.m a.a _),
     )
 
 pub returns-in-Bounds-s : goal.returns-in-Bounds-s
@@ -23,8 +23,8 @@ returns-in-Bounds-s c = record { value = let a = c.args in
       ← c.requires.1,
       ← c.corner.ensures.value,
       ← c.point_bounds-s.ensures.value,
-      c.r-1.given.1,
-      c.s-1.given.1,
+      c.in-Bounds.is,
+      c.in-Bounds-s.is,
       c.union_bounds.ensures.value,
       c.add.ensures.value,
     ) }
@@ -37,11 +37,11 @@ returns-in-Refused-s c = record { value = let a = c.args in
       ← c.requires.1,
       ← c.corner.ensures.value,
       ← c.point_bounds-s.ensures.value,
-      c.r-1.given.1,
-      c.enum_told-1.given.1,
+      c.in-Bounds.is,
+      c.in-Refused-s.is,
     ) }
 
 pub returns-in-Refused : goal.returns-in-Refused
 unfolding MotionBoundsAnswer-union_bounds
 returns-in-Refused c = record { value = let a = c.args in
-    rw (next-corner a.m a.a a.b a.c, ← c.requires.1, c.enum_told-in-Refused-1.given.1) }
+    rw (next-corner a.m a.a a.b a.c, ← c.requires.1, c.in-Refused.is) }

@@ -6,12 +6,12 @@ use Rattle.motion_bounds.proofs.union_zero.Goals as goal
 
 pub returns-in-Moved : goal.returns-in-Moved
 unfolding union_zero BoundsAnswer-union_moved
-returns-in-Moved c = record { value = rw (c.r-1.given.1, ← c.point_at-q.ensures.value, c.q-1.given.1, c.union_point.ensures.value) }
+returns-in-Moved c = record { value = rw (c.in-Bounds.is, ← c.point_at-q.ensures.value, c.in-Moved.is, c.union_point.ensures.value) }
 
 pub returns-in-Refused-q : goal.returns-in-Refused-q
 unfolding union_zero BoundsAnswer-union_moved
-returns-in-Refused-q c = record { value = rw (c.r-1.given.1, ← c.point_at-q.ensures.value, c.q-in-Refused-1.given.1) }
+returns-in-Refused-q c = record { value = rw (c.in-Bounds.is, ← c.point_at-q.ensures.value, c.in-Refused-q.is) }
 
 pub returns-in-Refused : goal.returns-in-Refused
 unfolding union_zero BoundsAnswer-union_moved
-returns-in-Refused c = record { value = rw c.enum_told-1.given.1 }
+returns-in-Refused c = record { value = rw c.in-Refused.is }

@@ -4,8 +4,8 @@ use borrow.Author.Rules.{rules}
 use Rattle.motion_pad.proofs.grow.Goals as goal
 
 pub returns-in-Bounds : goal.returns-in-Bounds
-returns-in-Bounds c = record { value = rw (c.answer-1.given.1, c.grow_box.ensures.value) }
+returns-in-Bounds c = record { value = rw (c.in-Bounds.is, c.grow_box.ensures.value) }
 
 pub returns-in-Refused : goal.returns-in-Refused
 unfolding BoundsAnswer-grow
-returns-in-Refused c = record { value = rw c.answer-in-Refused-1.given.1 }
+returns-in-Refused c = record { value = rw c.in-Refused.is }

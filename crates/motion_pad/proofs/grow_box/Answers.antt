@@ -9,9 +9,13 @@ unfolding BoundsAnswer-grow
 returns-then-pad-ne0 c = record { value = rw (ne_eqb _ 0 c.if-pad-ne0.true) }
 
 pub returns-then-is_finite : goal.returns-then-is_finite
-returns-then-is_finite c = record { value = let a = c.args in
-    faces-finite a.pad a.b c.if-pad-ne0.false c.grown-faces.ensures.value c.is_finite.ensures.value c.if-is_finite.true }
+returns-then-is_finite c = record {
+  value = let a = c.args in
+      faces-finite a.pad a.b c.if-pad-ne0.false c.grown-faces.ensures.value c.is_finite.ensures.value c.if-is_finite.true;
+}
 
 pub returns-else-is_finite : goal.returns-else-is_finite
-returns-else-is_finite c = record { value = let a = c.args in
-    faces-infinite a.pad a.b c.if-pad-ne0.false c.grown-faces.ensures.value c.is_finite.ensures.value c.if-is_finite.false }
+returns-else-is_finite c = record {
+  value = let a = c.args in
+      faces-infinite a.pad a.b c.if-pad-ne0.false c.grown-faces.ensures.value c.is_finite.ensures.value c.if-is_finite.false;
+}

@@ -10,10 +10,12 @@ use Rattle.motion_pad.proofs.pad_unjudged.Goals as goal
 
 pub returns : goal.returns
 unfolding Pad-unjudged
-returns c = record { value = let a = c.args in
-    ap (λ (l : List Interval). (Judged-of (enclosure 0 l)).interval)
-    (traced-unjudged (Pad-inputs a.pad0 a.pad1 a.dt) pad_stage
-    _ c.sub_enclosure-s.ensures.value
-    _ c.mul_ordered-p.ensures.value
-    _ c.mul_ordered-q.ensures.value
-    _ c.add_enclosure.ensures.value) }
+returns c = record {
+  value = let a = c.args in
+      ap (λ (l : List Interval). (Judged-of (enclosure 0 l)).interval)
+      (traced-unjudged (Pad-inputs a.pad0 a.pad1 a.dt) pad_stage
+      _ c.sub_enclosure-s.ensures.value
+      _ c.mul_ordered-p.ensures.value
+      _ c.mul_ordered-q.ensures.value
+      _ c.add_enclosure.ensures.value);
+}

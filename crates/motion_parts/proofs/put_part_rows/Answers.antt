@@ -24,7 +24,7 @@ loop-k-preserved c =
     let a = c.args in
     let turn =
     rows-turn a.motion.now l.k l.out _ l.end _ (omega arith)
-    (rw c.part_size.ensures at (c.put_floats-end.ensures.value, c.put_floats-end.ensures.left)) in
+    (rw c.part_size.ensures at c.put_floats-end.ensures.value, rw c.part_size.ensures at c.put_floats-end.ensures.left) in
     (omega arith, search rules, turn.0 ∙ l.invariant.2, turn.1 ∙ l.invariant.3)
 
 pub returns : goal.returns

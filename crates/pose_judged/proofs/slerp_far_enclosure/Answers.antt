@@ -10,7 +10,7 @@ use Rattle.pose_judged.proofs.slerp_far_enclosure.Goals as goal
 pub returns : goal.returns
 unfolding Pose-enclose_slerp_far
 returns c = record { value = ap JudgedQuaternion-of (traced (enclosure c.args.m (IntervalQuaternion-list c.args.q1
-    ++ IntervalQuaternion-list c.args.q2 ++ c.args.cos-theta ∷ c.args.theta ∷ c.args.t ∷ [])) slerp_far_stage
+    ++ IntervalQuaternion-list c.args.q2 ++ c.args.cos_theta ∷ c.args.theta ∷ c.args.t ∷ [])) slerp_far_stage
     _ c.mul_enclosure-thetap.ensures.value
     _ c.mul_enclosure-px.ensures.value
     _ c.sub_enclosure-x.ensures.value

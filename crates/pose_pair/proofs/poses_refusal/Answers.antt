@@ -9,24 +9,30 @@ returns-then-not-finite c = record { value = rw (rw (c.is_finite.ensures.value, 
 
 pub returns-then-not-affine : goal.returns-then-not-affine
 unfolding poses_refusal
-returns-then-not-affine c = record { value = rw (
-      rw (c.is_finite.ensures.value, c.is_finite-2.ensures.value) at c.if-not-finite.false,
-      rw (c.is_affine.ensures.value, c.is_affine-2.ensures.value) at c.if-not-affine.true,
-    ) }
+returns-then-not-affine c = record {
+  value = rw (
+    rw (c.is_finite.ensures.value, c.is_finite-2.ensures.value) at c.if-not-finite.false,
+    rw (c.is_affine.ensures.value, c.is_affine-2.ensures.value) at c.if-not-affine.true,
+  );
+}
 
 pub returns-then-not-padded : goal.returns-then-not-padded
 unfolding poses_refusal
-returns-then-not-padded c = record { value = rw (
-      rw (c.is_finite.ensures.value, c.is_finite-2.ensures.value) at c.if-not-finite.false,
-      rw (c.is_affine.ensures.value, c.is_affine-2.ensures.value) at c.if-not-affine.false,
-      rw (c.is_padded.ensures.value, c.is_padded-2.ensures.value) at c.if-not-padded.true,
-    ) }
+returns-then-not-padded c = record {
+  value = rw (
+    rw (c.is_finite.ensures.value, c.is_finite-2.ensures.value) at c.if-not-finite.false,
+    rw (c.is_affine.ensures.value, c.is_affine-2.ensures.value) at c.if-not-affine.false,
+    rw (c.is_padded.ensures.value, c.is_padded-2.ensures.value) at c.if-not-padded.true,
+  );
+}
 
 pub returns : goal.returns
 unfolding poses_refusal
-returns c = record { value = rw (
-      rw (c.is_finite.ensures.value, c.is_finite-2.ensures.value) at c.if-not-finite.false,
-      rw (c.is_affine.ensures.value, c.is_affine-2.ensures.value) at c.if-not-affine.false,
-      rw (c.is_padded.ensures.value, c.is_padded-2.ensures.value) at c.if-not-padded.false,
-    )
-    c.times_refusal.ensures.value }
+returns c = record {
+  value = rw (
+    rw (c.is_finite.ensures.value, c.is_finite-2.ensures.value) at c.if-not-finite.false,
+    rw (c.is_affine.ensures.value, c.is_affine-2.ensures.value) at c.if-not-affine.false,
+    rw (c.is_padded.ensures.value, c.is_padded-2.ensures.value) at c.if-not-padded.false,
+  )
+      c.times_refusal.ensures.value;
+}

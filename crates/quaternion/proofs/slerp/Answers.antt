@@ -8,8 +8,10 @@ use Rattle.quaternion.proofs.slerp.Goals as goal
 
 pub returns-then-cos_theta : goal.returns-then-cos_theta
 unfolding Quaternion-slerp slerp_by
-returns-then-cos_theta c = record { value = let taken : lt slerp_threshold c.dot-cos_theta.result ≡ true = c.if-cos_theta.true in
-    rw (rw c.dot-cos_theta.ensures.value at taken, c.slerp_near.ensures.value) }
+returns-then-cos_theta c = record {
+  value = let taken : lt slerp_threshold c.dot-cos_theta.result ≡ true = c.if-cos_theta.true in
+      rw (rw c.dot-cos_theta.ensures.value at taken, c.slerp_near.ensures.value);
+}
 
 pub returns-else-cos_theta : goal.returns-else-cos_theta
 unfolding Quaternion-slerp slerp_by

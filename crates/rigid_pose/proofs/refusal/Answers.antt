@@ -28,13 +28,17 @@ pub returns-then-distorts : goal.returns-then-distorts
 returns-then-distorts c = record { value = sym (distorted c.args.m (rw (c.has_shear.ensures.value, c.has_scale.ensures.value) at c.if-distorts.true)) }
 
 pub returns-then-proper : goal.returns-then-proper
-returns-then-proper c = record { value = sym
-    (proper c.args.m
-    (rw (c.has_shear.ensures.value, c.has_scale.ensures.value) at c.if-distorts.false)
-    (rw c.determinant-proper.ensures.value at c.if-proper.true)) }
+returns-then-proper c = record {
+  value = sym
+      (proper c.args.m
+      (rw (c.has_shear.ensures.value, c.has_scale.ensures.value) at c.if-distorts.false)
+      (rw c.determinant-proper.ensures.value at c.if-proper.true));
+}
 
 pub returns-else-proper : goal.returns-else-proper
-returns-else-proper c = record { value = sym
-    (mirrored c.args.m
-    (rw (c.has_shear.ensures.value, c.has_scale.ensures.value) at c.if-distorts.false)
-    (rw c.determinant-proper.ensures.value at c.if-proper.false)) }
+returns-else-proper c = record {
+  value = sym
+      (mirrored c.args.m
+      (rw (c.has_shear.ensures.value, c.has_scale.ensures.value) at c.if-distorts.false)
+      (rw c.determinant-proper.ensures.value at c.if-proper.false));
+}

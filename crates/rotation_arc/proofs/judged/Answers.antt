@@ -18,5 +18,7 @@ returns-then-is_finite c = record { value = sym (ap (answer c.args.value) (rw (c
 
 pub returns-else-is_finite : goal.returns-else-is_finite
 unfolding CoefficientsAnswer-judged
-returns-else-is_finite c = record { value = rw c.zero-zero.ensures.value
-    (sym (ap (answer c.args.value) (rw (c.is_finite.ensures.value, c.is_finite-2.ensures.value) at c.if-is_finite.false))) }
+returns-else-is_finite c = record {
+  value = rw c.zero-zero.ensures.value
+      (sym (ap (answer c.args.value) (rw (c.is_finite.ensures.value, c.is_finite-2.ensures.value) at c.if-is_finite.false)));
+}

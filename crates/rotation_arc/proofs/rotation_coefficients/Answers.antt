@@ -5,14 +5,16 @@ use Rattle.rotation_arc.proofs.rotation_coefficients.Goals as goal
 
 pub returns : goal.returns
 unfolding rotation_coefficients
-returns c = record { value = rw (
-      c.judged.ensures.value,
-      c.new.ensures.value,
-      c.to_rows-2.ensures.value,
-      c.to_rows.ensures.value,
-      c.normalize-qperp.ensures.value,
-      c.sub.ensures.value,
-      c.mul.ensures.value,
-      c.acos-theta.ensures.value,
-      c.clamp.ensures.value,
-    ) }
+returns c = record {
+  value = rw (
+    c.judged.ensures.value,
+    c.new.ensures.value,
+    c.to_rows-2.ensures.value,
+    c.to_rows.ensures.value,
+    c.normalize-qperp.ensures.value,
+    c.sub.ensures.value,
+    c.mul.ensures.value,
+    c.acos-theta.ensures.value,
+    c.clamp.ensures.value,
+  );
+}

@@ -13,11 +13,13 @@ pub loop-i-init : goal.loop-i-init
 loop-i-init c = (search rules, ap (λ n. first_box_refusal (Booms-of_lists n c.args.boxes.now c.args.lengths.now)) (omega arith))
 
 pub returns-then-number-ne0 : goal.returns-then-number-ne0
-returns-then-number-ne0 c = record { value = let a = c.args in
-    let l = c.loop-i in
-    let n = c.refusal-number.ensures.value ∙ ap Bounds3f-refusal c.bounds.ensures.value in
-    let h = c.loop-i-test.true in
-    sym (refusal-here a.count a.boxes.now a.lengths.now l.i c.refusal-number.result h n c.if-number-ne0.true) ∙ l.invariant.1 }
+returns-then-number-ne0 c = record {
+  value = let a = c.args in
+      let l = c.loop-i in
+      let n = c.refusal-number.ensures.value ∙ ap Bounds3f-refusal c.bounds.ensures.value in
+      let h = c.loop-i-test.true in
+      sym (refusal-here a.count a.boxes.now a.lengths.now l.i c.refusal-number.result h n c.if-number-ne0.true) ∙ l.invariant.1;
+}
 
 pub loop-i-preserved : goal.loop-i-preserved
 loop-i-preserved c =
@@ -28,6 +30,8 @@ loop-i-preserved c =
     (omega (arith, h), refusal-next a.count a.boxes.now a.lengths.now l.i h n ∙ l.invariant.1)
 
 pub returns : goal.returns
-returns c = record { value = let a = c.args in
-    let l = c.loop-i in
-    sym (refusal-none a.count a.boxes.now a.lengths.now l.i c.loop-i-test.false) ∙ l.invariant.1 }
+returns c = record {
+  value = let a = c.args in
+      let l = c.loop-i in
+      sym (refusal-none a.count a.boxes.now a.lengths.now l.i c.loop-i-test.false) ∙ l.invariant.1;
+}

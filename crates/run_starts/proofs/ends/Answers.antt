@@ -33,7 +33,9 @@ loop-started-preserved c =
     c.next_stop-t.result l.invariant c.start_waiting-started.ensures.value c.next_stop-t.ensures.value waits).1
 
 pub returns : goal.returns
-returns c = record { value = let a = c.args in
-    let l = c.loop-started in
-    let waits = sym c.waits.ensures.value ∙ c.loop-started-test.false in
-    stop-last a.count a.boxes.now a.lengths.now c.requires.count_bound c.requires.good_lengths l.t l.ends l.invariant waits }
+returns c = record {
+  value = let a = c.args in
+      let l = c.loop-started in
+      let waits = sym c.waits.ensures.value ∙ c.loop-started-test.false in
+      stop-last a.count a.boxes.now a.lengths.now c.requires.count_bound c.requires.good_lengths l.t l.ends l.invariant waits;
+}

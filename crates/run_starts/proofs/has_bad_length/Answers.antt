@@ -15,9 +15,11 @@ unfolding some_below
 loop-i-init c = (search rules, refl)
 
 pub returns-then-n : goal.returns-then-n
-returns-then-n c = record { value = let a = c.args in
-    let i = c.loop-i.i in
-    sym (some-here a.count (bad_length_at a.lengths.now) i c.loop-i-test.true c.if-n.true) }
+returns-then-n c = record {
+  value = let a = c.args in
+      let i = c.loop-i.i in
+      sym (some-here a.count (bad_length_at a.lengths.now) i c.loop-i-test.true c.if-n.true);
+}
 
 pub loop-i-preserved : goal.loop-i-preserved
 loop-i-preserved c =
@@ -26,6 +28,8 @@ loop-i-preserved c =
     (omega (arith, c.loop-i-test.true), some_next l.i (bad_length_at a.lengths.now) l.invariant.1 c.if-n.false)
 
 pub returns : goal.returns
-returns c = record { value = let a = c.args in
-    let l = c.loop-i in
-    sym (some-all a.count l.i (bad_length_at a.lengths.now) l.invariant.0 c.loop-i-test.false l.invariant.1) }
+returns c = record {
+  value = let a = c.args in
+      let l = c.loop-i in
+      sym (some-all a.count l.i (bad_length_at a.lengths.now) l.invariant.0 c.loop-i-test.false l.invariant.1);
+}

@@ -15,10 +15,12 @@ unfolding some_below
 loop-j-init c = (search rules, refl)
 
 pub returns-then-runs_and_meets : goal.returns-then-runs_and_meets
-returns-then-runs_and_meets c = record { value = let a = c.args in
-    let j = c.loop-j.j in
-    let meets = sym c.runs_and_meets.ensures.value ∙ c.if-runs_and_meets.true in
-    sym (some-here a.count (runs_and_meets a.boxes.now a.ends a.t a.i) j c.loop-j-test.true meets) }
+returns-then-runs_and_meets c = record {
+  value = let a = c.args in
+      let j = c.loop-j.j in
+      let meets = sym c.runs_and_meets.ensures.value ∙ c.if-runs_and_meets.true in
+      sym (some-here a.count (runs_and_meets a.boxes.now a.ends a.t a.i) j c.loop-j-test.true meets);
+}
 
 pub loop-j-preserved : goal.loop-j-preserved
 loop-j-preserved c =
@@ -29,6 +31,8 @@ loop-j-preserved c =
     )
 
 pub returns : goal.returns
-returns c = record { value = let a = c.args in
-    let l = c.loop-j in
-    sym (some-all a.count l.j (runs_and_meets a.boxes.now a.ends a.t a.i) l.invariant.0 c.loop-j-test.false l.invariant.1) }
+returns c = record {
+  value = let a = c.args in
+      let l = c.loop-j in
+      sym (some-all a.count l.j (runs_and_meets a.boxes.now a.ends a.t a.i) l.invariant.0 c.loop-j-test.false l.invariant.1);
+}

@@ -19,6 +19,8 @@ loop-i-preserved c =
     )
 
 pub returns : goal.returns
-returns c = record { value = let a = c.args in
-    let l = c.loop-i in
-    subst (λ (n : ℕ). NextStop n a.ends a.t l.next) (omega (arith, l.invariant.0, c.loop-i-test.false)) l.invariant.1 }
+returns c = record {
+  value = let a = c.args in
+      let l = c.loop-i in
+      subst (λ (n : ℕ). NextStop n a.ends a.t l.next) (omega (arith, l.invariant.0, c.loop-i-test.false)) l.invariant.1;
+}

@@ -16,7 +16,12 @@ loop-left-init c =
     )
 
 pub end_taken-requires : goal.end_taken-requires
-end_taken-requires c = let pre = (c.requires.count_bound, (c.requires.good_lengths, c.requires.t_le_last_tick)) in record { count_bound = pre.0; i_lt_count = omega (arith, c.loop-left-test.true, c.loop-left.invariant.0); good_lengths = pre.1.0; t_le_last_tick = pre.1.1 }
+end_taken-requires c = record {
+  count_bound = c.requires.count_bound;
+  i_lt_count = omega (arith, c.loop-left-test.true, c.loop-left.invariant.0);
+  good_lengths = c.requires.good_lengths;
+  t_le_last_tick = c.requires.t_le_last_tick;
+}
 
 pub loop-left-preserved : goal.loop-left-preserved
 loop-left-preserved c =
@@ -33,6 +38,8 @@ loop-left-preserved c =
     )
 
 pub returns : goal.returns
-returns c = record { value = let a = c.args in
-    let l = c.loop-left in
-    taking-last a.count a.boxes.now a.lengths.now a.t (a.count - l.left) a.ends l.now (omega (arith, c.loop-left-test.false)) l.invariant.1.1 }
+returns c = record {
+  value = let a = c.args in
+      let l = c.loop-left in
+      taking-last a.count a.boxes.now a.lengths.now a.t (a.count - l.left) a.ends l.now (omega (arith, c.loop-left-test.false)) l.invariant.1.1;
+}

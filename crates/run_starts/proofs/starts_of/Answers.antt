@@ -22,6 +22,8 @@ loop-i-preserved c =
     (omega (arith, h), starts-step a.lengths.now a.ends l.starts l.i (omega (arith, h, c.requires.count_bound)) l.invariant.1)
 
 pub returns : goal.returns
-returns c = record { value = let a = c.args in
-    let l = c.loop-i in
-    subst (λ n. StartsOf n a.lengths.now a.ends l.starts) (omega (arith, l.invariant.0, c.loop-i-test.false)) l.invariant.1 }
+returns c = record {
+  value = let a = c.args in
+      let l = c.loop-i in
+      subst (λ n. StartsOf n a.lengths.now a.ends l.starts) (omega (arith, l.invariant.0, c.loop-i-test.false)) l.invariant.1;
+}

@@ -17,9 +17,11 @@ unfolding some_below
 loop-i-init c = (search rules, refl)
 
 pub returns-then-ends-i-eq0 : goal.returns-then-ends-i-eq0
-returns-then-ends-i-eq0 c = record { value = let a = c.args in
-    let i = c.loop-i.i in
-    sym (some-here a.count (λ k. eqb (get_or a.ends k 0) 0) i c.loop-i-test.true (eq-eqb (get_or a.ends i 0) 0 c.if-ends-i-eq0.true)) }
+returns-then-ends-i-eq0 c = record {
+  value = let a = c.args in
+      let i = c.loop-i.i in
+      sym (some-here a.count (λ k. eqb (get_or a.ends k 0) 0) i c.loop-i-test.true (eq-eqb (get_or a.ends i 0) 0 c.if-ends-i-eq0.true));
+}
 
 pub loop-i-preserved : goal.loop-i-preserved
 loop-i-preserved c =
@@ -28,6 +30,8 @@ loop-i-preserved c =
     (omega (arith, c.loop-i-test.true), some_next l.i (λ k. eqb (get_or a.ends k 0) 0) l.invariant.1 (ne_eqb (get_or a.ends l.i 0) 0 c.if-ends-i-eq0.false))
 
 pub returns : goal.returns
-returns c = record { value = let a = c.args in
-    let l = c.loop-i in
-    sym (some-all a.count l.i (λ k. eqb (get_or a.ends k 0) 0) l.invariant.0 c.loop-i-test.false l.invariant.1) }
+returns c = record {
+  value = let a = c.args in
+      let l = c.loop-i in
+      sym (some-all a.count l.i (λ k. eqb (get_or a.ends k 0) 0) l.invariant.0 c.loop-i-test.false l.invariant.1);
+}

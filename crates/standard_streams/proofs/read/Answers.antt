@@ -1,20 +1,33 @@
--- `read` holds at most as many bytes as there is room for: the invariant of its loop. Each turn reads one byte or more, so that it ends.
-use Prim.Native.Nat.{◌-◌, ◌≤◌}
-use native.Mathlib.Omega.{arith}
-use mathlib.Core.Path.{◌≡◌, refl, sym}
-use lib.ListN.{length}
-use lib.Seq.{length-take-le}
-use borrow.Author.Rules.{rules}
+-- `read`: what a turn reads stands behind what was read before it.
+use Rattle.std.proofs.Common.{rules, ◌≡◌, ℕ, ◌+◌, ◌-◌, ◌≤◌, List, ◌++◌, arith, length, take, slice_range, sym, ap, ◌∙◌, subst, le_refl, drop_at, length-take-le}
+use Rattle.std.proofs.lemmas.Slice.{take-put_mid_below}
+use Rattle.std.specs.Io.KnownBytes.{Consumes}
+use Rattle.std.proofs.KnownBytes.{Consumes-trans, Consumes-kept}
+use borrow.Rule.Slice.PartMut.{put_mid, post_of}
+use lib.Seq.{take-add, take-append-le}
 use Rattle.standard_streams.proofs.read.Goals as goal
 
-pub loop-count-init : goal.loop-count-init
-loop-count-init c = (refl, omega arith)
+take_split : (a b : ℕ) (old new : List ℕ) → a ≤ b → take a new ≡ take a old → take a old ++ slice_range new a b ≡ take b new
+take_split a b old new h front =
+    let same : a + (b - a) ≡ b = omega arith in
+    ap (λ l. l ++ slice_range new a b) (sym front) ∙ sym (take-add a (b - a) new) ∙ ap (λ n. take n new) same
 
-pub returns-then-got-lt0 : goal.returns-then-got-lt0
-returns-then-got-lt0 c = record { counts = (search rules, sym (length-take-le _ _ (search rules))) }
+slice_range-put_mid : (a k n : ℕ) (xs ys : List ℕ) → a ≤ length xs → n ≤ length ys → slice_range (put_mid a k xs ys) a (a + n) ≡ take n ys
+slice_range-put_mid a k n xs ys within fits =
+    let same : (a + n) - a ≡ n = omega arith in
+    let after = post_of a k xs in
+    ap (take ((a + n) - a)) (drop_at (take a xs) (ys ++ after) a (length-take-le a xs within)) ∙ ap (λ m. take m (ys ++ after)) same ∙ take-append-le n ys after fits
 
-pub returns-then-more-eq0 : goal.returns-then-more-eq0
-returns-then-more-eq0 c = record { counts = (search rules, sym (length-take-le _ _ (search rules))) }
-
-pub returns : goal.returns
-returns c = record { counts = (search rules, sym (length-take-le _ _ (search rules))) }
+pub loop-count-preserved : goal.loop-count-preserved
+loop-count-preserved g c =
+    let from = c.loop-count.count in
+    let room = length c.loop-count.buf - from in
+    let more = c.in_ok-more.more in
+    let within = c.loop-count.invariant.in_bounds in
+    let part = slice_range-put_mid from room more c.loop-count.buf c.read.new.buf within c.in_ok-more.ensures.bound.0 in
+    let joined = take_split from (from + more) c.loop-count.buf (put_mid from room c.loop-count.buf c.read.new.buf) (omega arith) (take-put_mid_below _ _ _ _ _ (le_refl _) within) in
+    record {
+      keeps_length = search rules;
+      in_bounds = search rules;
+      given = subst (Consumes _ _) (ap (λ l. take from c.loop-count.buf ++ l) (sym part) ∙ joined) (Consumes-trans _ _ _ _ _ c.loop-count.invariant.given c.in_ok-more.ensures.bytes.0);
+    }

@@ -5,11 +5,13 @@ use Rattle.transform.proofs.has_scale.Goals as goal
 
 pub returns : goal.returns
 unfolding Matrix4x4-has_scale
-returns c = record { value = rw (
-      c.not_one-3.ensures.value,
-      c.image_squared-3.ensures.value,
-      c.not_one-2.ensures.value,
-      c.image_squared-2.ensures.value,
-      c.not_one.ensures.value,
-      c.image_squared.ensures.value,
-    ) }
+returns c = record {
+  value = rw (
+    c.not_one-3.ensures.value,
+    c.image_squared-3.ensures.value,
+    c.not_one-2.ensures.value,
+    c.image_squared-2.ensures.value,
+    c.not_one.ensures.value,
+    c.image_squared.ensures.value,
+  );
+}

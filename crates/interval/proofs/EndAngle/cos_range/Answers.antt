@@ -4,12 +4,14 @@ use Rattle.interval.proofs.EndAngle.cos_range.Goals as goal
 
 pub returns : goal.returns
 unfolding EndAngle-cos_range
-returns c = record { value = rw (
-      c.select-2.ensures.value,
-      c.max.ensures.value,
-      c.lies-3.ensures.value,
-      c.lies-2.ensures.value,
-      c.select.ensures.value,
-      c.min.ensures.value,
-      c.lies.ensures.value,
-    ) }
+returns c = record {
+  value = rw (
+    c.select-2.ensures.value,
+    c.max.ensures.value,
+    c.lies-3.ensures.value,
+    c.lies-2.ensures.value,
+    c.select.ensures.value,
+    c.min.ensures.value,
+    c.lies.ensures.value,
+  );
+}

@@ -3,5 +3,7 @@ use Rattle.interval.proofs.Places.{from-sin-cos}
 use Rattle.interval.proofs.EndAngle.new.Goals as goal
 
 pub returns : goal.returns
-returns c = record { value = let s = c.sin_cos in
-    from-sin-cos c.args.a s.result c.from_sin_cos.ensures.value s.ensures.value.0 s.ensures.value.1 }
+returns c = record {
+  value = let s = c.sin_cos in
+      from-sin-cos c.args.a s.result c.from_sin_cos.ensures.value s.ensures.value.0 s.ensures.value.1;
+}

@@ -4,11 +4,13 @@ use Rattle.interval.proofs.EndAngle.sin_range.Goals as goal
 
 pub returns : goal.returns
 unfolding EndAngle-sin_range
-returns c = record { value = rw (
-      c.select-2.ensures.value,
-      c.max.ensures.value,
-      c.lies-2.ensures.value,
-      c.select.ensures.value,
-      c.min.ensures.value,
-      c.lies.ensures.value,
-    ) }
+returns c = record {
+  value = rw (
+    c.select-2.ensures.value,
+    c.max.ensures.value,
+    c.lies-2.ensures.value,
+    c.select.ensures.value,
+    c.min.ensures.value,
+    c.lies.ensures.value,
+  );
+}

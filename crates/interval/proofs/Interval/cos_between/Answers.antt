@@ -4,10 +4,12 @@ use Rattle.interval.proofs.Interval.cos_between.Goals as goal
 
 pub returns : goal.returns
 unfolding Interval-cos_between
-returns c = record { value = rw (
-      c.new.ensures.value,
-      c.select.ensures.value,
-      c.straddles.ensures.value,
-      c.select-high.ensures.value,
-      c.select-low.ensures.value,
-    ) }
+returns c = record {
+  value = rw (
+    c.new.ensures.value,
+    c.select.ensures.value,
+    c.straddles.ensures.value,
+    c.select-high.ensures.value,
+    c.select-low.ensures.value,
+  );
+}

@@ -5,8 +5,10 @@ use Rattle.interval.proofs.Interval.not_finite.Goals as goal
 
 pub returns-then-is_finite : goal.returns-then-is_finite
 unfolding not_finite
-returns-then-is_finite c = record { value = let taken : (c.is_finite.result && c.is_finite-2.result) ≡ true = c.if-is_finite.true in
-    rw (← c.is_finite.ensures.value, ← c.is_finite-2.ensures.value, taken) }
+returns-then-is_finite c = record {
+  value = let taken : (c.is_finite.result && c.is_finite-2.result) ≡ true = c.if-is_finite.true in
+      rw (← c.is_finite.ensures.value, ← c.is_finite-2.ensures.value, taken);
+}
 
 pub returns-else-is_finite : goal.returns-else-is_finite
 unfolding not_finite

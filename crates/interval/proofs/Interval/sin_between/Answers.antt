@@ -4,12 +4,14 @@ use Rattle.interval.proofs.Interval.sin_between.Goals as goal
 
 pub returns : goal.returns
 unfolding Interval-sin_between
-returns c = record { value = rw (
-      c.new.ensures.value,
-      c.select-2.ensures.value,
-      c.straddles-2.ensures.value,
-      c.select.ensures.value,
-      c.straddles.ensures.value,
-      c.select-high.ensures.value,
-      c.select-low.ensures.value,
-    ) }
+returns c = record {
+  value = rw (
+    c.new.ensures.value,
+    c.select-2.ensures.value,
+    c.straddles-2.ensures.value,
+    c.select.ensures.value,
+    c.straddles.ensures.value,
+    c.select-high.ensures.value,
+    c.select-low.ensures.value,
+  );
+}

@@ -5,9 +5,11 @@ use Rattle.quaternion.proofs.Quaternion.is_finite.Goals as goal
 
 pub returns : goal.returns
 unfolding Quaternion-is_finite
-returns c = record { value = rw (
-      c.is_finite.ensures.value,
-      c.is_finite-2.ensures.value,
-      c.is_finite-3.ensures.value,
-      c.is_finite-4.ensures.value,
-    ) }
+returns c = record {
+  value = rw (
+    c.is_finite.ensures.value,
+    c.is_finite-2.ensures.value,
+    c.is_finite-3.ensures.value,
+    c.is_finite-4.ensures.value,
+  );
+}

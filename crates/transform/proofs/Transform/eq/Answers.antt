@@ -5,11 +5,13 @@ use Rattle.transform.proofs.Transform.eq.Goals as goal
 
 pub returns : goal.returns
 unfolding Transform-eq
-returns c = record { value = rw (
-      c.eq-2.ensures.value,
-      c.to_rows-4.ensures.value,
-      c.to_rows-3.ensures.value,
-      c.eq.ensures.value,
-      c.to_rows-2.ensures.value,
-      c.to_rows.ensures.value,
-    ) }
+returns c = record {
+  value = rw (
+    c.eq-2.ensures.value,
+    c.to_rows-4.ensures.value,
+    c.to_rows-3.ensures.value,
+    c.eq.ensures.value,
+    c.to_rows-2.ensures.value,
+    c.to_rows.ensures.value,
+  );
+}

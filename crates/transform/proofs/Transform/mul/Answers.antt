@@ -5,12 +5,14 @@ use Rattle.transform.proofs.Transform.mul.Goals as goal
 
 pub returns : goal.returns
 unfolding Transform-mul
-returns c = record { value = rw (
-      c.from_matrices.ensures.value,
-      c.mul-m_inv.ensures.value,
-      c.to_rows-4.ensures.value,
-      c.to_rows-3.ensures.value,
-      c.mul-m.ensures.value,
-      c.to_rows-2.ensures.value,
-      c.to_rows.ensures.value,
-    ) }
+returns c = record {
+  value = rw (
+    c.from_matrices.ensures.value,
+    c.mul-m_inv.ensures.value,
+    c.to_rows-4.ensures.value,
+    c.to_rows-3.ensures.value,
+    c.mul-m.ensures.value,
+    c.to_rows-2.ensures.value,
+    c.to_rows.ensures.value,
+  );
+}

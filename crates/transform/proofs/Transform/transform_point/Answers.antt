@@ -7,16 +7,16 @@ use Rattle.transform.proofs.Transform.transform_point.Goals as goal
 pub returns-then-is_finite : goal.returns-then-is_finite
 unfolding Transform-transform_point PointAnswer-judged
 returns-then-is_finite c = let all = point-clauses c.args.self c.args.p (rw (
-      rw (
-        c.is_finite.ensures.value,
-        c.moved_point-q.ensures.value,
-      ) at c.if-is_finite.true,
-      c.moved_point-q.ensures.value,
-    )) in record { value = all.0; judged = all.1 }
+  rw (
+    c.is_finite.ensures.value,
+    c.moved_point-q.ensures.value,
+  ) at c.if-is_finite.true,
+  c.moved_point-q.ensures.value,
+)) in record { value = all.0; judged = all.1 }
 
 pub returns-else-is_finite : goal.returns-else-is_finite
 unfolding Transform-transform_point PointAnswer-judged
 returns-else-is_finite c = let all = point-clauses c.args.self c.args.p (rw (rw (
-      c.is_finite.ensures.value,
-      c.moved_point-q.ensures.value,
-    ) at c.if-is_finite.false)) in record { value = all.0; judged = all.1 }
+  c.is_finite.ensures.value,
+  c.moved_point-q.ensures.value,
+) at c.if-is_finite.false)) in record { value = all.0; judged = all.1 }

@@ -1,0 +1,17 @@
+-- `read_decimals` reads number by number. The invariant: what is left of the line gives what the line gives.
+use Prim.Native.Nat.{ℕ, ◌-◌, ◌≤◌}
+use native.Mathlib.Omega.{arith}
+use mathlib.Core.Path.{◌≡◌, refl, sym, ◌∙◌, ap}
+use Rattle.question_lines.specs.Words.{Decimal-read}
+use Rattle.question_reader.specs.Question.{decimals_end, decimals_stored}
+use Rattle.question_reader.proofs.Words.{decimal-past, end_on, stored_on, end-off, stored-off, end_none, stored-none, few, many}
+use borrow.Author.Rules.{rules}
+use Rattle.question_reader.proofs.read_decimals.Given as goal
+
+abbrev pub invariant-loop-k : goal.invariant-loop-k
+invariant-loop-k l =
+    (l.count ≤ 4) × (l.k ≤ l.count) × (decimals_end (l.count - l.k) l.line l.end ≡ decimals_end l.count l.line l.at)
+    × (decimals_stored (l.count - l.k) l.k l.line l.end l.wholes ≡ decimals_stored l.count 0 l.line l.at l.initial.wholes)
+
+abbrev pub decreases-loop-k : goal.decreases-loop-k
+decreases-loop-k l = l.count - l.k
