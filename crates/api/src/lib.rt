@@ -3,6 +3,7 @@
 // refused it writes what it is lent for its answer; after a refusal that is as it was. Any floats may be handed in,
 // and any rows may be asked, but the guarantee is for rows that building has written.
 #![tactic(auto)]
+
 ghost use Rattle.std.specs.Prelude.{◌-◌, ◌≡◌, [], ◌∷◌, map, length, take};
 ghost use Rattle.bounds3.specs.List.{Point3f-of_list, Bounds3f-of_list};
 ghost use Rattle.transform.specs.Answer.{PointAnswer-refusal, BoundsAnswer-refusal};
@@ -291,11 +292,7 @@ pub fn jellyplain_moves_point(
 
 // The pad at a time of a chain, that of the move to which the time belongs. Refused with 5 or 6, and with 12 where they are no chain.
 // Accuracy: each operation is correctly rounded.
-pub fn jellyplain_moves_pad(
-    moves: &[[[f32; 4]; 45]],
-    time: f32,
-    pad: &mut [f32; 1],
-) -> u8
+pub fn jellyplain_moves_pad(moves: &[[[f32; 4]; 45]], time: f32, pad: &mut [f32; 1]) -> u8
     ensures refusal { result ≡ PadAnswer-refusal (Moves-pad (Moves-asked moves.now) time) }
     ensures left { pad.new ≡ PadAnswer-left (Moves-pad (Moves-asked moves.now) time) pad.old }
     ensures kept { (c : Chain) → Moves-asked moves.now ≡ Chain-to_rows c → Moves-pad (Moves-asked moves.now) time ≡ Chain-pad c time }
@@ -332,11 +329,7 @@ pub fn jellyplain_moves_held(moves: &[[[f32; 4]; 45]]) -> ChainHeld
 
 // The pose of a chain at a place, counted from 0, as it was set: 18 floats. Refused with 12 where they are no chain, then with 19 for a place beyond the last
 // pose. Accuracy: exact.
-pub fn jellyplain_moves_pose(
-    moves: &[[[f32; 4]; 45]],
-    place: usize,
-    pose: &mut [f32; 18],
-) -> u8
+pub fn jellyplain_moves_pose(moves: &[[[f32; 4]; 45]], place: usize, pose: &mut [f32; 18]) -> u8
     ensures refusal { result ≡ Moves-pose_refusal (Moves-asked moves.now) place }
     ensures left { pose.new ≡ Moves-pose_left (Moves-asked moves.now) place pose.old }
     ensures as_set { result ≡ 0 → PoseAsSet (Moves-asked moves.now) place pose.new }
@@ -464,11 +457,7 @@ pub fn jellyplain_read_file(
 
 // The poses of a chain and the box b as a move file, in the front bytes; those behind it stay. Gives the length of the text. Refused with 6 or 7,
 // then with 15 where the bytes are too few, and with 12 where they are no chain; all bytes then stay. Accuracy: exact.
-pub fn jellyplain_write_file(
-    moves: &[[[f32; 4]; 45]],
-    b: &[f32; 6],
-    out: &mut [u8],
-) -> Written
+pub fn jellyplain_write_file(moves: &[[[f32; 4]; 45]], b: &[f32; 6], out: &mut [u8]) -> Written
     ensures refusal { result.refusal ≡ TextAnswer-refusal (Moves-written (Moves-asked moves.now) b.now (length out.old)) }
     ensures length { result.length ≡ TextAnswer-length (Moves-written (Moves-asked moves.now) b.now (length out.old)) }
     ensures left { out.new

@@ -1,14 +1,10 @@
 // What C links, in the library jellyplain: each function of `api` under its own name, with the same clauses.
 #![tactic(auto)]
+
 ghost use Rattle.std.specs.Prelude.{◌-◌, ◌≡◌, [], ◌∷◌, map, length, take};
 ghost use Rattle.api.specs.Words.{Point3f-of_list, Bounds3f-of_list, PointAnswer-refusal, BoundsAnswer-refusal, AnimatedTransform-transform_point, MotionBoundsAnswer-refusal, Pose-of_list, PointAnswer-left, TransformAnswer-left, BoundsAnswer-left, Rows, AnimatedTransform-interpolate, AnimatedTransform-to_rows, AnimatedTransformAnswer-left, transform_at, Rows-Holds, AnimatedTransform-pad, Rows-pad, PadAnswer-refusal, PadAnswer-left, Chain, built, ChainAnswer-refusal, Chain-new, Chain-transform_point, PointsAnswer-refusal, PointsAnswer-left, Chain-transform_points, Poses-of_lists, Chain-to_rows, Chain-pad, Moves-pad, Moves-asked, Moves-Holds, KeptChainContainsMotion, KeptChainFiner, Rows-interpolate, Chain-interpolate, Moves-interpolate, MovesPoints, Moves-held, Moves-pose_refusal, Moves-pose_left, HeldAsSet, PoseAsSet, Chain-try, TrialContainsMotion, ChainAnswer-left, Moves-join_refusal, Moves-join_left, Joined, cut_refusal, Bounds3f-cut, PartsWithin, PartsCover, Moves-reach_refusal, Moves-reach_left, KeptReachDry, KeptReachDryAlways, KeptReachFiner, KeptReachCovered, rows_refusal, reached_rows, rows_left, RowsApart, KeptRowsApart, shortest_run, ShortestRefused, SetAnswer-refusal, Moves-covers, SetAnswer-covers_left, SetAnswer-union_left, KeptSetContainsMotion, KeptSetFiner, MoveFile-read, MoveFile-poses, poses_front, TextAnswer-refusal, TextAnswer-length, TextAnswer-left, WrittenBack, day_refusal, DayKeeps, Booms-of_lists, starts_left, MoveFile-bounds_left, Moves-written, WindowsAnswer-refusal, WindowsAnswer-windows, WindowsAnswer-left, KeptWindows, KeptWindowsApart, KeptWindowsFiner, KeptWindowContainsMotion, KeptWindowFiner, layout_number, version_number, Moves-point, Moves-points, Moves-cover_of, Moves-try_of, Moves-window_cover_of, Moves-windows_of, Rows-new, Rows-point, Rows-bound_point_motion, Rows-motion_bounds, Rows-cover, MotionBoundsAnswer-left, MotionBoundsAnswer-examined_left, KeptCoverContainsMotion, KeptCoverFiner, KeptCover, KeptWindowCover};
 
-use api::ChainHeld;
-use api::FileRead;
-use api::Reached;
-use api::Run;
-use api::Windows;
-use api::Written;
+use api::{ChainHeld, FileRead, Reached, Run, Windows, Written};
 
 // `api::jellyplain_build`, for C.
 #[unsafe(no_mangle)]
@@ -467,4 +463,3 @@ pub extern "C" fn jellyplain_moves_reach(
 {
     api::jellyplain_moves_reach(moves, boxes, depth, ticks, rows, masks)
 }
-

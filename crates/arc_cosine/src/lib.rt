@@ -1,6 +1,7 @@
 // The arc cosine, by document 01's table of sines: the least angle whose cosine is not above a number, found by halving. Angles are in units of 2^-28, cosines
 // in units of 2^-30, which are carried 2^30 more than they are.
 #![tactic(auto)]
+
 ghost use Rattle.std.specs.Prelude.{◌≡◌, true, ◌+◌, ◌*◌, ◌/◌, ◌^◌, ◌≤◌, ◌<◌};
 ghost use Rattle.std.specs.Float.Ieee.{minus};
 ghost use Rattle.sine_table.specs.Table.{quarter_turn, sine_table};

@@ -1,6 +1,7 @@
 // pbrt's Point3f and Bounds3f: an axis-aligned box from a least to a greatest corner.
 // Nothing is refused here: each function is stated for all boxes and points, NaN, infinities and a least corner above the greatest included.
 #![tactic(auto)]
+
 ghost use Rattle.std.specs.Prelude.{◌≡◌};
 ghost use Rattle.bounds3.specs.Point3f.{Point3f-min, Point3f-max, Point3f-div};
 ghost use Rattle.bounds3.specs.Bounds3f.{Bounds3f-from_point, Bounds3f-from_points, Bounds3f-default, Bounds3f-index};

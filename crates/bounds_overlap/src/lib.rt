@@ -1,5 +1,6 @@
 // Whether two boxes meet.
 #![tactic(auto)]
+
 ghost use Rattle.std.specs.Prelude.{◌≡◌};
 ghost use Rattle.bounds_overlap.specs.Meets.{ranges_meet, Bounds3f-meets};
 

@@ -1,6 +1,7 @@
 // The boxes at the front of a set that are not refused so far, each with what it covers so far in a place of its own. The first refused box in order gives the
 // number, so that those behind it are left aside: one pose is taken over the boxes in front alone.
 #![tactic(auto)]
+
 ghost use Rattle.std.specs.Prelude.{◌<◌, ◌≡◌, length};
 ghost use Rattle.transform.specs.Answer.{BoundsAnswer-refusal};
 ghost use Rattle.motion_piece.specs.means.Piece.{PaddedPose-enclose_bounds};

@@ -1,6 +1,7 @@
 // A chain built from lent poses, 18 floats each, into 31 lent blocks of 45 rows: the rows of its moves at the front, and behind them what stood there.
 // After a refusal all blocks are as they were.
 #![tactic(auto)]
+
 ghost use Rattle.std.specs.Prelude.{◌+◌, ◌-◌, ◌<◌, ◌≤◌, ◌≡◌, map, length, set, take};
 ghost use Rattle.chain_number.specs.Number.{Move-number};
 ghost use Rattle.motion_chain.specs.Chain.{neighbours, stage, chain_refusal, Chain, built, ChainAnswer-refusal, Chain-new};

@@ -1,5 +1,6 @@
 // The cover of a kept chain: the union of its moves' covers, in rising order, of which the first refusal stands.
 #![tactic(auto)]
+
 ghost use Rattle.std.specs.Prelude.{◌<◌, ◌≡◌, [], length, get_or};
 ghost use Rattle.transform.specs.Answer.{BoundsAnswer-refusal, BoundsAnswer-bounds};
 ghost use Rattle.bounds_query.specs.Query.{BoundsAnswer-union_bounds};

@@ -1,5 +1,6 @@
 // Document 02's "A boom of many boxes": the covers of 1 to 16 boxes over a kept chain, and their union. Every pose is enclosed once for all boxes.
 #![tactic(auto)]
+
 ghost use Rattle.std.specs.Prelude.{◌<◌, ◌≤◌, ◌≡◌, length};
 ghost use Rattle.box_set.specs.Set.{max_boxes, SetAnswer-refusal};
 ghost use Rattle.chain_covers.specs.Kept.{Moves-covers, SetAnswer-covers_left, SetAnswer-union_left};

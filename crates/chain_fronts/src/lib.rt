@@ -1,6 +1,7 @@
 // The covers of many boxes over a kept chain: those of its moves, in rising order, joined box by box. A box that a move refuses, and those behind it, are left
 // aside.
 #![tactic(auto)]
+
 ghost use Rattle.std.specs.Prelude.{◌≤◌, ◌≡◌, [], length};
 ghost use Rattle.bounds_query.specs.Query.{BoundsAnswer-union_bounds};
 ghost use Rattle.motion_cover.specs.Cover.{AnimatedTransform-cover};

@@ -1,5 +1,6 @@
 // What a kept chain holds: the number of its poses, the times of its first and its last, its kind; and each of its poses, as it was set.
 #![tactic(auto)]
+
 ghost use Rattle.std.specs.Prelude.{◌≤◌, ◌<◌, ◌≡◌, Bool, List, Float, length};
 ghost use Rattle.lent_arrays.specs.Arrays.{Pose-of_list};
 ghost use Rattle.built_poses.specs.Poses.{Pose-list};

@@ -1,6 +1,7 @@
 // Document 02's "Two chains made one": the rows of two kept chains, the first's and then the second's, in the first of 31 lent blocks,
 // and behind them what stood there. After a refusal all blocks are as they were.
 #![tactic(auto)]
+
 ghost use Rattle.std.specs.Prelude.{◌+◌, ◌<◌, ◌≤◌, ◌≡◌, length};
 ghost use Rattle.std.specs.Bool.{beq};
 ghost use Rattle.std.proofs.Math.Seq.{paste};

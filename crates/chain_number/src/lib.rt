@@ -1,5 +1,6 @@
 // The number that building a chain of lent poses gives, and nothing of the chain: for those who ask only whether poses are refused, and with what.
 #![tactic(auto)]
+
 ghost use Rattle.std.specs.Prelude.{◌≡◌};
 ghost use Rattle.lent_arrays.specs.Arrays.{Pose-of_list};
 ghost use Rattle.motion_chain.specs.Chain.{neighbours, stage};

@@ -2,6 +2,7 @@
 // pose, or of every neighbouring pair, before the next stage: 1, 2 and 16 of every pose, 12 of the count and of every pair, 3 of every pair,
 // and of every pose of a rigid chain 17 and 18.
 #![tactic(auto)]
+
 ghost use Rattle.std.specs.Prelude.{◌+◌, ◌<◌, ◌≡◌, ◌||◌, cond, [], ltb, length, get_or};
 ghost use Rattle.lent_arrays.specs.Arrays.{Pose-of_list};
 ghost use Rattle.motion_chain.specs.Chain.{min_poses, max_poses, neighbours, stage, Pose-number, Pair-number, kind_stage, chain_refusal};

@@ -1,5 +1,6 @@
 // A chain as its caller keeps it: the 45 rows of each of its moves, in rising order. Which of them a time belongs to, the point query and the pad query.
 #![tactic(auto)]
+
 ghost use Rattle.std.specs.Prelude.{◌<◌, ◌≡◌, length};
 ghost use Rattle.motion_chain.specs.Chain.{Chain, Chain-transform_point};
 ghost use Rattle.motion_chain.specs.MoveAt.{Chain-index_at};

@@ -1,6 +1,7 @@
 // Chains kept in four slots, each as the rows of its moves, 45 for each, beside how many poses it was built from:
 // 0 where none is kept, 1 for a move built by itself.
 #![tactic(auto)]
+
 ghost use Rattle.std.specs.Prelude.{◌≡◌, take};
 ghost use Rattle.chain_slots.specs.Slots.{moves_of, Slots-moves};
 

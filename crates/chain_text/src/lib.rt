@@ -1,5 +1,6 @@
 // Document 02's "One way to write a move file": a kept chain and a box as the text of a move file, in the front of a lent buffer.
 #![tactic(auto)]
+
 ghost use Rattle.std.specs.Prelude.{◌+◌, ◌*◌, ◌≤◌, ◌<◌, ◌≡◌, map, length, take};
 ghost use Rattle.std.proofs.Math.Seq.{paste};
 ghost use Rattle.bounds3.specs.List.{Bounds3f-list};

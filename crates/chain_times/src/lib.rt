@@ -1,6 +1,7 @@
 // The point query of a kept chain with a list of times: judged, passed over once for a refusal, and then written. In both passes each stretch
 // of times is handed to its own move as a part of the list, and in the second that move's points go straight into its own part of the answers.
 #![tactic(auto)]
+
 ghost use Rattle.std.specs.Prelude.{◌+◌, ◌-◌, ◌*◌, ◌≤◌, ◌<◌, ◌≡◌, true, ◌++◌, length, take, drop};
 ghost use Rattle.motion_rows.specs.TransformPoint.{Rows-transform_point};
 ghost use Rattle.motion_chain.specs.Chain.{Chain};

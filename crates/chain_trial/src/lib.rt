@@ -1,6 +1,7 @@
 // Document 02's "Trying a pose first": the cover of a kept chain with one pose changed. Only the moves beside that pose are built anew; the others are asked as
 // they are kept. The chain is lent and not changed.
 #![tactic(auto)]
+
 ghost use Rattle.std.specs.Prelude.{◌<◌, ◌≤◌, ◌≡◌, [], ◌∷◌, length};
 ghost use Rattle.transform.specs.Answer.{BoundsAnswer-refusal, BoundsAnswer-bounds};
 ghost use Rattle.lent_arrays.specs.Arrays.{Pose-of_list};

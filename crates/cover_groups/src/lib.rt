@@ -2,6 +2,7 @@
 // four lanes. Where the coarse slices of the same cover are accepted, no finer one is refused and this is the cover but for zeros' signs.
 // What it does with four borders and the constants is lent to the pieces of a window.
 #![tactic(auto)]
+
 ghost use Rattle.std.specs.Prelude.{◌*◌, ◌/◌, ◌^◌, ◌≤◌, min, ◌≡◌};
 ghost use Rattle.control_flow.specs.Loop.{loop};
 ghost use Rattle.sine_table.specs.Table.{sine_table};

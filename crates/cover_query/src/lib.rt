@@ -1,6 +1,7 @@
 // The cover query of a move, document 01's 'Cover (added)': start box, end box and slices of dt are computed in rising order, up to the first refusal that is
 // met; each grows by its pad as soon as it is computed.
 #![tactic(auto)]
+
 ghost use Rattle.std.specs.Prelude.{◌≤◌, ◌≡◌};
 ghost use Rattle.bounds_query.specs.Query.{max_depth};
 ghost use Rattle.bounds_query.specs.Zeros.{BoundsAnswer-positive_zeros};

@@ -2,6 +2,7 @@
 // met. A few coarse slices are judged first. Where they are accepted no finer slice is refused, and those are computed four at a time without judging, which
 // gives the same but for zeros' signs; so zeros are +0.
 #![tactic(auto)]
+
 ghost use Rattle.std.specs.Prelude.{◌^◌, ◌≤◌, ◌<◌, min, ◌≡◌, true};
 ghost use Rattle.transform.specs.declared.BoundsAnswer.TheVariants.{Bounds};
 ghost use Rattle.unit_interval.specs.Unit.{slice};

@@ -1,6 +1,7 @@
 // The test that lets a cover be computed leanly: the parts of a move are finite, its angle lies from 0 to a quarter turn and its pads are at least zero.
 // What passes it meets what the laws of `cover_lean` ask. Each test also says that its numbers are values of binary32, as every f32 is.
 #![tactic(auto)]
+
 ghost use Rattle.std.specs.Prelude.{◌≡◌, T};
 ghost use Rattle.std.specs.Float.{binary32};
 ghost use Rattle.std.specs.Float.Ieee.{fits};

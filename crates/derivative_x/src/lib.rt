@@ -1,5 +1,6 @@
 // The coefficients of the derivative of the motion along x, over one column of the two scale matrices: 000's c1 to c5, in its order of operations.
 #![tactic(auto)]
+
 ghost use Rattle.std.specs.Prelude.{◌≡◌};
 ghost use Rattle.derivative_x.specs.Terms.{c1x, c2x, c3x, c4x, c5x};
 

@@ -1,5 +1,6 @@
 // The coefficients of the derivative of the motion along y, over one column of the two scale matrices: 000's c1 to c5, in its order of operations.
 #![tactic(auto)]
+
 ghost use Rattle.std.specs.Prelude.{◌≡◌};
 ghost use Rattle.derivative_y.specs.Terms.{c1y, c2y, c3y, c4y, c5y};
 

@@ -1,5 +1,6 @@
 // The coefficients of the derivative of the motion along z, over one column of the two scale matrices: 000's c1 to c5, in its order of operations.
 #![tactic(auto)]
+
 ghost use Rattle.std.specs.Prelude.{◌≡◌};
 ghost use Rattle.derivative_z.specs.Terms.{c1z, c2z, c3z, c4z, c5z};
 

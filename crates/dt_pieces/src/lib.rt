@@ -1,5 +1,6 @@
 // The boxes of a move over the pieces of an interval of dt, joined.
 #![tactic(auto)]
+
 ghost use Rattle.std.specs.Prelude.{min, ◌≡◌};
 ghost use Rattle.bounds_query.specs.Query.{BoundsAnswer-union_bounds, max_depth};
 ghost use Rattle.dt_pieces.specs.means.Pieces.{piece_box, union_pieces};

@@ -1,5 +1,6 @@
 // A line of a move file: whether it is given names, or so many values. Words stand apart by one or more spaces.
 #![tactic(auto)]
+
 ghost use Rattle.std.specs.Prelude.{◌≡◌, true, ◌<◌, length};
 ghost use Rattle.motion_file.specs.Layout.{names, values, fits, values_of};
 ghost use Rattle.motion_file.specs.means.Place.{NextByte};

@@ -1,5 +1,6 @@
 // Move files read: from a file's bytes to its poses and its box.
 #![tactic(auto)]
+
 ghost use Rattle.std.specs.Prelude.{◌≡◌, map, ◌≤◌, length, replicate};
 ghost use Rattle.motion_file.specs.Layout.{names, values, values_of, max_bytes, max_pose_lines, has_pads, pose_of, MoveFile-poses, MoveFile-read};
 ghost use Rattle.motion_file.specs.means.Columns.{MoveFile-read_as, MoveFile-poses_as};

@@ -1,5 +1,6 @@
 // From a move file to its one form: the program `rewrite` but for its reading and writing.
 #![tactic(auto)]
+
 ghost use Rattle.std.specs.Prelude.{◌≤◌, ◌<◌, ◌≡◌, false, length, take};
 ghost use Rattle.motion_chain.specs.Chain.{Chain-new};
 ghost use Rattle.chain_poses.specs.Poses.{Poses-of_lists};

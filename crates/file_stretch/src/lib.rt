@@ -1,5 +1,6 @@
 // From a move file to the lines of its shortest refused stretch: the program `stretch` but for its reading and writing.
 #![tactic(auto)]
+
 ghost use Rattle.std.specs.Prelude.{◌+◌, ◌≤◌, ◌<◌, ◌%◌, ◌≡◌, ◌++◌, length, take};
 ghost use Rattle.chain_poses.specs.Poses.{Poses-of_lists};
 ghost use Rattle.motion_text.specs.Answer.{text_left, length_in};

@@ -1,6 +1,7 @@
 // Numbers that 32-bit floats have no operator for: absolute value, least and greatest of two, linear interpolation, clamp,
 // one of two by a test, and whether a float is finite. Each is stated for all arguments, NaN and infinities included.
 #![tactic(auto)]
+
 ghost use Rattle.std.specs.Prelude.{◌≡◌, cond};
 ghost use Rattle.std.specs.Float.Ieee.Scale.{finite};
 ghost use Rattle.float32.specs.Abs.{abs};

@@ -1,5 +1,6 @@
 // A float as whole numbers, and a whole number as the nearest float. Each is stated for all arguments.
 #![tactic(auto)]
+
 ghost use Rattle.std.specs.Prelude.{◌≡◌, false, ◌%◌, ◌^◌, pos};
 ghost use Rattle.std.specs.Float.{binary32};
 ghost use Rattle.std.specs.Float.Ieee.{round, of_int};

@@ -1,6 +1,7 @@
 // The transform of a kept move at a time, both halves, and of a kept chain: pbrt's `interpolate` by the dot product of the rotations and the angle between
 // them that the rows hold, which the point query takes too.
 #![tactic(auto)]
+
 ghost use Rattle.std.specs.Prelude.{◌≡◌};
 ghost use Rattle.interpolation.specs.Interpolate.{Pose-transform};
 ghost use Rattle.motion_rows.specs.Rows.{AnimatedTransform-from_rows, PoseConstants-from_rows};

@@ -2,6 +2,7 @@
 // At and outside the end times, and where the two poses are equal, it is a stored transform, refused with 5 where it isn't finite, as in rows that nobody
 // built; between them it is computed, and refused with 4 or 5, whichever is met first.
 #![tactic(auto)]
+
 ghost use Rattle.std.specs.Prelude.{◌≡◌};
 ghost use Rattle.matrix4x4.specs.Rows.{Matrix4x4-to_rows};
 ghost use Rattle.interpolation.specs.Interpolate.{Transform-is_finite, TransformAnswer-judged, scaled, composed};

@@ -1,5 +1,6 @@
 // The two poses of a kept move, as 18 floats each, in the form in which a chain is built from them, and its kind.
 #![tactic(auto)]
+
 ghost use Rattle.std.specs.Prelude.{◌≡◌};
 ghost use Rattle.lent_arrays.specs.Arrays.{Pose-of_list};
 ghost use Rattle.motion_rows.specs.Rows.{AnimatedTransform-from_rows};

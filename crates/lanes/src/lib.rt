@@ -1,6 +1,7 @@
 // Four intervals side by side, of four neighbouring slices of dt: an operation on each of them. None is judged.
 // Ends are kept together and every place is a constant, so that the compiler takes four floats in one instruction.
 #![tactic(auto)]
+
 ghost use Rattle.std.specs.Prelude.{◌≡◌};
 ghost use Rattle.std.specs.Float.{binary32};
 ghost use Rattle.square_root.specs.SquareRoot.{sqrt};

@@ -1,5 +1,6 @@
 // A box moved by four poses, grown by their pads, and the union of such boxes lane by lane. Nothing is judged.
 #![tactic(auto)]
+
 ghost use Rattle.std.specs.Prelude.{◌≡◌};
 ghost use Rattle.lanes.specs.means.Lanes.{Lane, at, Lanes-lane, Lanes-of};
 ghost use Rattle.lanes_rotation.specs.means.Matrices.{LanesVector-lane, LanesVector-of, LanesMatrix-lane};

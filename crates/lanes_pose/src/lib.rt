@@ -1,6 +1,7 @@
 // The poses of four neighbouring slices of dt, without judging and without terms by constants: `LeanPose-over` of `pose_lean` has one.
 // Each stage has one call, so that it is compiled in place.
 #![tactic(auto)]
+
 ghost use Rattle.std.specs.Prelude.{◌≡◌};
 ghost use Rattle.lanes.specs.means.Lanes.{Lane, four, Lanes-lane, Lanes-of, Lanes-zip};
 ghost use Rattle.lanes_rotation.specs.means.Matrices.{LanesVector-lane, LanesVector-of, LanesMatrix-lane, LanesMatrix-of};

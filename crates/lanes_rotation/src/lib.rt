@@ -1,5 +1,6 @@
 // The matrices of four quaternions, without judging and without the column that is 0.
 #![tactic(auto)]
+
 ghost use Rattle.std.specs.Prelude.{◌≡◌};
 ghost use Rattle.lanes.specs.means.Lanes.{Lane, Lanes-zip};
 ghost use Rattle.lanes_slerp.specs.means.Quaternions.{LanesQuaternion-lane};

@@ -1,5 +1,6 @@
 // The rotations of four neighbouring slices of dt, near or far slerp, without judging: `pose_lean` has one slice.
 #![tactic(auto)]
+
 ghost use Rattle.std.specs.Prelude.{◌≡◌};
 ghost use Rattle.lanes.specs.means.Lanes.{Lane, Lanes-lane, Lanes-of, Lanes-zip};
 ghost use Rattle.pose_lean.specs.means.Lean.{mix, turned, length, over, normalized, slerp_by};

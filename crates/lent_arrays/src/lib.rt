@@ -2,6 +2,7 @@
 // the answer's number is returned, 0 for none, and after a refusal the array is as it was. A box is its least corner
 // and its greatest, a transform the four rows of its matrix and those of its inverse.
 #![tactic(auto)]
+
 ghost use Rattle.std.specs.Prelude.{◌≡◌};
 ghost use Rattle.bounds3.specs.List.{Point3f-of_list, Bounds3f-list, Bounds3f-of_list};
 ghost use Rattle.transform.specs.Answer.{PointAnswer-refusal, BoundsAnswer-refusal};

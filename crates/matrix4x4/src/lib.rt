@@ -1,5 +1,6 @@
 // pbrt's Matrix4x4: four rows of four floats, by value, as `[[f32; 4]; 4]`. Each function is stated for all arguments, NaN and infinities included.
 #![tactic(auto)]
+
 ghost use Rattle.std.specs.Prelude.{◌≡◌};
 ghost use Rattle.std.specs.Float.Ieee.{eq};
 ghost use Rattle.std.specs.Float.Ieee.Scale.{finite};

@@ -1,5 +1,6 @@
 // From a move file to the text that answers it: the programs `cover` and `cover_rigid` but for their reading and writing.
 #![tactic(auto)]
+
 ghost use Rattle.std.specs.Prelude.{◌≤◌, ◌≡◌, length, take};
 ghost use Rattle.motion_chain.specs.Chain.{Chain-new};
 ghost use Rattle.chain_poses.specs.Poses.{Poses-of_lists};

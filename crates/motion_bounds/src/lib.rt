@@ -2,6 +2,7 @@
 // zero search found, so that it isn't a cover of the motion. What is asked of the arguments (6, 7) stands apart from what is met on the way (5, 9).
 // Each box comes with how many intervals its search examined.
 #![tactic(auto)]
+
 ghost use Rattle.std.specs.Prelude.{◌≡◌, ◌+◌, ◌<◌};
 ghost use Rattle.zero_search.specs.Stored.{Stored};
 ghost use Rattle.motion_bounds.specs.MotionBounds.{DerivativeTerm-eval, BoundsAnswer-from_ends, point_at, union_zero, union_zeros};

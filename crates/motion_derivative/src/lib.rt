@@ -1,5 +1,6 @@
 // The derivative of a coordinate's motion, whose zeros pbrt's motion box needs: its bounds over an interval, its value and its slope.
 #![tactic(auto)]
+
 ghost use Rattle.std.specs.Prelude.{◌≡◌};
 ghost use Rattle.interval.specs.Interval.{Interval-sin, Interval-cos};
 ghost use Rattle.motion_derivative.specs.Derivative.{affine, MotionDerivative-angles, MotionDerivative-range_at, MotionDerivative-excludes_zero_at};

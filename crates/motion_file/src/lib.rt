@@ -1,5 +1,6 @@
 // The layout of move files, the texts that hold the poses of a chain and a box: its lines, and the pose of a line. `file_reader` reads them.
 #![tactic(auto)]
+
 ghost use Rattle.std.specs.Prelude.{◌≡◌, cond, ◌+◌, eqb, ltb, length};
 ghost use Rattle.motion_file.specs.Text.{line_feed, split};
 ghost use Rattle.motion_file.specs.Layout.{pose_lines, pose_of_values, MoveFile-departs};

@@ -1,5 +1,6 @@
 // The covers of many boxes over one move: each pose is enclosed once, with its pad, and taken over all boxes in front.
 #![tactic(auto)]
+
 ghost use Rattle.std.specs.Prelude.{◌^◌, ◌≤◌, ◌≡◌, length};
 ghost use Rattle.bounds_query.specs.Query.{max_depth};
 ghost use Rattle.unit_interval.specs.Unit.{slice};

@@ -1,6 +1,7 @@
 // A piece of a cover in two steps: the poses over any interval of dt as one judged matrix with their pad, and the box that they move a box to.
 // Many boxes then share the first step. Nothing is asked of dt or of the constants: what isn't finite is refused.
 #![tactic(auto)]
+
 ghost use Rattle.std.specs.Prelude.{◌≡◌};
 ghost use Rattle.pose_steps.specs.Enclose.{Pose-enclose_slerp, Pose-enclose_matrix, Bounds3f-intervals, IntervalVector-bounds};
 ghost use Rattle.motion_cover.specs.Cover.{BoundsAnswer-from_enclosure};

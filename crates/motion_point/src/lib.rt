@@ -1,6 +1,7 @@
 // The point query of a move: pbrt's two-argument `AnimatedTransform::transform_point`.
 // At and outside the end times, and where the two poses are equal, the stored transform moves the point; between them the pose at dt does.
 #![tactic(auto)]
+
 ghost use Rattle.std.specs.Prelude.{◌≡◌};
 ghost use Rattle.motion_point.specs.TransformPoint.{AnimatedTransform-constants, AnimatedTransform-moved_point, AnimatedTransform-transform_point};
 

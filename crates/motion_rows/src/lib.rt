@@ -1,6 +1,7 @@
 // A move as 45 rows of four floats, and back: the form in which a caller of the library keeps a built move, with the constants that a point query needs,
 // computed once.
 #![tactic(auto)]
+
 ghost use Rattle.std.specs.Prelude.{◌+◌, ◌<◌, ◌≡◌};
 ghost use Rattle.motion_point.specs.TransformPoint.{AnimatedTransform-moved_point};
 ghost use Rattle.motion_rows.specs.TransformPoint.{Rows-transform_point};

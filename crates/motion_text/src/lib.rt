@@ -1,5 +1,6 @@
 // The text that answers a move file: a box, or a refusal. A clause `counts` says that the answer counts bytes of `out`, in the form that `&out[..r]` asks for.
 #![tactic(auto)]
+
 ghost use Rattle.std.specs.Prelude.{◌≡◌, cond, map, ◌+◌, ◌*◌, ◌≤◌, length, take};
 ghost use Rattle.std.proofs.Math.Seq.{paste};
 ghost use Rattle.motion_file.specs.Text.{line_feed, space};

@@ -1,5 +1,6 @@
 // The moves that a query is asked of: those that are lent, 45 rows each, or none where they are more than a chain has.
 #![tactic(auto)]
+
 ghost use Rattle.std.specs.Prelude.{◌≡◌};
 ghost use Rattle.moves_asked.specs.Asked.{Moves-asked};
 

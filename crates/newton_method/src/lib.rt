@@ -1,5 +1,6 @@
 // Newton's method on the derivative of a coordinate's motion, four steps as pbrt's zero search takes them, over a table of sines that is lent.
 #![tactic(auto)]
+
 ghost use Rattle.std.specs.Prelude.{◌≡◌};
 ghost use Rattle.sine_table.specs.QuarterSine.{entry};
 ghost use Rattle.newton_method.specs.means.NewtonOver.{SinCosOver, asked_angle, newton_over};

@@ -1,5 +1,6 @@
 // The pad query: how far beyond the boom the spray of a kept move wets the ground at a time.
 #![tactic(auto)]
+
 ghost use Rattle.std.specs.Prelude.{◌≡◌};
 ghost use Rattle.float32.specs.MinMax.{max_num};
 ghost use Rattle.motion_rows.specs.Rows.{AnimatedTransform-from_rows};

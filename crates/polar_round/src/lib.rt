@@ -1,5 +1,6 @@
 // The arithmetic of a polar round of pbrt's `decompose`: the linear part of a matrix, the mean of two matrices and how far they are apart.
 #![tactic(auto)]
+
 ghost use Rattle.std.specs.Prelude.{◌≡◌};
 ghost use Rattle.polar_round.specs.PolarRound.{linear_part, mean, mean_row, row_distance, distance};
 

@@ -2,6 +2,7 @@
 // In floats at a dt, where a finished value that isn't finite is refused with 5; in intervals over any interval of dt, from a translation and a rotation at
 // hand, where each is judged as it is formed.
 #![tactic(auto)]
+
 ghost use Rattle.std.specs.Prelude.{◌≡◌};
 ghost use Rattle.transform.specs.Transform.{translation};
 ghost use Rattle.pose_steps.specs.Pose.{Pose-mul, all_finite, PoseAnswer-judged, Pose-matrix, Pose-moved_point};

@@ -1,5 +1,6 @@
 // Whether two poses agree in every bit: their floats, one after the other.
 #![tactic(auto)]
+
 ghost use Rattle.std.specs.Prelude.{◌≡◌, true};
 ghost use Rattle.lent_arrays.specs.Arrays.{Pose-of_list};
 ghost use Rattle.pose_bits.specs.Bits.{Float-same_bits, Pose-same_bits};

@@ -2,6 +2,7 @@
 // each.
 // Ends are added pair by pair, which keeps the sums independent of each other.
 #![tactic(auto)]
+
 ghost use Rattle.std.specs.Prelude.{◌≡◌};
 ghost use Rattle.pose_ends.specs.means.Ends.{IntervalVector-ends_sum, IntervalQuaternion-ends_sum, IntervalRow-ends_sum, IntervalMatrix-ends_sum};
 

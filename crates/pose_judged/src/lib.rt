@@ -3,6 +3,7 @@
 // Where all ends are finite, and slerp's length above zero, nothing is refused, and the stages' own crates leave the judging out; these are what they fall back
 // on where that test fails.
 #![tactic(auto)]
+
 ghost use Rattle.std.specs.Prelude.{◌≡◌};
 ghost use Rattle.pose_steps.specs.Enclose.{Pose-enclose_translation, Pose-enclose_slerp_near, Pose-enclose_slerp_far, Pose-enclose_scale_row};
 ghost use Rattle.pose_steps.specs.Enclose.{Pose-enclose_scale, Pose-enclose_rotation, Pose-enclose_mul_row, Pose-enclose_mul, Pose-enclose_transform_point};

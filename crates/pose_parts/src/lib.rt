@@ -1,6 +1,7 @@
 // Translation and scale of a pose at dt, from those of a move's two poses: in floats, and in intervals of which each is judged as it is formed.
 // Where a sum over the ends that come out is finite, judging is left out, which gives the same.
 #![tactic(auto)]
+
 ghost use Rattle.std.specs.Prelude.{◌≡◌};
 ghost use Rattle.pose_steps.specs.Pose.{Pose-translation, Pose-scale_row, Pose-scale, Pose-scale_by};
 ghost use Rattle.pose_steps.specs.Enclose.{IntervalVector-point, IntervalRow-point, IntervalMatrix-point};

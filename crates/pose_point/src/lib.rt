@@ -2,6 +2,7 @@
 // formed. Where a sum over all ends is finite, judging is left out, which gives the same.
 // And vectors and matrices of floats as intervals with equal ends.
 #![tactic(auto)]
+
 ghost use Rattle.std.specs.Prelude.{◌≡◌};
 ghost use Rattle.pose_steps.specs.Pose.{Pose-transform_point};
 ghost use Rattle.pose_steps.specs.Enclose.{IntervalVector-point, IntervalRow-point, IntervalMatrix-point, Pose-enclose_transform_point};

@@ -1,6 +1,7 @@
 // The product of two matrices whose bottom rows are 0, 0, 0, 1, pbrt's `Matrix4x4::mul` on the three rows above it, all four terms of each sum:
 // in floats, and in intervals of which each is judged as it is formed. Where a sum over all ends is finite, judging is left out, which gives the same.
 #![tactic(auto)]
+
 ghost use Rattle.std.specs.Prelude.{◌≡◌};
 ghost use Rattle.matrix4x4.specs.Rows.{Matrix4x4-to_rows, Matrix4x4-from_rows};
 ghost use Rattle.pose_steps.specs.Pose.{Pose-mul_row, Pose-mul};

@@ -1,6 +1,7 @@
 // The matrix of a quaternion, pbrt's `From<Quaternion> for Transform`, matrix half: in floats, and in intervals of which each is judged as it is formed.
 // Where a sum over ends is finite, judging is left out, which gives the same.
 #![tactic(auto)]
+
 ghost use Rattle.std.specs.Prelude.{◌≡◌};
 ghost use Rattle.pose_steps.specs.Pose.{Pose-rotation};
 ghost use Rattle.pose_steps.specs.Enclose.{Pose-enclose_rotation};

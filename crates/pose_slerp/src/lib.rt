@@ -3,6 +3,7 @@
 // refused with 10 before its root is taken.
 // What far slerp needs that does not depend on t is computed by `perpendicular_to`, so that a caller with many intervals of t keeps it.
 #![tactic(auto)]
+
 ghost use Rattle.std.specs.Prelude.{◌≡◌};
 ghost use Rattle.pose_steps.specs.Pose.{PoseConstants-new, Pose-slerp_near, Pose-slerp_far, Pose-slerp};
 ghost use Rattle.pose_steps.specs.Enclose.{IntervalQuaternion-point, Pose-enclose_slerp_near, Pose-enclose_slerp_far, Pose-enclose_slerp};

@@ -1,6 +1,7 @@
 // A move between its two poses: what the steps of pbrt's `interpolate` and `transform_point` take and give, in floats and in intervals.
 // The steps themselves are formulas (specs/Stages.antt), and their code stands in crates of its own.
 #![tactic(auto)]
+
 use interval::Interval;
 use matrix4x4::Matrix4x4;
 use quaternion::Quaternion;

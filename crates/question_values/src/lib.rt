@@ -1,5 +1,6 @@
 // Values among the floats of a question, from a place on: points, rows, boxes, poses. Where there are too few floats, each is +0.
 #![tactic(auto)]
+
 ghost use Rattle.std.specs.Prelude.{◌≡◌, ◌*◌, length};
 ghost use Rattle.question_values.specs.Places.{values_left, values_at, groups_from, between};
 

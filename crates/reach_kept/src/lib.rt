@@ -1,5 +1,6 @@
 // Which rows a boom of many boxes reaches, and in which windows: one mask a row, over a kept chain.
 #![tactic(auto)]
+
 ghost use Rattle.std.specs.Prelude.{◌+◌, ◌^◌, ◌≤◌, ◌<◌, ◌≡◌, map, length, take};
 ghost use Rattle.bounds3.specs.List.{Bounds3f-of_list};
 ghost use Rattle.bounds_query.specs.Query.{Bounds3f-refusal};

@@ -1,5 +1,6 @@
 // Which rows are named by boxes: those that one of them meets, beside those that are named already.
 #![tactic(auto)]
+
 ghost use Rattle.std.specs.Prelude.{◌≡◌, ◌||◌, map};
 ghost use Rattle.bounds3.specs.List.{Bounds3f-of_list};
 ghost use Rattle.reach_rows.specs.Named.{met_by, named_rows};

@@ -1,5 +1,6 @@
 // The rows that a boom of many boxes reaches in one window of a kept chain's times. Each pose is enclosed once for all boxes.
 #![tactic(auto)]
+
 ghost use Rattle.std.specs.Prelude.{◌+◌, ◌^◌, ◌≤◌, ◌<◌, ◌≡◌, true, false, cond, [], ◌∷◌, map, eqb, length, get_or, replicate};
 ghost use Rattle.bounds3.specs.List.{Bounds3f-of_list};
 ghost use Rattle.bounds_query.specs.Query.{max_depth};

@@ -1,5 +1,6 @@
 // Which rows a boom reaches: those of up to 256 rows, each a box, that a cover meets, listed in lent places.
 #![tactic(auto)]
+
 ghost use Rattle.std.specs.Prelude.{◌≤◌, ◌≡◌, map, length, take};
 ghost use Rattle.bounds3.specs.List.{Bounds3f-of_list};
 ghost use Rattle.bounds_query.specs.Query.{Bounds3f-refusal};

@@ -1,5 +1,6 @@
 // A refusal as its number, 0 for none: the first of two.
 #![tactic(auto)]
+
 ghost use Rattle.std.specs.Prelude.{◌≡◌};
 ghost use Rattle.refusal.specs.First.{first_refusal};
 

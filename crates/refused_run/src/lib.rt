@@ -1,6 +1,7 @@
 // Document 02's "The shortest refused stretch": of a chain that is refused, the shortest run of neighbouring poses that is still refused with that number, the
 // leftmost among equals. Every refused chain has such a run of one pose or of two, so no longer one is built; the definition tries all.
 #![tactic(auto)]
+
 ghost use Rattle.std.specs.Prelude.{◌<◌, ◌≡◌, length};
 ghost use Rattle.chain_poses.specs.Poses.{Poses-of_lists};
 ghost use Rattle.refused_run.specs.Run.{run_number, run_places, leftmost_place, shortest_run};

@@ -1,6 +1,7 @@
 // The sine over a quarter turn: a table of 2,049 entries, and the straight line between them.
 // Angles are in units of 2^-28, sines in units of 2^-30.
 #![tactic(auto)]
+
 ghost use Rattle.std.specs.Prelude.{◌≡◌, ◌-◌, ◌≤◌, min};
 ghost use Rattle.sine_table.specs.Table.{quarter_turn, sine_table, SineTable};
 ghost use Rattle.sine_table.specs.QuarterSine.{line, quarter_sine_over, entry};

@@ -1,6 +1,7 @@
 // Standard input and output for the programs. A read that fails is told from the end of the input, and a write that fails is said on standard error.
 // No contract can speak of what the system gives or takes; where it is known what a reader has left and what a writer holds, the clauses say what happens to it.
 #![tactic(auto)]
+
 ghost use Rattle.std.specs.Prelude.{◌≡◌, ◌<◌, ℕ, take, length, codes, IfOk, OnOk, OnErr};
 ghost use Rattle.std.specs.Io.{ReadsAtMost};
 ghost use Rattle.std.specs.Io.KnownBytes.{Appends, Consumes, IsAtEnd};

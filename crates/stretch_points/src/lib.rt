@@ -1,6 +1,7 @@
 // A stretch of times asked of its own move, which is kept as 45 rows: one pass for the first refusal,
 // and one that puts the points into the stretch's part of the answers. Each names the table of sines and what does not depend on the time once.
 #![tactic(auto)]
+
 ghost use Rattle.std.specs.Prelude.{◌+◌, ◌*◌, ◌<◌, ◌≡◌, length};
 ghost use Rattle.std.proofs.lemmas.List.Edits.{sets};
 ghost use Rattle.sine_table.specs.Table.{sine_table};

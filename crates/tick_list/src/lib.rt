@@ -1,5 +1,6 @@
 // What a query about two chains asks of its ticks: 2 to 64 of them, rising strictly, and 21 otherwise.
 #![tactic(auto)]
+
 ghost use Rattle.std.specs.Prelude.{◌≡◌};
 ghost use Rattle.tick_list.specs.Ticks.{Ticks-rise, Ticks-refusal};
 

@@ -1,6 +1,7 @@
 // What a query asks of a list of times, its point and the lent answers: 6 for a NaN time or a coordinate that isn't finite,
 // then 13 for a list that falls or answers that aren't exactly three places per time.
 #![tactic(auto)]
+
 ghost use Rattle.std.specs.Prelude.{◌≡◌};
 ghost use Rattle.motion_chain.specs.Times.{times_are_numbers, never_falls, list_refusal};
 

@@ -1,6 +1,7 @@
 // A pose that is tried in a kept chain: the number of its place, the order of the numbers, and the blocks of the kept moves,
 // 45 rows each, with the new moves beside the place among them.
 #![tactic(auto)]
+
 ghost use Rattle.std.specs.Prelude.{◌-◌, ◌<◌, ◌≤◌, ◌≡◌, cond, eqb, length};
 ghost use Rattle.std.proofs.lemmas.List.Edits.{sets};
 ghost use Rattle.trial_blocks.specs.Place.{place_refusal};

@@ -1,5 +1,6 @@
 // Sine and cosine, by document 01's table of sines, which a caller with many angles lends. Angles are in units of 2^-28, sines and cosines in units of 2^-30.
 #![tactic(auto)]
+
 ghost use Rattle.std.specs.Prelude.{◌≡◌, false, cond, ◌+◌, ◌-◌, ◌*◌, ◌/◌, ◌%◌, ◌^◌, ◌≤◌, ◌<◌, min, eqb, pos};
 ghost use Rattle.std.specs.Float.{binary32};
 ghost use Rattle.std.specs.Float.Ieee.{round};

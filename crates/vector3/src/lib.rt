@@ -1,5 +1,6 @@
 // Vectors of three floats, by value: pbrt's Vector3f with the operations that a move needs. Each is stated for all arguments.
 #![tactic(auto)]
+
 ghost use Rattle.std.specs.Prelude.{◌≡◌};
 ghost use Rattle.vector3.specs.Vector.{Vector3f-dot, Vector3f-div, Vector3f-add, Vector3f-sub, Vector3f-mul, Vector3f-neg};
 

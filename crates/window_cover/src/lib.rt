@@ -1,6 +1,7 @@
 // The cover of one window of a kept chain's times: slices of all moves, then poses,
 // then moves with equal poses, joined in that order, of which the first refusal stands. Its zeros are +0.
 #![tactic(auto)]
+
 ghost use Rattle.std.specs.Prelude.{◌+◌, ◌<◌, min, ◌≡◌, true, cond, [], ◌∷◌, map, eqb, length, get_or};
 ghost use Rattle.transform.specs.Answer.{BoundsAnswer-refusal, BoundsAnswer-bounds};
 ghost use Rattle.bounds_query.specs.Query.{max_depth};

@@ -1,6 +1,7 @@
 // The pieces of a window's share of dt four at a time, without any test: halves down to four neighbouring pieces, their lean boxes joined lane by lane, and at
 // the end the four lanes. Where a few coarse pieces of the same share are accepted, no finer one is refused and this is their union but for zeros' signs.
 #![tactic(auto)]
+
 ghost use Rattle.std.specs.Prelude.{◌≡◌};
 ghost use Rattle.sine_table.specs.Table.{sine_table};
 ghost use Rattle.interval.specs.Interval.{Interval-midpoint};

@@ -1,5 +1,6 @@
 // The windows between neighbouring ticks in which the covers of two kept chains meet, listed in lent places.
 #![tactic(auto)]
+
 ghost use Rattle.std.specs.Prelude.{◌≤◌, ◌<◌, ◌≡◌, length, take};
 ghost use Rattle.bounds_meeting.specs.Meeting.{Meeting-of};
 ghost use Rattle.tick_list.specs.Ticks.{max_ticks};

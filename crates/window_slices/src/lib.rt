@@ -1,6 +1,7 @@
 // The boxes of a move over the pieces of a window's share of dt, joined. A few coarse pieces are judged first. Where they are accepted no finer piece is
 // refused, and those are computed four at a time without judging, which gives the same but for zeros' signs.
 #![tactic(auto)]
+
 ghost use Rattle.std.specs.Prelude.{◌≤◌, min, ◌≡◌, true};
 ghost use Rattle.transform.specs.declared.BoundsAnswer.TheVariants.{Bounds};
 ghost use Rattle.bounds_query.specs.Query.{max_depth};

@@ -1,5 +1,6 @@
 // Windows of times, and which moves and poses of a chain a window asks for, by their times.
 #![tactic(auto)]
+
 ghost use Rattle.std.specs.Prelude.{◌≡◌};
 ghost use Rattle.window_times.specs.Window.{Window-refusal, Window-overlaps, Window-asks_first, Window-asks_end, Window-belongs};
 

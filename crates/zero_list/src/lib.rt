@@ -1,5 +1,6 @@
 // The zeros that pbrt's motion box finds, in eight places.
 #![tactic(auto)]
+
 ghost use Rattle.std.specs.Prelude.{◌≡◌};
 ghost use Rattle.zero_list.specs.Zeros.{Zeros-empty, Zeros-store, Zeros-accept};
 

@@ -1,6 +1,7 @@
 // The zero search of pbrt's motion box: where the derivative of a coordinate's motion may vanish, from 0 to 1. It names the table of sines once and lends it
 // to all that asks for a sine.
 #![tactic(auto)]
+
 ghost use Rattle.std.specs.Prelude.{◌≡◌, ◌≤◌};
 ghost use Rattle.sine_table.specs.Table.{sine_table};
 ghost use Rattle.interval.specs.Interval.{Interval-new};

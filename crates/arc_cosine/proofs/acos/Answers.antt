@@ -1,5 +1,4 @@
 -- The angle that `acos_counted` gives, and the count that it gives with it.
-use borrow.Author.Rules.{rules}
 use Prim.Native.Nat.{ℕ, ◌≤◌}
 use mathlib.Core.Path.{subst}
 use Rattle.arc_cosine.proofs.acos.Goals as goal

@@ -2,7 +2,6 @@
 use Prim.Native.Nat.{ℕ, ◌≤◌}
 use mathlib.Core.Path.{sym, subst}
 use native.Mathlib.Omega.{arith}
-use borrow.Author.Rules.{rules}
 use Rattle.arc_cosine.proofs.Values.{acos-value, acos-outside, acos-counted, acos-uncounted}
 use Rattle.arc_cosine.proofs.Halving.{acos-cosines-le}
 use Rattle.arc_cosine.proofs.acos_counted.Goals as goal

@@ -2,7 +2,6 @@
 use Prim.Native.Nat.{◌^◌, ◌*◌, ◌%◌}
 use native.Mathlib.Omega.{arith}
 use Rattle.arc_cosine.proofs.Floor.{unit-digits, unit-exponent, positive-part, floor-positive, floor-negative}
-use borrow.Author.Rules.{rules}
 use Rattle.arc_cosine.proofs.biased_floor.Goals as goal
 
 pub overflow_sub-n : goal.overflow_sub-n
@@ -20,8 +19,10 @@ overflow_sub-result-then-d-n c =
     omega (arith, l)
 
 pub returns-then-d-n : goal.returns-then-d-n
-returns-then-d-n c = record { value = let d = c.integer_decode-d in
-    (floor-negative c.args.c c.well_formed.0.1 c.requires d.result d.ensures.value c.shifted.result c.if-d-n.true c.shifted.ensures.value).1 }
+returns-then-d-n c = record {
+  value = let d = c.integer_decode-d in
+      (floor-negative c.args.c c.well_formed.0.1 c.requires d.result d.ensures.value c.shifted.result c.if-d-n.true c.shifted.ensures.value).1;
+}
 
 pub shifted-requires-2 : goal.shifted-requires-2
 shifted-requires-2 c = let d = c.integer_decode-d in record { fact_1 = unit-digits c.args.c c.well_formed.0.1 c.requires d.result d.ensures.value; fact_2 = unit-exponent c.args.c c.well_formed.0.1 c.requires d.result d.ensures.value }
@@ -33,5 +34,7 @@ overflow_add-result c =
     omega (arith, l)
 
 pub returns : goal.returns
-returns c = record { value = let d = c.integer_decode-d in
-    (floor-positive c.args.c c.well_formed.0.1 c.requires d.result d.ensures.value c.shifted-2.result c.if-d-n.false c.shifted-2.ensures.value).1 }
+returns c = record {
+  value = let d = c.integer_decode-d in
+      (floor-positive c.args.c c.well_formed.0.1 c.requires d.result d.ensures.value c.shifted-2.result c.if-d-n.false c.shifted-2.ensures.value).1;
+}

@@ -2,7 +2,6 @@
 use mathlib.Core.Path.{refl, sym, ap, ◌∙◌}
 use Prim.Native.Nat.{ℕ, ◌+◌, ◌-◌, ◌^◌}
 use native.Mathlib.Omega.{arith}
-use borrow.Author.Rules.{rules}
 use Rattle.sine_table.specs.Table.{quarter_turn}
 use Rattle.trig.proofs.Units.{read, cos-first, cos-second}
 use Rattle.arc_cosine.proofs.counted_cos.Goals as goal

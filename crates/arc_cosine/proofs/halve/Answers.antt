@@ -1,6 +1,5 @@
 -- One cosine, in the middle: where it is above w the middle is the lower end and its cosine is carried (`halve-upper`),
 -- otherwise the upper end (`halve-lower`).
-use borrow.Author.Rules.{rules}
 use Rattle.arc_cosine.proofs.Halving.{halve-upper, halve-lower}
 use Rattle.arc_cosine.proofs.halve.Goals as goal
 

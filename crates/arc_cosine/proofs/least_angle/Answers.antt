@@ -2,8 +2,7 @@
 -- ends where the whole one does (`Searching`). The measure is the distance of the ends.
 use Prim.Native.Nat.{◌-◌}
 use native.Mathlib.Omega.{arith}
-use borrow.Author.Rules.{rules}
-use Rattle.arc_cosine.proofs.Halving.{Searching, searching-starts, searching-inside, searching-counts, searching-again}
+use Rattle.arc_cosine.proofs.Halving.{searching-starts, searching-inside, searching-counts, searching-again}
 use Rattle.arc_cosine.proofs.Halving.{searching-closer, searching-counted, halving-ends, halving-zero}
 use Rattle.arc_cosine.proofs.least_angle.Goals as goal
 

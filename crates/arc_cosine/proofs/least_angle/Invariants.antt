@@ -1,10 +1,7 @@
 -- The invariant: with as many halvings left as cosines to 31, the bracket holds the least angle, its lower cosine is carried along (`Halving`), and its search
 -- ends where the whole one does (`Searching`). The measure is the distance of the ends.
 use Prim.Native.Nat.{◌-◌}
-use native.Mathlib.Omega.{arith}
-use borrow.Author.Rules.{rules}
-use Rattle.arc_cosine.proofs.Halving.{Searching, searching-starts, searching-inside, searching-counts, searching-again}
-use Rattle.arc_cosine.proofs.Halving.{searching-closer, searching-counted, halving-ends, halving-zero}
+use Rattle.arc_cosine.proofs.Halving.{Searching}
 use Rattle.arc_cosine.proofs.least_angle.Given as goal
 
 abbrev pub invariant-loop-b : goal.invariant-loop-b

@@ -1,4 +1,3 @@
-use borrow.Author.Rules.{rules}
 use Rattle.trig.proofs.Shift.{shift_none, shift-right}
 use Rattle.arc_cosine.proofs.shifted.Goals as goal
 

@@ -1,6 +1,5 @@
 -- `along_x` meets its contract: each call of `column_x` is a column.
 use Rattle.axis_derivative.specs.AxisDerivative.{derivative}
-use borrow.Author.Rules.{rules}
 use Rattle.axis_derivative.proofs.along_x.Goals as goal
 
 pub returns : goal.returns

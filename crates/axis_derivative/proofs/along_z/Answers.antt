@@ -1,6 +1,5 @@
 -- `along_z` meets its contract: each call of `column_z` is a column.
 use Rattle.axis_derivative.specs.AxisDerivative.{derivative}
-use borrow.Author.Rules.{rules}
 use Rattle.axis_derivative.proofs.along_z.Goals as goal
 
 pub returns : goal.returns

@@ -1,6 +1,5 @@
 -- `column_x` meets its contract: each call is a formula.
 use Rattle.axis_derivative.specs.AxisDerivative.{column_terms}
-use borrow.Author.Rules.{rules}
 use Rattle.axis_derivative.proofs.column_x.Goals as goal
 
 pub returns : goal.returns

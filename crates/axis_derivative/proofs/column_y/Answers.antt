@@ -1,6 +1,5 @@
 -- `column_y` meets its contract: each call is a formula.
 use Rattle.axis_derivative.specs.AxisDerivative.{column_terms}
-use borrow.Author.Rules.{rules}
 use Rattle.axis_derivative.proofs.column_y.Goals as goal
 
 pub returns : goal.returns

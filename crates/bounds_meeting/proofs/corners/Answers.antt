@@ -1,5 +1,4 @@
 -- `corners` meets its contract: the box that was answered, or +0 throughout.
-use borrow.Author.Rules.{rules}
 use Rattle.bounds_meeting.proofs.corners.Goals as goal
 
 pub returns-in-Refused : goal.returns-in-Refused

@@ -1,6 +1,5 @@
 -- `meet` meets its contract: the first number that isn't 0, or else the boxes compared.
 use mathlib.Core.Path.{◌∙◌}
-use borrow.Author.Rules.{rules}
 use Rattle.refusal.specs.First.{first_refusal}
 use Rattle.bounds_overlap.specs.Meets.{Bounds3f-meets}
 use Rattle.bounds_meeting.proofs.Joined.{after-refusal, both-answered}

@@ -1,6 +1,5 @@
 -- `meets` meets its contract: its three axes are the definition's.
 use Rattle.bounds_overlap.specs.Meets.{Bounds3f-meets}
-use borrow.Author.Rules.{rules}
 use Rattle.bounds_overlap.proofs.meets.Goals as goal
 
 pub returns : goal.returns

@@ -1,6 +1,5 @@
 -- `cover_refusal` meets its contract: the box's number stands before the depth's.
 use Rattle.bounds_query.specs.Query.{cover_refusal}
-use borrow.Author.Rules.{rules}
 use borrow.Author.Tests.{eq-eqb, ne_eqb, lt-ltb, le-ltb}
 use Rattle.bounds_query.proofs.cover_refusal.Goals as goal
 

@@ -1,5 +1,4 @@
 -- `positive_zeros` meets its contract: both corners, or the refusal.
-use borrow.Author.Rules.{rules}
 use Rattle.bounds_query.specs.Zeros.{Bounds3f-positive_zeros, BoundsAnswer-positive_zeros}
 use Rattle.bounds_query.proofs.positive_zeros.Goals as goal
 

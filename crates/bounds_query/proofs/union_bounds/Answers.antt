@@ -1,6 +1,5 @@
 -- `union_bounds` meets its contract: each arm is its case of the definition.
 use Rattle.bounds_query.specs.Query.{BoundsAnswer-union_bounds}
-use borrow.Author.Rules.{rules}
 use Rattle.bounds_query.proofs.union_bounds.Goals as goal
 
 pub returns-in-Bounds-s : goal.returns-in-Bounds-s

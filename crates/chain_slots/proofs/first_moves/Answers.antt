@@ -4,7 +4,6 @@ use native.Mathlib.Omega.{arith}
 use mathlib.Core.Path.{◌≡◌, sym, ap}
 use lib.ListN.{take}
 use lib.Seq.{take_all}
-use borrow.Author.Rules.{rules}
 use Rattle.chain_slots.proofs.first_moves.Goals as goal
 
 pub returns-then-moves-n : goal.returns-then-moves-n

@@ -2,7 +2,6 @@
 use native.Mathlib.Omega.{arith}
 use borrow.Author.Tests.{lt-ltb, le-ltb}
 use Rattle.chain_slots.specs.Slots.{Slots-moves}
-use borrow.Author.Rules.{rules}
 use Rattle.chain_slots.proofs.kept_moves.Goals as goal
 
 pub returns-then-slot-gt3 : goal.returns-then-slot-gt3

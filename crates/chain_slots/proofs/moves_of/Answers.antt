@@ -1,7 +1,6 @@
 -- `moves_of` is by its tests.
 use borrow.Author.Tests.{lt-ltb, le-ltb}
 use Rattle.chain_slots.specs.Slots.{moves_of}
-use borrow.Author.Rules.{rules}
 use Rattle.chain_slots.proofs.moves_of.Goals as goal
 
 pub returns-then-poses-fewest : goal.returns-then-poses-fewest

@@ -1,7 +1,6 @@
 -- `cut` meets its contract: its test is the definition's, and the parts are put into places of which there are sixteen.
 use mathlib.Core.Path.{◌≡◌, sym, subst, ◌∙◌}
 use mathlib.Core.Bool.{Bool, true}
-use borrow.Author.Rules.{rules}
 use lib.Dec.{T}
 use Rattle.cut_laws.proofs.Parts.{LowFits, parts-counted}
 use Rattle.cut_parts.proofs.Tests.{cut-refused, cut-done}

@@ -1,5 +1,4 @@
 -- `cut_refusal` meets its contract: its test is the definition's.
-use borrow.Author.Rules.{rules}
 use Rattle.cut_laws.specs.Cut.{cut_refusal}
 use Rattle.cut_parts.proofs.cut_refusal.Goals as goal
 

@@ -1,5 +1,4 @@
 -- `face` meets its contract: each test is the definition's, and the quotient of two small whole numbers is the fraction.
-use borrow.Author.Rules.{rules}
 use Rattle.cut_parts.proofs.Faces.{face-zero, face-end, face-between}
 use Rattle.cut_parts.proofs.face.Goals as goal
 

@@ -1,5 +1,4 @@
 -- `inner_face` meets its contract: its operations are the definition's.
-use borrow.Author.Rules.{rules}
 use Rattle.cut_laws.specs.Cut.{inner_face}
 use Rattle.cut_parts.proofs.inner_face.Goals as goal
 

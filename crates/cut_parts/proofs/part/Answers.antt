@@ -1,5 +1,4 @@
 -- `part` meets its contract: each test is the definition's, and the part's faces are `face`'s.
-use borrow.Author.Rules.{rules}
 use Rattle.cut_parts.proofs.Parts.{part-x, part-y, part-z}
 use Rattle.cut_parts.proofs.part.Goals as goal
 

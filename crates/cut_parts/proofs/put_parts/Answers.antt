@@ -1,11 +1,8 @@
 -- `put_parts` meets its contract. The invariant: the first i parts stand in the first places.
-use Prim.Native.Nat.{◌-◌, ◌≤◌}
-use mathlib.Core.Path.{◌≡◌, refl, sym, ap, ◌∙◌}
+use Prim.Native.Nat.{◌-◌}
 use native.Mathlib.Omega.{arith}
-use borrow.Author.Rules.{rules}
 use lib.ListN.{length}
-use Rattle.cut_laws.specs.Cut.{max_parts}
-use Rattle.cut_parts.proofs.Tests.{Cutting, cutting-first, cutting-next, cutting-last}
+use Rattle.cut_parts.proofs.Tests.{cutting-first, cutting-next, cutting-last}
 use Rattle.cut_parts.proofs.put_parts.Goals as goal
 
 pub loop-i-init : goal.loop-i-init

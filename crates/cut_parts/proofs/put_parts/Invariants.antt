@@ -1,11 +1,6 @@
 -- `put_parts` meets its contract. The invariant: the first i parts stand in the first places.
-use Prim.Native.Nat.{◌-◌, ◌≤◌}
-use mathlib.Core.Path.{◌≡◌, refl, sym, ap, ◌∙◌}
-use native.Mathlib.Omega.{arith}
-use borrow.Author.Rules.{rules}
-use lib.ListN.{length}
-use Rattle.cut_laws.specs.Cut.{max_parts}
-use Rattle.cut_parts.proofs.Tests.{Cutting, cutting-first, cutting-next, cutting-last}
+use Prim.Native.Nat.{◌-◌}
+use Rattle.cut_parts.proofs.Tests.{Cutting}
 use Rattle.cut_parts.proofs.put_parts.Given as goal
 
 abbrev pub invariant-loop-i : goal.invariant-loop-i

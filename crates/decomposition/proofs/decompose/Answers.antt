@@ -2,9 +2,8 @@
 use mathlib.Core.Path.{sym, ◌∙◌}
 use Prim.Native.Nat.{◌-◌}
 use Rattle.control_flow.specs.Loop.{loop}
-use borrow.Author.Tests.{not-true, not-false}
 use borrow.Author.Rules.{rules}
-use Rattle.decomposition.proofs.Rounds.{Reached, inverse-refuses, matrix-refuses, turn_last, turn-next}
+use Rattle.decomposition.proofs.Rounds.{inverse-refuses, matrix-refuses, turn_last, turn-next}
 use Rattle.decomposition.proofs.decompose.Goals as goal
 
 pub loop-m-init : goal.loop-m-init

@@ -1,10 +1,6 @@
 -- `decompose` meets its contract. The invariant: after `counter` rounds the definition stands at `r`, unsettled.
-use mathlib.Core.Path.{sym, ◌∙◌}
 use Prim.Native.Nat.{◌-◌}
-use Rattle.control_flow.specs.Loop.{loop}
-use borrow.Author.Tests.{not-true, not-false}
-use borrow.Author.Rules.{rules}
-use Rattle.decomposition.proofs.Rounds.{Reached, inverse-refuses, matrix-refuses, turn_last, turn-next}
+use Rattle.decomposition.proofs.Rounds.{Reached}
 use Rattle.decomposition.proofs.decompose.Given as goal
 
 abbrev pub invariant-loop-m : goal.invariant-loop-m

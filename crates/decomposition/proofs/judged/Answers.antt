@@ -1,6 +1,5 @@
 -- `judged` meets its contract: its test is the definition's.
 use Rattle.decomposition.specs.Decompose.{Decomposition-judged}
-use borrow.Author.Rules.{rules}
 use Rattle.decomposition.proofs.judged.Goals as goal
 
 pub returns-then-is_finite : goal.returns-then-is_finite

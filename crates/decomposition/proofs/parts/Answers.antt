@@ -3,7 +3,6 @@ use borrow.Author.Tests.{eq-eqb, ne_eqb}
 use mathlib.Core.Path.{◌≡◌}
 use Rattle.matrix_quaternion.specs.FromMatrix.{Quaternion-from_matrix}
 use Rattle.decomposition.specs.Decompose.{scale_by, parts}
-use borrow.Author.Rules.{rules}
 use Rattle.decomposition.proofs.parts.Goals as goal
 
 pub returns-then-inverse-eq0 : goal.returns-then-inverse-eq0

@@ -1,5 +1,4 @@
 -- `limited` meets its contract: one call.
-use borrow.Author.Rules.{rules}
 use Rattle.dt_share.specs.Share.{limited}
 use Rattle.dt_share.proofs.limited.Goals as goal
 

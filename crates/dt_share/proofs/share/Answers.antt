@@ -1,5 +1,4 @@
 -- `share` meets its contract: both ends by the same two calls.
-use borrow.Author.Rules.{rules}
 use Rattle.dt_share.specs.Share.{share}
 use Rattle.dt_share.proofs.share.Goals as goal
 

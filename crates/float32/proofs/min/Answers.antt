@@ -11,10 +11,14 @@ returns-then-x c = record { value = rw (← differs-nan c.args.x, c.if-x.true) }
 
 pub returns-then-y-x : goal.returns-then-y-x
 unfolding min_num
-returns-then-y-x c = record { value = let a = c.args in
-    rw (← differs-nan a.x, c.if-x.false) (sym (ap (λ (b : Bool). cond b a.y a.x) c.if-y-x.true)) }
+returns-then-y-x c = record {
+  value = let a = c.args in
+      rw (← differs-nan a.x, c.if-x.false) (sym (ap (λ (b : Bool). cond b a.y a.x) c.if-y-x.true));
+}
 
 pub returns-else-y-x : goal.returns-else-y-x
 unfolding min_num
-returns-else-y-x c = record { value = let a = c.args in
-    rw (← differs-nan a.x, c.if-x.false) (sym (ap (λ (b : Bool). cond b a.y a.x) c.if-y-x.false)) }
+returns-else-y-x c = record {
+  value = let a = c.args in
+      rw (← differs-nan a.x, c.if-x.false) (sym (ap (λ (b : Bool). cond b a.y a.x) c.if-y-x.false));
+}

@@ -1,13 +1,13 @@
 -- `from_fixed` meets its contract: the bits that it makes are those of the nearest float (`fixed-pattern`).
 use mathlib.Core.Path.{sym, ap, ◌∙◌}
 use mathlib.Core.Bool.{false}
-use Prim.Native.Nat.{ℕ, ◌+◌, ◌-◌, ◌*◌, ◌%◌, ◌^◌, ◌≤◌}
+use Prim.Native.Nat.{ℕ, ◌-◌, ◌%◌, ◌^◌}
 use native.Mathlib.Nat.{le_of_lt}
 use native.Mathlib.Omega.{arith}
 use mir.Facts.{Fits-below}
-use lib.Count.{count_leading_zeros, leading_le}
-use lib.Ieee.{binary32, hid, round}
-use Rattle.float_bits.proofs.Fixed.{infinity_bits, Pattern, zeros-lt, fixed-pattern, fixed_zero, pattern_number}
+use lib.Count.{leading_le}
+use lib.Ieee.{binary32, round}
+use Rattle.float_bits.proofs.Fixed.{infinity_bits, zeros-lt, fixed-pattern, fixed_zero, pattern_number}
 use Rattle.float_bits.proofs.from_fixed.Goals as goal
 
 pub returns-then-n-eq0 : goal.returns-then-n-eq0
@@ -30,23 +30,23 @@ overflow_shl-n c = zeros-lt c.args.n (omega arith) (omega arith)
 pub overflow_cast-result : goal.overflow_cast-result
 overflow_cast-result c =
     let m =
-        fixed-pattern c.args.n (c.args.d % 64) c.leading_24_digits.result (omega arith) (omega arith) (omega arith) c.leading_24_digits.ensures.value in
+    fixed-pattern c.args.n (c.args.d % 64) c.leading_24_digits.result (omega arith) (omega arith) (omega arith) c.leading_24_digits.ensures.value in
     Fits-below {n = 2 ^ 24} tt m.0
 
 pub overflow_add-result : goal.overflow_add-result
 overflow_add-result c =
     let m =
-        fixed-pattern c.args.n (c.args.d % 64) c.leading_24_digits.result (omega arith) (omega arith) (omega arith) c.leading_24_digits.ensures.value in
+    fixed-pattern c.args.n (c.args.d % 64) c.leading_24_digits.result (omega arith) (omega arith) (omega arith) c.leading_24_digits.ensures.value in
     Fits-below {n = infinity_bits} tt (le_of_lt m.1.below)
 
 pub float_from_bits-result : goal.float_from_bits-result
 float_from_bits-result c =
     let m =
-        fixed-pattern c.args.n (c.args.d % 64) c.leading_24_digits.result (omega arith) (omega arith) (omega arith) c.leading_24_digits.ensures.value in
+    fixed-pattern c.args.n (c.args.d % 64) c.leading_24_digits.result (omega arith) (omega arith) (omega arith) c.leading_24_digits.ensures.value in
     pattern_number _ m.1.below
 
 pub returns : goal.returns
 returns c =
     let m =
-        fixed-pattern c.args.n (c.args.d % 64) c.leading_24_digits.result (omega arith) (omega arith) (omega arith) c.leading_24_digits.ensures.value in
+    fixed-pattern c.args.n (c.args.d % 64) c.leading_24_digits.result (omega arith) (omega arith) (omega arith) c.leading_24_digits.ensures.value in
     record { value = m.1.is }

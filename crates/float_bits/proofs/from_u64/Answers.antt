@@ -1,6 +1,5 @@
 -- `from_u64` meets its contract: n / 2 ^ 0 is n.
 use lib.Ieee.{of_int}
-use borrow.Author.Rules.{rules}
 use Rattle.float_bits.proofs.from_u64.Goals as goal
 
 pub returns : goal.returns

@@ -1,6 +1,5 @@
 -- `integer_decode` meets its contract: each return is the float whose bits have the field that was tested for (`Fields`).
 use mathlib.Core.Path.{sym, ◌∙◌}
-use borrow.Author.Rules.{rules}
 use Rattle.rounding.proofs.Order.{differs-nan}
 use Rattle.float_bits.proofs.Fields.{decode-nan, decode-infinite, decode-subnormal, decode-normal}
 use Rattle.float_bits.proofs.integer_decode.Goals as goal

@@ -1,5 +1,4 @@
 -- `leading_24_digits` meets its contract: what the rest carries rounds the quotient (`closest-carry`).
-use borrow.Author.Rules.{rules}
 use Rattle.float_bits.proofs.Fixed.{closest-carry}
 use Rattle.float_bits.proofs.leading_24_digits.Goals as goal
 

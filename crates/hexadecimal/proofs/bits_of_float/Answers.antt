@@ -4,7 +4,6 @@ use mathlib.Core.Bool.{true, false, not}
 use lib.Dec.{T}
 use lib.Ieee.{Float, nan, inf, fin, binary32, is_nan, eq, ne, to_bits}
 use lib.Ieee.Compare.{differs_from_itself}
-use borrow.Author.Rules.{rules}
 use Rattle.hexadecimal.proofs.bits_of_float.Goals as goal
 
 no_nan : (x : Float) → eq x x ≡ true → T (not (is_nan x))

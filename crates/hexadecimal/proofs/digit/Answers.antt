@@ -1,6 +1,5 @@
 -- `digit` is the digit of `n % 16` in `lower_digits`, by the range that the value lies in (`lower_digits-ranges`).
 use Prim.Native.Nat.{◌%◌}
-use borrow.Author.Rules.{rules}
 use borrow.Author.Tests.{lt-ltb, le-ltb}
 use native.Mathlib.Omega.{arith}
 use Rattle.hexadecimal.proofs.Digits.{lower_digits-ranges}

@@ -5,7 +5,6 @@ use mathlib.Core.Bool.{true, not, false≢true}
 use lib.Dec.{T}
 use lib.Ieee.{Float, nan, inf, fin, binary32, is_nan, nan_bits, of_bits, div}
 use lib.Ieee.Bits.{nan_bits_above, nan_bits_is}
-use borrow.Author.Rules.{rules}
 use borrow.Author.Tests.{le-ltb, lt-ltb}
 use Rattle.hexadecimal.proofs.float_of_bits.Goals as goal
 
@@ -26,6 +25,8 @@ pub float_from_bits-result : goal.float_from_bits-result
 float_from_bits-result c = no_nan c.args.n c.if-n-le2139095040.true
 
 pub returns : goal.returns
-returns c = record { value = zero-quotient
-    ∙ only_nan (of_bits binary32 c.args.n)
-    (sym (nan_bits_is binary32 c.args.n) ∙ nan_bits_above binary32 c.args.n ∙ lt-ltb _ _ c.if-n-le2139095040.false) }
+returns c = record {
+  value = zero-quotient
+      ∙ only_nan (of_bits binary32 c.args.n)
+      (sym (nan_bits_is binary32 c.args.n) ∙ nan_bits_above binary32 c.args.n ∙ lt-ltb _ _ c.if-n-le2139095040.false);
+}

@@ -1,5 +1,4 @@
 -- `read_word` is `Word-read`: two halves of four digits (`read-halves`).
-use borrow.Author.Rules.{rules}
 use native.Mathlib.Omega.{arith}
 use Prim.Native.Nat.{ℕ, ◌<◌}
 use mathlib.Core.Path.{◌≡◌}
@@ -27,9 +26,13 @@ pub overflow_add-result : goal.overflow_add-result
 overflow_add-result c = omega (arith, both_below c.read_half-high.result c.read_half-low.result c.if-high-low.true)
 
 pub returns-then-high-low : goal.returns-then-high-low
-returns-then-high-low c = record { value = let a = c.args in
-    rw (← c.read_half-high.ensures.value, ← c.read_half-low.ensures.value, c.if-high-low.true) at (read-halves a.s.now a.at (omega arith)) }
+returns-then-high-low c = record {
+  value = let a = c.args in
+      rw (← c.read_half-high.ensures.value, ← c.read_half-low.ensures.value, c.if-high-low.true) at (read-halves a.s.now a.at (omega arith));
+}
 
 pub returns : goal.returns
-returns c = record { value = let a = c.args in
-    rw (← c.read_half-high.ensures.value, ← c.read_half-low.ensures.value, c.if-high-low.false) at (read-halves a.s.now a.at (omega arith)) }
+returns c = record {
+  value = let a = c.args in
+      rw (← c.read_half-high.ensures.value, ← c.read_half-low.ensures.value, c.if-high-low.false) at (read-halves a.s.now a.at (omega arith));
+}

@@ -1,13 +1,9 @@
 -- `write_word` is `Word-write`. The invariant: the first i of the eight digits stand in the list from the place on.
 use Prim.Native.Nat.{◌+◌, ◌-◌, ◌≤◌}
-use native.Mathlib.Omega.{arith}
-use mathlib.Core.Path.{◌≡◌, refl, sym, ◌∙◌}
-use lib.ListN.{length, length-set}
-use lib.Seq.{paste, paste-zero}
-use borrow.Author.Rules.{rules}
-use borrow.Author.Tests.{le-leb, lt-leb}
+use mathlib.Core.Path.{◌≡◌}
+use lib.ListN.{length}
+use lib.Seq.{paste}
 use Rattle.hexadecimal.specs.Word.{digits}
-use Rattle.hexadecimal.proofs.Words.{digits-store, write-fits, write-short}
 use Rattle.hexadecimal.proofs.write_word.Given as goal
 
 abbrev pub invariant-loop-i : goal.invariant-loop-i

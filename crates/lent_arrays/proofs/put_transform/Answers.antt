@@ -2,7 +2,6 @@
 use mathlib.Core.Path.{refl}
 use borrow.Author.Tests.{eq-eqb, ne_eqb}
 use Rattle.lent_arrays.specs.Arrays.{TransformAnswer-left}
-use borrow.Author.Rules.{rules}
 use Rattle.lent_arrays.proofs.put_transform.Goals as goal
 
 pub returns-then-answer-eq0 : goal.returns-then-answer-eq0

@@ -1,6 +1,5 @@
 -- `eq` meets its contract: each call compares a row.
 use Rattle.matrix4x4.specs.Eq.{Matrix4x4-eq}
-use borrow.Author.Rules.{rules}
 use Rattle.matrix4x4.proofs.eq.Goals as goal
 
 pub returns : goal.returns

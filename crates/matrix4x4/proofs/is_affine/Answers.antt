@@ -1,7 +1,6 @@
 -- `is_affine` meets its contract: it is the definition, written out.
 use mathlib.Core.Path.{refl}
 use Rattle.matrix4x4.specs.IsAffine.{Matrix4x4-is_affine}
-use borrow.Author.Rules.{rules}
 use Rattle.matrix4x4.proofs.is_affine.Goals as goal
 
 pub returns : goal.returns

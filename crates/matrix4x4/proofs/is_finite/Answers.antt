@@ -1,6 +1,5 @@
 -- `is_finite` meets its contract: each call is the finite test of a row.
 use Rattle.matrix4x4.specs.IsFinite.{Matrix4x4-is_finite}
-use borrow.Author.Rules.{rules}
 use Rattle.matrix4x4.proofs.is_finite.Goals as goal
 
 pub returns : goal.returns

@@ -1,7 +1,6 @@
 -- `mul` meets its contract: the rows of the transposed second matrix are its columns.
 use Rattle.matrix4x4.specs.Transpose.{Matrix4x4-transpose}
 use Rattle.matrix4x4.specs.Mul.{Matrix4x4-mul}
-use borrow.Author.Rules.{rules}
 use Rattle.matrix4x4.proofs.mul.Goals as goal
 
 pub returns : goal.returns

@@ -1,7 +1,6 @@
 -- `transpose` meets its contract: it is the definition, written out.
 use mathlib.Core.Path.{refl}
 use Rattle.matrix4x4.specs.Transpose.{Matrix4x4-transpose}
-use borrow.Author.Rules.{rules}
 use Rattle.matrix4x4.proofs.transpose.Goals as goal
 
 pub returns : goal.returns

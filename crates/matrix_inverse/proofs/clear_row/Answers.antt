@@ -1,6 +1,5 @@
 -- `clear_row` meets its contract: it works on the row with 0 in the pivot's column.
 use Rattle.matrix_inverse.specs.Eliminate.{clear_row}
-use borrow.Author.Rules.{rules}
 use Rattle.matrix_inverse.proofs.clear_row.Goals as goal
 
 pub returns : goal.returns

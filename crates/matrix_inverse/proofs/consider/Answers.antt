@@ -3,7 +3,6 @@ use Prim.Native.Nat.{ℕ}
 use mathlib.Core.Path.{◌≡◌}
 use mathlib.Core.Bool.{true, false}
 use mathlib.Core.List.{List}
-use lib.Dec.{eqb}
 use lib.ListN.{get_or}
 use lib.Ieee.{le}
 use borrow.Author.Tests.{eq-eqb, ne_eqb}
@@ -11,7 +10,6 @@ use Rattle.float32.specs.Abs.{abs}
 use Rattle.matrix4x4.specs.Rows.{Row, col}
 use Rattle.matrix_inverse.specs.declared.Pivot.{Pivot}
 use Rattle.matrix_inverse.specs.Pivot.{consider}
-use borrow.Author.Rules.{rules}
 use Rattle.matrix_inverse.proofs.consider.Goals as goal
 
 -- the column is taken where it is free and its entry is not below the greatest so far

@@ -1,12 +1,11 @@
 -- `eliminate` meets its contract. The invariant: the rows below j are cleared.
-use Prim.Native.Nat.{ℕ, ◌≤◌, ◌-◌}
+use Prim.Native.Nat.{ℕ, ◌-◌}
 use mathlib.Core.Path.{◌≡◌}
 use lib.ListN.{set}
 use borrow.Author.Tests.{eq-eqb, ne_eqb}
 use native.Mathlib.Omega.{arith}
 use borrow.Author.Rules.{rules}
 use Rattle.matrix4x4.specs.Rows.{Row, Rows, row}
-use Rattle.control_flow.specs.Loop.{loop}
 use Rattle.matrix_inverse.specs.Eliminate.{clear_row, clear_at, eliminate}
 use Rattle.control_flow.proofs.Loop.{loop-start, loop-next, loop-end}
 use Rattle.matrix_inverse.proofs.eliminate.Goals.{then-j-k, else-j-k}

@@ -1,8 +1,7 @@
 -- `inverse` meets its contract. The invariant is `Reached`: after i rounds the definition stands where the locals do.
-use Prim.Native.Nat.{◌≤◌, ◌-◌}
+use Prim.Native.Nat.{◌-◌}
 use native.Mathlib.Omega.{arith}
-use Rattle.control_flow.specs.Loop.{loop}
-use Rattle.matrix_inverse.proofs.Rounds.{Reached, reached-start, reached-next, reached-zero_pivot, reached-end}
+use Rattle.matrix_inverse.proofs.Rounds.{reached-start, reached-next, reached-zero_pivot, reached-end}
 use borrow.Author.Rules.{rules}
 use Rattle.matrix_inverse.proofs.inverse.Goals as goal
 

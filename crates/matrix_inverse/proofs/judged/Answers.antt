@@ -1,6 +1,5 @@
 -- `judged` meets its contract: its test is the definition's.
 use Rattle.matrix_inverse.specs.Inverse.{InverseAnswer-judged}
-use borrow.Author.Rules.{rules}
 use Rattle.matrix_inverse.proofs.judged.Goals as goal
 
 pub returns-then-is_finite : goal.returns-then-is_finite

@@ -1,6 +1,5 @@
 -- `replace` meets its contract: each call selects an entry.
 use Rattle.matrix_inverse.specs.Eliminate.{replace}
-use borrow.Author.Rules.{rules}
 use Rattle.matrix_inverse.proofs.replace.Goals as goal
 
 pub returns : goal.returns

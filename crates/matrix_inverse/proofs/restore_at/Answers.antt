@@ -6,7 +6,6 @@ use lib.ListN.{get_or}
 use borrow.Author.Tests.{eq-eqb, ne_eqb}
 use Rattle.matrix4x4.specs.Rows.{Rows}
 use Rattle.matrix_inverse.specs.RestoreColumns.{restore_at}
-use borrow.Author.Rules.{rules}
 use Rattle.matrix_inverse.proofs.restore_at.Goals as goal
 
 -- equal places leave the matrix as it is

@@ -1,9 +1,7 @@
 -- `restore_columns` meets its contract. The invariant: the columns of the last i rounds are back.
-use Prim.Native.Nat.{◌≤◌, ◌-◌}
-use mathlib.Core.Path.{◌≡◌}
+use Prim.Native.Nat.{◌-◌}
 use native.Mathlib.Omega.{arith}
-use Rattle.control_flow.specs.Loop.{loop}
-use Rattle.matrix_inverse.specs.RestoreColumns.{restore_at, restore_columns}
+use Rattle.matrix_inverse.specs.RestoreColumns.{restore_columns}
 use Rattle.control_flow.proofs.Loop.{loop-start, loop-next, loop-end}
 use borrow.Author.Rules.{rules}
 use Rattle.matrix_inverse.proofs.restore_columns.Goals as goal

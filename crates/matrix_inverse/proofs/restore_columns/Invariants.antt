@@ -1,11 +1,8 @@
 -- `restore_columns` meets its contract. The invariant: the columns of the last i rounds are back.
 use Prim.Native.Nat.{◌≤◌, ◌-◌}
 use mathlib.Core.Path.{◌≡◌}
-use native.Mathlib.Omega.{arith}
 use Rattle.control_flow.specs.Loop.{loop}
-use Rattle.matrix_inverse.specs.RestoreColumns.{restore_at, restore_columns}
-use Rattle.control_flow.proofs.Loop.{loop-start, loop-next, loop-end}
-use borrow.Author.Rules.{rules}
+use Rattle.matrix_inverse.specs.RestoreColumns.{restore_at}
 use Rattle.matrix_inverse.proofs.restore_columns.Given as goal
 
 abbrev pub invariant-loop-i : goal.invariant-loop-i

@@ -1,6 +1,5 @@
 -- `scale_row` meets its contract: it works on the row with 1 in the pivot's place.
 use Rattle.matrix_inverse.specs.Eliminate.{scale_row}
-use borrow.Author.Rules.{rules}
 use Rattle.matrix_inverse.proofs.scale_row.Goals as goal
 
 pub returns : goal.returns

@@ -1,12 +1,8 @@
 -- `search` meets its contract. The invariant: `best` is the best of the rows below j. Its place is in range by `search-in_range`.
 use Prim.Native.Nat.{◌≤◌, ◌-◌}
 use mathlib.Core.Path.{◌≡◌}
-use native.Mathlib.Omega.{arith}
 use Rattle.control_flow.specs.Loop.{loop}
-use Rattle.matrix_inverse.specs.Pivot.{search_row, Pivot-search}
-use Rattle.control_flow.proofs.Loop.{loop-start, loop-next, loop-end}
-use Rattle.matrix_inverse.proofs.InRange.{search-in_range}
-use borrow.Author.Rules.{rules}
+use Rattle.matrix_inverse.specs.Pivot.{search_row}
 use Rattle.matrix_inverse.proofs.search.Given as goal
 
 abbrev pub invariant-loop-j : goal.invariant-loop-j

@@ -1,12 +1,8 @@
 -- `search_row` meets its contract. The invariant: `best` is the best of the columns below k.
 use Prim.Native.Nat.{◌≤◌, ◌-◌}
 use mathlib.Core.Path.{◌≡◌}
-use native.Mathlib.Omega.{arith}
-use borrow.Author.Tests.{eq-eqb, ne_eqb}
 use Rattle.control_flow.specs.Loop.{loop}
-use Rattle.matrix_inverse.specs.Pivot.{consider, search_row}
-use Rattle.control_flow.proofs.Loop.{loop-start, loop-next, loop-end}
-use borrow.Author.Rules.{rules}
+use Rattle.matrix_inverse.specs.Pivot.{consider}
 use Rattle.matrix_inverse.proofs.search_row.Given as goal
 
 abbrev pub invariant-loop-k : goal.invariant-loop-k

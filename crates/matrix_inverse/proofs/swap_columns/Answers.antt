@@ -1,6 +1,5 @@
 -- `swap_columns` meets its contract: each call swaps the entries of a row.
 use Rattle.matrix_inverse.specs.RestoreColumns.{swap_columns}
-use borrow.Author.Rules.{rules}
 use Rattle.matrix_inverse.proofs.swap_columns.Goals as goal
 
 pub returns : goal.returns

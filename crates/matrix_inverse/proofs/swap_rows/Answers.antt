@@ -1,7 +1,6 @@
 -- `swap_rows` meets its contract: its test and its stores are the definition's.
 use borrow.Author.Tests.{eq-eqb, ne_eqb}
 use Rattle.matrix_inverse.specs.Eliminate.{swap_rows}
-use borrow.Author.Rules.{rules}
 use Rattle.matrix_inverse.proofs.swap_rows.Goals as goal
 
 pub returns-then-i-k : goal.returns-then-i-k

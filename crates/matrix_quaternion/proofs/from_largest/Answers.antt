@@ -1,6 +1,5 @@
 -- `from_largest` meets its contract: its operations are the definition's, about one root and one quotient.
 use Rattle.matrix_quaternion.specs.FromMatrix.{from_largest}
-use borrow.Author.Rules.{rules}
 use Rattle.matrix_quaternion.proofs.from_largest.Goals as goal
 
 pub returns : goal.returns

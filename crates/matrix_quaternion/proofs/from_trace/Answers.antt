@@ -1,6 +1,5 @@
 -- `from_trace` meets its contract: its operations are the definition's, about one root.
 use Rattle.matrix_quaternion.specs.FromMatrix.{from_trace}
-use borrow.Author.Rules.{rules}
 use Rattle.matrix_quaternion.proofs.from_trace.Goals as goal
 
 pub returns : goal.returns

@@ -1,6 +1,5 @@
 -- `quaternion_from_matrix` meets its contract: the trace's sign, then the largest of the diagonal, choose the case.
 use Rattle.matrix_quaternion.specs.FromMatrix.{Quaternion-from_matrix}
-use borrow.Author.Rules.{rules}
 use Rattle.matrix_quaternion.proofs.quaternion_from_matrix.Goals as goal
 
 pub returns-then-trace : goal.returns-then-trace

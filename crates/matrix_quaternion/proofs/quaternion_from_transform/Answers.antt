@@ -1,6 +1,5 @@
 -- `quaternion_from_transform` meets its contract: that of the matrix half.
 use Rattle.matrix_quaternion.specs.FromMatrix.{Quaternion-from_transform}
-use borrow.Author.Rules.{rules}
 use Rattle.matrix_quaternion.proofs.quaternion_from_transform.Goals as goal
 
 pub returns : goal.returns

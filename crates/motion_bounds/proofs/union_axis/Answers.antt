@@ -7,7 +7,7 @@ use Rattle.motion_bounds.proofs.union_axis.Goals as goal
 
 pub returns-then-zeros-ne0 : goal.returns-then-zeros-ne0
 unfolding union_axis
-returns-then-zeros-ne0 c = record { value = rw (c.in-Bounds.is, ← c.axis_search-found.ensures.value, ne_eqb _ _ c.if-zeros-ne0.true) }
+returns-then-zeros-ne0 c = record { value = rw (c.in-Bounds.is, ← c.axis_search-found.ensures.value, ne_eqb _ _ c.if-zeros-ne0.true) ? }
 
 pub union_zeros-bounds-requires : goal.union_zeros-bounds-requires
 union_zeros-bounds-requires c =

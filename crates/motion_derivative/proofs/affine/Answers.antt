@@ -4,9 +4,11 @@ use Rattle.motion_derivative.proofs.affine.Goals as goal
 
 pub returns : goal.returns
 unfolding affine
-returns c = record { value = rw (
-      c.add.ensures.value,
-      c.mul.ensures.value,
-      c.point-2.ensures.value,
-      c.point.ensures.value,
-    ) }
+returns c = record {
+  value = rw (
+    c.add.ensures.value,
+    c.mul.ensures.value,
+    c.point-2.ensures.value,
+    c.point.ensures.value,
+  );
+}

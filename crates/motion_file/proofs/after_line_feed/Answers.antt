@@ -1,5 +1,4 @@
 -- `after_line_feed`, test by test.
-use borrow.Author.Rules.{rules}
 use borrow.Author.Tests.{lt-ltb, le-ltb}
 use Rattle.motion_file.proofs.after_line_feed.Goals as goal
 

@@ -1,11 +1,7 @@
 -- `line_end` is the place of the next line feed. The invariant: from `i` on it is the same place as from `at` on.
-use Prim.Native.Nat.{◌+◌, ◌-◌}
+use Prim.Native.Nat.{◌-◌}
 use native.Mathlib.Numerals.{add-one}
 use native.Mathlib.Omega.{arith}
-use mathlib.Core.Path.{◌≡◌}
-use lib.ListN.{length, drop}
-use borrow.Author.Rules.{rules}
-use Rattle.hexadecimal.specs.Digit.{position}
 use Rattle.motion_file.specs.Text.{line_feed}
 use Rattle.motion_file.proofs.Pieces.{position_here, position-next, position-end}
 use Rattle.motion_file.proofs.line_end.Goals as goal

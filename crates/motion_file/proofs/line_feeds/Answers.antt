@@ -1,12 +1,10 @@
 -- `line_feeds` counts: the invariant is that those before `i` and the pieces from there on make all pieces.
-use Prim.Native.Nat.{◌+◌, ◌-◌, ◌≤◌}
+use Prim.Native.Nat.{◌-◌, ◌≤◌}
 use native.Mathlib.Omega.{arith}
-use mathlib.Core.Path.{◌≡◌, refl}
 use mathlib.Core.Bool.{Bool, true, false, cond}
 use lib.Dec.{eqb}
-use lib.ListN.{length, drop, get_or}
-use borrow.Author.Rules.{rules}
-use Rattle.motion_file.specs.Text.{line_feed, split}
+use lib.ListN.{get_or}
+use Rattle.motion_file.specs.Text.{line_feed}
 use Rattle.motion_file.proofs.Pieces.{pieces-next, pieces_end}
 use Rattle.motion_file.proofs.line_feeds.Goals as goal
 

@@ -1,13 +1,8 @@
 -- `line_feeds` counts: the invariant is that those before `i` and the pieces from there on make all pieces.
 use Prim.Native.Nat.{◌+◌, ◌-◌, ◌≤◌}
-use native.Mathlib.Omega.{arith}
-use mathlib.Core.Path.{◌≡◌, refl}
-use mathlib.Core.Bool.{Bool, true, false, cond}
-use lib.Dec.{eqb}
-use lib.ListN.{length, drop, get_or}
-use borrow.Author.Rules.{rules}
+use mathlib.Core.Path.{◌≡◌}
+use lib.ListN.{length, drop}
 use Rattle.motion_file.specs.Text.{line_feed, split}
-use Rattle.motion_file.proofs.Pieces.{pieces-next, pieces_end}
 use Rattle.motion_file.proofs.line_feeds.Given as goal
 
 abbrev pub invariant-loop-i : goal.invariant-loop-i

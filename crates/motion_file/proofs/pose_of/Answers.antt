@@ -1,5 +1,4 @@
 -- `pose_of` is the pose of fourteen values, item by item (`pose-listed`).
-use borrow.Author.Rules.{rules}
 use Rattle.motion_file.proofs.Files.{items, pose-listed}
 use Rattle.motion_file.proofs.pose_of.Goals as goal
 

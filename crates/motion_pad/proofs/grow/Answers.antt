@@ -1,6 +1,5 @@
 -- `grow` meets its contract: a refusal passes on.
 use Rattle.motion_pad.specs.Grow.{BoundsAnswer-grow}
-use borrow.Author.Rules.{rules}
 use Rattle.motion_pad.proofs.grow.Goals as goal
 
 pub returns-in-Bounds : goal.returns-in-Bounds

@@ -1,7 +1,6 @@
 -- `asked` is by its test.
 use borrow.Author.Tests.{lt-ltb, le-ltb}
 use Rattle.moves_asked.specs.Asked.{max_moves, Moves-asked}
-use borrow.Author.Rules.{rules}
 use Rattle.moves_asked.proofs.asked.Goals as goal
 
 pub returns-then-moves-gt-MAX_MOVES : goal.returns-then-moves-gt-MAX_MOVES

@@ -1,6 +1,5 @@
 -- `distance` meets its contract: each row is taken into the greatest so far.
 use Rattle.polar_round.specs.PolarRound.{distance}
-use borrow.Author.Rules.{rules}
 use Rattle.polar_round.proofs.distance.Goals as goal
 
 pub returns : goal.returns

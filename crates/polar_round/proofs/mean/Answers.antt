@@ -1,6 +1,5 @@
 -- `mean` meets its contract: each call is the mean of two rows.
 use Rattle.polar_round.specs.PolarRound.{mean}
-use borrow.Author.Rules.{rules}
 use Rattle.polar_round.proofs.mean.Goals as goal
 
 pub returns : goal.returns

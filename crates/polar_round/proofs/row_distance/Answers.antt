@@ -1,6 +1,5 @@
 -- `row_distance` meets its contract: each call is an absolute value.
 use Rattle.polar_round.specs.PolarRound.{row_distance}
-use borrow.Author.Rules.{rules}
 use Rattle.polar_round.proofs.row_distance.Goals as goal
 
 pub returns : goal.returns

@@ -1,6 +1,5 @@
 -- `poses_refusal` meets its contract: its tests are the definition's.
 use Rattle.pose_pair.specs.Pose.{poses_refusal}
-use borrow.Author.Rules.{rules}
 use Rattle.pose_pair.proofs.poses_refusal.Goals as goal
 
 pub returns-then-not-finite : goal.returns-then-not-finite

@@ -3,7 +3,6 @@ use Prim.Native.Nat.{ℕ}
 use mathlib.Core.Path.{sym, ap}
 use mathlib.Core.Bool.{Bool, cond}
 use Rattle.pose_pair.specs.Pose.{times_refusal}
-use borrow.Author.Rules.{rules}
 use Rattle.pose_pair.proofs.times_refusal.Goals as goal
 
 -- by the answer of the test

@@ -3,13 +3,15 @@ use Rattle.pose_point.proofs.Unjudged.{transform-point-tested}
 use Rattle.pose_point.proofs.transform_point_enclosure.Goals as goal
 
 pub returns-then-is_finite : goal.returns-then-is_finite
-returns-then-is_finite c = record { value = transform-point-tested c.args.m c.args.a c.args.p
-    c.transform_point_unjudged-vector.ensures.value
-    c.matrix_ends_sum.ensures.value
-    c.vector_ends_sum.ensures.value
-    c.vector_ends_sum-2.ensures.value
-    c.is_finite.ensures.value
-    c.if-is_finite.true }
+returns-then-is_finite c = record {
+  value = transform-point-tested c.args.m c.args.a c.args.p
+      c.transform_point_unjudged-vector.ensures.value
+      c.matrix_ends_sum.ensures.value
+      c.vector_ends_sum.ensures.value
+      c.vector_ends_sum-2.ensures.value
+      c.is_finite.ensures.value
+      c.if-is_finite.true;
+}
 
 pub returns-else-is_finite : goal.returns-else-is_finite
 returns-else-is_finite c = record { value = c.transform_point_enclosure.ensures.value }

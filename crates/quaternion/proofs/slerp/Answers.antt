@@ -3,7 +3,6 @@ use mathlib.Core.Path.{◌≡◌}
 use mathlib.Core.Bool.{true}
 use lib.Ieee.{lt}
 use Rattle.quaternion.specs.Slerp.{slerp_threshold, Quaternion-slerp, slerp_by}
-use borrow.Author.Rules.{rules}
 use Rattle.quaternion.proofs.slerp.Goals as goal
 
 pub returns-then-cos_theta : goal.returns-then-cos_theta

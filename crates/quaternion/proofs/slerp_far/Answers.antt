@@ -1,6 +1,5 @@
 -- `slerp_far` meets its contract: a chain of nine calls.
 use Rattle.quaternion.specs.Slerp.{slerp_far}
-use borrow.Author.Rules.{rules}
 use Rattle.quaternion.proofs.slerp_far.Goals as goal
 
 pub returns : goal.returns

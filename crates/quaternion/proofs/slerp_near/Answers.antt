@@ -1,6 +1,5 @@
 -- `slerp_near` meets its contract: a chain of four calls.
 use Rattle.quaternion.specs.Slerp.{slerp_near}
-use borrow.Author.Rules.{rules}
 use Rattle.quaternion.proofs.slerp_near.Goals as goal
 
 pub returns : goal.returns

@@ -5,7 +5,6 @@ use lib.Ieee.{binary32, of_bits}
 use lib.ListN.{replicate}
 use Rattle.question_values.specs.Places.{values_at}
 use Rattle.question_values.proofs.Places.{left-few}
-use borrow.Author.Rules.{rules}
 use Rattle.question_values.proofs.nth_bounds.Goals as goal
 
 pub returns-then-values-i : goal.returns-then-values-i

@@ -1,6 +1,5 @@
 -- `point_at` fills three places that hold +0.
 use Rattle.question_values.specs.Places.{values_at}
-use borrow.Author.Rules.{rules}
 use Rattle.question_values.proofs.point_at.Goals as goal
 
 pub returns : goal.returns

@@ -1,12 +1,9 @@
 -- `put_boxes` puts one by one. The invariant: the first i places are filled.
 use Prim.Native.Nat.{◌-◌, ◌≤◌}
-use native.Mathlib.Omega.{arith}
-use mathlib.Core.Path.{◌≡◌, refl, ◌∙◌}
-use lib.ListN.{length, length-set}
-use lib.Seq.{paste, paste-zero}
+use mathlib.Core.Path.{◌≡◌}
+use lib.ListN.{length}
+use lib.Seq.{paste}
 use Rattle.question_values.specs.Places.{groups_from}
-use Rattle.question_values.proofs.Places.{groups-turn, groups-all}
-use borrow.Author.Rules.{rules}
 use Rattle.question_values.proofs.put_boxes.Given as goal
 
 abbrev pub invariant-loop-i : goal.invariant-loop-i

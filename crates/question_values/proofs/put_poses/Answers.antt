@@ -1,12 +1,11 @@
 -- `put_poses` puts one by one. The invariant: the first i places are filled.
-use Prim.Native.Nat.{◌-◌, ◌≤◌}
+use Prim.Native.Nat.{◌-◌}
 use native.Mathlib.Omega.{arith}
-use mathlib.Core.Path.{◌≡◌, refl, ◌∙◌}
+use mathlib.Core.Path.{refl, ◌∙◌}
 use lib.ListN.{length, length-set}
-use lib.Seq.{paste, paste-zero}
+use lib.Seq.{paste-zero}
 use Rattle.question_values.specs.Places.{groups_from}
 use Rattle.question_values.proofs.Places.{groups-turn, groups-all}
-use borrow.Author.Rules.{rules}
 use Rattle.question_values.proofs.put_poses.Goals as goal
 
 pub loop-i-init : goal.loop-i-init
@@ -22,6 +21,8 @@ loop-i-preserved c =
     (length-set l.poses l.i _ ∙ l.invariant.0, omega arith, turn)
 
 pub returns : goal.returns
-returns c = record { left = let a = c.args in
-    let l = c.loop-i in
-    groups-all 18 a.values.now a.poses.now l.poses l.i (omega arith) l.invariant.2 }
+returns c = record {
+  left = let a = c.args in
+      let l = c.loop-i in
+      groups-all 18 a.values.now a.poses.now l.poses l.i (omega arith) l.invariant.2;
+}

@@ -1,7 +1,6 @@
 -- `has_shear` meets its contract: the rows of the transpose are the columns.
 use Rattle.matrix4x4.specs.Transpose.{Matrix4x4-transpose}
 use Rattle.rigid_pose.specs.Rigid.{Matrix4x4-has_shear}
-use borrow.Author.Rules.{rules}
 use Rattle.rigid_pose.proofs.has_shear.Goals as goal
 
 pub returns : goal.returns

@@ -1,6 +1,5 @@
 -- `near_zero` meets its contract: it is the definition's test.
 use Rattle.rigid_pose.specs.Rigid.{near_zero}
-use borrow.Author.Rules.{rules}
 use Rattle.rigid_pose.proofs.near_zero.Goals as goal
 
 pub returns : goal.returns

@@ -5,7 +5,6 @@ use lib.Ieee.{lt}
 use Rattle.matrix4x4.specs.Rows.{Rows, positive_zero}
 use Rattle.transform.specs.HasScale.{Matrix4x4-has_scale}
 use Rattle.rigid_pose.specs.Rigid.{Matrix4x4-has_shear, Matrix4x4-determinant, Matrix4x4-rigid_number}
-use borrow.Author.Rules.{rules}
 use Rattle.rigid_pose.proofs.refusal.Goals as goal
 
 distorted : (m : Rows) → (Matrix4x4-has_scale m || Matrix4x4-has_shear m) ≡ true → Matrix4x4-rigid_number m ≡ 17

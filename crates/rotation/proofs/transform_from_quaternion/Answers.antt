@@ -1,6 +1,5 @@
 -- `transform_from_quaternion` meets its contract: the inverse half, and its transpose.
 use Rattle.rotation.specs.FromQuaternion.{Transform-from_quaternion}
-use borrow.Author.Rules.{rules}
 use Rattle.rotation.proofs.transform_from_quaternion.Goals as goal
 
 pub returns : goal.returns

@@ -1,6 +1,5 @@
 -- `dots_refusal` meets its contract: its test is the definition's.
 use Rattle.rotation_arc.specs.ShorterArc.{dots_refusal}
-use borrow.Author.Rules.{rules}
 use Rattle.rotation_arc.proofs.dots_refusal.Goals as goal
 
 pub returns-then-is_finite : goal.returns-then-is_finite

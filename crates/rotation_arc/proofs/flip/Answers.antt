@@ -4,7 +4,6 @@ use mathlib.Core.Bool.{Bool, cond}
 use Rattle.quaternion.specs.declared.Quaternion.{Quaternion}
 use Rattle.quaternion.specs.Quaternion.{Quaternion-neg}
 use Rattle.rotation_arc.specs.ShorterArc.{flip}
-use borrow.Author.Rules.{rules}
 use Rattle.rotation_arc.proofs.flip.Goals as goal
 
 -- by the answer of the test

@@ -5,7 +5,6 @@ use Rattle.coefficients.specs.declared.Coefficients.{Coefficients}
 use Rattle.coefficients.specs.Coefficients.{Coefficients-zero}
 use Rattle.rotation_arc.specs.declared.CoefficientsAnswer.{CoefficientsAnswer}
 use Rattle.rotation_arc.specs.ArcCoefficients.{CoefficientsAnswer-judged}
-use borrow.Author.Rules.{rules}
 use Rattle.rotation_arc.proofs.judged.Goals as goal
 
 -- by the answer of the test

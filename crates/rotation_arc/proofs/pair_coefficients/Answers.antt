@@ -1,6 +1,5 @@
 -- `pair_coefficients` meets its contract: has_rotation chooses the case.
 use Rattle.rotation_arc.specs.ArcCoefficients.{pair_coefficients}
-use borrow.Author.Rules.{rules}
 use Rattle.rotation_arc.proofs.pair_coefficients.Goals as goal
 
 pub returns-then-has_rotation : goal.returns-then-has_rotation

@@ -1,6 +1,5 @@
 -- `rotation_coefficients` meets its contract: a chain of nine calls.
 use Rattle.rotation_arc.specs.ArcCoefficients.{rotation_coefficients}
-use borrow.Author.Rules.{rules}
 use Rattle.rotation_arc.proofs.rotation_coefficients.Goals as goal
 
 pub returns : goal.returns

@@ -2,7 +2,6 @@
 use mathlib.Core.Path.{◌≡◌, sym, ap, ◌∙◌}
 use Prim.Native.Nat.{◌-◌, min}
 use native.Mathlib.Omega.{arith}
-use borrow.Author.Rules.{rules}
 use Rattle.sine_table.specs.Table.{quarter_turn}
 use Rattle.sine_table.specs.QuarterSine.{quarter_sine_over, entry}
 use Rattle.sine_table.proofs.QuarterSine.{quarter_sine_over-zero, quarter_sine_over-one, quarter_sine_over-rest}

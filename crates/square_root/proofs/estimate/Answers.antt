@@ -1,6 +1,5 @@
 -- Nothing is promised of the estimate: only that its start is no NaN.
 use native.Mathlib.Omega.{arith}
-use borrow.Author.Rules.{rules}
 use Rattle.square_root.proofs.Tests.{bits-number}
 use Rattle.square_root.proofs.estimate.Goals as goal
 

@@ -1,5 +1,4 @@
 -- A float that equals itself has bits.
-use borrow.Author.Rules.{rules}
 use Rattle.rounding.proofs.Order.{differs-nan}
 use Rattle.square_root.proofs.estimate_bits.Goals as goal
 

@@ -2,8 +2,7 @@
 use mathlib.Core.Path.{refl}
 use native.Mathlib.Nat.{div-le_self}
 use native.Mathlib.Omega.{arith}
-use borrow.Author.Rules.{rules}
-use Rattle.square_root.proofs.Heron.{Iterate, isqrt-lt, mean-pos, iterate-next, iterate-last}
+use Rattle.square_root.proofs.Heron.{isqrt-lt, mean-pos, iterate-next, iterate-last}
 use Rattle.square_root.proofs.isqrt.Goals as goal
 
 pub loop-y-init : goal.loop-y-init

@@ -1,9 +1,5 @@
 -- The invariant: the root is at most x, and y is Heron's mean of x and n / x (`Iterate`). A mean that is no smaller than x shows that x is the root.
-use mathlib.Core.Path.{refl}
-use native.Mathlib.Nat.{div-le_self}
-use native.Mathlib.Omega.{arith}
-use borrow.Author.Rules.{rules}
-use Rattle.square_root.proofs.Heron.{Iterate, isqrt-lt, mean-pos, iterate-next, iterate-last}
+use Rattle.square_root.proofs.Heron.{Iterate}
 use Rattle.square_root.proofs.isqrt.Given as goal
 
 abbrev pub invariant-loop-y : goal.invariant-loop-y

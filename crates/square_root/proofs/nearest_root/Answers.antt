@@ -1,6 +1,5 @@
 -- An estimate that passes the test is the nearest whole number (`nearest-checked`), wherever it came from.
 use native.Mathlib.Omega.{arith}
-use borrow.Author.Rules.{rules}
 use Rattle.square_root.proofs.FloorSqrt.{square-fits, nearest-checked}
 use Rattle.square_root.proofs.nearest_root.Goals as goal
 

@@ -1,6 +1,6 @@
 -- A positive float goes through its significand and exponent (`decoded-sqrt`); the tests leave +infinity, the zeros, and what has no root.
 use mathlib.Core.Path.{◌≡◌, sym, subst}
-use mathlib.Core.Bool.{Bool, true}
+use mathlib.Core.Bool.{true}
 use lib.Dec.{T}
 use lib.Ieee.{Float, binary32, fits, nan_bits, of_bits, div}
 use Rattle.square_root.proofs.Tests.{positive-tests, positive-number, sqrt-infinity, sqrt-zero, sqrt-nan, significand-pos, decoded-sqrt, bits-number}

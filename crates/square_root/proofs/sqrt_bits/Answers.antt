@@ -1,6 +1,5 @@
 -- The whole number nearest to the widened significand's root makes the bits (`sqrt-bits`), whatever the estimate.
 use native.Mathlib.Omega.{arith}
-use borrow.Author.Rules.{rules}
 use Rattle.square_root.proofs.Bits.{widened-exact, sqrt-bits}
 use Rattle.square_root.proofs.sqrt_bits.Goals as goal
 

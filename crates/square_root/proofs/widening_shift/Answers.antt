@@ -1,6 +1,6 @@
 -- A significand of at most 24 digits has 40 leading zeros or more of 64; shifted by 17 or 16 fewer it has 47 or 48 digits (`widened`).
 use native.Mathlib.Omega.{arith}
-use lib.Count.{count_leading_zeros, leading_le}
+use lib.Count.{leading_le}
 use Rattle.square_root.proofs.Bits.{leading-ge, widened, widened-normal}
 use Rattle.square_root.proofs.widening_shift.Goals as goal
 

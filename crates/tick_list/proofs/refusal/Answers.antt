@@ -1,7 +1,5 @@
 -- `refusal` meets its contract: the count, then the order.
 use mathlib.Core.Path.{sym, ◌∙◌}
-use borrow.Author.Rules.{rules}
-use borrow.Author.Tests.{not-true, not-false}
 use Rattle.tick_list.specs.Ticks.{Ticks-refusal}
 use Rattle.tick_list.proofs.Loops.{count-refused}
 use Rattle.tick_list.proofs.refusal.Goals as goal

@@ -1,13 +1,9 @@
 -- `rise` meets its contract. Its loop keeps the test of the ticks from the one before i on.
-use Prim.Native.Nat.{◌-◌, ◌≤◌}
-use mathlib.Core.Path.{◌≡◌, refl, sym, ◌∙◌}
+use Prim.Native.Nat.{◌-◌}
+use mathlib.Core.Path.{refl, sym, ◌∙◌}
 use native.Mathlib.Omega.{arith}
-use borrow.Author.Rules.{rules}
-use borrow.Author.Tests.{not-true, not-false}
-use lib.ListN.{length, drop}
 use lib.Ieee.{nan}
 use Rattle.control_flow.proofs.Neighbours.{fails-here, holds-next, holds-end}
-use Rattle.tick_list.specs.Ticks.{Ticks-rise}
 use Rattle.tick_list.proofs.Loops.{rises}
 use Rattle.tick_list.proofs.rise.Goals as goal
 
@@ -15,10 +11,12 @@ pub loop-i-init : goal.loop-i-init
 loop-i-init c = (refl, (omega arith, refl))
 
 pub returns-then-not-ticks-i : goal.returns-then-not-ticks-i
-returns-then-not-ticks-i c = record { value = let l = c.loop-i in
-    let a = c.args in
-    let h = c.loop-i-test.true in
-    sym (fails-here rises nan a.ticks.now l.i l.invariant.1.0 h c.if-not-ticks-i.true) ∙ l.invariant.1.1 }
+returns-then-not-ticks-i c = record {
+  value = let l = c.loop-i in
+      let a = c.args in
+      let h = c.loop-i-test.true in
+      sym (fails-here rises nan a.ticks.now l.i l.invariant.1.0 h c.if-not-ticks-i.true) ∙ l.invariant.1.1;
+}
 
 pub loop-i-preserved : goal.loop-i-preserved
 loop-i-preserved c =
@@ -28,6 +26,8 @@ loop-i-preserved c =
     (refl, (omega arith, holds-next rises nan a.ticks.now l.i l.invariant.1.0 h c.if-not-ticks-i.false ∙ l.invariant.1.1))
 
 pub returns : goal.returns
-returns c = record { value = let l = c.loop-i in
-    let a = c.args in
-    sym (holds-end rises nan a.ticks.now l.i l.invariant.1.0 c.loop-i-test.false) ∙ l.invariant.1.1 }
+returns c = record {
+  value = let l = c.loop-i in
+      let a = c.args in
+      sym (holds-end rises nan a.ticks.now l.i l.invariant.1.0 c.loop-i-test.false) ∙ l.invariant.1.1;
+}

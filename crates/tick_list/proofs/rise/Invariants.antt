@@ -1,14 +1,8 @@
 -- `rise` meets its contract. Its loop keeps the test of the ticks from the one before i on.
 use Prim.Native.Nat.{◌-◌, ◌≤◌}
-use mathlib.Core.Path.{◌≡◌, refl, sym, ◌∙◌}
-use native.Mathlib.Omega.{arith}
-use borrow.Author.Rules.{rules}
-use borrow.Author.Tests.{not-true, not-false}
+use mathlib.Core.Path.{◌≡◌}
 use lib.ListN.{length, drop}
-use lib.Ieee.{nan}
-use Rattle.control_flow.proofs.Neighbours.{fails-here, holds-next, holds-end}
 use Rattle.tick_list.specs.Ticks.{Ticks-rise}
-use Rattle.tick_list.proofs.Loops.{rises}
 use Rattle.tick_list.proofs.rise.Given as goal
 
 abbrev pub invariant-loop-i : goal.invariant-loop-i

@@ -1,6 +1,5 @@
 -- `from_moved` meets its contract: each arm is its case of the definition.
 use Rattle.transform.specs.TransformBounds.{BoundsAnswer-from_moved}
-use borrow.Author.Rules.{rules}
 use Rattle.transform.proofs.from_moved.Goals as goal
 
 pub returns-in-Moved : goal.returns-in-Moved

@@ -1,6 +1,5 @@
 -- `has_scale` meets its contract: for each axis the squared length of the image, and the test.
 use Rattle.transform.specs.HasScale.{Matrix4x4-has_scale}
-use borrow.Author.Rules.{rules}
 use Rattle.transform.proofs.has_scale.Goals as goal
 
 pub returns : goal.returns

@@ -1,6 +1,5 @@
 -- `image_squared` meets its contract: the image, then its dot product with itself.
 use Rattle.transform.specs.HasScale.{image_squared}
-use borrow.Author.Rules.{rules}
 use Rattle.transform.proofs.image_squared.Goals as goal
 
 pub returns : goal.returns

@@ -1,6 +1,5 @@
 -- `moved_point` meets its contract: the four sums, then the case that wp chose.
 use Rattle.transform.specs.TransformPoint.{moved_point}
-use borrow.Author.Rules.{rules}
 use Rattle.transform.proofs.moved_point.Goals as goal
 
 pub returns-then-wp : goal.returns-then-wp

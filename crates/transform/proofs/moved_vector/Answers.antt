@@ -1,6 +1,5 @@
 -- `moved_vector` meets its contract: a sum for each coordinate.
 use Rattle.transform.specs.TransformVector.{moved_vector}
-use borrow.Author.Rules.{rules}
 use Rattle.transform.proofs.moved_vector.Goals as goal
 
 pub returns : goal.returns

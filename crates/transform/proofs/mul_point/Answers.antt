@@ -1,5 +1,4 @@
 -- `mul_point` meets its contract: its operations are the definition's.
-use borrow.Author.Rules.{rules}
 use mathlib.Core.Path.{refl}
 use Rattle.transform.proofs.mul_point.Goals as goal
 

@@ -1,10 +1,10 @@
 -- `copy_moves` meets its contract. Its loop keeps that the first i moves are put over the blocks.
-use Prim.Native.Nat.{◌-◌, ◌≤◌}
+use Prim.Native.Nat.{◌-◌}
 use mathlib.Core.Path.{◌≡◌, refl, ap, ◌∙◌}
 use mathlib.Core.List.{List, []}
 use native.Mathlib.Omega.{arith}
 use borrow.Author.Rules.{rules}
-use lib.ListN.{length, get_or, take, set}
+use lib.ListN.{length, get_or, set}
 use lib.Seq.{sets, take_all}
 use Rattle.trial_blocks.specs.Blocks.{Block}
 use Rattle.trial_blocks.proofs.Blocks.{copy-next}
@@ -27,7 +27,9 @@ loop-i-preserved c =
     )
 
 pub returns : goal.returns
-returns c = record { left = let l = c.loop-i in
-    let a = c.args in
-    let whole : l.i ≡ length a.moves.now = omega (arith, c.loop-i-test.false) in
-    l.invariant.1.1 ∙ ap (sets a.blocks.now 0) (take_all l.i a.moves.now (omega (arith, whole))) }
+returns c = record {
+  left = let l = c.loop-i in
+      let a = c.args in
+      let whole : l.i ≡ length a.moves.now = omega (arith, c.loop-i-test.false) in
+      l.invariant.1.1 ∙ ap (sets a.blocks.now 0) (take_all l.i a.moves.now (omega (arith, whole)));
+}

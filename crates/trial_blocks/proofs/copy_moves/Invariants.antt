@@ -1,13 +1,8 @@
 -- `copy_moves` meets its contract. Its loop keeps that the first i moves are put over the blocks.
 use Prim.Native.Nat.{◌-◌, ◌≤◌}
-use mathlib.Core.Path.{◌≡◌, refl, ap, ◌∙◌}
-use mathlib.Core.List.{List, []}
-use native.Mathlib.Omega.{arith}
-use borrow.Author.Rules.{rules}
-use lib.ListN.{length, get_or, take, set}
-use lib.Seq.{sets, take_all}
-use Rattle.trial_blocks.specs.Blocks.{Block}
-use Rattle.trial_blocks.proofs.Blocks.{copy-next}
+use mathlib.Core.Path.{◌≡◌}
+use lib.ListN.{length, take}
+use lib.Seq.{sets}
 use Rattle.trial_blocks.proofs.copy_moves.Given as goal
 
 abbrev pub invariant-loop-i : goal.invariant-loop-i

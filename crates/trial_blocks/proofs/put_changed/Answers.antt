@@ -18,8 +18,10 @@ pub put_beside-requires : goal.put_beside-requires
 put_beside-requires c = let passed = test-passed _ c.args.place c.if-n-place.false in record { n_nonzero = passed.some; n_bound = passed.few; place_le_n = passed.inside }
 
 pub returns : goal.returns
-returns c = record { left = let a = c.args in
-    let copied = c.copy_moves.ensures.left in
-    c.put_beside.ensures.left
-    ∙ (ap (λ (l : List Block). sets l (a.place - 1) (beside_blocks (length a.moves.now) a.place a.beside.now)) copied
-    ∙ changed-left a.moves.now a.place a.beside.now a.blocks.now c.if-n-place.false) }
+returns c = record {
+  left = let a = c.args in
+      let copied = c.copy_moves.ensures.left in
+      c.put_beside.ensures.left
+      ∙ (ap (λ (l : List Block). sets l (a.place - 1) (beside_blocks (length a.moves.now) a.place a.beside.now)) copied
+      ∙ changed-left a.moves.now a.place a.beside.now a.blocks.now c.if-n-place.false);
+}

@@ -1,5 +1,4 @@
 use native.Mathlib.Omega.{arith}
-use borrow.Author.Rules.{rules}
 use Rattle.trig.proofs.Quarters.{fold-odd, fold-even}
 use Rattle.trig.proofs.folded.Goals as goal
 

@@ -1,4 +1,3 @@
-use borrow.Author.Rules.{rules}
 use Rattle.trig.proofs.Shift.{shift_none, shift-right}
 use Rattle.trig.proofs.shifted.Goals as goal
 

@@ -1,10 +1,11 @@
 -- Over the table that `table` gives, by `sin-lent` and `cos-lent`.
-use borrow.Author.Rules.{rules}
 use Rattle.trig.proofs.OverTable.{sin-lent, cos-lent}
 use Rattle.trig.proofs.sin_cos.Goals as goal
 
 pub returns : goal.returns
-returns c = record { value = let t = c.table-table.ensures.value in
-    let s = c.sin_cos_in.ensures.value in
-    let a = c.args.a in
-    (sin-lent t a s.0, cos-lent t a s.1) }
+returns c = record {
+  value = let t = c.table-table.ensures.value in
+      let s = c.sin_cos_in.ensures.value in
+      let a = c.args.a in
+      (sin-lent t a s.0, cos-lent t a s.1);
+}

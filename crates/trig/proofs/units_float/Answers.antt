@@ -1,7 +1,6 @@
 -- The float of n, negated (`float_negated`) or as it is (`float-kept`).
 use mathlib.Core.Path.{ap, ◌∙◌}
 use lib.Ieee.{neg}
-use borrow.Author.Rules.{rules}
 use Rattle.trig.proofs.Fixed.{float_negated, float-kept}
 use Rattle.trig.proofs.units_float.Goals as goal
 

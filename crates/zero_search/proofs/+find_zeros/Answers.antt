@@ -13,15 +13,17 @@ returns-then-excludes_zero t c =
 pub returns-then-depth-eq0 : goal.returns-then-depth-eq0
 returns-then-depth-eq0 t c =
     let a = c.args in
-    record { value = rw (
-      c.accept-zeros.ensures.value,
-      newton-lent a.f c.requires.0 4 _ c.newton.ensures.value,
-      c.midpoint-mid.ensures.value,
-      sym c.excludes_zero.ensures.value,
-      c.if-excludes_zero.false,
-      c.if-depth-eq0.true,
-      search-newton a.f a.i a.found,
-    ) }
+    record {
+      value = rw (
+        c.accept-zeros.ensures.value,
+        newton-lent a.f c.requires.0 4 _ c.newton.ensures.value,
+        c.midpoint-mid.ensures.value,
+        sym c.excludes_zero.ensures.value,
+        c.if-excludes_zero.false,
+        c.if-depth-eq0.true,
+        search-newton a.f a.i a.found,
+      );
+    }
 
 pub overflow_add-examined : goal.overflow_add-examined
 overflow_add-examined t c =
@@ -32,8 +34,10 @@ pub returns-then-zeros-ne0 : goal.returns-then-zeros-ne0
 returns-then-zeros-ne0 t c =
     let a = c.args in
     let found = rw (c.new.ensures.value, c.midpoint-mid.ensures.value) at c.find_zeros-lower.ensures.value in
-    record { value = rw (sym c.excludes_zero.ensures.value, c.if-excludes_zero.false)
-    (sym (search-ends a.depth a.f a.i a.found c.find_zeros-lower.result c.if-depth-eq0.false found c.if-zeros-ne0.true)) }
+    record {
+      value = rw (sym c.excludes_zero.ensures.value, c.if-excludes_zero.false)
+          (sym (search-ends a.depth a.f a.i a.found c.find_zeros-lower.result c.if-depth-eq0.false found c.if-zeros-ne0.true));
+    }
 
 pub overflow_add-examined-2 : goal.overflow_add-examined-2
 overflow_add-examined-2 t c =
@@ -51,6 +55,8 @@ returns t c =
     let a = c.args in
     let found = rw (c.new.ensures.value, c.midpoint-mid.ensures.value) at c.find_zeros-lower.ensures.value in
     let found-2 = rw (c.new-2.ensures.value, c.midpoint-mid.ensures.value) at c.find_zeros-upper.ensures.value in
-    record { value = rw (sym c.excludes_zero.ensures.value, c.if-excludes_zero.false)
-    (sym (search-halves a.depth a.f a.i a.found c.find_zeros-lower.result c.find_zeros-upper.result
-    c.if-depth-eq0.false found c.if-zeros-ne0.false found-2)) }
+    record {
+      value = rw (sym c.excludes_zero.ensures.value, c.if-excludes_zero.false)
+          (sym (search-halves a.depth a.f a.i a.found c.find_zeros-lower.result c.find_zeros-upper.result
+          c.if-depth-eq0.false found c.if-zeros-ne0.false found-2));
+    }

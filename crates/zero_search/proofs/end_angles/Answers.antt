@@ -1,5 +1,4 @@
 -- `end_angles` meets its contract: ends in order stay as they are (`new-ordered`), and at any others the angles are worked out.
-use borrow.Author.Rules.{rules}
 use Rattle.interval.proofs.InOrder.{new-ordered}
 use Rattle.zero_search.proofs.end_angles.Goals as goal
 

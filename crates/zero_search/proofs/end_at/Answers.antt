@@ -4,5 +4,7 @@ use Rattle.trig.proofs.OverTable.{sin-lent, cos-lent}
 use Rattle.zero_search.proofs.end_at.Goals as goal
 
 pub returns : goal.returns
-returns c = record { value = let a = two ⊗ c.args.f.theta ⊗ c.args.t in
-    (sin-lent c.requires a c.sin_cos_in.ensures.value.0, cos-lent c.requires a c.sin_cos_in.ensures.value.1) }
+returns c = record {
+  value = let a = two ⊗ c.args.f.theta ⊗ c.args.t in
+      (sin-lent c.requires a c.sin_cos_in.ensures.value.0, cos-lent c.requires a c.sin_cos_in.ensures.value.1);
+}

@@ -1,5 +1,5 @@
 -- `excludes_zero` meets its contract: where the angles at the ends are in order they are the ends of the angles' interval (`mul-ordered`).
-use mathlib.Core.Path.{◌≡◌, sym}
+use mathlib.Core.Path.{◌≡◌}
 use Rattle.trig.specs.declared.SinCos.{SinCos}
 use Rattle.interval.specs.declared.Interval.{Interval}
 use Rattle.interval.specs.Interval.{Interval-sin, Interval-cos, Interval-sin_between, Interval-cos_between}
@@ -16,9 +16,11 @@ unfolding MotionDerivative-excludes_zero Interval-sin Interval-cos
 ends-known f i c a b e low high = rw (e, low.0, low.1, high.0, high.1)
 
 pub returns-then-c : goal.returns-then-c
-returns-then-c c = record { value = let ends = c.requires in
-    rw (c.excludes_zero_at.ensures.value, c.cos_between-cos.ensures.value, c.sin_between-sin.ensures.value)
-    (ends-known _ _ _ _ _ (mul-ordered _ _ c.if-c.true) ends.0 ends.1) }
+returns-then-c c = record {
+  value = let ends = c.requires in
+      rw (c.excludes_zero_at.ensures.value, c.cos_between-cos.ensures.value, c.sin_between-sin.ensures.value)
+      (ends-known _ _ _ _ _ (mul-ordered _ _ c.if-c.true) ends.0 ends.1);
+}
 
 pub returns : goal.returns
 returns c = record { value = c.excludes_zero.ensures.value }

@@ -1,6 +1,5 @@
 -- `is_finite` meets its contract: each call tests a term.
 use Rattle.axis_derivative.specs.IsFinite.{Derivative-is_finite}
-use borrow.Author.Rules.{rules}
 use Rattle.axis_derivative.proofs.Derivative.is_finite.Goals as goal
 
 pub returns : goal.returns

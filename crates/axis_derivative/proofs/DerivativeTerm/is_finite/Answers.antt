@@ -1,6 +1,5 @@
 -- `is_finite` meets its contract: each call is the finite test of a number.
 use Rattle.axis_derivative.specs.IsFinite.{DerivativeTerm-is_finite}
-use borrow.Author.Rules.{rules}
 use Rattle.axis_derivative.proofs.DerivativeTerm.is_finite.Goals as goal
 
 pub returns : goal.returns

@@ -1,6 +1,5 @@
 -- `corner` meets its contract: a coordinate of each of three calls of `index`.
 use Rattle.bounds3.specs.Bounds3f.{Bounds3f-corner}
-use borrow.Author.Rules.{rules}
 use Rattle.bounds3.proofs.Bounds3f.corner.Goals as goal
 
 pub returns : goal.returns

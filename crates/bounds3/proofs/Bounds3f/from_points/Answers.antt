@@ -1,6 +1,5 @@
 -- `from_points` meets its contract: the least and the greatest, by `min` and `max` of points.
 use Rattle.bounds3.specs.Bounds3f.{Bounds3f-from_points}
-use borrow.Author.Rules.{rules}
 use Rattle.bounds3.proofs.Bounds3f.from_points.Goals as goal
 
 pub returns : goal.returns

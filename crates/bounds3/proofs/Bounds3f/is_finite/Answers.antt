@@ -1,6 +1,5 @@
 -- `is_finite` meets its contract: a call for each corner.
 use Rattle.bounds3.specs.Finite.{Bounds3f-is_finite}
-use borrow.Author.Rules.{rules}
 use Rattle.bounds3.proofs.Bounds3f.is_finite.Goals as goal
 
 pub returns : goal.returns

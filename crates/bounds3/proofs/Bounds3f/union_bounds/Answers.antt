@@ -1,6 +1,5 @@
 -- `union_bounds` meets its contract: the least and the greatest, by `min` and `max` of points.
 use Rattle.bounds3.specs.Bounds3f.{Bounds3f-union_bounds}
-use borrow.Author.Rules.{rules}
 use Rattle.bounds3.proofs.Bounds3f.union_bounds.Goals as goal
 
 pub returns : goal.returns

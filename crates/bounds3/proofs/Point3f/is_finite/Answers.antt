@@ -1,6 +1,5 @@
 -- `is_finite` meets its contract: a call for each coordinate.
 use Rattle.bounds3.specs.Finite.{Point3f-is_finite}
-use borrow.Author.Rules.{rules}
 use Rattle.bounds3.proofs.Point3f.is_finite.Goals as goal
 
 pub returns : goal.returns

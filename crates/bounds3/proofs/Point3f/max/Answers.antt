@@ -1,6 +1,5 @@
 -- `max` meets its contract: a call for each coordinate.
 use Rattle.bounds3.specs.Point3f.{Point3f-max}
-use borrow.Author.Rules.{rules}
 use Rattle.bounds3.proofs.Point3f.max.Goals as goal
 
 pub returns : goal.returns

@@ -1,6 +1,5 @@
 -- `is_finite` meets its contract: each call tests an axis.
 use Rattle.coefficients.specs.IsFinite.{Coefficients-is_finite}
-use borrow.Author.Rules.{rules}
 use Rattle.coefficients.proofs.Coefficients.is_finite.Goals as goal
 
 pub returns : goal.returns

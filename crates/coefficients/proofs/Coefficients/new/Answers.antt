@@ -2,7 +2,6 @@
 use Rattle.matrix4x4.specs.Transpose.{Matrix4x4-transpose}
 use Rattle.axis_derivative.specs.AxisDerivative.{derivative}
 use Rattle.coefficients.specs.Coefficients.{Coefficients-new}
-use borrow.Author.Rules.{rules}
 use Rattle.coefficients.proofs.Coefficients.new.Goals as goal
 
 pub returns : goal.returns

@@ -4,12 +4,14 @@ use Rattle.motion_derivative.proofs.MotionDerivative.range_at.Goals as goal
 
 pub returns : goal.returns
 unfolding MotionDerivative-range_at
-returns c = record { value = rw (
-      c.add-2.ensures.value,
-      c.add.ensures.value,
-      c.point.ensures.value,
-      c.mul-sines.ensures.value,
-      c.affine-2.ensures.value,
-      c.mul-cosines.ensures.value,
-      c.affine.ensures.value,
-    ) }
+returns c = record {
+  value = rw (
+    c.add-2.ensures.value,
+    c.add.ensures.value,
+    c.point.ensures.value,
+    c.mul-sines.ensures.value,
+    c.affine-2.ensures.value,
+    c.mul-cosines.ensures.value,
+    c.affine.ensures.value,
+  );
+}

@@ -1,7 +1,5 @@
 -- `is_finite` meets its contract: the tests of the time, of the matrix and of the pad.
 use Rattle.pose_pair.specs.Pose.{Pose-is_finite}
-use borrow.Author.Rules.{rules}
-use Rattle.matrix4x4.proofs.is_finite.Reads as is-finite-reads'
 use Rattle.pose_pair.proofs.Pose.is_finite.Goals as goal
 
 pub returns : goal.returns

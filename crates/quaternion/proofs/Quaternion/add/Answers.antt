@@ -1,6 +1,5 @@
 -- `add` meets its contract: the vector by a call, the scalar by itself.
 use Rattle.quaternion.specs.Quaternion.{Quaternion-add}
-use borrow.Author.Rules.{rules}
 use Rattle.quaternion.proofs.Quaternion.add.Goals as goal
 
 pub returns : goal.returns

@@ -1,6 +1,5 @@
 -- `div` meets its contract: the vector by a call, the scalar by itself.
 use Rattle.quaternion.specs.Quaternion.{Quaternion-div}
-use borrow.Author.Rules.{rules}
 use Rattle.quaternion.proofs.Quaternion.div.Goals as goal
 
 pub returns : goal.returns

@@ -1,6 +1,5 @@
 -- `dot` meets its contract: the vectors' dot product, then the scalars' product.
 use Rattle.quaternion.specs.Quaternion.{Quaternion-dot}
-use borrow.Author.Rules.{rules}
 use Rattle.quaternion.proofs.Quaternion.dot.Goals as goal
 
 pub returns : goal.returns

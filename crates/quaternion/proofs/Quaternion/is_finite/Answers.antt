@@ -1,6 +1,5 @@
 -- `is_finite` meets its contract: a call for each component.
 use Rattle.quaternion.specs.IsFinite.{Quaternion-is_finite}
-use borrow.Author.Rules.{rules}
 use Rattle.quaternion.proofs.Quaternion.is_finite.Goals as goal
 
 pub returns : goal.returns

@@ -1,6 +1,5 @@
 -- `mul` meets its contract: the vector by a call, the scalar by itself.
 use Rattle.quaternion.specs.Quaternion.{Quaternion-mul}
-use borrow.Author.Rules.{rules}
 use Rattle.quaternion.proofs.Quaternion.mul.Goals as goal
 
 pub returns : goal.returns

@@ -1,6 +1,5 @@
 -- `neg` meets its contract: the vector by a call, the scalar by itself.
 use Rattle.quaternion.specs.Quaternion.{Quaternion-neg}
-use borrow.Author.Rules.{rules}
 use Rattle.quaternion.proofs.Quaternion.neg.Goals as goal
 
 pub returns : goal.returns

@@ -1,6 +1,5 @@
 -- `normalize` meets its contract: a chain of three calls.
 use Rattle.quaternion.specs.Quaternion.{Quaternion-normalize}
-use borrow.Author.Rules.{rules}
 use Rattle.quaternion.proofs.Quaternion.normalize.Goals as goal
 
 pub returns : goal.returns

@@ -1,6 +1,5 @@
 -- `sub` meets its contract: the vector by a call, the scalar by itself.
 use Rattle.quaternion.specs.Quaternion.{Quaternion-sub}
-use borrow.Author.Rules.{rules}
 use Rattle.quaternion.proofs.Quaternion.sub.Goals as goal
 
 pub returns : goal.returns

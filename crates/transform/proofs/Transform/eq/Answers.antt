@@ -1,6 +1,5 @@
 -- `eq` meets its contract: a comparison for each half, of matrices taken out of their structs.
 use Rattle.transform.specs.Transform.{Transform-eq}
-use borrow.Author.Rules.{rules}
 use Rattle.transform.proofs.Transform.eq.Goals as goal
 
 pub returns : goal.returns

@@ -1,5 +1,4 @@
 -- `from_matrices` meets its contract: each half is packed by rows.
-use borrow.Author.Rules.{rules}
 use Rattle.transform.proofs.Transform.from_matrices.Goals as goal
 
 pub returns : goal.returns

@@ -1,7 +1,6 @@
 -- `from_matrix` meets its contract: the inverse's number chooses the case.
 use borrow.Author.Tests.{eq-eqb, ne_eqb}
 use Rattle.transform.specs.Transform.{Transform-from_matrix}
-use borrow.Author.Rules.{rules}
 use Rattle.transform.proofs.Transform.from_matrix.Goals as goal
 
 pub returns-then-inverse-eq0 : goal.returns-then-inverse-eq0

@@ -1,5 +1,4 @@
 -- `Transform::has_scale` meets its contract: it is that of the matrix half.
-use borrow.Author.Rules.{rules}
 use Rattle.transform.proofs.Transform.has_scale.Goals as goal
 
 pub returns : goal.returns

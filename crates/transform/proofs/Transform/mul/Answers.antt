@@ -1,6 +1,5 @@
 -- `mul` meets its contract: a product for each half, of matrices taken out of their structs.
 use Rattle.transform.specs.Transform.{Transform-mul}
-use borrow.Author.Rules.{rules}
 use Rattle.transform.proofs.Transform.mul.Goals as goal
 
 pub returns : goal.returns

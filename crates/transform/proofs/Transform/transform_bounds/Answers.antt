@@ -1,7 +1,6 @@
 -- `transform_bounds` meets its contract: the corners in the order of the definition, the last call first.
 use Rattle.transform.proofs.Judged.{bounds-clauses}
 use Rattle.transform.specs.TransformBounds.{Transform-transform_bounds}
-use borrow.Author.Rules.{rules}
 use Rattle.transform.proofs.Transform.transform_bounds.Goals as goal
 
 pub returns : goal.returns

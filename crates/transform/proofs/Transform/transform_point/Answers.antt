@@ -1,7 +1,6 @@
 -- `transform_point` meets its contract: the moved point where it is finite, and the number 5 otherwise.
 use Rattle.transform.proofs.Judged.{point-clauses}
 use Rattle.transform.specs.TransformPoint.{Transform-transform_point, PointAnswer-judged}
-use borrow.Author.Rules.{rules}
 use Rattle.transform.proofs.Transform.transform_point.Goals as goal
 
 pub returns-then-is_finite : goal.returns-then-is_finite

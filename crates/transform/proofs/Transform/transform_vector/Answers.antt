@@ -1,5 +1,4 @@
 -- `transform_vector` meets its contract: the matrix half times the vector.
-use borrow.Author.Rules.{rules}
 use Rattle.transform.proofs.Transform.transform_vector.Goals as goal
 
 pub returns : goal.returns

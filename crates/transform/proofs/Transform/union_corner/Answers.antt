@@ -1,6 +1,5 @@
 -- `union_corner` meets its contract: the point is moved, then joined.
 use Rattle.transform.specs.TransformBounds.{union_corner}
-use borrow.Author.Rules.{rules}
 use Rattle.transform.proofs.Transform.union_corner.Goals as goal
 
 pub returns : goal.returns

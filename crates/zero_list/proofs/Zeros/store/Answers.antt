@@ -1,5 +1,4 @@
 -- `Zeros::store` meets its contract: one return for each case of the count.
-use borrow.Author.Rules.{rules}
 use borrow.Author.Tests.{lt-ltb, le-ltb}
 use Rattle.zero_list.specs.Zeros.{Zeros-store}
 use Rattle.zero_list.proofs.Zeros.store.Goals as goal
