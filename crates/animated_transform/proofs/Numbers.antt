@@ -184,9 +184,11 @@ new-numbered rigid start end =
   where
     seventeen : (b : Bool) → T b → Numbered b 17
     seventeen true h = inr (inr (inr (inr (inr (inr (inr (inl refl)))))))
+    seventeen false h = elim h [ ]
 
     eighteen : (b : Bool) → T b → Numbered b 18
     eighteen true h = inr (inr (inr (inr (inr (inr (inr (inr (inl refl))))))))
+    eighteen false h = elim h [ ]
 
 pub new-refusal : (rigid : Bool) (start end : Pose) → OneOf (AnimatedTransform-new rigid start end).refusal (build_numbers rigid)
 new-refusal rigid start end = (new-numbered rigid start end).number

@@ -1,6 +1,7 @@
 // Lines of answers: words with one space between them. A float is the eight hexadecimal digits of its bits, a whole number is decimal.
 // An answer is put piece by piece into a buffer: each piece from a place on, and the place behind it is given. A piece that has no room is left out.
 #![tactic(auto)]
+
 ghost use Rattle.std.specs.Prelude.{◌≡◌, ◌+◌, ◌%◌, ◌≤◌, length, [], ◌∷◌};
 ghost use Rattle.std.proofs.Math.Seq.{paste};
 ghost use Rattle.answer_lines.specs.Pieces.{put, behind, put_all, behind_all, decimal, whole_pieces, refused_pieces, spaced_floats, floats_text};

@@ -1,15 +1,15 @@
 -- Lines of answers put piece by piece: `answer-refused` and `answer_ok`, the two kinds of line; `decimals-turn` and `rows-turn`, one value more,
 -- `decimals-end` and `rows_end`, none left.
-use Prim.Native.Nat.{ℕ, zero, suc, ◌+◌, ◌≤◌, ◌<◌}
+use Prim.Native.Nat.{ℕ, suc, ◌+◌, ◌≤◌, ◌<◌}
 use native.Mathlib.Numerals.{add-one}
-use mathlib.Core.Path.{◌≡◌, refl, sym}
+use mathlib.Core.Path.{◌≡◌, refl}
 use mathlib.Core.List.{List, [], ◌∷◌, ◌++◌}
 use lib.Ieee.{Float}
 use lib.ListN.{length, take, drop, get_or, drop_of_length-le}
 use lib.Seq.{drop-cons}
 use borrow.Author.Tests.{ne_eqb, eq-eqb, le-leb, lt-leb}
-use Rattle.motion_file.specs.Text.{ascii, line_feed, space}
-use Rattle.answer_lines.specs.Pieces.{put_all, behind_all, decimal, whole_pieces, refused_pieces, floats_text}
+use Rattle.motion_file.specs.Text.{ascii, line_feed}
+use Rattle.answer_lines.specs.Pieces.{put_all, behind_all, whole_pieces, refused_pieces, floats_text}
 use Rattle.answer_lines.proofs.Put.{Puts}
 use Rattle.answer_lines.proofs.Pieces.{PutsAll, all_none, all_cons, all_append}
 use Rattle.answer_values.specs.Lines.{decimal_pieces, wholes_pieces, rows_pieces, answer_pieces}

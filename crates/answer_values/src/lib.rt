@@ -1,6 +1,7 @@
 // Answers as lines: `ok` and values, the number of a refusal, or `error`. Values are put one behind the other into a buffer, from a place on,
 // a space before each, and the place behind them is given; a piece that has no room is left out.
 #![tactic(auto)]
+
 ghost use Rattle.std.specs.Prelude.{◌≡◌, [], ◌∷◌};
 ghost use Rattle.answer_lines.specs.Pieces.{put, behind, put_all, behind_all, whole_pieces, floats_text};
 ghost use Rattle.answer_values.specs.Lines.{error_text, wholes_pieces, rows_pieces, counted_pieces, places_pieces, answer_pieces};

@@ -1,6 +1,7 @@
 // A test program: answers questions about the libraries' functions, a question a line of standard input, an answer line each, in order,
 // so that any other implementation can be compared with them through a pipe. What is read at once is answered before more is read.
 #![tactic(auto)]
+
 mod answer;
 mod matrices;
 mod moves;

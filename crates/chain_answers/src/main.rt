@@ -1,6 +1,7 @@
 // A test program: answers questions about chains of poses, days of booms and rows, a question a line of standard input, an answer line each, in order, so that
 // any other implementation can be compared with the library through a pipe. What is read at once is answered before more is read.
 #![tactic(auto)]
+
 mod answer;
 mod chains;
 mod day;

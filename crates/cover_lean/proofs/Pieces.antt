@@ -58,7 +58,7 @@ pub list-lean : {r : BoundsAnswer} {u : Bounds3f} (box : Interval → BoundsAnsw
     → BoundsAnswer-Same (BoundsAnswer-union_all r (map box l)) (Bounds (union_list u (map lean l)))
 unfolding BoundsAnswer-union_bounds union_list
 list-lean box lean s [] t = s
-list-lean box lean s (D ∷ l) t = list-lean box lean (union-same s (t D (Memᴰ.head refl))) l (λ E i. t E (Memᴰ.tail i))
+list-lean {r = r} {u = u} box lean s (D ∷ l) t = list-lean {r = BoundsAnswer-union_bounds r (box D)} box lean (union-same s (t D (Memᴰ.head refl))) l (λ E i. t E (Memᴰ.tail i))
 
 -- ---- pieces
 part-proper : {D : Interval} → UnitPart D → Interval-Proper D

@@ -3,6 +3,7 @@
 // bits, and its run length in ticks, a decimal number. One space stands between words, none before the first or after the last; every line ends in a line feed;
 // a file has at most 65,536 bytes. Whatever departs from that is refused with 11. A word of digits is a length, however long: one that no u32 holds is 22.
 #![tactic(auto)]
+
 ghost use Rattle.std.specs.Prelude.{◌≤◌, ◌<◌, length};
 
 use answer_lines::put_text;

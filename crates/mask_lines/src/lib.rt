@@ -1,5 +1,6 @@
 // Masks of windows as test programs print them in an answer line: sixteen hexadecimal digits each, the most significant first, with a space before each.
 #![tactic(auto)]
+
 ghost use Rattle.std.specs.Prelude.{◌≡◌, map};
 ghost use Rattle.answer_lines.specs.Pieces.{put, behind, put_all, behind_all};
 ghost use Rattle.answer_values.specs.Lines.{answer_pieces};

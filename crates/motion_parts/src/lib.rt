@@ -1,6 +1,7 @@
 // The parts of a move that is kept as 45 rows, as test programs print them in an answer line: whether it is animated and whether it rotates,
 // for start and end t, r, S and the inverse, then c1 to c5, each on the axes x y z, each kc kx ky kz.
 #![tactic(auto)]
+
 ghost use Rattle.std.specs.Prelude.{◌≡◌};
 ghost use Rattle.answer_lines.specs.Pieces.{put_all, behind_all};
 ghost use Rattle.motion_parts.specs.Parts.{part_size, row_pieces, flag_pieces, parts_pieces};

@@ -1,5 +1,5 @@
 -- The first byte b from a place on: `found-here`, it stands at the place; `found-later`, another byte stands there; `found_none`, the text has no byte there.
-use Prim.Native.Nat.{ℕ, zero, suc, ◌+◌, ◌≤◌, ◌<◌}
+use Prim.Native.Nat.{ℕ, suc, ◌+◌, ◌≤◌, ◌<◌}
 use native.Mathlib.Numerals.{add-one}
 use mathlib.Core.Path.{◌≡◌, sym}
 use mathlib.Core.List.{List}

@@ -1,5 +1,6 @@
 // Lines of questions: words with one space between them. A float is the eight hexadecimal digits of its bits, a whole number is decimal.
 #![tactic(auto)]
+
 ghost use Rattle.std.specs.Prelude.{◌≡◌, cond, ◌+◌, ◌≤◌, ◌<◌, max, ltb, length, take, drop, slice_range, IfOk, OnErr};
 ghost use Rattle.std.specs.Io.KnownBytes.{Consumes, IsAtEnd, Keeps};
 ghost use Rattle.hexadecimal.specs.Digit.{position as bytes_before};

@@ -1,17 +1,15 @@
 -- A line as a question, test by test: the word `plain` or `rigid` (`kind-*`), the floats behind it (`rest-*`), and the whole line (`line-*`).
 use Prim.Native.Nat.{ℕ, ◌+◌, ◌≤◌, ◌<◌}
-use native.Mathlib.Omega.{arith}
-use mathlib.Core.Path.{◌≡◌, refl, sym, ◌∙◌, ap}
-use mathlib.Core.Bool.{Bool, true, false, cond}
-use mathlib.Core.List.{List, []}
-use lib.Dec.{eqb, ltb}
+use mathlib.Core.Path.{◌≡◌, refl, ap}
+use mathlib.Core.Bool.{Bool, true, false}
+use mathlib.Core.List.{List}
+use lib.Dec.{eqb}
 use lib.Ieee.{Float}
 use lib.ListN.{length, get_or}
 use borrow.Author.Tests.{le-leb, lt-leb, lt-ltb, le-ltb, eq-eqb, ne_eqb}
 use Rattle.motion_file.specs.Text.{ascii, split, equal}
 use Rattle.question_lines.specs.Words.{part, position_in, Words-position, Floats-read, Floats-stored}
 use Rattle.question_reader.specs.declared.Question.{Question}
-use Rattle.question_reader.specs.declared.Kind.{Kind}
 use Rattle.question_reader.specs.Question.{no_place, word_end, kind_place, Kind-read, Shape-fits, Question-none, floats_from, Question-rest, rest_stored}
 use Rattle.question_reader.specs.Question.{name_kind, name_shape, line_kind, Question-read, wholes_stored, values_stored, Decimals-stored}
 use Rattle.question_reader.proofs.Words.{word-past}

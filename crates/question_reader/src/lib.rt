@@ -2,6 +2,7 @@
 // A question's shape says what follows its name: how many whole numbers, whether that word (0: no), how many floats at least, and how many floats each
 // thing has of which any number may follow, 0 for none.
 #![tactic(auto)]
+
 ghost use Rattle.std.specs.Prelude.{◌≡◌, ◌≤◌, eqb, length};
 ghost use Rattle.question_lines.specs.Words.{Words-position};
 ghost use Rattle.question_reader.specs.Question.{word_end, word_at, Decimals-end, Decimals-stored, Kind-read, Shape-fits};

@@ -1,5 +1,5 @@
 -- `put_digits`: the last digit of what is left stands in front of those that are written.
-use Rattle.std.proofs.Common.{◌≡◌, ℕ, ◌+◌, ◌-◌, ◌<◌, ◌≤◌, drop, take, take_all, length, length-drop, arith, refl, sym, ◌∙◌}
+use Rattle.std.proofs.Common.{◌≡◌, ◌+◌, ◌-◌, ◌<◌, drop, take, take_all, length, length-drop, arith, refl, sym, ◌∙◌}
 use Rattle.std.proofs.lemmas.List.{drop-set}
 use Rattle.std.proofs.Math.ListN.{length-set}
 use Rattle.answer_lines.specs.Pieces.{decimal}
@@ -20,9 +20,9 @@ loop-rest-preserved c =
       in_bounds = omega (arith, l.invariant.in_bounds);
       few = turn.1;
       digits =
-        l.invariant.digits
-        ∙ digits-turn l.start l.rest (drop l.start l.digits) c.loop-rest-test.true l.invariant.few
-        ∙ rw (drop-set l.digits (l.start - 1) c.last_digit-in-loop-rest.result within, next, c.last_digit-in-loop-rest.ensures);
+          l.invariant.digits
+          ∙ digits-turn l.start l.rest (drop l.start l.digits) c.loop-rest-test.true l.invariant.few
+          ∙ rw (drop-set l.digits (l.start - 1) c.last_digit-in-loop-rest.result within, next, c.last_digit-in-loop-rest.ensures);
     }
 
 pub returns : goal.returns

@@ -3,7 +3,6 @@ use native.Mathlib.Omega.{arith}
 use mathlib.Core.Path.{◌∙◌}
 use lib.ListN.{length-set}
 use Rattle.answer_lines.proofs.Put.{put-float}
-use borrow.Author.Rules.{rules}
 use Rattle.answer_lines.proofs.put_float.Goals as goal
 
 pub shape_of-out : goal.shape_of-out

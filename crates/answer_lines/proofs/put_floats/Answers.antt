@@ -1,25 +1,24 @@
 -- `put_floats` puts a text of floats. The invariant: the first k of them stand in `out` from `at` on.
-use Prim.Native.Nat.{◌+◌, ◌-◌, ◌*◌, ◌≤◌}
+use Prim.Native.Nat.{◌+◌, ◌*◌}
 use native.Mathlib.Omega.{arith}
 use mathlib.Core.Path.{◌≡◌, refl, ◌∙◌, ap}
 use lib.Ieee.{nan}
 use lib.ListN.{length, take}
-use lib.Seq.{paste, paste-zero, length-paste, length-take-le, get_or-take}
+use lib.Seq.{paste-zero, length-paste, length-take-le, get_or-take}
 use Rattle.answer_lines.proofs.Put.{Puts, put-fits, put-short, put-empty, floats-enough, floats-few, length-floats, floats-turn}
 use Rattle.answer_lines.specs.Pieces.{spaced_floats, floats_text}
-use borrow.Author.Rules.{rules}
 use Rattle.answer_lines.proofs.put_floats.Goals as goal
 
 pub returns-then-values-count : goal.returns-then-values-count
-returns-then-values-count c = let a = c.args in 
+returns-then-values-count c = let a = c.args in
     let all : Puts (floats_text a.values.now a.count) a.out.now a.at a.out.now a.at = rw (floats-few a.values.now a.count c.if-values-count.true) (put-empty a.out.now a.at) in record { value = all.0; left = all.1 }
 
 pub returns-then-out-at : goal.returns-then-out-at
-returns-then-out-at c = let a = c.args in let xs = spaced_floats (take a.count a.values.now) in let size : length xs ≡ 9 * a.count = length-floats (take a.count a.values.now) ∙ rw (length-take-le a.count a.values.now (omega arith)) in 
+returns-then-out-at c = let a = c.args in let xs = spaced_floats (take a.count a.values.now) in let size : length xs ≡ 9 * a.count = length-floats (take a.count a.values.now) ∙ rw (length-take-le a.count a.values.now (omega arith)) in
     let all : Puts (floats_text a.values.now a.count) a.out.now a.at a.out.now a.at = rw (floats-enough a.values.now a.count (omega arith)) (put-short xs a.out.now a.at (omega (arith, size))) in record { value = all.0; left = all.1 }
 
 pub returns-then-out-at-2 : goal.returns-then-out-at-2
-returns-then-out-at-2 c = let a = c.args in let xs = spaced_floats (take a.count a.values.now) in let size : length xs ≡ 9 * a.count = length-floats (take a.count a.values.now) ∙ rw (length-take-le a.count a.values.now (omega arith)) in 
+returns-then-out-at-2 c = let a = c.args in let xs = spaced_floats (take a.count a.values.now) in let size : length xs ≡ 9 * a.count = length-floats (take a.count a.values.now) ∙ rw (length-take-le a.count a.values.now (omega arith)) in
     let all : Puts (floats_text a.values.now a.count) a.out.now a.at a.out.now a.at = rw (floats-enough a.values.now a.count (omega arith)) (put-short xs a.out.now a.at (omega (arith, size))) in record { value = all.0; left = all.1 }
 
 pub loop-k-init : goal.loop-k-init
@@ -41,5 +40,5 @@ loop-k-preserved c =
     (omega arith, ap length turn ∙ long, turn)
 
 pub returns : goal.returns
-returns c = let a = c.args in let l = c.loop-k in let xs = spaced_floats (take a.count a.values.now) in let size : length xs ≡ 9 * a.count = length-floats (take a.count a.values.now) ∙ rw (length-take-le a.count a.values.now (omega arith)) in let e : l.k ≡ a.count = omega arith in 
+returns c = let a = c.args in let l = c.loop-k in let xs = spaced_floats (take a.count a.values.now) in let size : length xs ≡ 9 * a.count = length-floats (take a.count a.values.now) ∙ rw (length-take-le a.count a.values.now (omega arith)) in let e : l.k ≡ a.count = omega arith in
     let all : Puts (floats_text a.values.now a.count) a.out.now a.at l.out (a.at + 9 * a.count) = rw (floats-enough a.values.now a.count (omega arith), l.invariant.2, e, ← size) (put-fits xs a.out.now a.at (omega (arith, size))) in record { value = all.0; left = all.1 }

@@ -1,13 +1,9 @@
 -- `put_floats` puts a text of floats. The invariant: the first k of them stand in `out` from `at` on.
-use Prim.Native.Nat.{◌+◌, ◌-◌, ◌*◌, ◌≤◌}
-use native.Mathlib.Omega.{arith}
-use mathlib.Core.Path.{◌≡◌, refl, ◌∙◌, ap}
-use lib.Ieee.{nan}
+use Prim.Native.Nat.{◌-◌, ◌*◌, ◌≤◌}
+use mathlib.Core.Path.{◌≡◌}
 use lib.ListN.{length, take}
-use lib.Seq.{paste, paste-zero, length-paste, length-take-le, get_or-take}
-use Rattle.answer_lines.proofs.Put.{put-fits, put-short, put-empty, floats-enough, floats-few, length-floats, floats-turn}
+use lib.Seq.{paste}
 use Rattle.answer_lines.specs.Pieces.{spaced_floats}
-use borrow.Author.Rules.{rules}
 use Rattle.answer_lines.proofs.put_floats.Given as goal
 
 abbrev pub invariant-loop-k : goal.invariant-loop-k

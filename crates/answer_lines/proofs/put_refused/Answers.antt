@@ -3,7 +3,6 @@ use mathlib.Core.List.{[], ◌∷◌}
 use Rattle.answer_lines.proofs.Pieces.{all_none, all_cons, all_append}
 use Rattle.motion_file.specs.Text.{ascii, line_feed}
 use Rattle.answer_lines.specs.Pieces.{whole_pieces}
-use borrow.Author.Rules.{rules}
 use Rattle.answer_lines.proofs.put_refused.Goals as goal
 
 pub returns : goal.returns

@@ -1,12 +1,11 @@
 -- `put_text` puts a text. The invariant: its first i bytes stand in `out` from `at` on.
-use Prim.Native.Nat.{◌+◌, ◌-◌, ◌≤◌}
+use Prim.Native.Nat.{◌+◌}
 use native.Mathlib.Numerals.{add-one}
 use native.Mathlib.Omega.{arith}
 use mathlib.Core.Path.{◌≡◌, refl, ◌∙◌}
 use lib.ListN.{length, length-set}
-use lib.Seq.{paste, paste-zero, paste-suc}
+use lib.Seq.{paste-zero, paste-suc}
 use Rattle.answer_lines.proofs.Put.{Puts, put-fits, put-short}
-use borrow.Author.Rules.{rules}
 use Rattle.answer_lines.proofs.put_text.Goals as goal
 
 pub returns-then-out-at : goal.returns-then-out-at

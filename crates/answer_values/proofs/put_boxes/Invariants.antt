@@ -1,11 +1,9 @@
 -- `put_boxes` puts them one by one. The invariant: what is left from the k-th on, put from `end` on, makes the whole.
-use Prim.Native.Nat.{◌-◌, ◌≤◌}
-use native.Mathlib.Omega.{arith}
-use mathlib.Core.Path.{◌≡◌, refl, sym, ◌∙◌}
+use Prim.Native.Nat.{◌-◌}
+use mathlib.Core.Path.{◌≡◌}
 use lib.ListN.{length, drop}
 use Rattle.answer_values.specs.Lines.{rows_pieces}
-use Rattle.answer_values.proofs.Lines.{Left, rows-turn, rows_end}
-use borrow.Author.Rules.{rules}
+use Rattle.answer_values.proofs.Lines.{Left}
 use Rattle.answer_values.proofs.put_boxes.Given as goal
 
 abbrev pub invariant-loop-k : goal.invariant-loop-k

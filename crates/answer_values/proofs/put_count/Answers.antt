@@ -2,7 +2,6 @@
 use Rattle.motion_file.specs.Text.{ascii}
 use Rattle.answer_lines.specs.Pieces.{whole_pieces}
 use Rattle.answer_values.proofs.Lines.{answer-refused, answer_ok}
-use borrow.Author.Rules.{rules}
 use Rattle.answer_values.proofs.put_count.Goals as goal
 
 pub returns-then-refusal-ne0 : goal.returns-then-refusal-ne0

@@ -3,7 +3,6 @@ use Rattle.motion_file.specs.Text.{ascii}
 use Rattle.answer_lines.proofs.Pieces.{all_cons}
 use Rattle.answer_values.specs.Lines.{counted_pieces}
 use Rattle.answer_values.proofs.Lines.{answer-refused, answer_ok}
-use borrow.Author.Rules.{rules}
 use Rattle.answer_values.proofs.put_counted.Goals as goal
 
 pub returns-then-refusal-ne0 : goal.returns-then-refusal-ne0

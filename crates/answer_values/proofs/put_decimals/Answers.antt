@@ -1,18 +1,16 @@
 -- `put_decimals` puts whole numbers one by one. The invariant: what is left from the k-th on, put from `end` on, makes the whole.
-use Prim.Native.Nat.{◌-◌, ◌≤◌}
 use native.Mathlib.Omega.{arith}
 use mathlib.Core.Path.{◌≡◌, refl, sym, ◌∙◌}
-use lib.ListN.{length, take, drop}
+use lib.ListN.{length, take}
 use lib.Seq.{length-take-le, get_or-take}
-use Rattle.answer_lines.specs.Pieces.{whole_pieces}
 use Rattle.answer_lines.proofs.Pieces.{PutsAll, all_none}
-use Rattle.answer_values.specs.Lines.{decimal_pieces, wholes_pieces}
-use Rattle.answer_values.proofs.Lines.{Left, decimals-turn, decimals-end, wholes-enough, wholes-few}
+use Rattle.answer_values.specs.Lines.{wholes_pieces}
+use Rattle.answer_values.proofs.Lines.{decimals-turn, decimals-end, wholes-enough, wholes-few}
 use borrow.Author.Rules.{rules}
 use Rattle.answer_values.proofs.put_decimals.Goals as goal
 
 pub returns-then-values-count : goal.returns-then-values-count
-returns-then-values-count c = let a = c.args in 
+returns-then-values-count c = let a = c.args in
     let all : PutsAll (wholes_pieces a.values.now a.count) a.out.now a.at a.out.now a.at = rw (wholes-few a.values.now a.count c.if-values-count.true) (all_none a.out.now a.at) in record { value = all.0; left = all.1 }
 
 pub loop-k-init : goal.loop-k-init
@@ -31,5 +29,5 @@ loop-k-preserved c =
     (omega arith, search rules, (turn.0 ∙ l.invariant.2.0, turn.1 ∙ l.invariant.2.1))
 
 pub returns : goal.returns
-returns c = let l = c.loop-k in let a = c.args in let ns = take a.count a.values.now in let size : length ns ≡ a.count = length-take-le a.count a.values.now (omega arith) in let end = decimals-end ns l.k l.out l.end (omega (arith, size)) in 
+returns c = let l = c.loop-k in let a = c.args in let ns = take a.count a.values.now in let size : length ns ≡ a.count = length-take-le a.count a.values.now (omega arith) in let end = decimals-end ns l.k l.out l.end (omega (arith, size)) in
     let all : PutsAll (wholes_pieces a.values.now a.count) a.out.now a.at l.out l.end = rw (wholes-enough a.values.now a.count (omega arith)) (sym end.0 ∙ l.invariant.2.0, sym end.1 ∙ l.invariant.2.1) in record { value = all.0; left = all.1 }

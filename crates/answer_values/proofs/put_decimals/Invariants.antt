@@ -1,14 +1,9 @@
 -- `put_decimals` puts whole numbers one by one. The invariant: what is left from the k-th on, put from `end` on, makes the whole.
 use Prim.Native.Nat.{◌-◌, ◌≤◌}
-use native.Mathlib.Omega.{arith}
-use mathlib.Core.Path.{◌≡◌, refl, sym, ◌∙◌}
+use mathlib.Core.Path.{◌≡◌}
 use lib.ListN.{length, take, drop}
-use lib.Seq.{length-take-le, get_or-take}
-use Rattle.answer_lines.specs.Pieces.{whole_pieces}
-use Rattle.answer_lines.proofs.Pieces.{all_none}
 use Rattle.answer_values.specs.Lines.{decimal_pieces}
-use Rattle.answer_values.proofs.Lines.{Left, decimals-turn, decimals-end, wholes-enough, wholes-few}
-use borrow.Author.Rules.{rules}
+use Rattle.answer_values.proofs.Lines.{Left}
 use Rattle.answer_values.proofs.put_decimals.Given as goal
 
 abbrev pub invariant-loop-k : goal.invariant-loop-k

@@ -1,7 +1,6 @@
 -- `put_error` puts the word and a line feed.
 use Rattle.motion_file.specs.Text.{ascii}
 use Rattle.answer_values.specs.Lines.{error_text}
-use borrow.Author.Rules.{rules}
 use Rattle.answer_values.proofs.put_error.Goals as goal
 
 pub returns : goal.returns

@@ -4,7 +4,6 @@ use Rattle.answer_lines.specs.Pieces.{whole_pieces}
 use Rattle.answer_lines.proofs.Pieces.{all_append}
 use Rattle.answer_values.specs.Lines.{places_pieces}
 use Rattle.answer_values.proofs.Lines.{answer-refused, answer_ok}
-use borrow.Author.Rules.{rules}
 use Rattle.answer_values.proofs.put_places.Goals as goal
 
 pub returns-then-refusal-ne0 : goal.returns-then-refusal-ne0

@@ -1,10 +1,7 @@
 -- `put_rows` puts them one by one. The invariant: what is left from the k-th on, put from `end` on, makes the whole.
-use Prim.Native.Nat.{◌-◌, ◌≤◌}
 use native.Mathlib.Omega.{arith}
-use mathlib.Core.Path.{◌≡◌, refl, sym, ◌∙◌}
-use lib.ListN.{length, drop}
-use Rattle.answer_values.specs.Lines.{rows_pieces}
-use Rattle.answer_values.proofs.Lines.{Left, rows-turn, rows_end}
+use mathlib.Core.Path.{refl, sym, ◌∙◌}
+use Rattle.answer_values.proofs.Lines.{rows-turn, rows_end}
 use borrow.Author.Rules.{rules}
 use Rattle.answer_values.proofs.put_rows.Goals as goal
 

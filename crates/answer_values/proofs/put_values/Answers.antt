@@ -4,7 +4,6 @@ use Rattle.motion_file.specs.Text.{ascii}
 use Rattle.answer_lines.specs.Pieces.{floats_text}
 use Rattle.answer_lines.proofs.Pieces.{all_cons, all_none}
 use Rattle.answer_values.proofs.Lines.{answer-refused, answer_ok}
-use borrow.Author.Rules.{rules}
 use Rattle.answer_values.proofs.put_values.Goals as goal
 
 pub returns-then-refusal-ne0 : goal.returns-then-refusal-ne0

@@ -27,9 +27,8 @@ loop-i-preserved c =
     let l = c.loop-i in
     let a = c.args in
     let t = c.loop-i-test.true in
-    let taken = (c.take_box-refusal.ensures.refusal, c.take_box-refusal.ensures.left) in
-    let written = ap (set l.places l.i) taken.1 in
-    let none = sym taken.0 ∙ c.if-refusal-ne0.false in
+    let written = ap (set l.places l.i) c.take_box-refusal.ensures.left in
+    let none = sym c.take_box-refusal.ensures.refusal ∙ c.if-refusal-ne0.false in
     let next = taking-next a.first a.pose a.boxes.now a.front l.invariant.1.1 (omega (arith, t, l.invariant.0)) c.if-n-boxes.false none written in
     (l.invariant.0, (omega (arith, t), next))
 

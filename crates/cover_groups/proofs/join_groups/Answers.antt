@@ -40,7 +40,9 @@ loop-g-preserved c =
     )
 
 pub returns : goal.returns
-returns c = record { value = let l = c.loop-g in
-    let a = c.args in
-    loop-end (LanesVector-group a.a a.second a.s0 a.s1 a.pad0 a.pad1 a.p a.h) a.start.union a.n l.g l.reached.union
-    (omega (arith, c.loop-g-test.false, l.invariant.0)) l.invariant.1 }
+returns c = record {
+  value = let l = c.loop-g in
+      let a = c.args in
+      loop-end (LanesVector-group a.a a.second a.s0 a.s1 a.pad0 a.pad1 a.p a.h) a.start.union a.n l.g l.reached.union
+      (omega (arith, c.loop-g-test.false, l.invariant.0)) l.invariant.1;
+}

@@ -19,15 +19,17 @@ join_groups-joined-requires c = let a = c.args.a in let held = c.held_depth-h in
 
 pub returns : goal.returns
 unfolding Groups-union
-returns c = record { value = let a = c.args in
-    let held = c.held_depth-h in
-    let d = held.result in
-    let h : d ≤ max_depth = omega (arith, held.ensures.value) in
-    let count : 1 * 2 ^ d % 2 ^ 64 / 4 ≡ 2 ^ d / 4 = omega (arith, slice-count d h) in
-    c.joined.ensures.value
-    ∙ ap LanesVector-joined
-    (c.join_groups-joined.ensures.value
-    ∙ (λ i. loop (LanesVector-group a.a (c.second_quaternion-second.ensures.value i) a.s0 a.s1 a.pad0 a.pad1 (c.repeated-p.ensures.value i) d) (count i)
-    (c.repeated-union.ensures.value i))
-    ∙ groups-lanes a.a a.s0 a.s1 a.pad0 a.pad1 a.b d (2 ^ d / 4) (Bounds3f-intervals a.first))
-    ∙ ap (λ (e : ℕ). Groups-union a.a a.s0 a.s1 a.pad0 a.pad1 a.b e (2 ^ e / 4) a.first) held.ensures.value }
+returns c = record {
+  value = let a = c.args in
+      let held = c.held_depth-h in
+      let d = held.result in
+      let h : d ≤ max_depth = omega (arith, held.ensures.value) in
+      let count : 1 * 2 ^ d % 2 ^ 64 / 4 ≡ 2 ^ d / 4 = omega (arith, slice-count d h) in
+      c.joined.ensures.value
+      ∙ ap LanesVector-joined
+      (c.join_groups-joined.ensures.value
+      ∙ (λ i. loop (LanesVector-group a.a (c.second_quaternion-second.ensures.value i) a.s0 a.s1 a.pad0 a.pad1 (c.repeated-p.ensures.value i) d) (count i)
+      (c.repeated-union.ensures.value i))
+      ∙ groups-lanes a.a a.s0 a.s1 a.pad0 a.pad1 a.b d (2 ^ d / 4) (Bounds3f-intervals a.first))
+      ∙ ap (λ (e : ℕ). Groups-union a.a a.s0 a.s1 a.pad0 a.pad1 a.b e (2 ^ e / 4) a.first) held.ensures.value;
+}

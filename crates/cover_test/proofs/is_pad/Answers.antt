@@ -4,4 +4,4 @@ use Rattle.cover_test.proofs.is_pad.Goals as goal
 
 pub returns : goal.returns
 unfolding is_pad
-returns c = let x = (c.is_finite.ensures.value, c.is_finite.ensures.number) in record { value = rw x.0; number = x.1 }
+returns c = record { value = rw c.is_finite.ensures.value; number = c.is_finite.ensures.number }

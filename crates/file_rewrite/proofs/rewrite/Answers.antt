@@ -9,7 +9,10 @@ use Rattle.file_rewrite.proofs.Printed.{file-refused, file-printed}
 use Rattle.file_rewrite.proofs.rewrite.Goals as goal
 
 pub returns-then-file-ne0 : goal.returns-then-file-ne0
-returns-then-file-ne0 c = let bytes = c.args.bytes.now in let all = rw (file-refused bytes c.read-file.result c.read-file.ensures.value c.if-file-ne0.true) (c.write_refusal.ensures.value, (c.write_refusal.ensures.text, c.write_refusal.ensures.counts)) in record { value = all.0; text = all.1.0; counts = all.1.1 }
+returns-then-file-ne0 c =
+    let same = file-refused c.args.bytes.now c.read-file.result c.read-file.ensures.value c.if-file-ne0.true in
+    let put = c.write_refusal.ensures in
+    record { value = rw same put.value; text = rw same put.text; counts = put.counts }
 
 pub slice_bounds-poses-end : goal.slice_bounds-poses-end
 slice_bounds-poses-end c =
@@ -24,6 +27,8 @@ slice_bounds-write_poses-end c =
     sym (length-take-le _ _ (omega (arith, read.ensures.count, room)))
 
 pub returns : goal.returns
-returns c = let bytes = c.args.bytes.now in let all = rw (file-printed bytes c.read-file.result c.read-file.ensures.value _ _ c.bounds.result
-    c.if-file-ne0.false c.read-file.ensures.left c.bounds.ensures.value)
-    (c.write_poses.ensures.value, (c.write_poses.ensures.text, c.write_poses.ensures.counts)) in record { value = all.0; text = all.1.0; counts = all.1.1 }
+returns c =
+    let same = file-printed c.args.bytes.now c.read-file.result c.read-file.ensures.value _ _ c.bounds.result
+    c.if-file-ne0.false c.read-file.ensures.left c.bounds.ensures.value in
+    let put = c.write_poses.ensures in
+    record { value = rw same put.value; text = rw same put.text; counts = put.counts }

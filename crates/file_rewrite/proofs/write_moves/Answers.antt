@@ -5,7 +5,11 @@ use Rattle.file_rewrite.proofs.Printed.{box-printed, text-printed}
 use Rattle.file_rewrite.proofs.write_moves.Goals as goal
 
 pub returns-then-refusal-ne0 : goal.returns-then-refusal-ne0
-returns-then-refusal-ne0 c = let a = c.args in let some = c.if-refusal-ne0.true in let all = rw (box-printed a.b (Moves-text a.moves.now a.b) c.refusal-refusal.ensures.value some) (c.write_refusal.ensures.value, (c.write_refusal.ensures.text, c.write_refusal.ensures.counts)) in record { value = all.0; text = all.1.0; counts = all.1.1 }
+returns-then-refusal-ne0 c =
+    let a = c.args in
+    let same = box-printed a.b (Moves-text a.moves.now a.b) c.refusal-refusal.ensures.value c.if-refusal-ne0.true in
+    let put = c.write_refusal.ensures in
+    record { value = rw same put.value; text = rw same put.text; counts = put.counts }
 
 pub returns : goal.returns
 returns c = let a = c.args in let write = c.write-written in let all = text-printed a.moves.now a.b a.out.now _ _ _ c.requires c.refusal-refusal.ensures.value c.if-refusal-ne0.false write.ensures.length

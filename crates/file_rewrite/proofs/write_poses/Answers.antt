@@ -12,7 +12,11 @@ use Rattle.file_rewrite.proofs.Printed.{refused-printed, built-printed}
 use Rattle.file_rewrite.proofs.write_poses.Goals as goal
 
 pub returns-then-refusal-ne0 : goal.returns-then-refusal-ne0
-returns-then-refusal-ne0 c = let a = c.args in let some = c.if-refusal-ne0.true in let all = rw (refused-printed (Chain-new false (Poses-of_lists a.poses.now)) a.b c.build-refusal.ensures.refusal some) (c.write_refusal.ensures.value, (c.write_refusal.ensures.text, c.write_refusal.ensures.counts)) in record { value = all.0; text = all.1.0; counts = all.1.1 }
+returns-then-refusal-ne0 c =
+    let a = c.args in
+    let same = refused-printed (Chain-new false (Poses-of_lists a.poses.now)) a.b c.build-refusal.ensures.refusal c.if-refusal-ne0.true in
+    let put = c.write_refusal.ensures in
+    record { value = rw same put.value; text = rw same put.text; counts = put.counts }
 
 pub overflow_sub-n : goal.overflow_sub-n
 overflow_sub-n c =
@@ -41,5 +45,9 @@ write_moves-requires c =
     rw (build.ensures.holds chain s).same (omega arith)
 
 pub returns : goal.returns
-returns c = let build = c.build-refusal in let a = c.args in let all = rw (built-printed a.poses.now a.b _ build.ensures.refusal c.if-refusal-ne0.false (λ chain s. (build.ensures.holds chain s).same))
-    (c.write_moves.ensures.value, (c.write_moves.ensures.text, c.write_moves.ensures.counts)) in record { value = all.0; text = all.1.0; counts = all.1.1 }
+returns c =
+    let build = c.build-refusal in
+    let a = c.args in
+    let same = built-printed a.poses.now a.b _ build.ensures.refusal c.if-refusal-ne0.false (λ chain s. (build.ensures.holds chain s).same) in
+    let put = c.write_moves.ensures in
+    record { value = rw same put.value; text = rw same put.text; counts = put.counts }

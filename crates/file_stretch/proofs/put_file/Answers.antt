@@ -10,8 +10,12 @@ use Rattle.file_stretch.proofs.Printed.{refusal-put, taken-length, file-refused,
 use Rattle.file_stretch.proofs.put_file.Goals as goal
 
 pub returns-then-file-ne0 : goal.returns-then-file-ne0
-returns-then-file-ne0 c = let read = c.read-file in let write = c.write_refusal in let all = rw (file-refused c.args.bytes.now read.result read.ensures.value c.if-file-ne0.true)
-    (refusal-put read.result.refusal c.args.out.now _ _ c.requires write.ensures.value write.ensures.text) in record { value = all.0; text = all.1.0; bound = all.1.1 }
+returns-then-file-ne0 c =
+    let read = c.read-file in
+    let write = c.write_refusal in
+    let same = file-refused c.args.bytes.now read.result read.ensures.value c.if-file-ne0.true in
+    let all = refusal-put read.result.refusal c.args.out.now _ _ c.requires write.ensures.value write.ensures.text in
+    record { value = rw same all.0; text = rw same all.1.0; bound = all.1.1 }
 
 pub slice_bounds-poses-end : goal.slice_bounds-poses-end
 slice_bounds-poses-end c =
@@ -28,4 +32,8 @@ pub put_poses-requires : goal.put_poses-requires
 put_poses-requires c = let read = c.read-file in record { poses_len_bound = le_trans (taken-length read.result.count _) read.ensures.count; in_bounds = c.requires }
 
 pub returns : goal.returns
-returns c = let read = c.read-file in let all = rw (file-printed c.args.bytes.now read.result read.ensures.value _ _ c.if-file-ne0.false read.ensures.left) (c.put_poses.ensures.value, (c.put_poses.ensures.text, c.put_poses.ensures.bound)) in record { value = all.0; text = all.1.0; bound = all.1.1 }
+returns c =
+    let read = c.read-file in
+    let same = file-printed c.args.bytes.now read.result read.ensures.value _ _ c.if-file-ne0.false read.ensures.left in
+    let put = c.put_poses.ensures in
+    record { value = rw same put.value; text = rw same put.text; bound = put.bound }

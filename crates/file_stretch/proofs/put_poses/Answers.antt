@@ -12,4 +12,8 @@ pub put_run-requires : goal.put_run-requires
 put_run-requires c = let lists = c.args.poses.now in record { length_bound = rw c.shortest_run-run.ensures.value (omega (arith, run-within false (Poses-of_lists lists), poses-length lists, c.requires.poses_len_bound)); in_bounds = c.requires.in_bounds }
 
 pub returns : goal.returns
-returns c = let poses = Poses-of_lists c.args.poses.now in let all = rw (poses-printed poses _ _ c.number-number.ensures.value c.shortest_run-run.ensures.value) (c.put_run.ensures.value, (c.put_run.ensures.text, c.put_run.ensures.bound)) in record { value = all.0; text = all.1.0; bound = all.1.1 }
+returns c =
+    let poses = Poses-of_lists c.args.poses.now in
+    let same = poses-printed poses _ _ c.number-number.ensures.value c.shortest_run-run.ensures.value in
+    let put = c.put_run.ensures in
+    record { value = rw same put.value; text = rw same put.text; bound = put.bound }

@@ -5,5 +5,7 @@ use Rattle.lanes_box.proofs.box_enclosure.Goals as goal
 
 pub returns : goal.returns
 unfolding moved_by_lanes grown_lanes
-returns c = record { value = let a = c.args in
-    c.grown.ensures.value ∙ (λ i. grown_lanes (c.moved_by-v.ensures.value i) a.pose.pad) ∙ box-lanes a.pose a.p }
+returns c = record {
+  value = let a = c.args in
+      c.grown.ensures.value ∙ (λ i. grown_lanes (c.moved_by-v.ensures.value i) a.pose.pad) ∙ box-lanes a.pose a.p;
+}

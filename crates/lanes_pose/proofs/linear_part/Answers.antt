@@ -10,8 +10,10 @@ returns-then-rigid c = record { value = let a = c.args in λ i. LanesMatrix-line
 
 pub returns-else-rigid : goal.returns-else-rigid
 unfolding product_lanes scale_lanes
-returns-else-rigid c = record { value = let a = c.args in
-    c.product.ensures.value
-    ∙ (λ i. product_lanes a.m (c.scale.ensures.value i))
-    ∙ plain-lanes a.m a.s0 a.s1 a.u a.t
-    ∙ λ i. LanesMatrix-linear_by (sym c.if-rigid.false i) a.m a.s0 a.s1 a.u a.t }
+returns-else-rigid c = record {
+  value = let a = c.args in
+      c.product.ensures.value
+      ∙ (λ i. product_lanes a.m (c.scale.ensures.value i))
+      ∙ plain-lanes a.m a.s0 a.s1 a.u a.t
+      ∙ λ i. LanesMatrix-linear_by (sym c.if-rigid.false i) a.m a.s0 a.s1 a.u a.t;
+}

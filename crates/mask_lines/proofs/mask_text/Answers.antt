@@ -1,11 +1,5 @@
 -- `mask_text` meets its contract: two words behind a space.
-use Prim.Native.Nat.{ℕ, ◌+◌, ◌-◌, ◌≤◌, ◌<◌}
-use mathlib.Core.Path.{◌≡◌, refl, sym, ap, ◌∙◌}
-use native.Mathlib.Omega.{arith}
-use borrow.Author.Rules.{rules}
-use lib.ListN.{length}
 use Rattle.mask_lines.proofs.Text.{words-text}
-use borrow.Author.Rules.{rules}
 use Rattle.mask_lines.proofs.mask_text.Goals as goal
 
 pub returns : goal.returns

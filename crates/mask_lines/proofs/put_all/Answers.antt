@@ -1,13 +1,7 @@
 -- `put_all` puts them one by one. The invariant: what is left from the k-th on, put from `end` on, makes the whole.
-use Prim.Native.Nat.{ℕ, ◌+◌, ◌-◌, ◌≤◌, ◌<◌}
-use mathlib.Core.Path.{◌≡◌, refl, sym, ap, ◌∙◌}
+use mathlib.Core.Path.{refl, sym, ◌∙◌}
 use native.Mathlib.Omega.{arith}
 use borrow.Author.Rules.{rules}
-use lib.ListN.{length}
-use mathlib.Core.List.{map}
-use lib.ListN.{drop}
-use Rattle.answer_values.proofs.Lines.{Left}
-use Rattle.mask_lines.specs.Masks.{mask_text}
 use Rattle.mask_lines.proofs.Text.{masks-turn, masks-end}
 use Rattle.mask_lines.proofs.put_all.Goals as goal
 

@@ -1,14 +1,11 @@
 -- `put_all` puts them one by one. The invariant: what is left from the k-th on, put from `end` on, makes the whole.
-use Prim.Native.Nat.{ℕ, ◌+◌, ◌-◌, ◌≤◌, ◌<◌}
-use mathlib.Core.Path.{◌≡◌, refl, sym, ap, ◌∙◌}
-use native.Mathlib.Omega.{arith}
-use borrow.Author.Rules.{rules}
+use Prim.Native.Nat.{◌-◌}
+use mathlib.Core.Path.{◌≡◌}
 use lib.ListN.{length}
 use mathlib.Core.List.{map}
 use lib.ListN.{drop}
 use Rattle.answer_values.proofs.Lines.{Left}
 use Rattle.mask_lines.specs.Masks.{mask_text}
-use Rattle.mask_lines.proofs.Text.{masks-turn, masks-end}
 use Rattle.mask_lines.proofs.put_all.Given as goal
 
 abbrev pub invariant-loop-k : goal.invariant-loop-k

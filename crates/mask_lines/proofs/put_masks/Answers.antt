@@ -1,14 +1,8 @@
 -- `put_masks` puts a refusal, or `ok`, the masks and a line feed.
-use Prim.Native.Nat.{ℕ, ◌+◌, ◌-◌, ◌≤◌, ◌<◌}
-use mathlib.Core.Path.{◌≡◌, refl, sym, ap, ◌∙◌}
-use native.Mathlib.Omega.{arith}
-use borrow.Author.Rules.{rules}
-use lib.ListN.{length}
 use mathlib.Core.List.{map}
 use Rattle.motion_file.specs.Text.{ascii}
 use Rattle.answer_values.proofs.Lines.{answer-refused, answer_ok}
 use Rattle.mask_lines.specs.Masks.{mask_text}
-use borrow.Author.Rules.{rules}
 use Rattle.mask_lines.proofs.put_masks.Goals as goal
 
 pub returns-then-refusal-ne0 : goal.returns-then-refusal-ne0

@@ -10,8 +10,7 @@ use Rattle.motion_fronts.proofs.slice.Goals as goal
 
 pub overflow_add-k : goal.overflow_add-k
 overflow_add-k c =
-    let h = (c.requires.d_le_max_depth, c.requires.k_bound) in
-    omega (arith, h, pow-lt {i = c.args.d} {j = 13} (omega (arith, h)))
+    omega (arith, pow-lt {i = c.args.d} {j = 13} (omega arith))
 
 pub returns : goal.returns
 unfolding slice

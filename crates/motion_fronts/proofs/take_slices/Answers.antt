@@ -11,7 +11,7 @@ use Rattle.motion_fronts.proofs.Sliced.{Sliced, sliced-first, sliced-next, slice
 use Rattle.motion_fronts.proofs.take_slices.Goals as goal
 
 pub overflow_shl-slices : goal.overflow_shl-slices
-overflow_shl-slices c = let h = (c.requires.d_le_max_depth, c.requires.boxes_len_bound) in omega (arith, h)
+overflow_shl-slices c = omega arith
 
 pub loop-k-init : goal.loop-k-init
 loop-k-init c = (omega arith, sliced-first _ _ _ _ _ _)

@@ -1,5 +1,4 @@
 -- `put_flag` puts 1 or 0.
-use borrow.Author.Rules.{rules}
 use Rattle.motion_parts.specs.Parts.{flag_pieces}
 use Rattle.motion_parts.proofs.put_flag.Goals as goal
 

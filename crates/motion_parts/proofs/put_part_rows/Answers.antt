@@ -1,10 +1,6 @@
 -- `put_part_rows` puts the rows of the parts. The invariant: what is left from the k-th row on, put from `end` on, makes the whole.
-use Prim.Native.Nat.{◌-◌, ◌≤◌}
 use native.Mathlib.Omega.{arith}
-use mathlib.Core.Path.{◌≡◌, refl, sym, ◌∙◌, ap}
-use lib.ListN.{length}
-use Rattle.answer_lines.specs.Pieces.{put_all, behind_all}
-use Rattle.motion_parts.specs.Parts.{row_pieces}
+use mathlib.Core.Path.{◌≡◌, refl, sym, ◌∙◌}
 use Rattle.motion_parts.proofs.Rows.{rows-below, rows-turn, rows_end}
 use borrow.Author.Rules.{rules}
 use Rattle.motion_parts.proofs.put_part_rows.Goals as goal

@@ -1,12 +1,9 @@
 -- `put_part_rows` puts the rows of the parts. The invariant: what is left from the k-th row on, put from `end` on, makes the whole.
 use Prim.Native.Nat.{◌-◌, ◌≤◌}
-use native.Mathlib.Omega.{arith}
-use mathlib.Core.Path.{◌≡◌, refl, sym, ◌∙◌, ap}
+use mathlib.Core.Path.{◌≡◌}
 use lib.ListN.{length}
 use Rattle.answer_lines.specs.Pieces.{put_all, behind_all}
 use Rattle.motion_parts.specs.Parts.{row_pieces}
-use Rattle.motion_parts.proofs.Rows.{rows-below, rows-turn, rows_end}
-use borrow.Author.Rules.{rules}
 use Rattle.motion_parts.proofs.put_part_rows.Given as goal
 
 abbrev pub invariant-loop-k : goal.invariant-loop-k

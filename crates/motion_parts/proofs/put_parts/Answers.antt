@@ -4,7 +4,6 @@ use lib.Ieee.{nan}
 use lib.ListN.{get_or}
 use Rattle.motion_parts.specs.Parts.{flag_pieces, row_pieces, parts_pieces}
 use Rattle.answer_lines.proofs.Pieces.{all_append}
-use borrow.Author.Rules.{rules}
 use Rattle.motion_parts.proofs.put_parts.Goals as goal
 
 pub returns : goal.returns

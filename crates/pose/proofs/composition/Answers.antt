@@ -5,18 +5,20 @@ use Rattle.pose.proofs.composition.Goals as goal
 
 pub returns : goal.returns
 unfolding Pose-composition
-returns c = record { value = rw (
-      c.judged.ensures.value,
-      c.all_finite-5.ensures.value,
-      c.all_finite-4.ensures.value,
-      c.all_finite-3.ensures.value,
-      c.all_finite-2.ensures.value,
-      c.all_finite.ensures.value,
-      c.is_finite.ensures.value,
-      c.product-whole.ensures.value,
-      c.product-first.ensures.value,
-      c.rotation-rotating.ensures.value,
-      c.translation_matrix-translate.ensures.value,
-      c.scale_by-scaling.ensures.value,
-      c.translation-trans.ensures.value,
-    ) }
+returns c = record {
+  value = rw (
+    c.judged.ensures.value,
+    c.all_finite-5.ensures.value,
+    c.all_finite-4.ensures.value,
+    c.all_finite-3.ensures.value,
+    c.all_finite-2.ensures.value,
+    c.all_finite.ensures.value,
+    c.is_finite.ensures.value,
+    c.product-whole.ensures.value,
+    c.product-first.ensures.value,
+    c.rotation-rotating.ensures.value,
+    c.translation_matrix-translate.ensures.value,
+    c.scale_by-scaling.ensures.value,
+    c.translation-trans.ensures.value,
+  );
+}

@@ -2,9 +2,11 @@
 use Rattle.pose.proofs.composition_enclosure.Goals as goal
 
 pub returns : goal.returns
-returns c = record { value = rw (
-      c.mul_enclosure.ensures.value,
-      c.translate_enclosure-first.ensures.value,
-      c.rotation_enclosure-rotating.ensures.value,
-      c.scale_by_enclosure-scaling.ensures.value,
-    ) }
+returns c = record {
+  value = rw (
+    c.mul_enclosure.ensures.value,
+    c.translate_enclosure-first.ensures.value,
+    c.rotation_enclosure-rotating.ensures.value,
+    c.scale_by_enclosure-scaling.ensures.value,
+  );
+}

@@ -13,5 +13,7 @@ product-rows : (a b : Matrix4x4) {x y r : Rows} {m : Matrix4x4}
 product-rows a b ex ey er em = rw (em, er, ex, ey)
 
 pub returns : goal.returns
-returns c = record { value = product-rows c.args.a c.args.b
-    c.to_rows.ensures.value c.to_rows-2.ensures.value c.mul.ensures.value c.from_rows.ensures.value }
+returns c = record {
+  value = product-rows c.args.a c.args.b
+      c.to_rows.ensures.value c.to_rows-2.ensures.value c.mul.ensures.value c.from_rows.ensures.value;
+}

@@ -3,14 +3,16 @@ use Rattle.pose_parts.proofs.Unjudged.{translation-tested}
 use Rattle.pose_parts.proofs.translation_enclosure.Goals as goal
 
 pub returns-then-is_finite : goal.returns-then-is_finite
-returns-then-is_finite c = record { value = translation-tested c.args.m c.args.t0 c.args.t1 c.args.dt
-    c.sub_enclosure-s.ensures.value
-    c.translation_unjudged-vector.ensures.value
-    c.ends_sum.ensures.value
-    c.ends_sum-2.ensures.value
-    c.vector_ends_sum.ensures.value
-    c.is_finite.ensures.value
-    c.if-is_finite.true }
+returns-then-is_finite c = record {
+  value = translation-tested c.args.m c.args.t0 c.args.t1 c.args.dt
+      c.sub_enclosure-s.ensures.value
+      c.translation_unjudged-vector.ensures.value
+      c.ends_sum.ensures.value
+      c.ends_sum-2.ensures.value
+      c.vector_ends_sum.ensures.value
+      c.is_finite.ensures.value
+      c.if-is_finite.true;
+}
 
 pub returns-else-is_finite : goal.returns-else-is_finite
 returns-else-is_finite c = record { value = rw (c.translation_enclosure.ensures.value, c.vector_point-b.ensures.value, c.vector_point-a.ensures.value) }

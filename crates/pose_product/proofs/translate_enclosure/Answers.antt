@@ -6,14 +6,16 @@ use Rattle.pose_product.proofs.Unjudged.{translate-tested}
 use Rattle.pose_product.proofs.translate_enclosure.Goals as goal
 
 pub returns-then-is_finite : goal.returns-then-is_finite
-returns-then-is_finite c = record { value = translate-tested c.args.m c.args.v c.args.b
-    c.translated-product.ensures.value
-    c.translation_matrix-a.ensures.value
-    c.matrix_ends_sum.ensures.value
-    c.matrix_ends_sum-2.ensures.value
-    c.matrix_ends_sum-3.ensures.value
-    c.is_finite.ensures.value
-    c.if-is_finite.true }
+returns-then-is_finite c = record {
+  value = translate-tested c.args.m c.args.v c.args.b
+      c.translated-product.ensures.value
+      c.translation_matrix-a.ensures.value
+      c.matrix_ends_sum.ensures.value
+      c.matrix_ends_sum-2.ensures.value
+      c.matrix_ends_sum-3.ensures.value
+      c.is_finite.ensures.value
+      c.if-is_finite.true;
+}
 
 pub returns-else-is_finite : goal.returns-else-is_finite
 returns-else-is_finite c = record { value = c.mul_enclosure.ensures.value ∙ ap (λ (a : IntervalMatrix). Pose-enclose_mul c.args.m a c.args.b) c.translation_matrix-a.ensures.value }

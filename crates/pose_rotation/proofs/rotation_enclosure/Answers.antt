@@ -3,14 +3,16 @@ use Rattle.pose_rotation.proofs.Unjudged.{rotation-tested}
 use Rattle.pose_rotation.proofs.rotation_enclosure.Goals as goal
 
 pub returns-then-is_finite : goal.returns-then-is_finite
-returns-then-is_finite c = record { value = rotation-tested c.args.m c.args.q
-    c.products_unjudged-p.ensures.value
-    c.rotation_unjudged-matrix.ensures.value
-    c.quaternion_ends_sum.ensures.value
-    c.products_ends_sum.ensures.value
-    c.matrix_ends_sum.ensures.value
-    c.is_finite.ensures.value
-    c.if-is_finite.true }
+returns-then-is_finite c = record {
+  value = rotation-tested c.args.m c.args.q
+      c.products_unjudged-p.ensures.value
+      c.rotation_unjudged-matrix.ensures.value
+      c.quaternion_ends_sum.ensures.value
+      c.products_ends_sum.ensures.value
+      c.matrix_ends_sum.ensures.value
+      c.is_finite.ensures.value
+      c.if-is_finite.true;
+}
 
 pub returns-else-is_finite : goal.returns-else-is_finite
 returns-else-is_finite c = record { value = c.rotation_enclosure.ensures.value }

@@ -4,9 +4,11 @@ use Rattle.pose_slerp.proofs.quotient_unjudged.Goals as goal
 
 pub returns : goal.returns
 unfolding IntervalQuaternion-quotient
-returns c = record { value = rw (
-      c.div_ordered-w.ensures.value,
-      c.div_ordered-z.ensures.value,
-      c.div_ordered-y.ensures.value,
-      c.div_ordered-x.ensures.value,
-    ) }
+returns c = record {
+  value = rw (
+    c.div_ordered-w.ensures.value,
+    c.div_ordered-z.ensures.value,
+    c.div_ordered-y.ensures.value,
+    c.div_ordered-x.ensures.value,
+  );
+}

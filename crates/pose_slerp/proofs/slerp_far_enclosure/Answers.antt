@@ -2,10 +2,12 @@
 use Rattle.pose_slerp.proofs.slerp_far_enclosure.Goals as goal
 
 pub returns : goal.returns
-returns c = record { value = rw (
-      c.slerp_far_enclosure.ensures.value,
-      c.point-theta.ensures.value,
-      c.point-cos_theta.ensures.value,
-      c.quaternion_point-q.ensures.value,
-      c.quaternion_point-p.ensures.value,
-    ) }
+returns c = record {
+  value = rw (
+    c.slerp_far_enclosure.ensures.value,
+    c.point-theta.ensures.value,
+    c.point-cos_theta.ensures.value,
+    c.quaternion_point-q.ensures.value,
+    c.quaternion_point-p.ensures.value,
+  );
+}

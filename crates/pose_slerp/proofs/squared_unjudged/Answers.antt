@@ -4,12 +4,14 @@ use Rattle.pose_slerp.proofs.squared_unjudged.Goals as goal
 
 pub returns : goal.returns
 unfolding IntervalQuaternion-squared
-returns c = record { value = rw (
-      c.add_enclosure.ensures.value,
-      c.mul_ordered-ww.ensures.value,
-      c.add_enclosure-xyz.ensures.value,
-      c.mul_ordered-zz.ensures.value,
-      c.add_enclosure-xy.ensures.value,
-      c.mul_ordered-yy.ensures.value,
-      c.mul_ordered-xx.ensures.value,
-    ) }
+returns c = record {
+  value = rw (
+    c.add_enclosure.ensures.value,
+    c.mul_ordered-ww.ensures.value,
+    c.add_enclosure-xyz.ensures.value,
+    c.mul_ordered-zz.ensures.value,
+    c.add_enclosure-xy.ensures.value,
+    c.mul_ordered-yy.ensures.value,
+    c.mul_ordered-xx.ensures.value,
+  );
+}

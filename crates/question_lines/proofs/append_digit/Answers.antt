@@ -1,7 +1,6 @@
 -- `append_digit` is `Decimal-append`, test by test.
 use native.Mathlib.Omega.{arith}
 use Rattle.question_lines.proofs.Decimals.{append-low, append-high, append-large, append-fits}
-use borrow.Author.Rules.{rules}
 use Rattle.question_lines.proofs.append_digit.Goals as goal
 
 pub returns-then-b-lt48 : goal.returns-then-b-lt48

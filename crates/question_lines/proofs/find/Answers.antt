@@ -1,5 +1,5 @@
 -- `find`: the byte at the place is the one looked for, or one passed more.
-use Rattle.std.proofs.Common.{◌≡◌, ◌+◌, arith, sym}
+use Rattle.std.proofs.Common.{arith}
 use Rattle.question_lines.proofs.Found.{found-here, found-later, found_none}
 use Rattle.question_lines.proofs.find.Goals as goal
 

@@ -1,11 +1,8 @@
 -- `keep` moves a part to the front. The invariant: its first k bytes stand there, and those that are still to be moved stand where they stood.
 use Prim.Native.Nat.{◌+◌, ◌-◌, ◌≤◌}
-use native.Mathlib.Omega.{arith}
-use mathlib.Core.Path.{◌≡◌, refl, ◌∙◌}
-use lib.ListN.{length, drop, length-set}
-use lib.Seq.{paste, paste-zero}
-use Rattle.question_lines.proofs.Kept.{kept-turn, kept-front, kept-none, kept-empty}
-use borrow.Author.Rules.{rules}
+use mathlib.Core.Path.{◌≡◌}
+use lib.ListN.{length, drop}
+use lib.Seq.{paste}
 use Rattle.question_lines.proofs.keep.Given as goal
 
 abbrev pub invariant-loop-k : goal.invariant-loop-k

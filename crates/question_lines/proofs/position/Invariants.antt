@@ -1,11 +1,9 @@
 -- `position` looks word by word. The invariant: so many words stand before the byte, and the place among the rest is still to be added.
 use Prim.Native.Nat.{◌+◌, ◌-◌, ◌≤◌}
-use native.Mathlib.Omega.{arith}
 use mathlib.Core.Path.{◌≡◌}
 use lib.ListN.{length}
 use Rattle.question_lines.specs.Words.{Words-position}
-use Rattle.question_lines.proofs.Positions.{from, from_start, from_end, from-here}
-use borrow.Author.Rules.{rules}
+use Rattle.question_lines.proofs.Positions.{from}
 use Rattle.question_lines.proofs.position.Given as goal
 
 abbrev pub invariant-loop-at : goal.invariant-loop-at

@@ -1,11 +1,7 @@
 -- `read_decimal` reads digit by digit. The invariant: the rest of the word behind the value gives what the word gives.
-use Prim.Native.Nat.{◌-◌}
 use native.Mathlib.Omega.{arith}
-use mathlib.Core.Path.{◌≡◌, refl, sym, ◌∙◌}
-use lib.ListN.{length, drop}
-use Rattle.question_lines.specs.Words.{append_all}
+use mathlib.Core.Path.{refl, sym, ◌∙◌}
 use Rattle.question_lines.proofs.Decimals.{append-on, append-off, append-end, read_none, read_some}
-use borrow.Author.Rules.{rules}
 use Rattle.question_lines.proofs.read_decimal.Goals as goal
 
 pub returns-then-word-eq0 : goal.returns-then-word-eq0
@@ -15,10 +11,12 @@ pub loop-i-init : goal.loop-i-init
 loop-i-init c = refl
 
 pub returns-in-Malformed : goal.returns-in-Malformed
-returns-in-Malformed c = record { value = let word = c.args.word.now in
-    let l = c.loop-i in
-    let e = sym c.append_digit.ensures.value ∙ c.in-Malformed.is in
-    sym (append-off word l.value l.i (omega arith) e) ∙ l.invariant ∙ read_some word c.if-word-eq0.false }
+returns-in-Malformed c = record {
+  value = let word = c.args.word.now in
+      let l = c.loop-i in
+      let e = sym c.append_digit.ensures.value ∙ c.in-Malformed.is in
+      sym (append-off word l.value l.i (omega arith) e) ∙ l.invariant ∙ read_some word c.if-word-eq0.false;
+}
 
 pub loop-i-preserved : goal.loop-i-preserved
 loop-i-preserved c =
@@ -28,6 +26,8 @@ loop-i-preserved c =
     sym (append-on word l.value l.i (omega arith) c.in-Value.n e) ∙ l.invariant
 
 pub returns : goal.returns
-returns c = record { value = let word = c.args.word.now in
-    let l = c.loop-i in
-    append-end word l.value l.i (omega arith) ∙ l.invariant ∙ read_some word c.if-word-eq0.false }
+returns c = record {
+  value = let word = c.args.word.now in
+      let l = c.loop-i in
+      append-end word l.value l.i (omega arith) ∙ l.invariant ∙ read_some word c.if-word-eq0.false;
+}

@@ -1,11 +1,8 @@
 -- `read_decimal` reads digit by digit. The invariant: the rest of the word behind the value gives what the word gives.
 use Prim.Native.Nat.{◌-◌}
-use native.Mathlib.Omega.{arith}
-use mathlib.Core.Path.{◌≡◌, refl, sym, ◌∙◌}
+use mathlib.Core.Path.{◌≡◌}
 use lib.ListN.{length, drop}
 use Rattle.question_lines.specs.Words.{append_all}
-use Rattle.question_lines.proofs.Decimals.{append-on, append-off, append-end, read_none, read_some}
-use borrow.Author.Rules.{rules}
 use Rattle.question_lines.proofs.read_decimal.Given as goal
 
 abbrev pub invariant-loop-i : goal.invariant-loop-i

@@ -1,7 +1,6 @@
 -- `read_float` is `Float-read`, test by test.
 use borrow.Author.Tests.{eq-eqb, ne_eqb}
 use Rattle.question_lines.specs.Words.{Float-read}
-use borrow.Author.Rules.{rules}
 use Rattle.question_lines.proofs.read_float.Goals as goal
 
 pub returns-then-text-at-ne32 : goal.returns-then-text-at-ne32

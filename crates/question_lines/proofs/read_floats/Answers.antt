@@ -1,11 +1,10 @@
 -- `read_floats` reads float by float. The invariant: the rest of the text gives what the text gives.
-use Prim.Native.Nat.{◌-◌, ◌≤◌}
+use Prim.Native.Nat.{◌-◌}
 use native.Mathlib.Omega.{arith}
 use mathlib.Core.Path.{◌≡◌, refl, sym, ◌∙◌, ap}
-use lib.ListN.{length, length-set}
+use lib.ListN.{length-set}
 use Rattle.question_lines.specs.Words.{floats_from, stored_from}
 use Rattle.question_lines.proofs.Floats.{read-on, stored_on, read_off, stored-off, read-end, stored-end, fit, few, other-size}
-use borrow.Author.Rules.{rules}
 use Rattle.question_lines.proofs.read_floats.Goals as goal
 
 pub returns-then-values-count : goal.returns-then-values-count

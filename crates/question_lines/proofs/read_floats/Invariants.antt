@@ -1,11 +1,8 @@
 -- `read_floats` reads float by float. The invariant: the rest of the text gives what the text gives.
 use Prim.Native.Nat.{◌-◌, ◌≤◌}
-use native.Mathlib.Omega.{arith}
-use mathlib.Core.Path.{◌≡◌, refl, sym, ◌∙◌, ap}
-use lib.ListN.{length, length-set}
+use mathlib.Core.Path.{◌≡◌}
+use lib.ListN.{length}
 use Rattle.question_lines.specs.Words.{floats_from, stored_from}
-use Rattle.question_lines.proofs.Floats.{read-on, stored_on, read_off, stored-off, read-end, stored-end, fit, few, other-size}
-use borrow.Author.Rules.{rules}
 use Rattle.question_lines.proofs.read_floats.Given as goal
 
 abbrev pub invariant-loop-k : goal.invariant-loop-k

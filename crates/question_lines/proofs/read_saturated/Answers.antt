@@ -1,12 +1,8 @@
 -- `read_saturated` reads digit by digit and holds what is read below 2^32. The invariant: the rest of the word is digits where the word is, and with them
 -- behind the value the same number is held.
-use Prim.Native.Nat.{◌-◌, ◌<◌}
 use native.Mathlib.Omega.{arith}
-use mathlib.Core.Path.{◌≡◌, refl, sym, ◌∙◌}
-use lib.ListN.{length, drop}
-use Rattle.question_lines.specs.Words.{Decimal-saturated, are_digits, number_from}
+use mathlib.Core.Path.{refl, sym, ◌∙◌}
 use Rattle.question_lines.proofs.HeldNumbers.{held_small, saturated-on, saturated-off, saturated-end, saturated-none, saturated-some}
-use borrow.Author.Rules.{rules}
 use Rattle.question_lines.proofs.read_saturated.Goals as goal
 
 pub returns-then-word-eq0 : goal.returns-then-word-eq0
@@ -16,11 +12,13 @@ pub loop-i-init : goal.loop-i-init
 loop-i-init c = (omega arith, (refl, refl))
 
 pub returns-in-Malformed : goal.returns-in-Malformed
-returns-in-Malformed c = record { value = let word = c.args.word.now in
-    let l = c.loop-i in
-    let e = sym c.append_digit.ensures.value ∙ c.in-Malformed.is in
-    let none = sym l.invariant.1.0 ∙ saturated-off word l.value l.i (omega arith) l.invariant.0 e in
-    rw (saturated-some word c.if-word-eq0.false, none) }
+returns-in-Malformed c = record {
+  value = let word = c.args.word.now in
+      let l = c.loop-i in
+      let e = sym c.append_digit.ensures.value ∙ c.in-Malformed.is in
+      let none = sym l.invariant.1.0 ∙ saturated-off word l.value l.i (omega arith) l.invariant.0 e in
+      rw (saturated-some word c.if-word-eq0.false, none);
+}
 
 pub loop-i-preserved : goal.loop-i-preserved
 loop-i-preserved c =
@@ -31,7 +29,9 @@ loop-i-preserved c =
     rw c.saturated-value.ensures.value (held_small c.in-Value.n, (sym on.0 ∙ l.invariant.1.0, sym on.1 ∙ l.invariant.1.1))
 
 pub returns : goal.returns
-returns c = record { value = let word = c.args.word.now in
-    let l = c.loop-i in
-    let end = saturated-end word l.value l.i (omega arith) l.invariant.0 in
-    rw (saturated-some word c.if-word-eq0.false, ← l.invariant.1.0, end.0, ← l.invariant.1.1, end.1) }
+returns c = record {
+  value = let word = c.args.word.now in
+      let l = c.loop-i in
+      let end = saturated-end word l.value l.i (omega arith) l.invariant.0 in
+      rw (saturated-some word c.if-word-eq0.false, ← l.invariant.1.0, end.0, ← l.invariant.1.1, end.1);
+}

@@ -1,12 +1,9 @@
 -- `read_saturated` reads digit by digit and holds what is read below 2^32. The invariant: the rest of the word is digits where the word is, and with them
 -- behind the value the same number is held.
 use Prim.Native.Nat.{◌-◌, ◌<◌}
-use native.Mathlib.Omega.{arith}
-use mathlib.Core.Path.{◌≡◌, refl, sym, ◌∙◌}
+use mathlib.Core.Path.{◌≡◌}
 use lib.ListN.{length, drop}
 use Rattle.question_lines.specs.Words.{Decimal-saturated, are_digits, number_from}
-use Rattle.question_lines.proofs.HeldNumbers.{held_small, saturated-on, saturated-off, saturated-end, saturated-none, saturated-some}
-use borrow.Author.Rules.{rules}
 use Rattle.question_lines.proofs.read_saturated.Given as goal
 
 abbrev pub invariant-loop-i : goal.invariant-loop-i

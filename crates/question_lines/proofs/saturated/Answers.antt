@@ -1,5 +1,4 @@
 -- `saturated` meets its contract, on either side of its test.
-use borrow.Author.Rules.{rules}
 use borrow.Author.Tests.{lt-ltb, le-ltb}
 use Rattle.question_lines.proofs.saturated.Goals as goal
 

@@ -1,8 +1,7 @@
 -- `is_named` compares the first word.
 use Prim.Native.Nat.{ℕ}
-use mathlib.Core.Path.{◌≡◌, ap}
+use mathlib.Core.Path.{ap}
 use lib.Dec.{eqb}
-use borrow.Author.Rules.{rules}
 use Rattle.question_reader.proofs.is_named.Goals as goal
 
 pub returns : goal.returns

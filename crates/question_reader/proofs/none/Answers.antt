@@ -1,7 +1,6 @@
 -- `none` is `Question-none`.
 use mathlib.Core.Path.{refl}
 use Rattle.question_reader.specs.Question.{Question-none}
-use borrow.Author.Rules.{rules}
 use Rattle.question_reader.proofs.none.Goals as goal
 
 pub returns : goal.returns

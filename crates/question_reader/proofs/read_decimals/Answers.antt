@@ -1,11 +1,9 @@
 -- `read_decimals` reads number by number. The invariant: what is left of the line gives what the line gives.
-use Prim.Native.Nat.{ℕ, ◌-◌, ◌≤◌}
+use Prim.Native.Nat.{ℕ, ◌-◌}
 use native.Mathlib.Omega.{arith}
-use mathlib.Core.Path.{◌≡◌, refl, sym, ◌∙◌, ap}
-use Rattle.question_lines.specs.Words.{Decimal-read}
+use mathlib.Core.Path.{◌≡◌, sym, ◌∙◌, ap}
 use Rattle.question_reader.specs.Question.{decimals_end, decimals_stored}
 use Rattle.question_reader.proofs.Words.{decimal-past, end_on, stored_on, end-off, stored-off, end_none, stored-none, few, many}
-use borrow.Author.Rules.{rules}
 use Rattle.question_reader.proofs.read_decimals.Goals as goal
 
 pub returns-then-count-gt4 : goal.returns-then-count-gt4

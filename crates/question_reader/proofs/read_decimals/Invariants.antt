@@ -1,11 +1,7 @@
 -- `read_decimals` reads number by number. The invariant: what is left of the line gives what the line gives.
-use Prim.Native.Nat.{ℕ, ◌-◌, ◌≤◌}
-use native.Mathlib.Omega.{arith}
-use mathlib.Core.Path.{◌≡◌, refl, sym, ◌∙◌, ap}
-use Rattle.question_lines.specs.Words.{Decimal-read}
+use Prim.Native.Nat.{◌-◌, ◌≤◌}
+use mathlib.Core.Path.{◌≡◌}
 use Rattle.question_reader.specs.Question.{decimals_end, decimals_stored}
-use Rattle.question_reader.proofs.Words.{decimal-past, end_on, stored_on, end-off, stored-off, end_none, stored-none, few, many}
-use borrow.Author.Rules.{rules}
 use Rattle.question_reader.proofs.read_decimals.Given as goal
 
 abbrev pub invariant-loop-k : goal.invariant-loop-k

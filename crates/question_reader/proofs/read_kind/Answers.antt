@@ -1,10 +1,9 @@
 -- `read_kind` is by its tests.
 use native.Mathlib.Omega.{arith}
-use mathlib.Core.Path.{◌≡◌, sym, ◌∙◌}
+use mathlib.Core.Path.{◌≡◌}
 use Rattle.motion_file.specs.Text.{ascii}
 use Rattle.question_reader.specs.Question.{kind_place}
 use Rattle.question_reader.proofs.Lines.{kind-unasked, kind-other, kind-word, kind-past}
-use borrow.Author.Rules.{rules}
 use Rattle.question_reader.proofs.read_kind.Goals as goal
 
 pub returns-then-words-eq0 : goal.returns-then-words-eq0

@@ -3,7 +3,6 @@ use native.Mathlib.Omega.{arith}
 use mathlib.Core.Path.{◌≡◌}
 use Rattle.question_reader.specs.Question.{name_kind}
 use Rattle.question_reader.proofs.Lines.{line-long, line-unnamed, line-named}
-use borrow.Author.Rules.{rules}
 use Rattle.question_reader.proofs.read_question.Goals as goal
 
 pub returns-then-most-line : goal.returns-then-most-line

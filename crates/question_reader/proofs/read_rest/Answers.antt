@@ -1,8 +1,7 @@
 -- `read_rest` is by its tests.
 use native.Mathlib.Omega.{arith}
-use mathlib.Core.Path.{◌≡◌, sym, ◌∙◌}
+use mathlib.Core.Path.{sym, ◌∙◌}
 use Rattle.question_reader.proofs.Lines.{Rest, rest-past, rest-unfit, rest_read, rest-malformed}
-use borrow.Author.Rules.{rules}
 use Rattle.question_reader.proofs.read_rest.Goals as goal
 
 pub returns-then-line-at : goal.returns-then-line-at

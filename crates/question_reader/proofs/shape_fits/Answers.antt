@@ -1,8 +1,6 @@
 -- `shape_fits` is by its tests.
-use mathlib.Core.Path.{refl}
 use borrow.Author.Tests.{lt-ltb, le-ltb, eq-eqb, ne_eqb}
 use Rattle.question_reader.specs.Question.{Shape-fits}
-use borrow.Author.Rules.{rules}
 use Rattle.question_reader.proofs.shape_fits.Goals as goal
 
 pub returns-then-floats-fewest : goal.returns-then-floats-fewest

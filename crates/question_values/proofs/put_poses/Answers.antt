@@ -1,5 +1,4 @@
 -- `put_poses` puts one by one. The invariant: the first i places are filled.
-use Prim.Native.Nat.{◌-◌}
 use native.Mathlib.Omega.{arith}
 use mathlib.Core.Path.{refl, ◌∙◌}
 use lib.ListN.{length, length-set}

@@ -1,5 +1,4 @@
 -- `put_values` copies float by float. The invariant: the first k places are filled.
-use Prim.Native.Nat.{◌-◌}
 use native.Mathlib.Omega.{arith}
 use mathlib.Core.Path.{refl, ◌∙◌}
 use lib.ListN.{drop, length-set}

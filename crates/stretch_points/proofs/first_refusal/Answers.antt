@@ -23,7 +23,7 @@ pub loop-i-init : goal.loop-i-init
 loop-i-init c = ((c.table-table.ensures.value, c.stretch_of-stretch.ensures.value), (refl, (omega arith, refl)))
 
 pub point_at-answer-requires : goal.point_at-answer-requires
-point_at-answer-requires c = let all = c.loop-i.invariant.0 in record { fact_1 = all.0; fact_2 = all.1 }
+point_at-answer-requires c = record { fact_1 = c.loop-i.invariant.0.0; fact_2 = c.loop-i.invariant.0.1 }
 
 pub loop-i-preserved : goal.loop-i-preserved
 loop-i-preserved c =
@@ -32,7 +32,7 @@ loop-i-preserved c =
     let h = c.loop-i-test.true in
     let e = c.point_at-answer.ensures.value in
     let f : Float → PointAnswer = λ t. Rows-transform_point a.motion.now t a.p in
-    (l.invariant.0, (refl, (omega (arith, h), refusal-next f a.times.now l.i h e c.answer-1.given.1 ∙ l.invariant.1.1.1)))
+    (l.invariant.0, (refl, (omega (arith, h), refusal-next f a.times.now l.i h e c.in-Moved.is ∙ l.invariant.1.1.1)))
 
 pub returns-in-Refused : goal.returns-in-Refused
 returns-in-Refused c = record { value = let l = c.loop-i in
@@ -40,7 +40,7 @@ returns-in-Refused c = record { value = let l = c.loop-i in
     let h = c.loop-i-test.true in
     let e = c.point_at-answer.ensures.value in
     let f : Float → PointAnswer = λ t. Rows-transform_point a.motion.now t a.p in
-    refusal-here f a.times.now l.i h e c.answer-in-Refused-1.given.1 ∙ l.invariant.1.1.1 }
+    refusal-here f a.times.now l.i h e c.in-Refused.is ∙ l.invariant.1.1.1 }
 
 pub returns : goal.returns
 returns c = record { value = let l = c.loop-i in

@@ -3,4 +3,4 @@ use borrow.Author.Rules.{rules}
 use Rattle.stretch_points.proofs.point_of.Goals as goal
 
 pub returns-in-Refused : goal.returns-in-Refused
-returns-in-Refused c = record { value = rw c.answer-in-Refused-1.given.1 }
+returns-in-Refused c = record { value = rw c.in-Refused.is }

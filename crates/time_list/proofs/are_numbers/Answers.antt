@@ -14,10 +14,12 @@ pub loop-i-init : goal.loop-i-init
 loop-i-init c = (refl, (omega arith, refl))
 
 pub returns-then-times-i : goal.returns-then-times-i
-returns-then-times-i c = record { value = let l = c.loop-i in
-    let a = c.args in
-    let h = c.loop-i-test.true in
-    sym (number-fails a.times.now l.i h (sym (differs-nan (get_or a.times.now l.i nan)) ∙ c.if-times-i.true)) ∙ l.invariant.1.1 }
+returns-then-times-i c = record {
+  value = let l = c.loop-i in
+      let a = c.args in
+      let h = c.loop-i-test.true in
+      sym (number-fails a.times.now l.i h (sym (differs-nan (get_or a.times.now l.i nan)) ∙ c.if-times-i.true)) ∙ l.invariant.1.1;
+}
 
 pub loop-i-preserved : goal.loop-i-preserved
 loop-i-preserved c =
@@ -27,6 +29,8 @@ loop-i-preserved c =
     (refl, (omega (arith, h), number-next a.times.now l.i h (sym (differs-nan (get_or a.times.now l.i nan)) ∙ c.if-times-i.false) ∙ l.invariant.1.1))
 
 pub returns : goal.returns
-returns c = record { value = let l = c.loop-i in
-    let a = c.args in
-    sym (number-end a.times.now l.i c.loop-i-test.false) ∙ l.invariant.1.1 }
+returns c = record {
+  value = let l = c.loop-i in
+      let a = c.args in
+      sym (number-end a.times.now l.i c.loop-i-test.false) ∙ l.invariant.1.1;
+}

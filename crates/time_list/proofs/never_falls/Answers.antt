@@ -15,10 +15,12 @@ pub loop-i-init : goal.loop-i-init
 loop-i-init c = (refl, (omega arith, refl))
 
 pub returns-then-not-times-i : goal.returns-then-not-times-i
-returns-then-not-times-i c = record { value = let l = c.loop-i in
-    let a = c.args in
-    let h = c.loop-i-test.true in
-    sym (fails-here never-falls nan a.times.now l.i l.invariant.1.0 h c.if-not-times-i.true) ∙ l.invariant.1.1 }
+returns-then-not-times-i c = record {
+  value = let l = c.loop-i in
+      let a = c.args in
+      let h = c.loop-i-test.true in
+      sym (fails-here never-falls nan a.times.now l.i l.invariant.1.0 h c.if-not-times-i.true) ∙ l.invariant.1.1;
+}
 
 pub loop-i-preserved : goal.loop-i-preserved
 loop-i-preserved c =
@@ -28,6 +30,8 @@ loop-i-preserved c =
     (refl, (omega arith, holds-next never-falls nan a.times.now l.i l.invariant.1.0 h c.if-not-times-i.false ∙ l.invariant.1.1))
 
 pub returns : goal.returns
-returns c = record { value = let l = c.loop-i in
-    let a = c.args in
-    sym (holds-end never-falls nan a.times.now l.i l.invariant.1.0 c.loop-i-test.false) ∙ l.invariant.1.1 }
+returns c = record {
+  value = let l = c.loop-i in
+      let a = c.args in
+      sym (holds-end never-falls nan a.times.now l.i l.invariant.1.0 c.loop-i-test.false) ∙ l.invariant.1.1;
+}
