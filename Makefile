@@ -4,7 +4,7 @@
 #   make check       the tests of the boundary in C, C++ and Rust (tools/boundary.sh)
 #   make install     copies what `make` has written, the header and NOTICE below PREFIX; DESTDIR stands in front of it. It builds nothing
 #   make uninstall   removes those files again
-#   make clean       removes target/lib and what the tests have built; what is proved stays, in the rest of target/
+#   make clean       removes target/lib and what the tests have built; what is proved stays, in crates/*/out
 # All of them are run here. What is newer than target/lib, by make's own timestamps, is proved and built again; `make -B` does so in any case, as after another toolchain was installed.
 # The version is written here, in c/jellyplain.h, in rust/Cargo.toml and in crates/api; `make check` holds them to one another.
 VERSION = 2.0.0
@@ -17,7 +17,6 @@ libdir = $(PREFIX)/lib
 pkgconfigdir = $(libdir)/pkgconfig
 docdir = $(PREFIX)/share/doc/jellyplain
 
-RT = rt
 CC = cc
 INSTALL = install
 LIB = target/lib
@@ -27,19 +26,20 @@ SHARED = libjellyplain.so.$(VERSION)
 MAKEFLAGS += --no-builtin-rules
 
 # What the library is proved and built from; the folders tell of files that were taken away.
-SOURCES := $(shell find crates \( -name must-fail -o -name wrong \) -prune -o \( -type f -o -type d \) -print) crates.txt Makefile
+SOURCES := $(shell find crates \( -name must-fail -o -name wrong -o -name out \) -prune -o \( -type f -o -type d \) -print) crates.txt Makefile
 
 all: static shared $(LIB)/jellyplain.pc
 static: $(LIB)/libjellyplain.a
 shared: $(LIB)/libjellyplain.so
 
-# rt itself sees what has changed and has to be proved again; from nothing that takes about a quarter of an hour. Where a proof fails no library is left, so that none of older sources is installed.
+# rt itself sees what has changed and has to be proved again. Where a proof fails no library is left, so that none of older sources is installed. tools/library is `rt lib` in crates/api_c, or, right after
+# `rt ci` has passed here, a build over what that proved.
 $(LIB)/libjellyplain.a: $(SOURCES)
-	@command -v $(RT) >/dev/null || { echo "$(RT), the Rattle toolchain's command, is not on the PATH: nothing is proved and nothing built" >&2; exit 2; }
+	@command -v rt >/dev/null || { echo "rt, the Rattle toolchain's command, is not on the PATH: nothing is proved and nothing built" >&2; exit 2; }
 	@rm -f $(LIB)/libjellyplain.*
-	$(RT) staticlib api
+	tools/library
 	@mkdir -p $(LIB)
-	cp target/staticlib/libapi.a $@
+	cp crates/api_c/out/libapi_c.a $@
 
 # The archive's code is position independent as it is (-z text: or the linker says so), and only the library's own names are exported.
 $(LIB)/libjellyplain.so: $(LIB)/libjellyplain.a c/exports.map

@@ -10,11 +10,13 @@
 # Exit status 1 where something is otherwise than it has to be, 2 where the library isn't there or isn't built. Nothing is written but below target/ and to a temporary folder.
 set -u
 cd "$(dirname "$0")/.." || exit 2
+. tools/ported.sh
 case "$*" in
 "") built=no ;;
 --built) built=yes ;;
 *) sed -n '2,11s/^# \{0,1\}//p' "$0"; exit 2 ;;
 esac
+! is_left tools/boundary.sh api_c || exit 0
 here() { command -v "$1" >/dev/null; }
 skipped() { echo "$1: skipped, there is no $2 here"; }
 CC=${CC:-cc} CXX=${CXX:-c++}
@@ -31,7 +33,7 @@ passed() { [ "$failed" -ne 0 ] || echo "$1"; failed=0; }
 quiet() { "$@" >"$made/said" 2>&1 || { local ended=$?; cat "$made/said"; return "$ended"; }; }
 
 if [ "$built" = no ]; then
-    # Anew, whatever the timestamps of a kept target/lib say; after it an idle make finds nothing to do.
+    # Anew, whatever the timestamps of a kept target/lib say; after it an idle make finds nothing to do. With JELLYPLAIN_AFTER_CI=1, as tools/test.sh sets it, over what `rt ci` has just proved.
     quiet make -B || { echo "BOUNDARY: make builds no library"; exit 2; }
     make -q || fail "make builds again what it has just built"
 fi

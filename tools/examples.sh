@@ -9,11 +9,12 @@
 #   Each also   on a file that comes in two parts, on one of as many bytes as a file may have, on that with a line feed more, and on one of a byte more.
 #   A program   whose input can't be read prints nothing, one whose output can't be written ends; both say so on standard error.
 # Exit status 1 where one differs.
-#   tools/examples.sh                     compares; the five programs must be built in target/bin
+#   tools/examples.sh                     compares; the five programs must be built, each in its crate's out/, as `rt ci` leaves them and `rt run` in crates/NAME builds one
 #   tools/examples.sh --expect PROGRAM    writes the .expected and .rigid files of examples/ by what PROGRAM answers at depth 10: the oracle's `chain_answers`, so that
 #                                         they come from outside the libraries; those of examples/refused/ are the documents' numbers
 set -u
 cd "$(dirname "$0")/.." || exit 2
+. tools/ported.sh
 # A move file as two questions: the chain, its poses with the bottom rows that the file leaves out and their pads, of +0 where it has none, and its cover.
 questions() { # FILE KIND
     awk -v kind="$2" '
@@ -44,12 +45,14 @@ made=$(mktemp) input=$(mktemp) eleven=$(mktemp) form=$(mktemp)
 trap 'rm -f "$made" "$input" "$eleven" "$form"' EXIT
 printf 'refused\n11\n' >"$eleven"
 count=0 status=0
+# Where the proved program NAME stands.
+program() { echo "crates/$1/out/$1"; }
 # Runs a program on a file and compares.
 try() { # PROGRAM NAME FILE EXPECTED [WORDS FOR IT]
-    if "target/bin/$1" <"$3" >"$made" 2>&1 && [ -s "$4" ] && cmp -s "$4" "$made"; then
+    if "$(program "$1")" <"$3" >"$made" 2>&1 && [ -s "$4" ] && cmp -s "$4" "$made"; then
         count=$((count + 1))
     else
-        echo "EXAMPLE $2: target/bin/$1 does not print what ${5:-$4} has:"
+        echo "EXAMPLE $2: $(program "$1") does not print what ${5:-$4} has:"
         diff "$4" "$made"
         status=1
     fi
@@ -75,20 +78,27 @@ try_reading() { # PROGRAM FILE EXPECTED [WORDS FOR IT]
     "${name%.txt}_of" 65537 >"$input"
     try "$1" "$name of 65,537 bytes" "$input" "$eleven" "refusal 11"
 }
-# A folder can't be read, which is no empty file; a full or a closed output can't be written. Rattle has no exit status: it is 0 throughout.
+# A folder can't be read, which is no empty file; a full or a closed output can't be written. The program then ends with status 1.
 refuses_streams() { # PROGRAM
-    local said
-    said=$("target/bin/$1" <examples 2>&1 >"$made") || true
-    [ "$said" = "standard input can't be read" ] && [ ! -s "$made" ] && count=$((count + 1)) || { echo "EXAMPLE: target/bin/$1 says '$said' of an input that can't be read"; status=1; }
-    said=$("target/bin/$1" <examples/swing.txt 2>&1 >/dev/full) || true
-    [ "$said" = "standard output can't be written" ] && count=$((count + 1)) || { echo "EXAMPLE: target/bin/$1 says '$said' of a full output"; status=1; }
-    said=$("target/bin/$1" <examples/swing.txt 2>&1 >&-) || true
-    [ "$said" = "standard output can't be written" ] && count=$((count + 1)) || { echo "EXAMPLE: target/bin/$1 says '$said' of a closed output"; status=1; }
+    local said ended
+    said=$("$(program "$1")" <examples 2>&1 >"$made") && ended=0 || ended=$?
+    told "$1" "$ended" "$said" "standard input can't be read" "an input that can't be read"
+    [ ! -s "$made" ] || { echo "EXAMPLE: $(program "$1") prints something of an input that can't be read"; status=1; }
+    said=$("$(program "$1")" <examples/swing.txt 2>&1 >/dev/full) && ended=0 || ended=$?
+    told "$1" "$ended" "$said" "standard output can't be written" "a full output"
+    said=$("$(program "$1")" <examples/swing.txt 2>&1 >&-) && ended=0 || ended=$?
+    told "$1" "$ended" "$said" "standard output can't be written" "a closed output"
 }
-{
+told() { # PROGRAM STATUS SAID EXPECTED OF
+    if [ "$2" -eq 1 ] && [ "$3" = "$4" ]; then count=$((count + 1)); else echo "EXAMPLE: $(program "$1") says '$3' of $5, with status $2"; status=1; fi
+}
+try_cover() {
     for file in examples/*.txt examples/refused/*.txt; do
         try cover "$file" "$file" "${file%.txt}.expected"
     done
+    try_reading cover examples/swing.txt examples/swing.expected
+}
+try_cover_rigid() {
     for file in examples/*.txt; do
         try cover_rigid "$file" "$file" "${file%.txt}.rigid"
     done
@@ -97,8 +107,9 @@ refuses_streams() { # PROGRAM
         [ -f "$expected" ] || expected=${file%.txt}.expected
         try cover_rigid "$file" "$file" "$expected"
     done
-    try_reading cover examples/swing.txt examples/swing.expected
     try_reading cover_rigid examples/swing.txt examples/swing.rigid
+}
+try_rewrite() {
     for file in examples/*.txt; do
         with_pads "$file" >"$form"
         try rewrite "$file" "$file" "$form" "$file with its pads"
@@ -113,6 +124,8 @@ refuses_streams() { # PROGRAM
     done
     with_pads examples/swing.txt >"$form"
     try_reading rewrite examples/swing.txt "$form" "swing.txt with its pads"
+}
+try_stretch() {
     echo accepted >"$form"
     for file in examples/*.txt; do
         try stretch "$file" "$file" "$form" "\`accepted\`"
@@ -123,13 +136,22 @@ refuses_streams() { # PROGRAM
         try stretch "$file" "$file" "$expected"
     done
     try_reading stretch examples/swing.txt "$form" "\`accepted\`"
+}
+try_day() {
     for file in examples/days/*.txt examples/days/refused/*.txt; do
         try day "$file" "$file" "${file%.txt}.expected"
     done
     try_reading day examples/days/five_swings.txt examples/days/five_swings.expected
-    for program in cover cover_rigid rewrite stretch day; do
-        refuses_streams "$program"
-    done
-} 2>&1
+}
+for name_of in cover cover_rigid rewrite stretch day; do
+    is_left tools/examples.sh "$name_of" && continue
+    if [ ! -x "$(program "$name_of")" ]; then
+        echo "EXAMPLE: $(program "$name_of") is missing: \`rt run\` in crates/$name_of proves and builds it"
+        status=1
+        continue
+    fi
+    "try_$name_of"
+    refuses_streams "$name_of"
+done 2>&1
 [ "$status" -ne 0 ] || echo "examples: $count runs on move files and day files, each with the expected output"
 exit "$status"

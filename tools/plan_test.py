@@ -3,7 +3,7 @@
 
   plan_test.py     exit status 1 where a test fails; 0 with a line where there is nothing to test with
 
-The library is what JELLYPLAIN_LIBRARY names, or is made from target/staticlib/libapi.a by the C compiler, or is target/lib/libjellyplain.so.2.
+The library is what JELLYPLAIN_LIBRARY names, or is made from crates/api_c/out/libapi_c.a, which tools/library builds, by the C compiler, or is target/lib/libjellyplain.so.2.
 """
 import contextlib
 import copy
@@ -43,7 +43,7 @@ SCRATCH = tempfile.mkdtemp()
 
 def made_library():
     """The path of a library to test with, or None."""
-    archive = os.path.join(pages.ROOT, "target", "staticlib", "libapi.a")
+    archive = os.path.join(pages.ROOT, "crates", "api_c", "out", "libapi_c.a")
     compiler = shutil.which("cc") or shutil.which("gcc")
     if os.environ.get("JELLYPLAIN_LIBRARY"):
         return os.environ["JELLYPLAIN_LIBRARY"]
@@ -1389,6 +1389,6 @@ if __name__ == "__main__":
         if os.environ["JELLYPLAIN_LIBRARY"]:
             library.load(os.environ["JELLYPLAIN_LIBRARY"])
             unittest.main(verbosity=0)
-        print("tools/plan_test.py: skipped, there is neither target/lib/libjellyplain.so.2 nor target/staticlib/libapi.a with a C compiler")
+        print("tools/plan_test.py: skipped, there is neither target/lib/libjellyplain.so.2 nor crates/api_c/out/libapi_c.a with a C compiler")
     finally:
         shutil.rmtree(SCRATCH, ignore_errors=True)

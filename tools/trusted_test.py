@@ -11,46 +11,61 @@ import pages
 
 # what is done: file, old text, new text, and what has to be said
 TRIALS = {
-    "the order emptied": ("crates/rounding/specs/Order.antt", "  pub holds : T (le x y)\n", "", "`_≼_`"),
+    "the order emptied": ("crates/rounding/specs/Order.antt", "  pub holds : T (le x y)\n", "", "`◌≼◌`"),
     "the pad dropped": ("crates/motion_pad/specs/Grow.antt", "  pub plus : Inside box (Point3f-plus q pad)", "  pub plus : Inside box q", "`PaddedInside`"),
     "room for the text out of reach": ("crates/motion_answer/specs/Theorem.antt", "longest_text = 72", "longest_text = 4294967296", "`longest_text`"),
     "the guarantee deleted from the library's contract": (
-        "crates/api/src/lib.rt", "    ensures contains_motion", None, "the clause `contains_motion` of its contract is gone"),
+        "crates/api_c/src/lib.rt", "    ensures contains_motion", None, "the clause `contains_motion` of its contract is gone"),
     "the guarantee deleted from the program's contract": (
         "crates/motion_answer/src/lib.rt", "    ensures contains_motion", None, "motion_answer::answer: the clause `contains_motion` of its contract is gone"),
+    "a name of the library's contract redirected where it is passed on": (
+        "crates/api/specs/Words.antt", "pub use Rattle.chain_rows.specs.Theorem.{Moves-Holds, KeptChainContainsMotion}",
+        "pub use Rattle.chain_rows.specs.Theorem.{Moves-Holds}\npub use Rattle.chain_covers.specs.Theorem.{KeptSetContainsMotion as KeptChainContainsMotion}",
+        "crates/api_c/src/lib.rt: `KeptChainContainsMotion` is now crates/chain_covers/specs/Theorem.antt as KeptSetContainsMotion's and was crates/chain_rows/specs/Theorem.antt's"),
     "a name of a contract redirected": (
-        "crates/api/src/lib.rt", "ghost use Rattle·chain_rows.specs.Theorem.{Moves-Holds, KeptChainContainsMotion};",
-        "ghost use Rattle·chain_rows.specs.Theorem.{Moves-Holds};\nghost use Rattle·chain_covers.specs.Theorem.{KeptSetContainsMotion as KeptChainContainsMotion};",
-        "crates/api/src/lib.rt: `KeptChainContainsMotion` is now crates/chain_covers/specs/Theorem.antt as KeptSetContainsMotion's and was crates/chain_rows/specs/Theorem.antt's"),
-    "a quotation falsified": ("docs/GUARANTEE.md", "→ Built m → BoundsAnswer-refusal c ≡ 0 → T (not (isNan time)) → Inside b p", "→ Built m → Inside b p", "what it quotes of `CoverContainsMotion`"),
-    "a quoted contract falsified": ("docs/GUARANTEE.md", "ensures value { λ r. ⌜ r ≡ AnimatedTransform-cover m b depth ⌝ }", "ensures value { λ r. ⌜ r ≡ AnimatedTransform-cover m b 12 ⌝ }", "what it quotes of `cover`"),
-    "a name of a definition redirected": ("crates/motion_cover/specs/Theorem.antt", "use mathlib.Core.Bool.{not}", "use lib.Dec.{T as not}", "crates/motion_cover/specs/Theorem.antt: `not` is now lib.Dec as T's and was mathlib.Core.Bool's"),
+        "crates/chain_cover/src/lib.rt", "ghost use Rattle.chain_rows.specs.Theorem.{KeptChainContainsMotion};",
+        "ghost use Rattle.chain_covers.specs.Theorem.{KeptSetContainsMotion as KeptChainContainsMotion};",
+        "crates/chain_cover/src/lib.rt: `KeptChainContainsMotion` is now crates/chain_covers/specs/Theorem.antt as KeptSetContainsMotion's and was crates/chain_rows/specs/Theorem.antt's"),
+    "a quotation falsified": ("docs/GUARANTEE.md", "→ Built m → BoundsAnswer-refusal c ≡ 0 → T (not (is_nan time)) → Inside b p", "→ Built m → Inside b p", "what it quotes of `CoverContainsMotion`"),
+    "a quoted contract falsified": ("docs/GUARANTEE.md", "ensures value { result ≡ AnimatedTransform-cover m b depth }", "ensures value { result ≡ AnimatedTransform-cover m b 12 }", "what it quotes of `cover`"),
+    "a name of a definition redirected": (
+        "crates/motion_cover/specs/Theorem.antt", "use Rattle.std.specs.Prelude.{◌≡◌, not, T, Float}", "use Rattle.std.specs.Prelude.{◌≡◌, T as not, T, Float}",
+        "crates/motion_cover/specs/Theorem.antt: `not` is now lib.Dec as T's and was mathlib.Core.Bool's"),
     "a name brought from a crate's proofs": (
-        "crates/chain_cover/src/lib.rt", "ghost use mathlib.Core.Path.{_≡_};", "ghost use mathlib.Core.Path.{_≡_};\nghost use Rattle·chain_rows.proofs.Kept.{kept-cover};",
-        "crates/chain_cover/src/lib.rt uses Rattle·chain_rows.proofs.Kept.{kept-cover}, which no promise may rest on"),
+        "crates/chain_cover/src/lib.rt", "ghost use Rattle.chain_rows.specs.Finer.{KeptChainFiner};", "ghost use Rattle.chain_rows.specs.Finer.{KeptChainFiner};\nghost use Rattle.chain_rows.proofs.Kept.{kept-cover};",
+        "crates/chain_cover/src/lib.rt uses Rattle.chain_rows.proofs.Kept.{kept-cover}, which no promise may rest on"),
     "a name hidden by a definition": (
-        "crates/motion_chain/specs/Theorem.antt", "abbrev pub ChainContainsMotion", "abbrev pub isNan : Float → Bool\nisNan x = true\n\nabbrev pub ChainContainsMotion",
-        "crates/motion_chain/specs/Theorem.antt: the definition `isNan` is reached now"),
+        "crates/motion_chain/specs/Theorem.antt", "abbrev pub ChainContainsMotion", "abbrev pub is_nan : Float → Bool\nis_nan x = true\n\nabbrev pub ChainContainsMotion",
+        "crates/motion_chain/specs/Theorem.antt: the definition `is_nan` is reached now"),
     "a definition hidden in a comment": (
-        "crates/rounding/specs/Order.antt", "pub record _≼_ (x y : Float) : Type 0 where\n  pub holds : T (le x y)\n",
-        "pub record _≼_ (x y : Float) : Type 0 where\n\n{-\npub record _≼_ (x y : Float) : Type 0 where\n  pub holds : T (le x y)\n-}\n", "a form that could hide a text"),
+        "crates/rounding/specs/Order.antt", "pub record ◌≼◌ (x y : Float) : Type 0 where\n  pub holds : T (le x y)\n",
+        "pub record ◌≼◌ (x y : Float) : Type 0 where\n\n{-\npub record ◌≼◌ (x y : Float) : Type 0 where\n  pub holds : T (le x y)\n-}\n", "a form that could hide a text"),
     "a contract hidden by another": (
         "crates/chain_cover/src/lib.rt", "pub fn cover(", "pub fn cover(rows: u8) -> u8 {\n    rows\n}\n\npub fn cover(", "a second `cover`"),
     "a name brought twice": (
-        "crates/chain_cover/src/lib.rt", "ghost use mathlib.Core.Path.{_≡_};", "ghost use mathlib.Core.Path.{_≡_};\nghost use lib.Dec.{eqb as _≡_};", "a second `_≡_`"),
+        "crates/chain_cover/src/lib.rt", "ghost use Rattle.chain_rows.specs.Finer.{KeptChainFiner};",
+        "ghost use Rattle.chain_rows.specs.Finer.{KeptChainFiner};\nghost use Rattle.std.specs.Prelude.{eqb as ◌≡◌};", "a second `◌≡◌`"),
     "a name brought behind another line": (
-        "crates/chain_cover/src/lib.rt", "ghost use mathlib.Core.Path.{_≡_};", "ghost use mathlib.Core.Path.{_≡_}; ghost use lib.Dec.{T as KeptChainFiner};", "a form that could hide a text"),
+        "crates/chain_cover/src/lib.rt", "ghost use Rattle.chain_rows.specs.Theorem.{KeptChainContainsMotion};",
+        "ghost use Rattle.chain_rows.specs.Theorem.{KeptChainContainsMotion}; ghost use lib.Dec.{T as KeptChainFiner};", "a form that could hide a text"),
+    "a name brought behind a list over lines": (
+        "crates/chain_cover/src/lib.rt", "ghost use Rattle.chain_rows.specs.Theorem.{KeptChainContainsMotion};",
+        "ghost use Rattle.chain_rows.specs.Theorem.{\n    KeptChainContainsMotion\n}; ghost use lib.Dec.{T as KeptChainFiner};", "a form that could hide a text"),
     "a name by its whole path": (
-        "crates/motion_cover/specs/Theorem.antt", "T (not (isNan time))", "T (mathlib.Core.Bool.not (isNan time))", "by its whole path"),
-    "all names of a module": ("crates/motion_cover/specs/Theorem.antt", "use mathlib.Core.Bool.{not}", "use mathlib.Core.Bool.{not}\nuse Below.*", "a `use` whose names can't be told"),
+        "crates/motion_cover/specs/Theorem.antt", "T (not (is_nan time))", "T (Rattle.std.specs.Prelude.not (is_nan time))", "by its whole path"),
+    "all names of a module": (
+        "crates/motion_cover/specs/Theorem.antt", "use Rattle.std.specs.Prelude.{◌≡◌, not, T, Float}", "use Rattle.std.specs.Prelude.{◌≡◌, not, T, Float}\nuse Below.*", "a `use` whose names can't be told"),
     "a name through another module's": (
-        "crates/motion_cover/specs/Theorem.antt", "use mathlib.Core.Bool.{not}", "use mathlib.Core as Core\nuse Core.{Bool.not}", "a `use` whose names can't be told"),
-    "a module below another": ("crates/motion_cover/specs/Theorem.antt", "use mathlib.Core.Path", "pub mod Below\nuse mathlib.Core.Path", "a form that is not known"),
+        "crates/motion_cover/specs/Theorem.antt", "use Rattle.std.specs.Prelude.{◌≡◌, not, T, Float}", "use Rattle.std.specs.Prelude.{◌≡◌, T, Float}\nuse mathlib.Core as Core\nuse Core.{Bool.not}",
+        "a `use` whose names can't be told"),
+    "a module below another": ("crates/motion_cover/specs/Theorem.antt", "use Rattle.std.specs.Prelude", "pub mod Below\nuse Rattle.std.specs.Prelude", "a form that is not known"),
     "a program's own line": ("crates/cover/src/main.rt", "answer(false", "answer(true", "the program cover has changed"),
-    "an operator that binds otherwise": ("crates/float32/specs/Operators.antt", "infixl 75 _⊕_ _⊖_", "infixl 85 _⊕_ _⊖_", "`_⊕_`"),
+    "an operator that binds otherwise": ("crates/float32/specs/Operators.antt", "infixl 75 ◌⊕◌ ◌⊖◌", "infixl 85 ◌⊕◌ ◌⊖◌", "`◌⊕◌`"),
     "a struct with a field more": ("crates/bounds3/src/lib.rt", "pub struct Point3f {", "pub struct Point3f {\n    pub w: f32,", "`Point3f`"),
-    "the list itself edited": ("docs/DEFINITIONS.md", None, "`_≼_` ", "`_≼_`"),
+    "the list itself edited": ("docs/DEFINITIONS.md", None, "`◌≼◌` ", "`◌≼◌`"),
 }
+# modules of the toolchain, one that defines and one that passes on, and their files
+TOOLCHAINS = {"lib.Ieee": "rattle/logic/Lib/Ieee.antt", "Rattle.core.specs.Prelude": "rattle/core/specs/Prelude.antt"}
 
 
 def read(path):
@@ -77,20 +92,18 @@ def tampered(text, old, new):
     return text.replace(old, new, 1)
 
 
-def other_toolchain(folder):
-    """A toolchain whose IEEE 754 is another: links to the one at hand but for one module."""
-    home = os.environ.get("RATTLE_HOME") or os.path.dirname(os.path.dirname(subprocess.run(["rt", "doc"], stdout=subprocess.PIPE, check=True).stdout.decode().strip()))
-    there = folder
-    for name in ["", "logic", "logic/Lib"]:
-        os.makedirs(os.path.join(there, name), exist_ok=True)
-        for entry in os.listdir(os.path.join(home, name)):
-            if not os.path.lexists(os.path.join(there, name, entry)) and os.path.join(name, entry) not in ("logic", "logic/Lib"):
-                os.symlink(os.path.join(home, name, entry), os.path.join(there, name, entry))
-    module = os.path.join(there, "logic/Lib/Ieee.antt")
-    text = read(module)
-    os.remove(module)
-    write(module, text + "\n")
-    return there
+def other_toolchain(folder, module):
+    """A toolchain with one other module: links to the one at hand but for that."""
+    home = os.environ.get("RATTLE_HOME") or os.path.dirname(subprocess.run(["rt", "doc"], stdout=subprocess.PIPE, check=True).stdout.decode().strip())
+    place, parts = "", module.split("/")
+    for part in parts:
+        os.makedirs(os.path.join(folder, place))
+        for entry in os.listdir(os.path.join(home, place)):
+            if entry != part:
+                os.symlink(os.path.join(home, place, entry), os.path.join(folder, place, entry))
+        place = os.path.join(place, part)
+    write(os.path.join(folder, place), read(os.path.join(home, place)) + "\n")
+    return folder
 
 
 def main():
@@ -100,7 +113,7 @@ def main():
         os.makedirs(root)
         for name in ("docs", "tools"):
             shutil.copytree(os.path.join(pages.ROOT, name), os.path.join(root, name), ignore=shutil.ignore_patterns("__pycache__"))
-        shutil.copytree(os.path.join(pages.ROOT, "crates"), os.path.join(root, "crates"), ignore=shutil.ignore_patterns("proofs", "must-fail", "wrong"))
+        shutil.copytree(os.path.join(pages.ROOT, "crates"), os.path.join(root, "crates"), ignore=shutil.ignore_patterns("proofs", "must-fail", "wrong", "out"))
         shutil.copy(os.path.join(pages.ROOT, "crates.txt"), root)
         status, words = said(root)
         if status:
@@ -119,11 +132,13 @@ def main():
                 print("%s: status %d, and not named:\n%s" % (what, status, words))
                 missed += 1
             write(path, text)
-        status, words = said(root, RATTLE_HOME=other_toolchain(os.path.join(folder, "toolchain")))
-        if status != 1 or "the toolchain's module lib.Ieee has changed" not in words:
-            print("another toolchain: status %d, and not named:\n%s" % (status, words))
-            missed += 1
-    print("tools/trusted --check: %d of %d tampered copies are named" % (len(TRIALS) + 1 - missed, len(TRIALS) + 1))
+        for number, (name, file) in enumerate(TOOLCHAINS.items()):
+            status, words = said(root, RATTLE_HOME=other_toolchain(os.path.join(folder, "toolchain%d" % number), file))
+            if status != 1 or "the toolchain's module %s has changed" % name not in words:
+                print("another %s: status %d, and not named:\n%s" % (name, status, words))
+                missed += 1
+    trials = len(TRIALS) + len(TOOLCHAINS)
+    print("tools/trusted --check: %d of %d tampered copies are named" % (trials - missed, trials))
     return 1 if missed else 0
 
 

@@ -2,7 +2,7 @@
 
   python3 python/tests     exit status 1 where a test fails; 0 with a line where there is nothing to test with
 
-The library is what JELLYPLAIN_LIBRARY names, or is made from target/staticlib/libapi.a by the C compiler, or is target/lib/libjellyplain.so.2.
+The library is what JELLYPLAIN_LIBRARY names, or is made from crates/api_c/out/libapi_c.a, which tools/library builds, by the C compiler, or is target/lib/libjellyplain.so.2.
 """
 import os
 import shutil
@@ -19,7 +19,7 @@ sys.path[:0] = [HERE, os.path.dirname(HERE)]
 
 def made_library(folder):
     """The path of a library to test with, or None."""
-    archive, built = os.path.join(ROOT, "target", "staticlib", "libapi.a"), os.path.join(ROOT, "target", "lib", "libjellyplain.so.2")
+    archive, built = os.path.join(ROOT, "crates", "api_c", "out", "libapi_c.a"), os.path.join(ROOT, "target", "lib", "libjellyplain.so.2")
     compiler = shutil.which("cc") or shutil.which("gcc")
     if os.environ.get("JELLYPLAIN_LIBRARY"):
         return os.environ["JELLYPLAIN_LIBRARY"]
@@ -34,7 +34,7 @@ if __name__ == "__main__":
     with tempfile.TemporaryDirectory() as scratch:
         library = made_library(scratch)
         if library is None:
-            print("python/tests: skipped, there is neither target/lib/libjellyplain.so.2 nor target/staticlib/libapi.a with a C compiler")
+            print("python/tests: skipped, there is neither target/lib/libjellyplain.so.2 nor crates/api_c/out/libapi_c.a with a C compiler")
             sys.exit(0)
         os.environ["JELLYPLAIN_LIBRARY"] = library
         found = unittest.defaultTestLoader.discover(HERE, top_level_dir=HERE)

@@ -10,6 +10,7 @@ use borrow.Author.Tests.{le-ltb, ltb-false}
 use lib.Dec.{ltb}
 use lib.ListN.{length}
 use Rattle.bounds3.specs.declared.Bounds3f.{Bounds3f}
+use Rattle.bounds3.specs.Bounds3f.{Bounds3f-union_bounds}
 use Rattle.transform.specs.declared.BoundsAnswer.{BoundsAnswer}
 use Rattle.transform.specs.declared.BoundsAnswer.TheVariants.{Bounds, Refused}
 use Rattle.transform.specs.Answer.{OneOf, BoundsAnswer-refusal, BoundsAnswer-bounds}
@@ -80,7 +81,7 @@ module _ (cover : Bounds3f → BoundsAnswer) where
       → BoundsAnswer-union_all (Bounds r) (map cover (before ++ b ∷ after)) ≡ Refused n
   unfolding BoundsAnswer-union_bounds
   first-joined r [] b after n h e = rw e (union-all-refused n (map cover after))
-  first-joined r (x ∷ before) b after n (h, hs) e = rw h (first-joined _ before b after n hs e)
+  first-joined r (x ∷ before) b after n (h, hs) e = rw h (first-joined (Bounds3f-union_bounds r (cover_box x)) before b after n hs e)
 
   pub first-refused : ((b : Bounds3f) → BoundsAnswer-NonZero (cover b)) → FirstRefused cover
   unfolding Boxes-covers SetAnswer-of

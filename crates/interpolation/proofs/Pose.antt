@@ -48,6 +48,7 @@ product-half a b = refl
 judged-passed : (b : Bool) (m : Matrix4x4) → T b → (PoseAnswer-judged b m).refusal ≡ 0
 unfolding PoseAnswer-judged
 judged-passed true m h = refl
+judged-passed false m h = elim h [ ]
 
 scale-rows : (k : Bool) (s0 s1 : Rows) (x : Float) → Matrix4x4-to_rows (Matrix4x4-from_rows (lerp_scale_by k s0 s1 x)) ≡ lerp_scale_by k s0 s1 x
 unfolding lerp_scale_by
@@ -67,6 +68,7 @@ transform-same m x =
 judged-matrix : (b : Bool) (m : Matrix4x4) → T b → (PoseAnswer-judged b m).m ≡ m
 unfolding PoseAnswer-judged
 judged-matrix true m h = refl
+judged-matrix false m h = elim h [ ]
 
 affine-bottom : (m : Matrix4x4) → m.r3 ≡ bottom_row → T (Matrix4x4-is_affine (Matrix4x4-to_rows m))
 unfolding Matrix4x4-is_affine eq of_bits

@@ -22,9 +22,11 @@ use Rattle.interpolation.specs.Promise.{Between}
 
 taken : (b : Bool) (x y : TransformAnswer) → T b → cond b x y ≡ x
 taken true x y h = refl
+taken false x y h = elim h [ ]
 
 left : (b : Bool) (x y : TransformAnswer) → T (not b) → cond b x y ≡ y
 left false x y h = refl
+left true x y h = elim h [ ]
 
 stored-judged : {t : Transform} → StoredPose t → TransformAnswer-judged t ≡ TransformAnswer-accepted t
 unfolding Transform-is_finite TransformAnswer-judged
@@ -66,3 +68,4 @@ module _ (m : AnimatedTransform) (between : Float → TransformAnswer) (time : F
     where
       still : (e a : Bool) → T e → a ≡ not e → T (not a || le time m.start_time)
       still true a t p = rw p tt
+      still false a t p = elim t [ ]

@@ -6,7 +6,7 @@
 use mathlib.Core.Path.{◌≡◌, refl, sym, ap, subst, ◌∙◌}
 use mathlib.Core.Logic.{◌⊎◌, inl, inr}
 use mathlib.Core.Bool.{Bool, true, false, not, cond, true≢false}
-use Prim.Native.Nat.{ℕ, suc, ◌+◌, ◌*◌, ◌^◌, ◌≤◌, ◌<◌}
+use Prim.Native.Nat.{ℕ, zero, suc, ◌+◌, ◌*◌, ◌^◌, ◌≤◌, ◌<◌}
 use native.Mathlib.Nat.{le_trans, mul-pos, mul-le-mul, mul-le-mul_right}
 use native.Mathlib.Omega.{arith}
 use borrow.Author.Tests.{ltb-false, lt-ltb, le-ltb}
@@ -273,6 +273,7 @@ large-refused {j} s u l z = go (near_interval j u) (λ h. near-wide s u h)
 -- ---- a run that meets a far angle
 run-one-far : (f : MotionDerivative) (n : ℕ) (t u : Float) → MeetsFar f n t u
     → (MotionDerivative-newton f n t ≡ u) ⊎ (MotionDerivative-newton f n t ≡ nan)
+run-one-far f zero t u x = elim x [ ]
 run-one-far f (suc n) t u (MeetsFar.here h) = newton-one-far f n t h
 run-one-far f (suc n) t u (MeetsFar.further h r) = elim (run-one-far f n _ u r) [
   | inl e ↦ inl (further-newton f n t h ∙ e)
@@ -313,6 +314,7 @@ meets-ends-in-nan f fθ c n t u ft r = go (lt (abs u) (of_bits binary32 0x7f0000
     doubles = wide-doubles f.theta (record { low = ≼_trans minus-one-rotation c.low; high = ≼_trans c.high quarter-two })
 
     met : (n : ℕ) (t : Float) → MeetsFar f n t u → Large u → MotionDerivative-newton f n t ≡ nan
+    met zero t x l = elim x [ ]
     met (suc n) t (MeetsFar.here h) l = newton-far f n t (large-times (two ⊗ f.theta) t (twice-rotation c) l) (large-value t f.theta l)
     met (suc n) t (MeetsFar.further h r) l = further-newton f n t h ∙ met n _ r l
 

@@ -115,6 +115,7 @@ further-newton f n t h =
     newton-step f t n (MotionDerivative-value f t) (MotionDerivative-slope f t) refl refl ∙ ap (λ (b : Bool). cond b t next) h
 
 pub ends-in-nan : (f : MotionDerivative) → T (fits binary32 f.theta) → Doubles f.theta → EndsInNanBelow f
+ends-in-nan f fθ dθ zero t u ft x d = elim x [ ]
 ends-in-nan f fθ dθ (suc n) t u ft (MeetsFar.here h) d = newton-far f n t (both h).0 (both h).1
   where
     both : Far (value_angle f t) ⊎ Far (slope_angle f t) → Far (value_angle f t) × Far (slope_angle f t)

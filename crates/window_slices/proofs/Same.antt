@@ -26,4 +26,5 @@ valued_same (Refused n) v = same-refusal n
 pub union-all-same : {r s : BoundsAnswer} → BoundsAnswer-Same r s → (l : List BoundsAnswer) → Each Valued l
     → BoundsAnswer-Same (BoundsAnswer-union_all r l) (BoundsAnswer-union_all s l)
 union-all-same h [] v = h
-union-all-same h (x ∷ l) (v, vs) = union-all-same (union-same h (valued_same x v)) l vs
+union-all-same {r = r} {s = s} h (x ∷ l) (v, vs) =
+    union-all-same {r = BoundsAnswer-union_bounds r x} {s = BoundsAnswer-union_bounds s x} (union-same h (valued_same x v)) l vs

@@ -3,4 +3,4 @@ use borrow.Author.Rules.{rules}
 use Rattle.api.proofs.jellyplain_cut.Goals as goal
 
 pub returns : goal.returns
-returns c = let all = rw (← c.bounds.ensures.value) (c.cut.ensures.refusal, (c.cut.ensures.left, (c.cut.ensures.parts_within, c.cut.ensures.parts_cover))) in record { refusal = all.0; left = all.1.0; parts_within = all.1.1.0; parts_cover = all.1.1.1 }
+returns c = record { refusal = rw c.bounds.ensures.value at c.cut.ensures.refusal; left = rw c.bounds.ensures.value at c.cut.ensures.left; parts_within = rw c.bounds.ensures.value at c.cut.ensures.parts_within; parts_cover = rw c.bounds.ensures.value at c.cut.ensures.parts_cover }

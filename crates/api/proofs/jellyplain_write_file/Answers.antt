@@ -3,4 +3,4 @@ use borrow.Author.Rules.{rules}
 use Rattle.api.proofs.jellyplain_write_file.Goals as goal
 
 pub returns : goal.returns
-returns c = let all = rw (← c.bounds.ensures.value, ← c.asked.ensures.value) (c.write.ensures.refusal, (c.write.ensures.length, (c.write.ensures.left, c.write.ensures.written_back))) in record { refusal = all.0; length = all.1.0; left = all.1.1.0; written_back = all.1.1.1 }
+returns c = record { refusal = rw (c.bounds.ensures.value, c.asked.ensures.value) at c.write.ensures.refusal; length = rw (c.bounds.ensures.value, c.asked.ensures.value) at c.write.ensures.length; left = rw (c.bounds.ensures.value, c.asked.ensures.value) at c.write.ensures.left; written_back = rw (c.bounds.ensures.value, c.asked.ensures.value) at c.write.ensures.written_back }

@@ -20,5 +20,5 @@ pub returns-then-refusal-ne0 : goal.returns-then-refusal-ne0
 returns-then-refusal-ne0 c = let lists = c.args.poses.now in let all = pair-refused c.args.rigid (Poses-of_lists lists) (length lists) c.args.moves.now c.requires.poses_value c.put_pairs-refusal.ensures.refusal c.if-refusal-ne0.true in record { refusal = all.0; left = all.1.0; holds = all.1.1 }
 
 pub returns : goal.returns
-returns c = let lists = c.args.poses.now in let poses = Poses-of_lists lists in let work = (c.put_pairs-refusal.ensures.refusal, (c.put_pairs-refusal.ensures.left, c.put_pairs-refusal.ensures.built)) in let none = c.if-refusal-ne0.false in let left = work.1.0 none ∙ ap (λ (old : List Rows). blocks_left (map (Pair-rows c.args.rigid) (neighbours poses)) old) c.requires.copy_value in let all = all-built c.args.rigid poses (length lists) c.args.moves.now
-    (sym (poses-length lists)) c.requires.poses_value (sym none ∙ work.0) left (work.1.1 none) in record { refusal = all.0; left = all.1.0; holds = all.1.1 }
+returns c = let lists = c.args.poses.now in let poses = Poses-of_lists lists in let none = c.if-refusal-ne0.false in let left = c.put_pairs-refusal.ensures.left none ∙ ap (λ (old : List Rows). blocks_left (map (Pair-rows c.args.rigid) (neighbours poses)) old) c.requires.copy_value in let all = all-built c.args.rigid poses (length lists) c.args.moves.now
+    (sym (poses-length lists)) c.requires.poses_value (sym none ∙ c.put_pairs-refusal.ensures.refusal) left (c.put_pairs-refusal.ensures.built none) in record { refusal = all.0; left = all.1.0; holds = all.1.1 }

@@ -28,18 +28,17 @@ loop-i-preserved c =
     let l = c.loop-i in
     let a = c.args in
     let next = pairs_next a.poses.now l.i l.invariant.1.0 c.loop-i-test.true in
-    let put = (c.put_pair-refusal.ensures.refusal, (c.put_pair-refusal.ensures.left, c.put_pair-refusal.ensures.built)) in
     let z = c.if-refusal-ne0.false in
     let pair = Poses-pair_at a.poses.now (l.i - 1) in (
       refl,
       (
         omega arith,
         (
-          rw (← l.invariant.1.1.0, next, ← put.0, eq-eqb _ 0 z),
+          rw (← l.invariant.1.1.0, next, ← c.put_pair-refusal.ensures.refusal, eq-eqb _ 0 z),
           (
-            put_next a.rigid l.moves l.i pair (pairs_from a.poses.now (l.i + 1)) l.invariant.1.0 (put.1.0 z)
+            put_next a.rigid l.moves l.i pair (pairs_from a.poses.now (l.i + 1)) l.invariant.1.0 (c.put_pair-refusal.ensures.left z)
                 ∙ (rw (← next) refl ∙ l.invariant.1.1.1.0),
-            λ rest. l.invariant.1.1.1.1 (rw next (put.1.1 z, rest)),
+            λ rest. l.invariant.1.1.1.1 (rw next (c.put_pair-refusal.ensures.built z, rest)),
           ),
         ),
       ),
@@ -47,4 +46,4 @@ loop-i-preserved c =
 
 pub returns : goal.returns
 unfolding first_number put
-returns c = let l = c.loop-i in let a = c.args in let pre = (c.requires.poses_len_bound, c.requires.moves_len) in let end = pairs_end a.poses.now l.i l.invariant.1.0 c.loop-i-test.false in let poses = Poses-of_lists a.poses.now in let n = poses-length a.poses.now in let k = pairs-count poses in record { refusal = rw (← l.invariant.1.1.0, end); left = λ z. rw end at l.invariant.1.1.1.0 ∙ put_front a.rigid (pairs_from a.poses.now 1) a.moves.now (omega (arith, n, k, pre)); built = λ z. l.invariant.1.1.1.1 (rw end tt) }
+returns c = let l = c.loop-i in let a = c.args in let end = pairs_end a.poses.now l.i l.invariant.1.0 c.loop-i-test.false in let poses = Poses-of_lists a.poses.now in let n = poses-length a.poses.now in let k = pairs-count poses in record { refusal = rw (← l.invariant.1.1.0, end); left = λ z. rw end at l.invariant.1.1.1.0 ∙ put_front a.rigid (pairs_from a.poses.now 1) a.moves.now (omega (arith, n, k, c.requires.poses_len_bound, c.requires.moves_len)); built = λ z. l.invariant.1.1.1.1 (rw end tt) }

@@ -20,5 +20,4 @@ pub union_places-requires : goal.union_places-requires
 union_places-requires c = let l = c.if-n-gt-MAX_BOXES.false in let n = c.if-n-eq0.false in let a = c.args in record { n_nonzero = omega (arith, n); n_le_max_boxes = l; places_len = places-size a.moves.now a.boxes.now a.depth a.covers.now a.union.now l (c.covers-front.ensures.front, c.covers-front.ensures.places) }
 
 pub returns : goal.returns
-returns c = let some = c.if-moves-eq0.false in let l = c.if-n-gt-MAX_BOXES.false in let a = c.args in let w = (c.covers-front.ensures.front, c.covers-front.ensures.places) in let u = c.union_places.ensures.value in let all = rw c.bounds_values.ensures.value
-    (all-accepted a.moves.now a.boxes.now a.depth a.covers.now a.union.now some l w c.if-n-eq0.false c.if-front-n.false _ u) in record { refusal = all.0; covers = all.1.0; union = all.1.1.0; contains_motion = all.1.1.1.0; finer = all.1.1.1.1 }
+returns c = let some = c.if-moves-eq0.false in let l = c.if-n-gt-MAX_BOXES.false in let a = c.args in let u = c.union_places.ensures.value in let all = all-accepted a.moves.now a.boxes.now a.depth a.covers.now a.union.now some l (c.covers-front.ensures.front, c.covers-front.ensures.places) c.if-n-eq0.false c.if-front-n.false _ u in record { refusal = all.0; covers = all.1.0; union = rw c.bounds_values.ensures.value all.1.1.0; contains_motion = rw c.bounds_values.ensures.value all.1.1.1.0; finer = rw c.bounds_values.ensures.value all.1.1.1.1 }

@@ -14,10 +14,9 @@ loop-i-init c = let a = c.args in (search rules, joined-first a.moved.now a.plac
 pub loop-i-preserved : goal.loop-i-preserved
 loop-i-preserved c =
     let t = c.loop-i-test.true in
-    let h = (c.requires.count_le_place_count, c.requires.count_in_bounds) in
     let a = c.args in
     let written = ap (set c.loop-i.places c.loop-i.i) c.join_box.ensures.left in
-    (omega (arith, t), joined-next a.moved.now a.places.now c.loop-i.invariant.1 (omega (arith, t, h)) written)
+    (omega (arith, t), joined-next a.moved.now a.places.now c.loop-i.invariant.1 (omega (arith, t, c.requires.count_le_place_count, c.requires.count_in_bounds)) written)
 
 pub returns : goal.returns
 returns c = record { left = let l = c.loop-i in

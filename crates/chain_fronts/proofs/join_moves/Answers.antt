@@ -10,9 +10,8 @@ use Rattle.chain_fronts.proofs.join_moves.Goals as goal
 pub loop-i-init : goal.loop-i-init
 loop-i-init c =
     let a = c.args in
-    let h = (c.requires.fact, c.requires.boxes_len_bound) in
-    let first = reached-first a.moves.now a.boxes.now a.depth c.from_rows.ensures.value h.1 (c.covers-front.ensures.front, c.covers-front.ensures.places) in
-    (refl, (omega (arith, h), first))
+    let first = reached-first a.moves.now a.boxes.now a.depth c.from_rows.ensures.value c.requires.boxes_len_bound (c.covers-front.ensures.front, c.covers-front.ensures.places) in
+    (refl, (omega (arith, c.requires.fact, c.requires.boxes_len_bound), first))
 
 pub loop-i-preserved : goal.loop-i-preserved
 loop-i-preserved c =

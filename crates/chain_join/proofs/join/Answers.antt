@@ -41,8 +41,8 @@ pub returns : goal.returns
 returns c = let some = c.if-first-second.false in let a = c.args in let first = a.first.now in let second = a.second.now in let old = a.joined.now in let h =
     has_room first second old some
     c.mismatch_refusal-mismatch.ensures.value c.count_refusal-count.ensures.value c.rise_refusal-rise.ensures.value
-    c.first_refusal-later.ensures.value c.first_refusal-refusal.ensures.value c.if-refusal-ne0.false in let put = (c.with_blocks-front.ensures.places, c.with_blocks-front.ensures.value) in let places = put.0 in let all = all-joined first second old some
+    c.first_refusal-later.ensures.value c.first_refusal-refusal.ensures.value c.if-refusal-ne0.false in let places = c.with_blocks-front.ensures.places in let all = all-joined first second old some
     c.mismatch_refusal-mismatch.ensures.value c.count_refusal-count.ensures.value c.rise_refusal-rise.ensures.value
     c.first_refusal-later.ensures.value c.first_refusal-refusal.ensures.value
     c.mismatch_refusal-mismatch.ensures.same c.if-refusal-ne0.false
-    (two-fronts first second old (omega (arith, h, places)) put.1 c.with_blocks.ensures.value) in record { refusal = all.0; left = all.1.0; kept = all.1.1 }
+    (two-fronts first second old (omega (arith, h, places)) c.with_blocks-front.ensures.value c.with_blocks.ensures.value) in record { refusal = all.0; left = all.1.0; kept = all.1.1 }

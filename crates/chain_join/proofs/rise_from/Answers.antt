@@ -1,6 +1,7 @@
 -- `rise_from` meets its contract: what is left from i on, after the last time, is what was asked of all.
 use Prim.Native.Nat.{◌+◌, ◌-◌, ◌≤◌}
-use mathlib.Core.Path.{◌≡◌, refl, sym, ◌∙◌}
+use mathlib.Core.Path.{◌≡◌, refl, sym, ap, ◌∙◌}
+use mathlib.Core.Bool.{not}
 use native.Mathlib.Omega.{arith}
 use borrow.Author.Rules.{rules}
 use lib.ListN.{length, drop}
@@ -14,14 +15,14 @@ loop-i-init c = (omega arith, refl)
 pub returns-then-not-last-end : goal.returns-then-not-last-end
 returns-then-not-last-end c = record { value = let l = c.loop-i in
     let a = c.args in
-    sym (rise-fails l.last a.moves.now l.i c.loop-i-test.true c.if-not-last-end.true) ∙ l.invariant.1 }
+    sym (rise-fails l.last a.moves.now l.i c.loop-i-test.true (ap not c.if-not-last-end.true)) ∙ l.invariant.1 }
 
 pub loop-i-preserved : goal.loop-i-preserved
 loop-i-preserved c =
     let l = c.loop-i in
     let a = c.args in
     let more = c.loop-i-test.true in
-    (omega (arith, more), rise-goes l.last a.moves.now l.i more c.if-not-last-end.false ∙ l.invariant.1)
+    (omega (arith, more), rise-goes l.last a.moves.now l.i more (ap not c.if-not-last-end.false) ∙ l.invariant.1)
 
 pub returns : goal.returns
 returns c = record { value = let l = c.loop-i in

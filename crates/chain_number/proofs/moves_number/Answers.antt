@@ -15,10 +15,12 @@ pub loop-i-init : goal.loop-i-init
 loop-i-init c = (refl, (omega arith, refl))
 
 pub returns-then-number-ne0 : goal.returns-then-number-ne0
-returns-then-number-ne0 c = record { value = let l = c.loop-i in
-    let a = c.args in
-    let next = moves_next a.rigid a.poses.now l.i l.invariant.1.0 c.loop-i-test.true c.move_number-number.ensures.value in
-    rw (← l.invariant.1.1, next, ne_eqb _ 0 c.if-number-ne0.true) }
+returns-then-number-ne0 c = record {
+  value = let l = c.loop-i in
+      let a = c.args in
+      let next = moves_next a.rigid a.poses.now l.i l.invariant.1.0 c.loop-i-test.true c.move_number-number.ensures.value in
+      rw (← l.invariant.1.1, next, ne_eqb _ 0 c.if-number-ne0.true);
+}
 
 pub loop-i-preserved : goal.loop-i-preserved
 loop-i-preserved c =
@@ -29,6 +31,8 @@ loop-i-preserved c =
 
 pub returns : goal.returns
 unfolding first_number
-returns c = record { value = let l = c.loop-i in
-    let a = c.args in
-    rw (← l.invariant.1.1, pairs_end a.poses.now l.i l.invariant.1.0 c.loop-i-test.false) }
+returns c = record {
+  value = let l = c.loop-i in
+      let a = c.args in
+      rw (← l.invariant.1.1, pairs_end a.poses.now l.i l.invariant.1.0 c.loop-i-test.false);
+}

@@ -6,9 +6,13 @@ use Rattle.chain_number.proofs.ChainNumber.{chain-number}
 use Rattle.chain_number.proofs.number.Goals as goal
 
 pub returns-then-checked-ne0 : goal.returns-then-checked-ne0
-returns-then-checked-ne0 c = record { value = let a = c.args in
-    rw (chain-number a.rigid (Poses-of_lists a.poses.now), ← c.refusal-checked.ensures.value, ne_eqb _ 0 c.if-checked-ne0.true) }
+returns-then-checked-ne0 c = record {
+  value = let a = c.args in
+      rw (chain-number a.rigid (Poses-of_lists a.poses.now), ← c.refusal-checked.ensures.value, ne_eqb _ 0 c.if-checked-ne0.true);
+}
 
 pub returns : goal.returns
-returns c = record { value = let a = c.args in
-    rw (chain-number a.rigid (Poses-of_lists a.poses.now), ← c.refusal-checked.ensures.value, eq-eqb _ 0 c.if-checked-ne0.false, c.moves_number.ensures.value) }
+returns c = record {
+  value = let a = c.args in
+      rw (chain-number a.rigid (Poses-of_lists a.poses.now), ← c.refusal-checked.ensures.value, eq-eqb _ 0 c.if-checked-ne0.false, c.moves_number.ensures.value);
+}

@@ -14,10 +14,12 @@ loop-i-init c = (refl, (omega arith, refl))
 
 pub returns-then-number-ne0 : goal.returns-then-number-ne0
 unfolding first_number
-returns-then-number-ne0 c = record { value = let l = c.loop-i in
-    let a = c.args in
-    let next = pairs_next a.poses.now l.i l.invariant.1.0 c.loop-i-test.true in
-    rw (← l.invariant.1.1, next, ← c.pair_number_at-number.ensures.value, ne_eqb _ 0 c.if-number-ne0.true) }
+returns-then-number-ne0 c = record {
+  value = let l = c.loop-i in
+      let a = c.args in
+      let next = pairs_next a.poses.now l.i l.invariant.1.0 c.loop-i-test.true in
+      rw (← l.invariant.1.1, next, ← c.pair_number_at-number.ensures.value, ne_eqb _ 0 c.if-number-ne0.true);
+}
 
 pub loop-i-preserved : goal.loop-i-preserved
 unfolding first_number
@@ -29,6 +31,8 @@ loop-i-preserved c =
 
 pub returns : goal.returns
 unfolding first_number
-returns c = record { value = let l = c.loop-i in
-    let a = c.args in
-    rw (← l.invariant.1.1, pairs_end a.poses.now l.i l.invariant.1.0 c.loop-i-test.false) }
+returns c = record {
+  value = let l = c.loop-i in
+      let a = c.args in
+      rw (← l.invariant.1.1, pairs_end a.poses.now l.i l.invariant.1.0 c.loop-i-test.false);
+}

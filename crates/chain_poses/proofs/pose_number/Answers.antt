@@ -22,28 +22,34 @@ returns-then-k-eq2 c = record { value = rw (ne_eqb _ 1 c.if-k-eq1.false, eq-eqb 
 
 pub returns-then-is_padded : goal.returns-then-is_padded
 unfolding Pose-number
-returns-then-is_padded c = record { value = rw (
-      ne_eqb _ 1 c.if-k-eq1.false,
-      ne_eqb _ 2 c.if-k-eq2.false,
-      eq-eqb _ 16 c.if-k-eq16.true,
-      ← c.is_padded.ensures.value,
-      c.if-is_padded.true,
-    ) }
+returns-then-is_padded c = record {
+  value = rw (
+    ne_eqb _ 1 c.if-k-eq1.false,
+    ne_eqb _ 2 c.if-k-eq2.false,
+    eq-eqb _ 16 c.if-k-eq16.true,
+    ← c.is_padded.ensures.value,
+    c.if-is_padded.true,
+  );
+}
 
 pub returns-then-k-eq16 : goal.returns-then-k-eq16
 unfolding Pose-number
-returns-then-k-eq16 c = record { value = rw (
-      ne_eqb _ 1 c.if-k-eq1.false,
-      ne_eqb _ 2 c.if-k-eq2.false,
-      eq-eqb _ 16 c.if-k-eq16.true,
-      ← c.is_padded.ensures.value,
-      c.if-is_padded.false,
-    ) }
+returns-then-k-eq16 c = record {
+  value = rw (
+    ne_eqb _ 1 c.if-k-eq1.false,
+    ne_eqb _ 2 c.if-k-eq2.false,
+    eq-eqb _ 16 c.if-k-eq16.true,
+    ← c.is_padded.ensures.value,
+    c.if-is_padded.false,
+  );
+}
 
 pub returns-then-k-eq17 : goal.returns-then-k-eq17
 unfolding Pose-number
-returns-then-k-eq17 c = record { value = rw (ne_eqb _ 1 c.if-k-eq1.false, ne_eqb _ 2 c.if-k-eq2.false, ne_eqb _ 16 c.if-k-eq16.false, eq-eqb _ 17 c.if-k-eq17.true)
-    c.kind_number.ensures.value }
+returns-then-k-eq17 c = record {
+  value = rw (ne_eqb _ 1 c.if-k-eq1.false, ne_eqb _ 2 c.if-k-eq2.false, ne_eqb _ 16 c.if-k-eq16.false, eq-eqb _ 17 c.if-k-eq17.true)
+      c.kind_number.ensures.value;
+}
 
 pub returns : goal.returns
 unfolding Pose-number

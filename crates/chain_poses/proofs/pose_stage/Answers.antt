@@ -13,10 +13,12 @@ loop-i-init c = (refl, refl)
 
 pub returns-then-number-ne0 : goal.returns-then-number-ne0
 unfolding first_number
-returns-then-number-ne0 c = record { value = let l = c.loop-i in
-    let a = c.args in
-    let next = poses-next a.poses.now l.i c.loop-i-test.true in
-    rw (← l.invariant.1, next, ← c.pose_number_at-number.ensures.value, ne_eqb _ 0 c.if-number-ne0.true) }
+returns-then-number-ne0 c = record {
+  value = let l = c.loop-i in
+      let a = c.args in
+      let next = poses-next a.poses.now l.i c.loop-i-test.true in
+      rw (← l.invariant.1, next, ← c.pose_number_at-number.ensures.value, ne_eqb _ 0 c.if-number-ne0.true);
+}
 
 pub loop-i-preserved : goal.loop-i-preserved
 unfolding first_number
@@ -28,6 +30,8 @@ loop-i-preserved c =
 
 pub returns : goal.returns
 unfolding first_number
-returns c = record { value = let l = c.loop-i in
-    let a = c.args in
-    rw (← l.invariant.1, poses-end a.poses.now l.i c.loop-i-test.false) }
+returns c = record {
+  value = let l = c.loop-i in
+      let a = c.args in
+      rw (← l.invariant.1, poses-end a.poses.now l.i c.loop-i-test.false);
+}

@@ -10,5 +10,8 @@ use Rattle.chain_text.proofs.Floats.{array-floats}
 use Rattle.chain_text.proofs.put_pose.Goals as goal
 
 pub returns : goal.returns
-returns c = let a = c.args in let values = Pose-values (Pose-of_list a.pose) in let (words, (shape, each)) = c.well_formed.0 in record { left = rw (c.write_values.ensures.text, c.line_values.ensures)
-          (part-front (values_text values) a.out.now a.at 126 (omega (arith, length-values values)) c.requires); floats = array-floats a.pose words 18 shape.1 each }
+returns c = let a = c.args in let values = Pose-values (Pose-of_list a.pose) in let (words, (shape, each)) = c.well_formed.0 in record {
+  left = rw (c.write_values.ensures.text, c.line_values.ensures)
+      (part-front (values_text values) a.out.now a.at 126 (omega (arith, length-values values)) c.requires);
+  floats = array-floats a.pose words 18 shape.1 each;
+}

@@ -13,21 +13,18 @@ use Rattle.chain_times.proofs.Stretches.{asked_from, floats-next, floats-last}
 use Rattle.chain_times.proofs.fill_all.Goals as goal
 
 pub loop-i-init : goal.loop-i-init
-loop-i-init c = let e = (c.requires.moves_nonzero, (c.requires.answers_len, c.requires.times_value)) in (omega (arith, e.0), (omega arith, (omega arith, (e.1.0, refl))))
+loop-i-init c = (omega (arith, c.requires.moves_nonzero), (omega arith, (omega arith, (c.requires.answers_len, refl))))
 
 pub loop-i-preserved : goal.loop-i-preserved
 loop-i-preserved c =
     let l = c.loop-i in
     let a = c.args in
-    let e = (c.requires.moves_nonzero, (c.requires.answers_len, c.requires.times_value)) in
     let h = c.loop-i-test.true in
-    let s = (c.stretch_end-to.ensures.value, (c.stretch_end-to.ensures.below, c.stretch_end-to.ensures.above)) in
-    let f = (c.fill_part.ensures.left, c.fill_part.ensures.same) in
     let n : suc l.i < length a.moves.now = omega (arith, h, l.invariant.0) in
-    let r = rises-drop l.from a.times.now (subst T (sym e.1.1) tt) in
+    let r = rises-drop l.from a.times.now (subst T (sym c.requires.times_value) tt) in
     let next =
-    floats-next a.moves.now a.p a.times.now l.answers l.i l.from n r l.invariant.1.1.1.0 s.0 s.1.1 s.1.0 f.0 in
-    (l.invariant.0, (omega (arith, h), (s.1.0, (f.1 ∙ l.invariant.1.1.1.0, next ∙ l.invariant.1.1.1.1))))
+    floats-next a.moves.now a.p a.times.now l.answers l.i l.from n r l.invariant.1.1.1.0 c.stretch_end-to.ensures.value c.stretch_end-to.ensures.above c.stretch_end-to.ensures.below c.fill_part.ensures.left in
+    (l.invariant.0, (omega (arith, h), (c.stretch_end-to.ensures.below, (c.fill_part.ensures.same ∙ l.invariant.1.1.1.0, next ∙ l.invariant.1.1.1.1))))
 
 pub shape_of-answers : goal.shape_of-answers
 shape_of-answers c =

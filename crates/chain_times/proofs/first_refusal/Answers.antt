@@ -12,29 +12,25 @@ use Rattle.chain_times.proofs.Numbers.{number-here, number-next, number-last}
 use Rattle.chain_times.proofs.first_refusal.Goals as goal
 
 pub loop-i-init : goal.loop-i-init
-loop-i-init c = let e = (c.requires.moves_nonzero, c.requires.times_value) in (refl, (omega (arith, e.0), (omega arith, (omega arith, refl))))
+loop-i-init c = (refl, (omega (arith, c.requires.moves_nonzero), (omega arith, (omega arith, refl))))
 
 pub returns-then-number-ne0 : goal.returns-then-number-ne0
 returns-then-number-ne0 c = record { value = let l = c.loop-i in
     let a = c.args in
-    let e = (c.requires.moves_nonzero, c.requires.times_value) in
     let h = c.loop-i-test.true in
-    let s = (c.stretch_end-end.ensures.value, (c.stretch_end-end.ensures.below, c.stretch_end-end.ensures.above)) in
     let n : suc l.i < length a.moves.now = omega (arith, h, l.invariant.1.0) in
-    let r = rises-drop l.from a.times.now (subst T (sym e.1) tt) in
-    number-here a.moves.now a.p a.times.now l.i l.from n r s.0 c.first_refusal-number.ensures.value c.if-number-ne0.true ∙ l.invariant.1.1.1.1 }
+    let r = rises-drop l.from a.times.now (subst T (sym c.requires.times_value) tt) in
+    number-here a.moves.now a.p a.times.now l.i l.from n r c.stretch_end-end.ensures.value c.first_refusal-number.ensures.value c.if-number-ne0.true ∙ l.invariant.1.1.1.1 }
 
 pub loop-i-preserved : goal.loop-i-preserved
 loop-i-preserved c =
     let l = c.loop-i in
     let a = c.args in
-    let e = (c.requires.moves_nonzero, c.requires.times_value) in
     let h = c.loop-i-test.true in
-    let s = (c.stretch_end-end.ensures.value, (c.stretch_end-end.ensures.below, c.stretch_end-end.ensures.above)) in
     let n : suc l.i < length a.moves.now = omega (arith, h, l.invariant.1.0) in
-    let r = rises-drop l.from a.times.now (subst T (sym e.1) tt) in
-    let next = number-next a.moves.now a.p a.times.now l.i l.from n r s.0 c.first_refusal-number.ensures.value c.if-number-ne0.false in
-    (refl, (l.invariant.1.0, (omega (arith, h), (s.1.0, next ∙ l.invariant.1.1.1.1))))
+    let r = rises-drop l.from a.times.now (subst T (sym c.requires.times_value) tt) in
+    let next = number-next a.moves.now a.p a.times.now l.i l.from n r c.stretch_end-end.ensures.value c.first_refusal-number.ensures.value c.if-number-ne0.false in
+    (refl, (l.invariant.1.0, (omega (arith, h), (c.stretch_end-end.ensures.below, next ∙ l.invariant.1.1.1.1))))
 
 pub returns : goal.returns
 returns c = record { value = let l = c.loop-i in

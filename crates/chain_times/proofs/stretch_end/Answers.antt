@@ -14,7 +14,7 @@ pub loop-i-init : goal.loop-i-init
 loop-i-init c = (refl, (omega arith, (search rules, refl)))
 
 pub returns-then-not-times-i : goal.returns-then-not-times-i
-returns-then-not-times-i c = let l = c.loop-i in let a = c.args in let h = c.loop-i-test.true in record { value = sym (count-here a.end a.times.now l.i h (not-true (le (get_or a.times.now l.i nan) a.end) c.if-not-times-i.true)) ∙ l.invariant.1.1.1; below = omega (arith, h); above = l.invariant.1.0 }
+returns-then-not-times-i c = let l = c.loop-i in let a = c.args in let h = c.loop-i-test.true in record { value = sym (count-here a.end a.times.now l.i h c.if-not-times-i.true) ∙ l.invariant.1.1.1; below = omega (arith, h); above = l.invariant.1.0 }
 
 pub loop-i-preserved : goal.loop-i-preserved
 loop-i-preserved c =

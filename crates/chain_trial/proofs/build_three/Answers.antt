@@ -9,5 +9,5 @@ use Rattle.chain_trial.proofs.build_three.Goals as goal
 
 pub returns : goal.returns
 unfolding Poses-of_lists
-returns c = let a = c.args in let build = (c.build.ensures.refusal, (c.build.ensures.left, c.build.ensures.holds)) in let all = built-clauses a.rigid (a.start ∷ a.middle ∷ a.end ∷ []) (Pose-of_list a.start ∷ Pose-of_list a.middle ∷ Pose-of_list a.end ∷ [])
-    a.blocks.now refl c.requires build.0 build.1.0 build.1.1 in record { refusal = all.0; built = all.1.0; same = all.1.1 }
+returns c = let a = c.args in let all = built-clauses a.rigid (a.start ∷ a.middle ∷ a.end ∷ []) (Pose-of_list a.start ∷ Pose-of_list a.middle ∷ Pose-of_list a.end ∷ [])
+    a.blocks.now refl c.requires c.build.ensures.refusal c.build.ensures.left c.build.ensures.holds in record { refusal = all.0; built = all.1.0; same = all.1.1 }

@@ -12,19 +12,16 @@ use Rattle.chain_trial.proofs.changed_cover.Goals as goal
 pub slice_bounds-blocks-end : goal.slice_bounds-blocks-end
 slice_bounds-blocks-end c =
     let a = c.args in
-    let pre = (c.requires.moves_nonzero, (c.requires.moves_len_bound, c.requires.place_in_bounds)) in
-    let changed = changed-front a.moves.now a.place a.beside.now _ pre.0 pre.1.0 pre.1.1 refl c.put_changed.ensures.left in
-    omega (arith, pre.1.0, changed.1)
+    let changed = changed-front a.moves.now a.place a.beside.now _ c.requires.moves_nonzero c.requires.moves_len_bound c.requires.place_in_bounds refl c.put_changed.ensures.left in
+    omega (arith, c.requires.moves_len_bound, changed.1)
 
 pub slice_bounds-cover-end : goal.slice_bounds-cover-end
 slice_bounds-cover-end c =
     let a = c.args in
-    let pre = (c.requires.moves_nonzero, (c.requires.moves_len_bound, c.requires.place_in_bounds)) in
-    let changed = changed-front a.moves.now a.place a.beside.now _ pre.0 pre.1.0 pre.1.1 refl c.put_changed.ensures.left in
-    sym (length-take-le _ _ (omega (arith, pre.1.0, changed.1)))
+    let changed = changed-front a.moves.now a.place a.beside.now _ c.requires.moves_nonzero c.requires.moves_len_bound c.requires.place_in_bounds refl c.put_changed.ensures.left in
+    sym (length-take-le _ _ (omega (arith, c.requires.moves_len_bound, changed.1)))
 
 pub returns : goal.returns
 returns c = record { value = let a = c.args in
-    let pre = (c.requires.moves_nonzero, (c.requires.moves_len_bound, c.requires.place_in_bounds)) in
-    let changed = changed-front a.moves.now a.place a.beside.now _ pre.0 pre.1.0 pre.1.1 refl c.put_changed.ensures.left in
+    let changed = changed-front a.moves.now a.place a.beside.now _ c.requires.moves_nonzero c.requires.moves_len_bound c.requires.place_in_bounds refl c.put_changed.ensures.left in
     c.cover.ensures.value ∙ ap (λ (rows : List Rows). Moves-cover rows a.b a.depth) changed.0 }

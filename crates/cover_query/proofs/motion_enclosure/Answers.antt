@@ -2,7 +2,6 @@
 -- (`refused-first`).
 use native.Mathlib.Nat.{min-eq_left}
 use borrow.Author.Rules.{rules}
-use borrow.Author.Tests.{not-true, not-false}
 use Rattle.bounds_query.specs.Zeros.{BoundsAnswer-positive_zeros}
 use Rattle.motion_cover.specs.Cover.{AnimatedTransform-enclose_motion}
 use Rattle.motion_cover.proofs.Slices.{refused-first}
@@ -12,7 +11,7 @@ use Rattle.cover_query.proofs.motion_enclosure.Goals as goal
 pub returns-then-not-m : goal.returns-then-not-m
 unfolding AnimatedTransform-enclose_motion
 returns-then-not-m c = record { value = rw (
-      not-true c.args.m.actually_animated c.if-not-m.true,
+      c.if-not-m.true,
       stored-composition _ _ _,
       c.positive_zeros.ensures.value,
       c.box_enclosure.ensures.value,
@@ -24,17 +23,17 @@ pub returns-in-Bounds : goal.returns-in-Bounds
 unfolding AnimatedTransform-enclose_motion
 returns-in-Bounds c = record { value = rw (
       ← c.ends_enclosure-ends.ensures.value,
-      c.ends-1.given.1,
+      c.in-Bounds.is,
       c.union_slices.ensures.value,
       min-eq_left c.requires,
-      not-false c.args.m.actually_animated c.if-not-m.false,
+      c.if-not-m.false,
     ) }
 
 pub returns-in-Refused : goal.returns-in-Refused
 unfolding AnimatedTransform-enclose_motion BoundsAnswer-positive_zeros
 returns-in-Refused c = record { value = rw (
       ← c.ends_enclosure-ends.ensures.value,
-      c.ends-in-Refused-1.given.1,
+      c.in-Refused.is,
       refused-first _ _ _ _ _ _,
-      not-false c.args.m.actually_animated c.if-not-m.false,
+      c.if-not-m.false,
     ) }

@@ -11,11 +11,13 @@ use Rattle.cover_slices.proofs.slice_enclosure.Goals as goal
 
 pub returns : goal.returns
 unfolding slice
-returns c = record { value = let a = c.args in
-    let h = c.requires.fact_1 in
-    let low = c.from_fixed-low.ensures.value ∙ slice-end a.h a.k h in
-    let high = c.from_fixed-high.ensures.value ∙ slice-end a.h (a.k + 1) h in
-    c.box_enclosure.ensures.value
-    ∙ (λ i. PaddedPose-enclose_bounds (c.padded_enclosure-pose.ensures.value i) a.b)
-    ∙ sym (piece-composition a.m a.a (record { low = c.from_fixed-low.result; high = c.from_fixed-high.result }) a.b)
-    ∙ λ i. AnimatedTransform-enclose_bounds a.m a.a (record { low = low i; high = high i }) a.b }
+returns c = record {
+  value = let a = c.args in
+      let h = c.requires.fact_1 in
+      let low = c.from_fixed-low.ensures.value ∙ slice-end a.h a.k h in
+      let high = c.from_fixed-high.ensures.value ∙ slice-end a.h (a.k + 1) h in
+      c.box_enclosure.ensures.value
+      ∙ (λ i. PaddedPose-enclose_bounds (c.padded_enclosure-pose.ensures.value i) a.b)
+      ∙ sym (piece-composition a.m a.a (record { low = c.from_fixed-low.result; high = c.from_fixed-high.result }) a.b)
+      ∙ λ i. AnimatedTransform-enclose_bounds a.m a.a (record { low = low i; high = high i }) a.b;
+}

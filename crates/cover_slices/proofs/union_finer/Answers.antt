@@ -12,13 +12,15 @@ use Rattle.cover_slices.proofs.union_finer.Goals as goal
 
 pub returns-then-is_lean : goal.returns-then-is_lean
 unfolding BoundsAnswer-positive_zeros
-returns-then-is_lean c = record { value = let a = c.args in
-    let m = a.m in
-    c.positive_zeros.ensures.value
-    ∙ ap (λ (u : Bounds3f). BoundsAnswer-positive_zeros (Bounds u))
-    (c.union_groups-union.ensures.value
-    ∙ ap (λ (k : ℕ). Groups-union a.a m.s0 m.s1 m.pad0 m.pad1 a.b k (2 ^ k / 4) a.first) (min-eq_left c.requires.fact_1))
-    ∙ sym (groups-answer m a.a a.b a.first (c.is_lean.ensures.value c.if-is_lean.true) a.h c.requires.fact_2 c.requires.fact_3) }
+returns-then-is_lean c = record {
+  value = let a = c.args in
+      let m = a.m in
+      c.positive_zeros.ensures.value
+      ∙ ap (λ (u : Bounds3f). BoundsAnswer-positive_zeros (Bounds u))
+      (c.union_groups-union.ensures.value
+      ∙ ap (λ (k : ℕ). Groups-union a.a m.s0 m.s1 m.pad0 m.pad1 a.b k (2 ^ k / 4) a.first) (min-eq_left c.requires.fact_1))
+      ∙ sym (groups-answer m a.a a.b a.first (c.is_lean.ensures.value c.if-is_lean.true) a.h c.requires.fact_2 c.requires.fact_3);
+}
 
 pub union_judged-judged-requires : goal.union_judged-judged-requires
 union_judged-judged-requires c = omega (arith, c.requires.fact_1)

@@ -21,12 +21,14 @@ pub slice_enclosure-answer-requires : goal.slice_enclosure-answer-requires
 slice_enclosure-answer-requires c = let d = c.args.h in record { fact_1 = c.requires; fact_2 = omega (arith, c.loop-k-test.true, slice-count d c.requires, pow-lt {i = d} {j = 13} (omega (arith, c.requires))) }
 
 pub returns-in_default : goal.returns-in_default
-returns-in_default c = record { value = let a = c.args in
-    let l = c.loop-k in
-    let slice = c.slice_enclosure-answer in
-    sym
-    (slice-refused a.m a.a a.b a.h a.first l.k l.union l.invariant.1 slice.result slice.ensures.value
-    c.enum_told-1.given.0.0 c.enum_told-1.given.1 (omega (arith, c.loop-k-test.true, slice-count a.h c.requires))) }
+returns-in_default c = record {
+  value = let a = c.args in
+      let l = c.loop-k in
+      let slice = c.slice_enclosure-answer in
+      sym
+      (slice-refused a.m a.a a.b a.h a.first l.k l.union l.invariant.1 slice.result slice.ensures.value
+      c.in_default.field-0 c.in_default.is (omega (arith, c.loop-k-test.true, slice-count a.h c.requires)));
+}
 
 -- k stays below 2^13
 pub overflow_add-k : goal.overflow_add-k
@@ -41,11 +43,13 @@ loop-k-preserved c =
     let slice = c.slice_enclosure-answer in (
       omega (arith, c.loop-k-test.true),
       joined-next a.m a.a a.b a.h a.first l.k l.union l.invariant.1 slice.result slice.ensures.value
-          c.answer-1.given.0.0 c.answer-1.given.1 c.union_bounds-next.result c.union_bounds-next.ensures.value,
+          c.in-Bounds.moved c.in-Bounds.is c.union_bounds-next.result c.union_bounds-next.ensures.value,
     )
 
 pub returns : goal.returns
-returns c = record { value = let l = c.loop-k in
-    let a = c.args in
-    let e : l.k ≡ 2 ^ a.h = omega (arith, c.loop-k-test.false, l.invariant.0, slice-count a.h c.requires) in
-    sym (subst (λ (k : ℕ). union_slices a.m a.a a.b a.h (Bounds a.first) k ≡ Bounds l.union) e l.invariant.1) }
+returns c = record {
+  value = let l = c.loop-k in
+      let a = c.args in
+      let e : l.k ≡ 2 ^ a.h = omega (arith, c.loop-k-test.false, l.invariant.0, slice-count a.h c.requires) in
+      sym (subst (λ (k : ℕ). union_slices a.m a.a a.b a.h (Bounds a.first) k ≡ Bounds l.union) e l.invariant.1);
+}

@@ -13,15 +13,19 @@ loop-i-init c = (omega arith, omega arith, refl)
 
 pub returns-then-line-at : goal.returns-then-line-at
 unfolding fits
-returns-then-line-at c = record { value = let a = c.args in
-    let l = c.loop-i in
-    sym (l.invariant.2 ∙ names-short a.line.now a.text.now l.at l.i (omega arith) (omega arith)) }
+returns-then-line-at c = record {
+  value = let a = c.args in
+      let l = c.loop-i in
+      sym (l.invariant.2 ∙ names-short a.line.now a.text.now l.at l.i (omega arith) (omega arith));
+}
 
 pub returns-then-line-at-2 : goal.returns-then-line-at-2
 unfolding fits
-returns-then-line-at-2 c = record { value = let a = c.args in
-    let l = c.loop-i in
-    sym (l.invariant.2 ∙ names-differ a.line.now a.text.now l.at l.i (omega arith) (omega arith) c.if-line-at-2.true) }
+returns-then-line-at-2 c = record {
+  value = let a = c.args in
+      let l = c.loop-i in
+      sym (l.invariant.2 ∙ names-differ a.line.now a.text.now l.at l.i (omega arith) (omega arith) c.if-line-at-2.true);
+}
 
 pub loop-i-preserved : goal.loop-i-preserved
 loop-i-preserved c =
@@ -34,6 +38,8 @@ loop-i-preserved c =
 
 pub returns : goal.returns
 unfolding fits
-returns c = record { value = let a = c.args in
-    let l = c.loop-i in
-    sym (l.invariant.2 ∙ names-end a.line.now a.text.now l.at l.i l.invariant.0 (omega arith)) }
+returns c = record {
+  value = let a = c.args in
+      let l = c.loop-i in
+      sym (l.invariant.2 ∙ names-end a.line.now a.text.now l.at l.i l.invariant.0 (omega arith));
+}

@@ -13,8 +13,11 @@ unfolding values_left
 returns-then-read_values c = let a = c.args in let end = c.line_end-end in let read = c.read_values in let kept = sym read.ensures.value ∙ c.if-read_values.true in record { value = c.after_line_feed.ensures ∙ after-fits (values (length a.out.now)) a.s.now a.at end.result end.ensures kept; out_after = λ h. rw kept at read.ensures.left ∙ ap values_of (line-slice a.s.now a.at end.result end.ensures) }
 
 pub returns-else-read_values : goal.returns-else-read_values
-returns-else-read_values c = let a = c.args in let end = c.line_end-end in record { value = after-unfit (values (length a.out.now)) a.s.now a.at end.result end.ensures
-          (sym c.read_values.ensures.value ∙ c.if-read_values.false); out_after = λ h. absurd (omega arith) }
+returns-else-read_values c = let a = c.args in let end = c.line_end-end in record {
+  value = after-unfit (values (length a.out.now)) a.s.now a.at end.result end.ensures
+      (sym c.read_values.ensures.value ∙ c.if-read_values.false);
+  out_after = λ h. absurd (omega arith);
+}
 
 pub returns-else-end-s : goal.returns-else-end-s
 returns-else-end-s c = let a = c.args in let end = c.line_end-end in record { value = after-unended (values (length a.out.now)) a.s.now a.at end.result end.ensures (omega arith); out_after = λ h. absurd (omega arith) }

@@ -23,8 +23,10 @@ returns-then-time c = record { value = rw (← differs-nan c.args.time, c.if-tim
 
 pub returns-then-m-time : goal.returns-then-m-time
 unfolding AnimatedTransform-interpolate_by
-returns-then-m-time c = record { value = let args = c.args in
-    rw (← differs-nan args.time, c.if-time.false) (c.judged.ensures.value ∙ sym (ap (known args.m args.time) c.if-m-time.true)) }
+returns-then-m-time c = record {
+  value = let args = c.args in
+      rw (← differs-nan args.time, c.if-time.false) (c.judged.ensures.value ∙ sym (ap (known args.m args.time) c.if-m-time.true));
+}
 
 pub returns-then-time-m : goal.returns-then-time-m
 unfolding AnimatedTransform-interpolate_by

@@ -8,8 +8,10 @@ use Rattle.motion_answer.proofs.Posed.{poses-room, file-refused, file-cover}
 use Rattle.motion_answer.proofs.file_cover.Goals as goal
 
 pub returns-then-file-ne0 : goal.returns-then-file-ne0
-returns-then-file-ne0 c = record { value = let read = c.read-file in
-    file-refused c.args.rigid c.args.bytes.now read.result read.ensures.value c.if-file-ne0.true }
+returns-then-file-ne0 c = record {
+  value = let read = c.read-file in
+      file-refused c.args.rigid c.args.bytes.now read.result read.ensures.value c.if-file-ne0.true;
+}
 
 pub slice_bounds-poses-end : goal.slice_bounds-poses-end
 slice_bounds-poses-end c =
@@ -24,8 +26,10 @@ slice_bounds-poses_cover-end c =
     sym (length-take-le _ _ (omega (arith, read.ensures.count, room)))
 
 pub returns : goal.returns
-returns c = record { value = let bytes = c.args.bytes.now in
-    let read = c.read-file in
-    let none = c.if-file-ne0.false in
-    file-cover c.args.rigid bytes read.result read.ensures.value _ _ _ c.poses_cover.result none read.ensures.left
-    c.bounds.ensures.value c.poses_cover.ensures.value }
+returns c = record {
+  value = let bytes = c.args.bytes.now in
+      let read = c.read-file in
+      let none = c.if-file-ne0.false in
+      file-cover c.args.rigid bytes read.result read.ensures.value _ _ _ c.poses_cover.result none read.ensures.left
+      c.bounds.ensures.value c.poses_cover.ensures.value;
+}

@@ -33,8 +33,10 @@ slice_bounds-cover-end c =
     sym (length-take-le _ _ (omega (arith, few.1, moves-room (Chain-new rigid (Poses-of_lists lists)) _ build.ensures.left)))
 
 pub returns : goal.returns
-returns c = record { value = let a = c.args in
-    let build = c.build-refusal in
-    let none = c.if-refusal-ne0.false in
-    built-cover a.rigid a.poses.now build.ensures.refusal none a.b c.cover.result
-    (λ chain s. c.cover.ensures.kept chain (build.ensures.holds chain s).same) }
+returns c = record {
+  value = let a = c.args in
+      let build = c.build-refusal in
+      let none = c.if-refusal-ne0.false in
+      built-cover a.rigid a.poses.now build.ensures.refusal none a.b c.cover.result
+      (λ chain s. c.cover.ensures.kept chain (build.ensures.holds chain s).same);
+}

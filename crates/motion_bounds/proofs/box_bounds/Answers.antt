@@ -9,14 +9,16 @@ returns-then-not-m c = record { value = rw (c.if-not-m.true, c.counted.ensures.v
 
 pub returns-then-not-m-2 : goal.returns-then-not-m-2
 unfolding box_bounds box_examined
-returns-then-not-m-2 c = record { value = rw (
-      c.if-not-m.false,
-      c.if-not-m-2.true,
-      c.counted-then-not-m-2.ensures.value,
-      c.union_bounds-ends.ensures.value,
-      c.transform_bounds.ensures.value,
-      c.transform_bounds-start.ensures.value,
-    ) }
+returns-then-not-m-2 c = record {
+  value = rw (
+    c.if-not-m.false,
+    c.if-not-m-2.true,
+    c.counted-then-not-m-2.ensures.value,
+    c.union_bounds-ends.ensures.value,
+    c.transform_bounds.ensures.value,
+    c.transform_bounds-start.ensures.value,
+  );
+}
 
 pub returns : goal.returns
 unfolding box_bounds box_examined

@@ -9,10 +9,12 @@ returns-then-not-m c = record { value = rw (c.if-not-m.true, c.counted.ensures.v
 
 pub returns : goal.returns
 unfolding point_bounds point_examined
-returns c = record { value = rw (
-      c.if-not-m.false,
-      c.union_axes.ensures.value,
-      c.from_ends.ensures.value,
-      c.transform_point.ensures.value,
-      c.transform_point-start.ensures.value,
-    ) }
+returns c = record {
+  value = rw (
+    c.if-not-m.false,
+    c.union_axes.ensures.value,
+    c.from_ends.ensures.value,
+    c.transform_point.ensures.value,
+    c.transform_point-start.ensures.value,
+  );
+}

@@ -3,5 +3,7 @@ use Rattle.motion_bounds.proofs.Counts.{axes-counted}
 use Rattle.motion_bounds.proofs.union_axes.Goals as goal
 
 pub returns : goal.returns
-returns c = record { value = rw (c.counted.ensures.value, c.union_axis-along_z.ensures.value, c.union_axis-along_y.ensures.value, c.union_axis-along_x.ensures.value)
-    (axes-counted _ _ _ _) }
+returns c = record {
+  value = rw (c.counted.ensures.value, c.union_axis-along_z.ensures.value, c.union_axis-along_y.ensures.value, c.union_axis-along_x.ensures.value)
+      (axes-counted _ _ _ _);
+}

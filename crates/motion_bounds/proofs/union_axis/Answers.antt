@@ -15,8 +15,10 @@ union_zeros-bounds-requires c =
 
 pub returns-else-zeros-ne0 : goal.returns-else-zeros-ne0
 unfolding union_axis
-returns-else-zeros-ne0 c = record { value = let told = c.in-Bounds.is in
-    rw (told, ← c.axis_search-found.ensures.value, eq-eqb _ _ c.if-zeros-ne0.false, c.union_zeros-bounds.ensures.value, told) (rw c.axis_search-found.ensures.value) }
+returns-else-zeros-ne0 c = record {
+  value = let told = c.in-Bounds.is in
+      rw (told, ← c.axis_search-found.ensures.value, eq-eqb _ _ c.if-zeros-ne0.false, c.union_zeros-bounds.ensures.value, told) (rw c.axis_search-found.ensures.value);
+}
 
 pub returns-in-Refused : goal.returns-in-Refused
 unfolding union_axis

@@ -17,31 +17,37 @@ add-requires c =
 
 pub returns-in-Bounds-s : goal.returns-in-Bounds-s
 unfolding MotionBoundsAnswer-union_bounds
-returns-in-Bounds-s c = record { value = let a = c.args in
-    rw (
-      next-corner a.m a.a a.b a.c,
-      ← c.requires.1,
-      ← c.corner.ensures.value,
-      ← c.point_bounds-s.ensures.value,
-      c.in-Bounds.is,
-      c.in-Bounds-s.is,
-      c.union_bounds.ensures.value,
-      c.add.ensures.value,
-    ) }
+returns-in-Bounds-s c = record {
+  value = let a = c.args in
+      rw (
+        next-corner a.m a.a a.b a.c,
+        ← c.requires.1,
+        ← c.corner.ensures.value,
+        ← c.point_bounds-s.ensures.value,
+        c.in-Bounds.is,
+        c.in-Bounds-s.is,
+        c.union_bounds.ensures.value,
+        c.add.ensures.value,
+      );
+}
 
 pub returns-in-Refused-s : goal.returns-in-Refused-s
 unfolding MotionBoundsAnswer-union_bounds
-returns-in-Refused-s c = record { value = let a = c.args in
-    rw (
-      next-corner a.m a.a a.b a.c,
-      ← c.requires.1,
-      ← c.corner.ensures.value,
-      ← c.point_bounds-s.ensures.value,
-      c.in-Bounds.is,
-      c.in-Refused-s.is,
-    ) }
+returns-in-Refused-s c = record {
+  value = let a = c.args in
+      rw (
+        next-corner a.m a.a a.b a.c,
+        ← c.requires.1,
+        ← c.corner.ensures.value,
+        ← c.point_bounds-s.ensures.value,
+        c.in-Bounds.is,
+        c.in-Refused-s.is,
+      );
+}
 
 pub returns-in-Refused : goal.returns-in-Refused
 unfolding MotionBoundsAnswer-union_bounds
-returns-in-Refused c = record { value = let a = c.args in
-    rw (next-corner a.m a.a a.b a.c, ← c.requires.1, c.in-Refused.is) }
+returns-in-Refused c = record {
+  value = let a = c.args in
+      rw (next-corner a.m a.a a.b a.c, ← c.requires.1, c.in-Refused.is);
+}

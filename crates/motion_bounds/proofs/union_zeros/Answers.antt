@@ -20,10 +20,12 @@ loop-k-preserved c = (search rules, loop-next _ _ _ _ _ c.loop-k.invariant.1 c.u
 
 pub returns-then-count-lt8 : goal.returns-then-count-lt8
 unfolding union_zeros
-returns-then-count-lt8 c = record { value = let a = c.args in
-    let joined = loop-end _ _ a.found.count _ _ (omega (arith, c.loop-k-test.false, c.loop-k.invariant.0)) c.loop-k.invariant.1 in
-    c.union_zero.ensures.value ∙ ap (union_zero a.m a.a a.p positive_zero) joined
-    ∙ sym (unused-once a.m a.a a.p a.found.zeros a.found.count c.requires.unused a.r 7 (omega arith) (omega arith)) }
+returns-then-count-lt8 c = record {
+  value = let a = c.args in
+      let joined = loop-end _ _ a.found.count _ _ (omega (arith, c.loop-k-test.false, c.loop-k.invariant.0)) c.loop-k.invariant.1 in
+      c.union_zero.ensures.value ∙ ap (union_zero a.m a.a a.p positive_zero) joined
+      ∙ sym (unused-once a.m a.a a.p a.found.zeros a.found.count c.requires.unused a.r 7 (omega arith) (omega arith));
+}
 
 pub returns : goal.returns
 unfolding union_zeros

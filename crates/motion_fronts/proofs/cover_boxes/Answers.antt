@@ -6,6 +6,8 @@ use Rattle.motion_fronts.proofs.Zeros.{tested-zeros, zeros-covered}
 use Rattle.motion_fronts.proofs.cover_boxes.Goals as goal
 
 pub returns : goal.returns
-returns c = record { covered = let a = c.args in
-    covered_same (λ b. tested-zeros a.m b a.depth)
-    (zeros-covered (λ b. AnimatedTransform-enclose_tested a.m b a.depth) c.enclose_motion-front.ensures.covered c.places_zeros.ensures.left) }
+returns c = record {
+  covered = let a = c.args in
+      covered_same (λ b. tested-zeros a.m b a.depth)
+      (zeros-covered (λ b. AnimatedTransform-enclose_tested a.m b a.depth) c.enclose_motion-front.ensures.covered c.places_zeros.ensures.left);
+}

@@ -21,7 +21,9 @@ loop-i-preserved c =
     (l.invariant.0, (omega (arith, t), zeros-next a.boxes.now a.places.now l.invariant.1.1 (omega (arith, t, l.invariant.0)) written))
 
 pub returns : goal.returns
-returns c = record { left = let l = c.loop-i in
-    let a = c.args in
-    let all = take_all l.i a.boxes.now (omega (arith, l.invariant.0, c.loop-i-test.false)) in
-    l.invariant.1.1 ∙ ap (λ bs. Places-positive_zeros bs a.places.now) all }
+returns c = record {
+  left = let l = c.loop-i in
+      let a = c.args in
+      let all = take_all l.i a.boxes.now (omega (arith, l.invariant.0, c.loop-i-test.false)) in
+      l.invariant.1.1 ∙ ap (λ bs. Places-positive_zeros bs a.places.now) all;
+}

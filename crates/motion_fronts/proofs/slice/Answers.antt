@@ -14,6 +14,8 @@ overflow_add-k c =
 
 pub returns : goal.returns
 unfolding slice
-returns c = record { value = let a = c.args in
-    let h : a.d ≤ max_depth = c.requires.d_le_max_depth in
-    rw (c.from_fixed.ensures.value, c.from_fixed-2.ensures.value, slice-end a.d a.k h, slice-end a.d (a.k + 1) h) }
+returns c = record {
+  value = let a = c.args in
+      let h : a.d ≤ max_depth = c.requires.d_le_max_depth in
+      rw (c.from_fixed.ensures.value, c.from_fixed-2.ensures.value, slice-end a.d a.k h, slice-end a.d (a.k + 1) h);
+}

@@ -34,7 +34,9 @@ loop-k-preserved c =
     (omega (arith, t), sliced-next _ _ _ _ _ _ c.loop-k.invariant.1 c.requires.boxes_len_bound e c.take_pose-next.ensures.front c.take_pose-next.ensures.places)
 
 pub returns : goal.returns
-returns c = record { covered = let l = c.loop-k in
-    let a = c.args in
-    let h : a.d ≤ max_depth = c.requires.d_le_max_depth in
-    sliced-last _ _ _ _ _ _ l.invariant.1 (omega (arith, slice-count a.d h, l.invariant.0, c.loop-k-test.false)) c.constants-a.ensures.value }
+returns c = record {
+  covered = let l = c.loop-k in
+      let a = c.args in
+      let h : a.d ≤ max_depth = c.requires.d_le_max_depth in
+      sliced-last _ _ _ _ _ _ l.invariant.1 (omega (arith, slice-count a.d h, l.invariant.0, c.loop-k-test.false)) c.constants-a.ensures.value;
+}

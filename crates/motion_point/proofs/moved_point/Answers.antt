@@ -23,10 +23,14 @@ returns-then-m-time c = record { value = rw (c.if-m-time.true, c.transform_point
 
 pub returns-then-time-m : goal.returns-then-time-m
 unfolding AnimatedTransform-moved_point
-returns-then-time-m c = record { value = let args = c.args in
-    rw c.if-m-time.false (c.transform_point-then-time-m.ensures.value ∙ sym (ap (late args.m args.a args.time args.p) c.if-time-m.true)) }
+returns-then-time-m c = record {
+  value = let args = c.args in
+      rw c.if-m-time.false (c.transform_point-then-time-m.ensures.value ∙ sym (ap (late args.m args.a args.time args.p) c.if-time-m.true));
+}
 
 pub returns : goal.returns
 unfolding AnimatedTransform-moved_point
-returns c = record { value = let args = c.args in
-    rw (c.if-m-time.false, c.moved_point.ensures.value, c.dt.ensures.value) (sym (ap (late args.m args.a args.time args.p) c.if-time-m.false)) }
+returns c = record {
+  value = let args = c.args in
+      rw (c.if-m-time.false, c.moved_point.ensures.value, c.dt.ensures.value) (sym (ap (late args.m args.a args.time args.p) c.if-time-m.false));
+}

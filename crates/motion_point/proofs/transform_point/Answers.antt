@@ -17,11 +17,15 @@ asked m time p b = cond b (Refused 6) (AnimatedTransform-moved_point m (Animated
 
 pub returns-then-time-is_finite : goal.returns-then-time-is_finite
 unfolding AnimatedTransform-transform_point
-returns-then-time-is_finite c = record { value = let args = c.args in
-    rw (← differs-nan args.time, ← c.is_finite.ensures.value) (sym (ap (asked args.m args.time args.p) c.if-time-is_finite.true)) }
+returns-then-time-is_finite c = record {
+  value = let args = c.args in
+      rw (← differs-nan args.time, ← c.is_finite.ensures.value) (sym (ap (asked args.m args.time args.p) c.if-time-is_finite.true));
+}
 
 pub returns : goal.returns
 unfolding AnimatedTransform-transform_point
-returns c = record { value = let args = c.args in
-    rw (← differs-nan args.time, ← c.is_finite.ensures.value, c.moved_point.ensures.value, c.constants.ensures.value)
-    (sym (ap (asked args.m args.time args.p) c.if-time-is_finite.false)) }
+returns c = record {
+  value = let args = c.args in
+      rw (← differs-nan args.time, ← c.is_finite.ensures.value, c.moved_point.ensures.value, c.constants.ensures.value)
+      (sym (ap (asked args.m args.time args.p) c.if-time-is_finite.false));
+}

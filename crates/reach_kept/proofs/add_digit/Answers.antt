@@ -18,8 +18,10 @@ overflow_add-result c =
 
 pub returns-then-named : goal.returns-then-named
 unfolding added_mask
-returns-then-named c = record { value = let a = c.args in
-    rw c.if-named.true (ap (λ n. a.mask + n) (digit-exact a.k c.requires.k_bound)) }
+returns-then-named c = record {
+  value = let a = c.args in
+      rw c.if-named.true (ap (λ n. a.mask + n) (digit-exact a.k c.requires.k_bound));
+}
 
 pub returns : goal.returns
 unfolding added_mask

@@ -21,12 +21,14 @@ pub overflow_sub-w : goal.overflow_sub-w
 overflow_sub-w c = let p = c.loop-i.invariant.1.place in omega (arith, p)
 
 pub returns-then-refusal-ne0 : goal.returns-then-refusal-ne0
-returns-then-refusal-ne0 c = record { found = let a = c.args in
-    let bs = map Bounds3f-of_list a.boxes.now in
-    let rs = map Bounds3f-of_list a.rows.now in
-    let l = c.loop-i in
-    let t = c.loop-i-test.true in
-    finding-refused a.moves.now bs a.depth a.ticks.now rs l.invariant.1 (omega (arith, t, l.invariant.0)) refl c.name_rows-named.ensures.refusal c.if-refusal-ne0.true }
+returns-then-refusal-ne0 c = record {
+  found = let a = c.args in
+      let bs = map Bounds3f-of_list a.boxes.now in
+      let rs = map Bounds3f-of_list a.rows.now in
+      let l = c.loop-i in
+      let t = c.loop-i-test.true in
+      finding-refused a.moves.now bs a.depth a.ticks.now rs l.invariant.1 (omega (arith, t, l.invariant.0)) refl c.name_rows-named.ensures.refusal c.if-refusal-ne0.true;
+}
 
 pub add_window-next-requires : goal.add_window-next-requires
 add_window-next-requires c = let a = c.args in let bs = map Bounds3f-of_list a.boxes.now in let rs = map Bounds3f-of_list a.rows.now in let l = c.loop-i in let t = c.loop-i-test.true in let h : l.i < length a.ticks.now = omega (arith, t, l.invariant.0) in record { k_bound = finding-few a.moves.now bs a.depth a.ticks.now rs l.invariant.1 h refl c.requires.ticks_len_bound; below = finding-below a.moves.now bs a.depth a.ticks.now rs l.invariant.1 h refl }
@@ -41,8 +43,10 @@ loop-i-preserved c =
     (l.invariant.0, finding-next a.moves.now bs a.depth a.ticks.now rs l.invariant.1 (omega (arith, t, l.invariant.0)) refl c.name_rows-named.ensures.refusal c.if-refusal-ne0.false c.name_rows-named.ensures.names c.add_window-next.ensures.value)
 
 pub returns : goal.returns
-returns c = record { found = let a = c.args in
-    let bs = map Bounds3f-of_list a.boxes.now in
-    let rs = map Bounds3f-of_list a.rows.now in
-    let l = c.loop-i in
-    finding-last a.moves.now bs a.depth a.ticks.now rs l.invariant.1 (omega (arith, l.invariant.0, c.loop-i-test.false)) }
+returns c = record {
+  found = let a = c.args in
+      let bs = map Bounds3f-of_list a.boxes.now in
+      let rs = map Bounds3f-of_list a.rows.now in
+      let l = c.loop-i in
+      finding-last a.moves.now bs a.depth a.ticks.now rs l.invariant.1 (omega (arith, l.invariant.0, c.loop-i-test.false));
+}

@@ -19,5 +19,7 @@ loop-i-preserved c =
     (l.invariant.0, around-next _ l.invariant.1 (omega (arith, t, l.invariant.0)) e)
 
 pub returns : goal.returns
-returns c = record { around = let l = c.loop-i in
-    around-last _ l.invariant.1 (omega (arith, l.invariant.0, c.loop-i-test.false)) }
+returns c = record {
+  around = let l = c.loop-i in
+      around-last _ l.invariant.1 (omega (arith, l.invariant.0, c.loop-i-test.false));
+}

@@ -10,8 +10,10 @@ use borrow.Author.Rules.{rules}
 use Rattle.reach_rows.proofs.is_named.Goals as goal
 
 pub returns-then-not-meets : goal.returns-then-not-meets
-returns-then-not-meets c = record { value = let a = c.args in
-    rw c.if-named.false (not-around a.boxes.now a.row c.requires c.meets.ensures.value c.if-not-meets.true) }
+returns-then-not-meets c = record {
+  value = let a = c.args in
+      rw c.if-named.false (not-around a.boxes.now a.row c.requires c.meets.ensures.value c.if-not-meets.true);
+}
 
 pub returns : goal.returns
 returns c = record { value = rw c.if-named.false c.met_by.ensures.value }

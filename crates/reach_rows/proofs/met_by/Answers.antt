@@ -12,11 +12,13 @@ pub loop-i-init : goal.loop-i-init
 loop-i-init c = (refl, refl)
 
 pub returns-then-meets : goal.returns-then-meets
-returns-then-meets c = record { value = let l = c.loop-i in
-    let a = c.args in
-    let t = c.loop-i-test.true in
-    let e = c.meets.ensures.value ∙ ap (λ b. Bounds3f-meets b a.row) c.bounds.ensures.value in
-    met-first a.boxes.now a.row (omega (arith, t, l.invariant.0)) e c.if-meets.true ∙ l.invariant.1 }
+returns-then-meets c = record {
+  value = let l = c.loop-i in
+      let a = c.args in
+      let t = c.loop-i-test.true in
+      let e = c.meets.ensures.value ∙ ap (λ b. Bounds3f-meets b a.row) c.bounds.ensures.value in
+      met-first a.boxes.now a.row (omega (arith, t, l.invariant.0)) e c.if-meets.true ∙ l.invariant.1;
+}
 
 pub loop-i-preserved : goal.loop-i-preserved
 loop-i-preserved c =
@@ -27,6 +29,8 @@ loop-i-preserved c =
     (l.invariant.0, met-later a.boxes.now a.row (omega (arith, t, l.invariant.0)) e c.if-meets.false ∙ l.invariant.1)
 
 pub returns : goal.returns
-returns c = record { value = let l = c.loop-i in
-    let a = c.args in
-    met-end a.boxes.now a.row {i = l.i} (omega (arith, l.invariant.0, c.loop-i-test.false)) ∙ l.invariant.1 }
+returns c = record {
+  value = let l = c.loop-i in
+      let a = c.args in
+      met-end a.boxes.now a.row {i = l.i} (omega (arith, l.invariant.0, c.loop-i-test.false)) ∙ l.invariant.1;
+}

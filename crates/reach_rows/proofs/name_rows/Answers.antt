@@ -32,6 +32,8 @@ loop-i-preserved c =
     (l.invariant.0, naming-next (boxes_of a.boxes.now) a.rows.now a.names.now l.invariant.1 (omega (arith, t, l.invariant.0)) e)
 
 pub returns : goal.returns
-returns c = record { left = let l = c.loop-i in
-    let a = c.args in
-    naming-last (boxes_of a.boxes.now) a.rows.now a.names.now l.invariant.1 (omega (arith, l.invariant.0, c.loop-i-test.false)) c.if-n-gt-MAX_ROWS.false }
+returns c = record {
+  left = let l = c.loop-i in
+      let a = c.args in
+      naming-last (boxes_of a.boxes.now) a.rows.now a.names.now l.invariant.1 (omega (arith, l.invariant.0, c.loop-i-test.false)) c.if-n-gt-MAX_ROWS.false;
+}

@@ -40,5 +40,7 @@ loop-n-preserved c =
     (less, halving-upper l.invariant.1 (λ e. absurd (omega (arith, t, e))) (omega (arith, same)) c.if-rest-half.false next)
 
 pub returns : goal.returns
-returns c = record { value = let l = c.loop-n in
-    halving-last l.invariant.1 (omega (arith, c.loop-n-test.false)) }
+returns c = record {
+  value = let l = c.loop-n in
+      halving-last l.invariant.1 (omega (arith, c.loop-n-test.false));
+}

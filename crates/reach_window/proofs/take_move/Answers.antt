@@ -15,16 +15,20 @@ returns-then-stage-eq0 c = record { walks = rw (eq-eqb _ 0 c.if-stage-eq0.true, 
 
 pub returns-then-stage-eq1 : goal.returns-then-stage-eq1
 unfolding stage_poses
-returns-then-stage-eq1 c = record { walks = rw (ne_eqb _ 0 c.if-stage-eq0.false, eq-eqb _ 1 c.if-stage-eq1.true, ← c.from_rows-m.ensures.value, ← c.asks_end-asked.ensures.value)
-    c.take_stored.ensures.walks }
+returns-then-stage-eq1 c = record {
+  walks = rw (ne_eqb _ 0 c.if-stage-eq0.false, eq-eqb _ 1 c.if-stage-eq1.true, ← c.from_rows-m.ensures.value, ← c.asks_end-asked.ensures.value)
+      c.take_stored.ensures.walks;
+}
 
 pub returns : goal.returns
 unfolding stage_poses
-returns c = record { walks = rw (
-      ne_eqb _ 0 c.if-stage-eq0.false,
-      ne_eqb _ 1 c.if-stage-eq1.false,
-      ← c.from_rows-m.ensures.value,
-      ← c.max-pad.ensures.value,
-      ← c.belongs-belongs.ensures.value,
-    )
-    c.take_stored-2.ensures.walks }
+returns c = record {
+  walks = rw (
+    ne_eqb _ 0 c.if-stage-eq0.false,
+    ne_eqb _ 1 c.if-stage-eq1.false,
+    ← c.from_rows-m.ensures.value,
+    ← c.max-pad.ensures.value,
+    ← c.belongs-belongs.ensures.value,
+  )
+      c.take_stored-2.ensures.walks;
+}

@@ -21,5 +21,7 @@ loop-i-preserved c =
     (l.invariant.0, passing-next _ _ _ _ _ _ l.invariant.1 (omega (arith, t, l.invariant.0)) c.take_move-next.ensures.walks)
 
 pub returns : goal.returns
-returns c = record { walks = let l = c.loop-i in
-    passing-last _ _ _ _ _ _ l.invariant.1 (omega (arith, l.invariant.0, c.loop-i-test.false)) }
+returns c = record {
+  walks = let l = c.loop-i in
+      passing-last _ _ _ _ _ _ l.invariant.1 (omega (arith, l.invariant.0, c.loop-i-test.false));
+}

@@ -22,7 +22,7 @@ use Rattle.reach_window.proofs.Walk.{walks-none, walks-append}
 use Rattle.reach_window.proofs.take_pieces.Goals as goal
 
 pub overflow_shl-pieces : goal.overflow_shl-pieces
-overflow_shl-pieces c = let h = (c.requires.d_le_max_depth, c.requires.boxes_len_bound) in omega (arith, h)
+overflow_shl-pieces c = omega (arith, c.requires.d_le_max_depth)
 
 pub loop-k-init : goal.loop-k-init
 loop-k-init c = (omega arith, walks-none)
@@ -47,8 +47,10 @@ loop-k-preserved c =
     (omega (arith, t), rw (add-one, pieces-next a.m a.d c.loop-k.k a.dt below, ← e) (walks-append c.loop-k.invariant.1 c.take_pose-next.ensures.walks))
 
 pub returns : goal.returns
-returns c = record { walks = let l = c.loop-k in
-    let a = c.args in
-    let h : a.d ≤ max_depth = c.requires.d_le_max_depth in
-    let all = pieces-all a.m a.d l.k a.dt (omega (arith, slice-count a.d h, c.loop-k-test.false)) in
-    subst (λ (poses : List PaddedPose). Walks a.boxes.now a.rows.now poses a.front l.reached a.names.now l.names) all l.invariant.1 }
+returns c = record {
+  walks = let l = c.loop-k in
+      let a = c.args in
+      let h : a.d ≤ max_depth = c.requires.d_le_max_depth in
+      let all = pieces-all a.m a.d l.k a.dt (omega (arith, slice-count a.d h, c.loop-k-test.false)) in
+      subst (λ (poses : List PaddedPose). Walks a.boxes.now a.rows.now poses a.front l.reached a.names.now l.names) all l.invariant.1;
+}

@@ -12,9 +12,10 @@ use borrow.Author.Rules.{rules}
 use Rattle.reach_window.proofs.take_pose.Goals as goal
 
 pub returns-then-n-gt-MAX_BOXES : goal.returns-then-n-gt-MAX_BOXES
-returns-then-n-gt-MAX_BOXES c = record { walks = let a = c.args in
-    let taken = (c.take_pose-next.ensures.front, c.take_pose-next.ensures.places) in
-    walks-few a.boxes.now a.rows.now a.pose a.front (replicate 16 (replicate 6 positive_zero)) a.names.now c.requires taken.0 taken.1 c.if-n-gt-MAX_BOXES.true }
+returns-then-n-gt-MAX_BOXES c = record {
+  walks = let a = c.args in
+      walks-few a.boxes.now a.rows.now a.pose a.front (replicate 16 (replicate 6 positive_zero)) a.names.now c.requires c.take_pose-next.ensures.front c.take_pose-next.ensures.places c.if-n-gt-MAX_BOXES.true;
+}
 
 pub slice_bounds-moved-end : goal.slice_bounds-moved-end
 slice_bounds-moved-end c =
@@ -29,7 +30,8 @@ slice_bounds-name_rows-end c =
     sym (length-take-le _ _ (omega (arith, h, c.if-n-gt-MAX_BOXES.false)))
 
 pub returns : goal.returns
-returns c = record { walks = let a = c.args in
-    let taken = (c.take_pose-next.ensures.front, c.take_pose-next.ensures.places) in
-    walks-pose a.boxes.now a.rows.now a.pose a.front (replicate 16 (replicate 6 positive_zero)) a.names.now c.requires taken.0 taken.1 refl
-    c.name_rows.ensures.left }
+returns c = record {
+  walks = let a = c.args in
+      walks-pose a.boxes.now a.rows.now a.pose a.front (replicate 16 (replicate 6 positive_zero)) a.names.now c.requires c.take_pose-next.ensures.front c.take_pose-next.ensures.places refl
+      c.name_rows.ensures.left;
+}

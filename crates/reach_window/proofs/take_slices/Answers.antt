@@ -4,20 +4,22 @@ use mathlib.Core.Path.{◌≡◌, refl, sym, ap, ◌∙◌}
 use native.Mathlib.Omega.{arith}
 use borrow.Author.Rules.{rules}
 use lib.ListN.{length}
-use mathlib.Core.Bool.{◌&&◌}
-use borrow.Author.Tests.{not-true, not-false}
 use Rattle.reach_window.proofs.Poses.{slices-asked, slices-none}
 use Rattle.reach_window.proofs.Walk.{walks-none}
 use borrow.Author.Rules.{rules}
 use Rattle.reach_window.proofs.take_slices.Goals as goal
 
 pub returns-then-not-m-overlaps : goal.returns-then-not-m-overlaps
-returns-then-not-m-overlaps c = record { walks = let a = c.args in
-    let t = c.overlaps-overlaps in
-    rw (slices-none a.d a.w a.m (rw t.ensures.value at (not-true (a.m.actually_animated && t.result) c.if-not-m-overlaps.true))) walks-none }
+returns-then-not-m-overlaps c = record {
+  walks = let a = c.args in
+      let t = c.overlaps-overlaps in
+      rw (slices-none a.d a.w a.m (rw t.ensures.value at c.if-not-m-overlaps.true)) walks-none;
+}
 
 pub returns : goal.returns
-returns c = record { walks = let a = c.args in
-    let t = c.overlaps-overlaps in
-    let asked = slices-asked a.d a.w a.m (rw t.ensures.value at (not-false (a.m.actually_animated && t.result) c.if-not-m-overlaps.false)) in
-    rw (asked, ← c.share-dt.ensures.value) c.take_pieces.ensures.walks }
+returns c = record {
+  walks = let a = c.args in
+      let t = c.overlaps-overlaps in
+      let asked = slices-asked a.d a.w a.m (rw t.ensures.value at c.if-not-m-overlaps.false) in
+      rw (asked, ← c.share-dt.ensures.value) c.take_pieces.ensures.walks;
+}

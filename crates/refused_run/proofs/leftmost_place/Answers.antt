@@ -12,12 +12,14 @@ pub loop-left-init : goal.loop-left-init
 loop-left-init c = (c.run_places-places.ensures.value, (omega arith, λ j h. absurd (omega (arith, h))))
 
 pub returns-then-run_number-number : goal.returns-then-run_number-number
-returns-then-run_number-number c = record { value = let l = c.loop-left in
-    let a = c.args in
-    let place = c.run_places-places.result - l.left in
-    let h = c.loop-left-test.true in
-    found_at a.rigid a.poses.now a.number a.count place
-    (omega (arith, h, l.invariant.0, l.invariant.1.0)) l.invariant.1.1 c.run_number.ensures.value c.if-run_number-number.true }
+returns-then-run_number-number c = record {
+  value = let l = c.loop-left in
+      let a = c.args in
+      let place = c.run_places-places.result - l.left in
+      let h = c.loop-left-test.true in
+      found_at a.rigid a.poses.now a.number a.count place
+      (omega (arith, h, l.invariant.0, l.invariant.1.0)) l.invariant.1.1 c.run_number.ensures.value c.if-run_number-number.true;
+}
 
 pub loop-left-preserved : goal.loop-left-preserved
 loop-left-preserved c =
@@ -29,7 +31,9 @@ loop-left-preserved c =
     (l.invariant.0, (omega (arith, l.invariant.1.0), λ j k. next j (omega (arith, h, k, l.invariant.1.0))))
 
 pub returns : goal.returns
-returns c = record { value = let l = c.loop-left in
-    let a = c.args in
-    let z = c.loop-left-test.false in
-    l.invariant.0 ∙ found_none a.rigid a.poses.now a.number a.count (λ j k. l.invariant.1.1 j (omega (arith, k, z, l.invariant.0))) }
+returns c = record {
+  value = let l = c.loop-left in
+      let a = c.args in
+      let z = c.loop-left-test.false in
+      l.invariant.0 ∙ found_none a.rigid a.poses.now a.number a.count (λ j k. l.invariant.1.1 j (omega (arith, k, z, l.invariant.0)));
+}

@@ -15,10 +15,12 @@ use Rattle.stretch_points.proofs.Fill.{put-length, filled, filled_next, filled-e
 use Rattle.stretch_points.proofs.fill_stretch.Goals as goal
 
 pub returns-then-n-eq0 : goal.returns-then-n-eq0
-returns-then-n-eq0 c = record { left = let a = c.args in
-    let f : Float → PointAnswer = λ t. Rows-transform_point a.motion.now t a.p in
-    sym (filled-end f a.times.now a.answers.now 0 (let h = c.if-n-eq0.true in omega (arith, h)))
-    ∙ filled-floats f a.times.now a.answers.now c.requires }
+returns-then-n-eq0 c = record {
+  left = let a = c.args in
+      let f : Float → PointAnswer = λ t. Rows-transform_point a.motion.now t a.p in
+      sym (filled-end f a.times.now a.answers.now 0 (let h = c.if-n-eq0.true in omega (arith, h)))
+      ∙ filled-floats f a.times.now a.answers.now c.requires;
+}
 
 pub loop-i-init : goal.loop-i-init
 loop-i-init c =
@@ -54,8 +56,10 @@ shape_of-answers c =
     let e = c.loop-i.invariant.1.1.1.0 in let h = c.requires in e ∙ sym h
 
 pub returns : goal.returns
-returns c = record { left = let l = c.loop-i in
-    let a = c.args in
-    let f : Float → PointAnswer = λ t. Rows-transform_point a.motion.now t a.p in
-    sym (filled-end f a.times.now l.answers l.i c.loop-i-test.false)
-    ∙ (l.invariant.1.1.1.1 ∙ filled-floats f a.times.now a.answers.now c.requires) }
+returns c = record {
+  left = let l = c.loop-i in
+      let a = c.args in
+      let f : Float → PointAnswer = λ t. Rows-transform_point a.motion.now t a.p in
+      sym (filled-end f a.times.now l.answers l.i c.loop-i-test.false)
+      ∙ (l.invariant.1.1.1.1 ∙ filled-floats f a.times.now a.answers.now c.requires);
+}

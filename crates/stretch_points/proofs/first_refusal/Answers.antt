@@ -15,9 +15,11 @@ use Rattle.stretch_points.proofs.Pass.{refusal-here, refusal-next, refusal-end}
 use Rattle.stretch_points.proofs.first_refusal.Goals as goal
 
 pub returns-then-n-eq0 : goal.returns-then-n-eq0
-returns-then-n-eq0 c = record { value = let a = c.args in
-    let f : Float → PointAnswer = λ t. Rows-transform_point a.motion.now t a.p in
-    refusal-end f a.times.now 0 (let h = c.if-n-eq0.true in omega (arith, h)) }
+returns-then-n-eq0 c = record {
+  value = let a = c.args in
+      let f : Float → PointAnswer = λ t. Rows-transform_point a.motion.now t a.p in
+      refusal-end f a.times.now 0 (let h = c.if-n-eq0.true in omega (arith, h));
+}
 
 pub loop-i-init : goal.loop-i-init
 loop-i-init c = ((c.table-table.ensures.value, c.stretch_of-stretch.ensures.value), (refl, (omega arith, refl)))
@@ -35,15 +37,19 @@ loop-i-preserved c =
     (l.invariant.0, (refl, (omega (arith, h), refusal-next f a.times.now l.i h e c.in-Moved.is ∙ l.invariant.1.1.1)))
 
 pub returns-in-Refused : goal.returns-in-Refused
-returns-in-Refused c = record { value = let l = c.loop-i in
-    let a = c.args in
-    let h = c.loop-i-test.true in
-    let e = c.point_at-answer.ensures.value in
-    let f : Float → PointAnswer = λ t. Rows-transform_point a.motion.now t a.p in
-    refusal-here f a.times.now l.i h e c.in-Refused.is ∙ l.invariant.1.1.1 }
+returns-in-Refused c = record {
+  value = let l = c.loop-i in
+      let a = c.args in
+      let h = c.loop-i-test.true in
+      let e = c.point_at-answer.ensures.value in
+      let f : Float → PointAnswer = λ t. Rows-transform_point a.motion.now t a.p in
+      refusal-here f a.times.now l.i h e c.in-Refused.is ∙ l.invariant.1.1.1;
+}
 
 pub returns : goal.returns
-returns c = record { value = let l = c.loop-i in
-    let a = c.args in
-    let f : Float → PointAnswer = λ t. Rows-transform_point a.motion.now t a.p in
-    refusal-end f a.times.now l.i c.loop-i-test.false ∙ l.invariant.1.1.1 }
+returns c = record {
+  value = let l = c.loop-i in
+      let a = c.args in
+      let f : Float → PointAnswer = λ t. Rows-transform_point a.motion.now t a.p in
+      refusal-end f a.times.now l.i c.loop-i-test.false ∙ l.invariant.1.1.1;
+}

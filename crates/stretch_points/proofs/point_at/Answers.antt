@@ -15,6 +15,8 @@ slerp-requires c = record { fact_1 = c.requires.fact_1; fact_2 = rw c.requires.f
 
 pub returns : goal.returns
 unfolding AnimatedTransform-from_rows Stretch-of div dt
-returns c = record { value = let a = c.args in
-    rw (c.composed_point.ensures.value, c.slerp.ensures.value, c.requires.fact_2)
-    (between-query a.motion.now a.time a.p (rw (← c.is_finite.ensures.value) c.if-time-is_finite.false) _ _ refl refl) }
+returns c = record {
+  value = let a = c.args in
+      rw (c.composed_point.ensures.value, c.slerp.ensures.value, c.requires.fact_2)
+      (between-query a.motion.now a.time a.p (rw (← c.is_finite.ensures.value) c.if-time-is_finite.false) _ _ refl refl);
+}

@@ -1,16 +1,15 @@
 -- `union_pose` meets its contract: a stored transform over the box, grown by its pad, where it is asked for.
 use borrow.Author.Rules.{rules}
-use borrow.Author.Tests.{not-true, not-false}
 use Rattle.motion_piece.proofs.Piece.{stored-composition}
 use Rattle.window_cover.proofs.union_pose.Goals as goal
 
 pub returns-then-not-asked : goal.returns-then-not-asked
-returns-then-not-asked c = record { value = rw (not-true c.args.asked c.if-not-asked.true) }
+returns-then-not-asked c = record { value = rw c.if-not-asked.true }
 
 pub returns : goal.returns
 returns c = record { value = let a = c.args in
     rw (
-      not-false a.asked c.if-not-asked.false,
+      c.if-not-asked.false,
       c.union_bounds.ensures.value,
       c.box_enclosure.ensures.value,
       c.stored_enclosure.ensures.value,

@@ -12,9 +12,11 @@ returns-then-near c = record { value = let a = c.args in λ i. Border-at (sym c.
 
 pub returns-else-near : goal.returns-else-near
 unfolding Border-from Border-at
-returns-else-near c = record { value = let a = c.args in
-    let lent = c.requires in
-    let s = c.sin_cos_in-angle in
-    let x = a.theta ⊗ a.dt in
-    (λ i. Border-from a.dt (cos-lent lent x s.ensures.value.1 i) (sin-lent lent x s.ensures.value.0 i))
-    ∙ λ i. Border-at (sym c.if-near.false i) a.theta a.dt }
+returns-else-near c = record {
+  value = let a = c.args in
+      let lent = c.requires in
+      let s = c.sin_cos_in-angle in
+      let x = a.theta ⊗ a.dt in
+      (λ i. Border-from a.dt (cos-lent lent x s.ensures.value.1 i) (sin-lent lent x s.ensures.value.0 i))
+      ∙ λ i. Border-at (sym c.if-near.false i) a.theta a.dt;
+}

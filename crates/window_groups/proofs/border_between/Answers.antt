@@ -7,5 +7,7 @@ use Rattle.window_groups.proofs.border_between.Goals as goal
 
 pub returns : goal.returns
 unfolding Border-between
-returns c = record { value = let a = c.args in
-    c.border_at.ensures.value ∙ λ i. Border-at a.near a.theta (c.midpoint.ensures.value i) }
+returns c = record {
+  value = let a = c.args in
+      c.border_at.ensures.value ∙ λ i. Border-at a.near a.theta (c.midpoint.ensures.value i);
+}

@@ -9,12 +9,14 @@ use Rattle.window_groups.proofs.quarters.Goals as goal
 
 pub returns : goal.returns
 unfolding LanesBorders-from LanesBorders-of LanesBorders-quarters Border-between
-returns c = record { value = let a = c.args in
-    let n = a.near in
-    let th = a.theta in
-    let m = c.border_between-mid.ensures.value in
-    let mid = between-dt n th a.from.dt a.to.dt m in
-    let b = c.border_between-b.ensures.value ∙ λ i. Border-between n th a.from.dt (mid i) in
-    let d = c.border_between-d.ensures.value ∙ λ i. Border-between n th (mid i) a.to.dt in
-    (λ i. LanesBorders-from (c.ends-dt.ensures.value i) (c.ends-cos.ensures.value i) (c.ends-sin.ensures.value i))
-    ∙ λ i. LanesBorders-of (c.requires.fact_2 i) (b i) (m i) (d i) (c.requires.fact_3 i) }
+returns c = record {
+  value = let a = c.args in
+      let n = a.near in
+      let th = a.theta in
+      let m = c.border_between-mid.ensures.value in
+      let mid = between-dt n th a.from.dt a.to.dt m in
+      let b = c.border_between-b.ensures.value ∙ λ i. Border-between n th a.from.dt (mid i) in
+      let d = c.border_between-d.ensures.value ∙ λ i. Border-between n th (mid i) a.to.dt in
+      (λ i. LanesBorders-from (c.ends-dt.ensures.value i) (c.ends-cos.ensures.value i) (c.ends-sin.ensures.value i))
+      ∙ λ i. LanesBorders-of (c.requires.fact_2 i) (b i) (m i) (d i) (c.requires.fact_3 i);
+}

@@ -18,14 +18,16 @@ join_halves-joined-requires c =
 
 pub returns : goal.returns
 unfolding Halves-union lane_halves
-returns c = record { value = let a = c.args in
-    let near = is_near a.a in
-    let theta = a.a.theta in
-    let low = border-dt near theta a.dt.low c.border_at-from.ensures.value in
-    let high = border-dt near theta a.dt.high c.border_at-to.ensures.value in
-    c.joined.ensures.value
-    ∙ ap LanesVector-joined
-    (c.join_halves-joined.ensures.value
-    ∙ (λ i. fold_halves (LanesVector-quarters a.a (c.second_quaternion-second.ensures.value i) a.s0 a.s1 a.pad0 a.pad1 (c.repeated-p.ensures.value i)) a.depth
-    (low i) (high i) (c.repeated-union.ensures.value i))
-    ∙ halves-lanes a.a a.s0 a.s1 a.pad0 a.pad1 a.b a.depth a.dt.low a.dt.high (λ (l : Lane). Bounds3f-intervals a.first)) }
+returns c = record {
+  value = let a = c.args in
+      let near = is_near a.a in
+      let theta = a.a.theta in
+      let low = border-dt near theta a.dt.low c.border_at-from.ensures.value in
+      let high = border-dt near theta a.dt.high c.border_at-to.ensures.value in
+      c.joined.ensures.value
+      ∙ ap LanesVector-joined
+      (c.join_halves-joined.ensures.value
+      ∙ (λ i. fold_halves (LanesVector-quarters a.a (c.second_quaternion-second.ensures.value i) a.s0 a.s1 a.pad0 a.pad1 (c.repeated-p.ensures.value i)) a.depth
+      (low i) (high i) (c.repeated-union.ensures.value i))
+      ∙ halves-lanes a.a a.s0 a.s1 a.pad0 a.pad1 a.b a.depth a.dt.low a.dt.high (λ (l : Lane). Bounds3f-intervals a.first));
+}

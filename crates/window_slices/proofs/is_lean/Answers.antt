@@ -6,7 +6,6 @@ use lib.Dec.{T}
 use lib.Ieee.Fits.{and_l, and_r}
 use lib.Ieee.Bits.{is_true}
 use native.Mathlib.Omega.{arith}
-use borrow.Author.Tests.{not-false}
 use Rattle.transform.specs.declared.BoundsAnswer.TheVariants.{Bounds}
 use Rattle.bounds_query.specs.Query.{max_depth}
 use Rattle.cover_slices.specs.means.Lean.{coarse_depth, BoundsAnswer-is_box}
@@ -27,7 +26,7 @@ returns c = record { value = λ e.
     let q = c.is_finite_box-numbers.result in
     let f = c.is_finite-finite.result in
     let g = c.is_unit_part-share.result in
-    let all : T (p && q && f && g) = subst T (sym (not-false (p && q && f && g) c.if-not-parts-numbers.false)) tt in
+    let all : T (p && q && f && g) = subst T (sym c.if-not-parts-numbers.false) tt in
     let three = and_l (p && q && f) g all in
     let own = c.coarse_depth-d.ensures.value in
     let depth : min c.coarse_depth-d.result max_depth ≡ coarse_depth a.a = omega (arith, own, coarse-small a.a) in
