@@ -24,7 +24,7 @@ printf '%s' "{box}"
 RT = """#!/bin/sh
 case $1 in
 version) echo a-toolchain logic 097e4c862dff5811 ;;
-check) [ -f "target/stamp/$2" ] || { mkdir -p target/stamp target/bin; printf '#!/bin/sh\\necho proved\\n' >"target/bin/$2"; chmod +x "target/bin/$2"; : >"target/stamp/$2"; } ;;
+run) name=$(basename "$PWD"); [ -f "out/$name.stamp" ] || { mkdir -p out; printf '#!/bin/sh\\necho proved\\n' >"out/$name"; chmod +x "out/$name"; : >"out/$name.stamp"; }; "out/$name" ;;
 esac
 """
 TRUSTED = "print('%s')\n" % ("d" * 64)
@@ -52,13 +52,13 @@ class Certificates(unittest.TestCase):
             write(self.path("crates/%s/src/main.rt" % crate), "fn main() {}\n")
         write(self.path("crates/laws/src/lib.rt"), "// laws\n")
         write(self.path("crates/laws/must-fail/wrong.edit"), "file: src/lib.rt\n")
-        write(self.path(".gitignore"), "target/\n__pycache__/\n")
+        write(self.path(".gitignore"), "target/\nout/\n__pycache__/\n")
         write(os.path.join(self.folder.name, "bin", "rt"), RT, True)
         self.file = os.path.join(self.folder.name, "file.txt")
         with open(self.file, "wb") as file:
             file.write(FILE)
-        write(self.path("target/bin/cover"), COVER.replace("{box}", BOX), True)
-        write(self.path("target/bin/cover_rigid"), COVER.replace("{box}", BOX.replace("bf", "be")), True)
+        write(self.path("crates/cover/out/cover"), COVER.replace("{box}", BOX), True)
+        write(self.path("crates/cover_rigid/out/cover_rigid"), COVER.replace("{box}", BOX.replace("bf", "be")), True)
         write(self.path("target/lib/libjellyplain.a"), "an archive")
         self.git("init", "-q")
         self.commit()
@@ -87,8 +87,8 @@ class Certificates(unittest.TestCase):
         """A log as tools/test.sh makes it; `edit` changes it behind the run's back, `forged` before its hash is made."""
         text = self.stamp("begin")
         for crate in ("laws", "cover", "cover_rigid"):
-            text += "axioms libc: libc::read, libc::write\n%s\nrt: %s proved (1 s)\n" % (VERDICT, crate)
-        text += "rt: must-fail laws/wrong: refused, as it must be (1 s)\n"
+            text += "== %s\naxioms libc: libc::read, libc::write\n%s\nlinked files=out/%s.o\nrt: %s proved\n" % (crate, VERDICT, crate, crate)
+        text += "rt: must-fail laws/wrong.edit: refused, as it must be: src/lib.rt:1:1: error: it is not proved\n"
         between()
         text = forged(text + self.stamp("end"))
         path = os.path.join(self.folder.name, "log")
@@ -146,16 +146,21 @@ class Certificates(unittest.TestCase):
     def test_forged(self):
         """Whoever writes a log by hand makes its hash too: the repository at hand tells."""
         self.refused("its crates proved are not those of its commit, as laws", self.log(forged=lambda text: text.replace("rt: laws proved", "rt: lemmas proved")))
-        self.refused("its wrong programs refused are not those of its commit, as laws/right", self.log(forged=lambda text: text.replace("laws/wrong", "laws/right")))
+        self.refused("its wrong programs refused are not those of its commit, as laws/right", self.log(forged=lambda text: text.replace("laws/wrong.edit", "laws/right.edit")))
         tree = self.stamp("begin").split("tree ")[1].split()[0]
         self.refused("'tree' is", self.log(forged=lambda text: text.replace(tree, "e" * 64)))
         crates = self.stamp("end").split("crates ")[1].split()[0]
         self.refused("'crates' is", self.log(forged=lambda text: text.replace(crates, "e" * 64)))
         self.refused("is not known in this repository", self.log(forged=lambda text: text.replace(self.git("rev-parse", "HEAD"), "f" * 40)))
         self.refused("'definitions' is", self.log(forged=lambda text: text.replace("d" * 64, "e" * 64)))
-        self.refused("it does not say that cover was proved", self.log(forged=lambda text: text.replace(VERDICT + "\nrt: cover ", "\nrt: cover ")))
+        self.refused("it does not say that cover was proved", self.log(forged=lambda text: text.replace(VERDICT + "\nlinked files=out/cover.o", "\nlinked files=out/cover.o")))
 
         self.refused("laws was proved by another logic", self.log(forged=lambda text: text.replace("sum=097e4c862dff5811", "sum=0123456789abcdef", 1)))
+
+    def test_kept(self):
+        """A log of a run that took something from an earlier one says of it nothing that could be compared."""
+        self.refused("of laws that run took what an earlier one had kept", self.log(forged=lambda text: text.replace("== laws\n", "rt: laws is kept: an earlier run on this machine proved the same files\n== laws\n", 1)))
+        self.refused("of laws that run took what an earlier one had kept", self.log(forged=lambda text: text + "rt: laws: 1 of its 1 must-fail edits were tried by an earlier run on this machine\n"))
 
     # ---- trees
     def test_changed_tree(self):
@@ -182,14 +187,14 @@ class Certificates(unittest.TestCase):
     # ---- programs
     def test_replaced_program(self):
         log = self.log()
-        write(self.path("target/bin/cover"), "#!/bin/sh\nprintf '%s' '" + BOX.replace("3f80", "3f00") + "'\n", True)
-        self.refused("target/bin/cover is not the one that the tests built", log)
-        shutil.copy(self.path("target/bin/cover_rigid"), self.path("target/bin/cover"))
-        self.refused("target/bin/cover is not the one that the tests built", log)
+        write(self.path("crates/cover/out/cover"), "#!/bin/sh\nprintf '%s' '" + BOX.replace("3f80", "3f00") + "'\n", True)
+        self.refused("crates/cover/out/cover is not the one that the tests built", log)
+        shutil.copy(self.path("crates/cover_rigid/out/cover_rigid"), self.path("crates/cover/out/cover"))
+        self.refused("crates/cover/out/cover is not the one that the tests built", log)
 
     def test_replaced_program_is_not_run_as_proved(self):
-        write(self.path("target/stamp/cover"), "a stamp")
-        write(self.path("target/bin/cover"), "#!/bin/sh\necho replaced\n", True)
+        write(self.path("crates/cover/out/cover.stamp"), "a stamp")
+        write(self.path("crates/cover/out/cover"), "#!/bin/sh\necho replaced\n", True)
         self.assertEqual(self.command(self.path("tools/proved"), "cover")[:2], (0, "proved\n"))
 
     # ---- the real library
@@ -202,12 +207,12 @@ class Certificates(unittest.TestCase):
         shutil.copy(built, self.path("target/lib/libjellyplain.so.2.0.0"))
         for kind, ending in (("plain", "expected"), ("rigid", "rigid")):
             for name, box in (("cover", "expected"), ("cover_rigid", "rigid")):
-                write(self.path("target/bin/" + name), "#!/bin/sh\ncat %s.%s\n" % (example, box), True)
+                write(self.path("crates/%s/out/%s" % (name, name)), "#!/bin/sh\ncat %s.%s\n" % (example, box), True)
             status, said, reason = self.page(self.log(), "--library", built, kind=kind)
             self.assertEqual((status, reason), (0, ""))
             self.assertIn("asked for this file it answers this cover, in every bit", said)
             # a program of the other kind
-            write(self.path("target/bin/cover" + "_rigid" * (kind == "rigid")), "#!/bin/sh\ncat %s.%s\n" % (example, "rigid" if kind == "plain" else "expected"), True)
+            write(self.path("crates/cover/out/cover" + "_rigid" * (kind == "rigid")), "#!/bin/sh\ncat %s.%s\n" % (example, "rigid" if kind == "plain" else "expected"), True)
             self.refused("answers another box than the program", self.log(), "--library", built, kind=kind)
 
 

@@ -1,7 +1,7 @@
 #!/usr/bin/env bash
 # What refused each must-fail edit, from what `rt ci` or `rt must-fail` printed: tools/why.sh LOG
 #   FACT   a fact that the contract needs no longer holds: what a proof shows differs from what the edited code needs, a search for the needed fact finds none, or a counterexample is found
-#   FACT?  a step of the proof finds nothing to rewrite or no proof: most likely that fact, but only a control
+#   FACT?  a step of the proof finds nothing to rewrite or no proof, or a search gave up before it had tried all: most likely that fact, but only a control
 #          (the edit with a matching change of the definition, proved) would tell
 #   UNFIT  a proof file, a name or a loop's invariant no longer fits the edited text, or rt says that only such a file names what the edit took away: the refusal shows nothing
 #   LIMIT  the prover met a limit of its own and gave no verdict: the refusal shows nothing
@@ -37,7 +37,7 @@ while IFS= read -r line; do
             tell "?" "$edit" "no refusal that is known"; status=1
         elif grep -qE "$unfit" <<<"$reason"; then
             tell UNFIT "$edit" "$text"; status=1
-        elif grep -qE "$shown" <<<"$reason"; then
+        elif grep -qE "$shown" <<<"$reason" && ! grep -q 'gave up' <<<"$reason"; then
             tell FACT "$edit" "$text"
         elif grep -qE "$fact" <<<"$reason"; then
             tell FACT? "$edit" "$text"

@@ -58,11 +58,11 @@ compare/run [--moves N] [--chains N] [--seed N] [--kinds A,B,..] [--files N] [--
   --show N               how many differences are printed                        10
   --workers N            batches worked at once                                  the number of processors
   --no-build             takes the project's programs as they stand
-  --answers PATH         the project's program `answers`                         target/bin/answers
-  --chain-answers PATH   the project's program `chain_answers`                   target/bin/chain_answers
-  --cover PATH           the project's program `cover`                           target/bin/cover
-  --rewrite PATH         the project's program `rewrite`                         target/bin/rewrite
-  --stretch PATH         the project's program `stretch`                         target/bin/stretch
+  --answers PATH         the project's program `answers`                         crates/answers/out/answers
+  --chain-answers PATH   the project's program `chain_answers`                   crates/chain_answers/out/chain_answers
+  --cover PATH           the project's program `cover`                           crates/cover/out/cover
+  --rewrite PATH         the project's program `rewrite`                         crates/rewrite/out/rewrite
+  --stretch PATH         the project's program `stretch`                         crates/stretch/out/stretch
   --oracle PATH          the oracle's program `answers`                          oracle/target/release/answers
   --chain-oracle PATH    the oracle's program `chain_answers`                    oracle/target/release/chain_answers
 Exit status: 0 no difference, 1 a difference, 2 nothing could be compared.";
@@ -84,11 +84,11 @@ fn number(option: &str, value: &str) -> u64 {
 
 fn options() -> Options {
     let programs = Programs {
-        moves: Sides { project: "target/bin/answers".into(), oracle: "oracle/target/release/answers".into() },
-        chains: Sides { project: "target/bin/chain_answers".into(), oracle: "oracle/target/release/chain_answers".into() },
-        cover: "target/bin/cover".into(),
-        rewrite: "target/bin/rewrite".into(),
-        stretch: "target/bin/stretch".into(),
+        moves: Sides { project: "crates/answers/out/answers".into(), oracle: "oracle/target/release/answers".into() },
+        chains: Sides { project: "crates/chain_answers/out/chain_answers".into(), oracle: "oracle/target/release/chain_answers".into() },
+        cover: "crates/cover/out/cover".into(),
+        rewrite: "crates/rewrite/out/rewrite".into(),
+        stretch: "crates/stretch/out/stretch".into(),
         vectors: "oracle/target/release/vectors".into(),
         move_files: "tools/move_files.py".into(),
     };

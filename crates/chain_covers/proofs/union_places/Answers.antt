@@ -26,6 +26,8 @@ loop-i-preserved c =
     (c.loop-i.invariant.0, (omega (arith, t), rw (c.union_bounds-next.ensures.value, c.bounds.ensures.value) next ∙ c.loop-i.invariant.1.1))
 
 pub returns : goal.returns
-returns c = record { value = let l = c.loop-i in
-    let a = c.args in
-    sym (union-end a.places.now a.n (omega (arith, c.requires.n_nonzero, c.requires.n_le_max_boxes, c.requires.places_len)) l.union l.i (omega (arith, l.invariant.0, c.loop-i-test.false))) ∙ l.invariant.1.1 }
+returns c = record {
+  value = let l = c.loop-i in
+      let a = c.args in
+      sym (union-end a.places.now a.n (omega (arith, c.requires.n_nonzero, c.requires.n_le_max_boxes, c.requires.places_len)) l.union l.i (omega (arith, l.invariant.0, c.loop-i-test.false))) ∙ l.invariant.1.1;
+}

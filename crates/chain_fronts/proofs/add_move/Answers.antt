@@ -22,23 +22,27 @@ slice_bounds-covers-end c =
     sym (length-take-le a.front.count a.boxes.now c.if-n-boxes.false)
 
 pub returns-then-got-n : goal.returns-then-got-n
-returns-then-got-n c = record { covered = let a = c.args in
-    let l = c.requires in
-    let m = c.from_rows-m.ensures.value in
-    let in_front = Boxes-asked (take a.front.count a.boxes.now) in
-    let g = c.covers-got.ensures.front ∙ ap (λ x. Front-of (Boxes-answers (λ b. AnimatedTransform-cover x b a.depth) in_front)) m in
-    let cover : Bounds3f → BoundsAnswer = λ b. AnimatedTransform-cover (AnimatedTransform-from_rows a.rows.now) b a.depth in
-    λ answer first r. move-refused cover l r g c.if-got-n.true }
+returns-then-got-n c = record {
+  covered = let a = c.args in
+      let l = c.requires in
+      let m = c.from_rows-m.ensures.value in
+      let in_front = Boxes-asked (take a.front.count a.boxes.now) in
+      let g = c.covers-got.ensures.front ∙ ap (λ x. Front-of (Boxes-answers (λ b. AnimatedTransform-cover x b a.depth) in_front)) m in
+      let cover : Bounds3f → BoundsAnswer = λ b. AnimatedTransform-cover (AnimatedTransform-from_rows a.rows.now) b a.depth in
+      λ answer first r. move-refused cover l r g c.if-got-n.true;
+}
 
 pub join_boxes-requires : goal.join_boxes-requires
 join_boxes-requires c = let a = c.args in let l = c.requires in let h = c.if-n-boxes.false in let cover : Bounds3f → BoundsAnswer = λ b. AnimatedTransform-cover c.from_rows-m.result b a.depth in record { count_le_place_count = omega (arith, h, l); count_in_bounds = move-size cover a.boxes.now a.front.count h l c.covers-got.ensures.places }
 
 pub returns : goal.returns
-returns c = record { covered = let a = c.args in
-    let l = c.requires in
-    let m = c.from_rows-m.ensures.value in
-    let in_front = Boxes-asked (take a.front.count a.boxes.now) in
-    let g = c.covers-got.ensures.front ∙ ap (λ x. Front-of (Boxes-answers (λ b. AnimatedTransform-cover x b a.depth) in_front)) m in
-    let moved = c.covers-got.ensures.places ∙ ap (λ x. Places-answered (Boxes-answers (λ b. AnimatedTransform-cover x b a.depth) in_front)) m in
-    let cover : Bounds3f → BoundsAnswer = λ b. AnimatedTransform-cover (AnimatedTransform-from_rows a.rows.now) b a.depth in
-    λ answer first r. move-accepted cover l r g moved c.if-got-n.false c.join_boxes.ensures.left }
+returns c = record {
+  covered = let a = c.args in
+      let l = c.requires in
+      let m = c.from_rows-m.ensures.value in
+      let in_front = Boxes-asked (take a.front.count a.boxes.now) in
+      let g = c.covers-got.ensures.front ∙ ap (λ x. Front-of (Boxes-answers (λ b. AnimatedTransform-cover x b a.depth) in_front)) m in
+      let moved = c.covers-got.ensures.places ∙ ap (λ x. Places-answered (Boxes-answers (λ b. AnimatedTransform-cover x b a.depth) in_front)) m in
+      let cover : Bounds3f → BoundsAnswer = λ b. AnimatedTransform-cover (AnimatedTransform-from_rows a.rows.now) b a.depth in
+      λ answer first r. move-accepted cover l r g moved c.if-got-n.false c.join_boxes.ensures.left;
+}

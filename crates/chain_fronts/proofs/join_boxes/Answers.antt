@@ -19,7 +19,9 @@ loop-i-preserved c =
     (omega (arith, t), joined-next a.moved.now a.places.now c.loop-i.invariant.1 (omega (arith, t, c.requires.count_le_place_count, c.requires.count_in_bounds)) written)
 
 pub returns : goal.returns
-returns c = record { left = let l = c.loop-i in
-    let a = c.args in
-    let e : l.i ≡ a.count = omega (arith, l.invariant.0, c.loop-i-test.false) in
-    l.invariant.1 ∙ ap (λ n. Places-joined n a.moved.now a.places.now) e }
+returns c = record {
+  left = let l = c.loop-i in
+      let a = c.args in
+      let e : l.i ≡ a.count = omega (arith, l.invariant.0, c.loop-i-test.false) in
+      l.invariant.1 ∙ ap (λ n. Places-joined n a.moved.now a.places.now) e;
+}

@@ -20,5 +20,7 @@ loop-i-preserved c =
     (refl, (omega (arith, t), reached-next _ _ _ l.invariant.1.1 t c.add_move-next.ensures.covered))
 
 pub returns : goal.returns
-returns c = record { covered = let l = c.loop-i in
-    reached-last _ _ _ l.invariant.1.1 (omega (arith, l.invariant.0, c.loop-i-test.false)) c.requires.fact }
+returns c = record {
+  covered = let l = c.loop-i in
+      reached-last _ _ _ l.invariant.1.1 (omega (arith, l.invariant.0, c.loop-i-test.false)) c.requires.fact;
+}

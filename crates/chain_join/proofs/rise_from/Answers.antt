@@ -13,9 +13,11 @@ pub loop-i-init : goal.loop-i-init
 loop-i-init c = (omega arith, refl)
 
 pub returns-then-not-last-end : goal.returns-then-not-last-end
-returns-then-not-last-end c = record { value = let l = c.loop-i in
-    let a = c.args in
-    sym (rise-fails l.last a.moves.now l.i c.loop-i-test.true (ap not c.if-not-last-end.true)) ∙ l.invariant.1 }
+returns-then-not-last-end c = record {
+  value = let l = c.loop-i in
+      let a = c.args in
+      sym (rise-fails l.last a.moves.now l.i c.loop-i-test.true (ap not c.if-not-last-end.true)) ∙ l.invariant.1;
+}
 
 pub loop-i-preserved : goal.loop-i-preserved
 loop-i-preserved c =
@@ -25,6 +27,8 @@ loop-i-preserved c =
     (omega (arith, more), rise-goes l.last a.moves.now l.i more (ap not c.if-not-last-end.false) ∙ l.invariant.1)
 
 pub returns : goal.returns
-returns c = record { value = let l = c.loop-i in
-    let a = c.args in
-    sym (rise-ends l.last a.moves.now l.i (omega arith)) ∙ l.invariant.1 }
+returns c = record {
+  value = let l = c.loop-i in
+      let a = c.args in
+      sym (rise-ends l.last a.moves.now l.i (omega arith)) ∙ l.invariant.1;
+}

@@ -31,8 +31,10 @@ shape_of-answers c =
     c.fill_part-2.ensures.same ∙ (c.loop-i.invariant.1.1.1.0 ∙ sym c.requires.answers_len)
 
 pub returns : goal.returns
-returns c = record { left = let l = c.loop-i in
-    let a = c.args in
-    let n : suc l.i ≡ length a.moves.now = omega (arith, l.invariant.0, l.invariant.1.0, c.loop-i-test.false) in
-    floats-last a.moves.now a.p a.times.now l.answers l.i l.from n l.invariant.1.1.0 l.invariant.1.1.1.0
-    c.fill_part-2.ensures.left ∙ l.invariant.1.1.1.1 }
+returns c = record {
+  left = let l = c.loop-i in
+      let a = c.args in
+      let n : suc l.i ≡ length a.moves.now = omega (arith, l.invariant.0, l.invariant.1.0, c.loop-i-test.false) in
+      floats-last a.moves.now a.p a.times.now l.answers l.i l.from n l.invariant.1.1.0 l.invariant.1.1.1.0
+      c.fill_part-2.ensures.left ∙ l.invariant.1.1.1.1;
+}

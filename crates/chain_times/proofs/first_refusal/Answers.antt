@@ -15,12 +15,14 @@ pub loop-i-init : goal.loop-i-init
 loop-i-init c = (refl, (omega (arith, c.requires.moves_nonzero), (omega arith, (omega arith, refl))))
 
 pub returns-then-number-ne0 : goal.returns-then-number-ne0
-returns-then-number-ne0 c = record { value = let l = c.loop-i in
-    let a = c.args in
-    let h = c.loop-i-test.true in
-    let n : suc l.i < length a.moves.now = omega (arith, h, l.invariant.1.0) in
-    let r = rises-drop l.from a.times.now (subst T (sym c.requires.times_value) tt) in
-    number-here a.moves.now a.p a.times.now l.i l.from n r c.stretch_end-end.ensures.value c.first_refusal-number.ensures.value c.if-number-ne0.true ∙ l.invariant.1.1.1.1 }
+returns-then-number-ne0 c = record {
+  value = let l = c.loop-i in
+      let a = c.args in
+      let h = c.loop-i-test.true in
+      let n : suc l.i < length a.moves.now = omega (arith, h, l.invariant.1.0) in
+      let r = rises-drop l.from a.times.now (subst T (sym c.requires.times_value) tt) in
+      number-here a.moves.now a.p a.times.now l.i l.from n r c.stretch_end-end.ensures.value c.first_refusal-number.ensures.value c.if-number-ne0.true ∙ l.invariant.1.1.1.1;
+}
 
 pub loop-i-preserved : goal.loop-i-preserved
 loop-i-preserved c =
@@ -33,7 +35,9 @@ loop-i-preserved c =
     (refl, (l.invariant.1.0, (omega (arith, h), (c.stretch_end-end.ensures.below, next ∙ l.invariant.1.1.1.1))))
 
 pub returns : goal.returns
-returns c = record { value = let l = c.loop-i in
-    let a = c.args in
-    let n : suc l.i ≡ length a.moves.now = omega (arith, l.invariant.1.0, l.invariant.1.1.0, c.loop-i-test.false) in
-    number-last a.moves.now a.p a.times.now l.i l.from n c.first_refusal.ensures.value ∙ l.invariant.1.1.1.1 }
+returns c = record {
+  value = let l = c.loop-i in
+      let a = c.args in
+      let n : suc l.i ≡ length a.moves.now = omega (arith, l.invariant.1.0, l.invariant.1.1.0, c.loop-i-test.false) in
+      number-last a.moves.now a.p a.times.now l.i l.from n c.first_refusal.ensures.value ∙ l.invariant.1.1.1.1;
+}

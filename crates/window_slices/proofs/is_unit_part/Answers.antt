@@ -8,18 +8,20 @@ use Rattle.float32.specs.Operators.{positive_zero, one}
 use Rattle.window_slices.proofs.is_unit_part.Goals as goal
 
 pub returns : goal.returns
-returns c = record { value = λ e.
-    let a = c.args in
-    let p = le positive_zero a.low in
-    let q = le a.low a.high in
-    let r = le a.high one in
-    let all : T (p && q && r) = subst T (sym e) tt in
-    record {
-      subset = record {
-        low = record { holds = and_l p q (and_l (p && q) r all) };
-        proper = record { holds = and_r p q (and_l (p && q) r all) };
-        high = record { holds = and_r (p && q) r all };
+returns c = record {
+  value = λ e.
+      let a = c.args in
+      let p = le positive_zero a.low in
+      let q = le a.low a.high in
+      let r = le a.high one in
+      let all : T (p && q && r) = subst T (sym e) tt in
+      record {
+        subset = record {
+          low = record { holds = and_l p q (and_l (p && q) r all) };
+          proper = record { holds = and_r p q (and_l (p && q) r all) };
+          high = record { holds = and_r (p && q) r all };
+        };
+        low_fits = subst T (sym c.well_formed.0.1) tt;
+        high_fits = subst T (sym c.well_formed.1.0.1) tt;
       };
-      low_fits = subst T (sym c.well_formed.0.1) tt;
-      high_fits = subst T (sym c.well_formed.1.0.1) tt;
-    } }
+}
