@@ -153,5 +153,5 @@ for name_of in cover cover_rigid rewrite stretch day; do
     "try_$name_of"
     refuses_streams "$name_of"
 done 2>&1
-[ "$status" -ne 0 ] || echo "examples: $count runs on move files and day files, each with the expected output"
+[ "$status" -ne 0 ] || [ "$count" -eq 0 ] || echo "examples: $count runs on move files and day files, each with the expected output"
 exit "$status"

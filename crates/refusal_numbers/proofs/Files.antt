@@ -72,11 +72,13 @@ of-building (inr (inr (inr (inr (inl e))))) z t = inr (inr (inl e))
 of-building (inr (inr (inr (inr (inr (inl e)))))) z t = inr (inr (inr (inl e)))
 of-building (inr (inr (inr (inr (inr (inr (inl e))))))) z t = inr (inr (inr (inr (inr (inr (inr (inl e)))))))
 of-building (inr (inr (inr (inr (inr (inr (inr (inl e)))))))) z t = inr (inr (inr (inr (inr (inr (inr (inr (inl e))))))))
+of-building (inr (inr (inr (inr (inr (inr (inr (inr x)))))))) z t = elim x [ ]
 
 of-box : {n : ℕ} → OneOf n (0 ∷ 6 ∷ 7 ∷ []) → (n ≡ 0 → ⊥) → FileNumber n
 of-box (inl e) z = absurd (z e)
 of-box (inr (inl e)) z = inr (inr (inr (inr (inl e))))
 of-box (inr (inr (inl e))) z = inr (inr (inr (inr (inr (inl e)))))
+of-box (inr (inr (inr x))) z = elim x [ ]
 
 module _ (bytes : List ℕ) where
   abbrev answer : ChainAnswer

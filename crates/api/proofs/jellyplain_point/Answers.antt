@@ -6,8 +6,12 @@ use borrow.Author.Rules.{rules}
 use Rattle.api.proofs.jellyplain_point.Goals as goal
 
 pub returns : goal.returns
-returns c = let a = c.args in record { refusal = rw (c.put_point.ensures.refusal, c.transform_point.ensures.value, c.point.ensures.value); left = rw (
-          c.put_point.ensures.left,
-          c.transform_point.ensures.value,
-          c.point.ensures.value,
-        ); built = λ (m : AnimatedTransform). kept-point a.motion.now m a.time (Point3f-of_list a.p.now) }
+returns c = let a = c.args in record {
+  refusal = rw (c.put_point.ensures.refusal, c.transform_point.ensures.value, c.point.ensures.value);
+  left = rw (
+    c.put_point.ensures.left,
+    c.transform_point.ensures.value,
+    c.point.ensures.value,
+  );
+  built = λ (m : AnimatedTransform). kept-point a.motion.now m a.time (Point3f-of_list a.p.now);
+}

@@ -22,6 +22,8 @@ slice_bounds-cover-end c =
     sym (length-take-le _ _ (omega (arith, c.requires.moves_len_bound, changed.1)))
 
 pub returns : goal.returns
-returns c = record { value = let a = c.args in
-    let changed = changed-front a.moves.now a.place a.beside.now _ c.requires.moves_nonzero c.requires.moves_len_bound c.requires.place_in_bounds refl c.put_changed.ensures.left in
-    c.cover.ensures.value ∙ ap (λ (rows : List Rows). Moves-cover rows a.b a.depth) changed.0 }
+returns c = record {
+  value = let a = c.args in
+      let changed = changed-front a.moves.now a.place a.beside.now _ c.requires.moves_nonzero c.requires.moves_len_bound c.requires.place_in_bounds refl c.put_changed.ensures.left in
+      c.cover.ensures.value ∙ ap (λ (rows : List Rows). Moves-cover rows a.b a.depth) changed.0;
+}

@@ -23,20 +23,26 @@ returns-then-time c = record { value = rw (← differs-nan c.args.time, c.if-tim
 
 pub returns-then-constants-time : goal.returns-then-constants-time
 unfolding Rows-interpolate AnimatedTransform-from_rows
-returns-then-constants-time c = record { value = let a = c.args in
-    rw (c.judged.ensures.value, c.transform_at.ensures.value)
-    (sym (by-start (AnimatedTransform-from_rows a.rows.now) (between a.rows.now) a.time (sym (differs-nan a.time) ∙ c.if-time.false) c.if-constants-time.true)) }
+returns-then-constants-time c = record {
+  value = let a = c.args in
+      rw (c.judged.ensures.value, c.transform_at.ensures.value)
+      (sym (by-start (AnimatedTransform-from_rows a.rows.now) (between a.rows.now) a.time (sym (differs-nan a.time) ∙ c.if-time.false) c.if-constants-time.true));
+}
 
 pub returns-then-time-end : goal.returns-then-time-end
 unfolding Rows-interpolate AnimatedTransform-from_rows
-returns-then-time-end c = record { value = let a = c.args in
-    rw (c.judged-then-time-end.ensures.value, c.transform_at-then-time-end.ensures.value)
-    (sym (by_end (AnimatedTransform-from_rows a.rows.now) (between a.rows.now) a.time (sym (differs-nan a.time) ∙ c.if-time.false)
-    c.if-constants-time.false c.if-time-end.true)) }
+returns-then-time-end c = record {
+  value = let a = c.args in
+      rw (c.judged-then-time-end.ensures.value, c.transform_at-then-time-end.ensures.value)
+      (sym (by_end (AnimatedTransform-from_rows a.rows.now) (between a.rows.now) a.time (sym (differs-nan a.time) ∙ c.if-time.false)
+      c.if-constants-time.false c.if-time-end.true));
+}
 
 pub returns : goal.returns
 unfolding Rows-interpolate AnimatedTransform-from_rows div dt
-returns c = record { value = let a = c.args in
-    rw c.pose_at.ensures.value
-    (sym (by-between (AnimatedTransform-from_rows a.rows.now) (between a.rows.now) a.time (sym (differs-nan a.time) ∙ c.if-time.false)
-    c.if-constants-time.false c.if-time-end.false)) }
+returns c = record {
+  value = let a = c.args in
+      rw c.pose_at.ensures.value
+      (sym (by-between (AnimatedTransform-from_rows a.rows.now) (between a.rows.now) a.time (sym (differs-nan a.time) ∙ c.if-time.false)
+      c.if-constants-time.false c.if-time-end.false));
+}

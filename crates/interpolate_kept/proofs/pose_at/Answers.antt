@@ -7,14 +7,16 @@ use Rattle.interpolate_kept.proofs.pose_at.Goals as goal
 
 pub returns : goal.returns
 unfolding Pose-transform AnimatedTransform-from_rows PoseConstants-from_rows
-returns c = record { value = rw (
-      c.composed.ensures.value,
-      c.scale_by-scale.ensures.value,
-      c.matrix_at-2.ensures.value,
-      c.matrix_at.ensures.value,
-      c.slerp-rotate.ensures.value,
-      c.translation-trans.ensures.value,
-      c.constants_from_rows-a.ensures.value,
-      translation-same _ _ _,
-      scale-by-same _ _ _ _,
-    ) }
+returns c = record {
+  value = rw (
+    c.composed.ensures.value,
+    c.scale_by-scale.ensures.value,
+    c.matrix_at-2.ensures.value,
+    c.matrix_at.ensures.value,
+    c.slerp-rotate.ensures.value,
+    c.translation-trans.ensures.value,
+    c.constants_from_rows-a.ensures.value,
+    translation-same _ _ _,
+    scale-by-same _ _ _ _,
+  );
+}

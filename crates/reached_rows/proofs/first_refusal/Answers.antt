@@ -12,11 +12,13 @@ pub loop-k-init : goal.loop-k-init
 loop-k-init c = (refl, refl)
 
 pub returns-then-number-ne0 : goal.returns-then-number-ne0
-returns-then-number-ne0 c = record { value = let l = c.loop-k in
-    let a = c.args in
-    let h : l.k < length a.rows.now = omega (arith, l.invariant.0, c.loop-k-test.true) in
-    let n = c.refusal-number.ensures.value ∙ ap Bounds3f-refusal c.bounds.ensures.value in
-    sym (number-here a.rows.now l.k h n c.if-number-ne0.true) ∙ l.invariant.1 }
+returns-then-number-ne0 c = record {
+  value = let l = c.loop-k in
+      let a = c.args in
+      let h : l.k < length a.rows.now = omega (arith, l.invariant.0, c.loop-k-test.true) in
+      let n = c.refusal-number.ensures.value ∙ ap Bounds3f-refusal c.bounds.ensures.value in
+      sym (number-here a.rows.now l.k h n c.if-number-ne0.true) ∙ l.invariant.1;
+}
 
 pub loop-k-preserved : goal.loop-k-preserved
 loop-k-preserved c =
@@ -27,6 +29,8 @@ loop-k-preserved c =
     (l.invariant.0, number-next a.rows.now l.k h n ∙ l.invariant.1)
 
 pub returns : goal.returns
-returns c = record { value = let l = c.loop-k in
-    let a = c.args in
-    sym (number-end a.rows.now l.k (omega (arith, l.invariant.0, c.loop-k-test.false))) ∙ l.invariant.1 }
+returns c = record {
+  value = let l = c.loop-k in
+      let a = c.args in
+      sym (number-end a.rows.now l.k (omega (arith, l.invariant.0, c.loop-k-test.false))) ∙ l.invariant.1;
+}

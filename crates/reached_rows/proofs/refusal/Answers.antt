@@ -12,15 +12,21 @@ same_count : (rows : List (List Float)) → is_bad_count (length (map Bounds3f-o
 same_count rows = ap is_bad_count (length-map rows Bounds3f-of_list)
 
 pub returns-then-n : goal.returns-then-n
-returns-then-n c = record { value = let a = c.args in
-    sym (count-first a.cover (map Bounds3f-of_list a.rows.now) (same_count a.rows.now ∙ c.if-n.true)) }
+returns-then-n c = record {
+  value = let a = c.args in
+      sym (count-first a.cover (map Bounds3f-of_list a.rows.now) (same_count a.rows.now ∙ c.if-n.true));
+}
 
 pub returns-then-number-ne0 : goal.returns-then-number-ne0
-returns-then-number-ne0 c = record { value = let a = c.args in
-    let e = c.refusal-number.ensures.value in
-    e ∙ sym (cover-next a.cover (map Bounds3f-of_list a.rows.now) (same_count a.rows.now ∙ c.if-n.false) (λ z. c.if-number-ne0.true (e ∙ z))) }
+returns-then-number-ne0 c = record {
+  value = let a = c.args in
+      let e = c.refusal-number.ensures.value in
+      e ∙ sym (cover-next a.cover (map Bounds3f-of_list a.rows.now) (same_count a.rows.now ∙ c.if-n.false) (λ z. c.if-number-ne0.true (e ∙ z)));
+}
 
 pub returns : goal.returns
-returns c = record { value = let a = c.args in
-    let none = sym c.refusal-number.ensures.value ∙ c.if-number-ne0.false in
-    c.first_refusal.ensures.value ∙ sym (rows_last a.cover (map Bounds3f-of_list a.rows.now) (same_count a.rows.now ∙ c.if-n.false) none) }
+returns c = record {
+  value = let a = c.args in
+      let none = sym c.refusal-number.ensures.value ∙ c.if-number-ne0.false in
+      c.first_refusal.ensures.value ∙ sym (rows_last a.cover (map Bounds3f-of_list a.rows.now) (same_count a.rows.now ∙ c.if-n.false) none);
+}

@@ -30,7 +30,9 @@ loop-i-preserved c =
     )
 
 pub returns : goal.returns
-returns c = record { same = let l = c.loop-i in
-    let a = c.args in
-    let boxes = stage_boxes a.b (min a.depth max_depth) a.w a.stage in
-    λ s h. reached-end boxes a.moves.now l.i (omega (arith, c.loop-i-test.false)) (l.invariant.1.1 s h) }
+returns c = record {
+  same = let l = c.loop-i in
+      let a = c.args in
+      let boxes = stage_boxes a.b (min a.depth max_depth) a.w a.stage in
+      λ s h. reached-end boxes a.moves.now l.i (omega (arith, c.loop-i-test.false)) (l.invariant.1.1 s h);
+}

@@ -7,11 +7,13 @@ pub returns-then-not-asked : goal.returns-then-not-asked
 returns-then-not-asked c = record { value = rw c.if-not-asked.true }
 
 pub returns : goal.returns
-returns c = record { value = let a = c.args in
-    rw (
-      c.if-not-asked.false,
-      c.union_bounds.ensures.value,
-      c.box_enclosure.ensures.value,
-      c.stored_enclosure.ensures.value,
-      stored-composition a.pad a.t a.b,
-    ) }
+returns c = record {
+  value = let a = c.args in
+      rw (
+        c.if-not-asked.false,
+        c.union_bounds.ensures.value,
+        c.box_enclosure.ensures.value,
+        c.stored_enclosure.ensures.value,
+        stored-composition a.pad a.t a.b,
+      );
+}

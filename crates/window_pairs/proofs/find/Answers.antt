@@ -19,10 +19,12 @@ pub meeting_at-m-requires : goal.meeting_at-m-requires
 meeting_at-m-requires c = let l = c.loop-i in let p = l.invariant.1.place in record { le_i = omega (arith, p); i_in_bounds = c.loop-i-test.true }
 
 pub returns-then-refusal-ne0 : goal.returns-then-refusal-ne0
-returns-then-refusal-ne0 c = record { found = let l = c.loop-i in
-    let a = c.args in
-    loop-refused (Moves-window_cover a.moves.now a.b a.depth) (Moves-window_cover a.others.now a.other a.depth) a.ticks.now l.invariant.1
-    c.meeting_at-m.result c.loop-i-test.true c.meeting_at-m.ensures.value c.if-refusal-ne0.true c.none.ensures.value }
+returns-then-refusal-ne0 c = record {
+  found = let l = c.loop-i in
+      let a = c.args in
+      loop-refused (Moves-window_cover a.moves.now a.b a.depth) (Moves-window_cover a.others.now a.other a.depth) a.ticks.now l.invariant.1
+      c.meeting_at-m.result c.loop-i-test.true c.meeting_at-m.ensures.value c.if-refusal-ne0.true c.none.ensures.value;
+}
 
 pub add-next-requires : goal.add-next-requires
 add-next-requires c =
@@ -41,7 +43,9 @@ loop-i-preserved c =
     )
 
 pub returns : goal.returns
-returns c = record { found = let l = c.loop-i in
-    let a = c.args in
-    loop-last (Moves-window_cover a.moves.now a.b a.depth)
-    (Moves-window_cover a.others.now a.other a.depth) a.ticks.now l.invariant.1 c.loop-i-test.false }
+returns c = record {
+  found = let l = c.loop-i in
+      let a = c.args in
+      loop-last (Moves-window_cover a.moves.now a.b a.depth)
+      (Moves-window_cover a.others.now a.other a.depth) a.ticks.now l.invariant.1 c.loop-i-test.false;
+}
