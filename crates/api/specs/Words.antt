@@ -1,6 +1,7 @@
 -- The words that the contracts of `api` cite, passed on for those of `api_c`, which exports the same functions to C. No definition of its own.
 pub use Rattle.bounds3.specs.List.{Point3f-of_list, Bounds3f-of_list}
 pub use Rattle.transform.specs.Answer.{PointAnswer-refusal, BoundsAnswer-refusal}
+pub use Rattle.animated_transform.specs.declared.AnimatedTransform.{AnimatedTransform}
 pub use Rattle.motion_point.specs.TransformPoint.{AnimatedTransform-transform_point}
 pub use Rattle.motion_bounds.specs.Answer.{MotionBoundsAnswer-refusal}
 pub use Rattle.lent_arrays.specs.Arrays.{Pose-of_list, PointAnswer-left, TransformAnswer-left, BoundsAnswer-left}
