@@ -15,7 +15,7 @@ use Rattle.chain_poses.specs.Poses.{Poses-of_lists}
 use Rattle.motion_file.specs.declared.MoveFile.{MoveFile}
 use Rattle.motion_file.specs.Layout.{MoveFile-read, MoveFile-box, MoveFile-poses}
 use Rattle.motion_answer.specs.Answer.{MoveFile-chain}
-use Rattle.file_text.specs.Text.{Chain-text, MoveFile-text, the-written-MoveFile}
+use Rattle.file_text.specs.Text.{Chain-text, MoveFile-text, MoveFile-written}
 use Rattle.file_text.specs.Theorem.{max_padded_lines, MoveFile-Accepted, HoldSame}
 use Rattle.file_text.proofs.Written.{built-room}
 use Rattle.file_text.proofs.Same.{written_read, accepted-written, same_bits}
@@ -26,7 +26,7 @@ chain-form : (f : List ℕ) (c : Chain) → MoveFile-Accepted f c → rewritten_
 unfolding MoveFile-chain rewritten_text ChainAnswer-text boxed_text
 chain-form f c a = rw (eq-eqb (MoveFile-read f).refusal 0 a.layout, a.chain, eq-eqb (Bounds3f-refusal (MoveFile-box f)) 0 a.box)
 
-pub rewritten-form : (f : List ℕ) (c : Chain) → MoveFile-Accepted f c → rewritten_text f ≡ the-written-MoveFile f
+pub rewritten-form : (f : List ℕ) (c : Chain) → MoveFile-Accepted f c → rewritten_text f ≡ MoveFile-written f
 rewritten-form f c a = chain-form f c a ∙ accepted-written f c a
 
 pub rewritten-same : (f g : List ℕ) → RewrittenSame f g
@@ -37,7 +37,7 @@ module _ (f : List ℕ) (c : Chain) (a : MoveFile-Accepted f c) where
   room : length (MoveFile-poses f) ≤ max_padded_lines
   room = built-room false (MoveFile-poses f) c a.chain
 
-  form-accepted : MoveFile-Accepted (the-written-MoveFile f) c
+  form-accepted : MoveFile-Accepted (MoveFile-written f) c
   form-accepted =
       let w = written_read f room in
       record {
@@ -46,8 +46,8 @@ module _ (f : List ℕ) (c : Chain) (a : MoveFile-Accepted f c) where
         box = rw w.1.bounds a.box;
       }
 
-  form-again : the-written-MoveFile (the-written-MoveFile f) ≡ the-written-MoveFile f
-  unfolding the-written-MoveFile
+  form-again : MoveFile-written (MoveFile-written f) ≡ MoveFile-written f
+  unfolding MoveFile-written
   form-again = let w = (written_read f room).1 in rw (w.poses, w.bounds)
 
   pub rewritten-again : RewrittenAgain f
@@ -58,5 +58,5 @@ module _ (f : List ℕ) (c : Chain) (a : MoveFile-Accepted f c) where
         form = e;
         layout = rw e w.0;
         same = rw e w.1;
-        again = rw e (rewritten-form (the-written-MoveFile f) c form-accepted ∙ form-again);
+        again = rw e (rewritten-form (MoveFile-written f) c form-accepted ∙ form-again);
       }

@@ -3,7 +3,7 @@ use Rattle.std.specs.Prelude.{ℕ, ◌≡◌, ◌↔◌, List}
 use Rattle.motion_chain.specs.Chain.{Chain}
 use Rattle.motion_file.specs.declared.MoveFile.{MoveFile}
 use Rattle.motion_file.specs.Layout.{MoveFile-read}
-use Rattle.file_text.specs.Text.{the-written-MoveFile}
+use Rattle.file_text.specs.Text.{MoveFile-written}
 use Rattle.file_text.specs.Theorem.{MoveFile-Accepted, HoldSame}
 use Rattle.file_rewrite.specs.Rewrite.{rewritten_text}
 
@@ -13,7 +13,7 @@ RewrittenSame f g = (c d : Chain) → MoveFile-Accepted f c → MoveFile-Accepte
 
 -- what is printed for an accepted file is its written form, which keeps the layout, holds what the file holds and is its own written form
 pub record RewrittenAgain (f : List ℕ) : Type 0 where
-  pub form : rewritten_text f ≡ the-written-MoveFile f
+  pub form : rewritten_text f ≡ MoveFile-written f
   pub layout : (MoveFile-read (rewritten_text f)).refusal ≡ 0
   pub same : HoldSame (rewritten_text f) f
   pub again : rewritten_text (rewritten_text f) ≡ rewritten_text f

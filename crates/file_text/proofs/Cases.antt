@@ -15,7 +15,7 @@ use Rattle.chain_poses.specs.Poses.{Poses-of_lists}
 use Rattle.motion_file.specs.Text.{ascii, split, single_spaced, equal}
 use Rattle.motion_file.specs.Layout.{all_values, fits, values_of, conforms, keeps_columns, has_pads, keeps_layout, pose_of, MoveFile-read, MoveFile-poses}
 use Rattle.motion_text.specs.Answer.{line, bounds_text}
-use Rattle.file_text.specs.Text.{lines_text, file_text, MoveFile-text, the-written-MoveFile}
+use Rattle.file_text.specs.Text.{lines_text, file_text, MoveFile-text, MoveFile-written}
 use Rattle.file_text.specs.Theorem.{MoveFile-Accepted}
 
 unfoldable reading : Unit {0}
@@ -24,7 +24,7 @@ unfolding ascii split single_spaced equal all_values fits values_of conforms kee
 reading = tt
 
 unfoldable computing : Unit {0}
-unfolding reading digits to_bits line bounds_text lines_text file_text MoveFile-text the-written-MoveFile
+unfolding reading digits to_bits line bounds_text lines_text file_text MoveFile-text MoveFile-written
 computing = tt
 
 abbrev pose_names : String
@@ -71,7 +71,7 @@ rows =
     }
     ∷ []
 
-all-written : map (λ (row : Row). the-written-MoveFile (ascii row.file)) rows ≡ map (λ (row : Row). ascii row.written) rows
+all-written : map (λ (row : Row). MoveFile-written (ascii row.file)) rows ≡ map (λ (row : Row). ascii row.written) rows
 unfolding computing rows
 all-written = refl
 

@@ -27,7 +27,7 @@ use Rattle.motion_file.specs.Layout.{names, values, pose_names, padded_names, bo
 use Rattle.motion_file.specs.Layout.{pose_lines, keeps_columns, has_pads, keeps_layout, MoveFile-departs}
 use Rattle.motion_file.specs.Layout.{MoveFile-contents, pose_of_values, pose_of, MoveFile-read, MoveFile-poses}
 use Rattle.motion_file.proofs.Shapes.{Shaped, AllShaped, poses-shaped}
-use Rattle.file_text.specs.Text.{pose_columns, pose_values, Chain-text, the-written-MoveFile}
+use Rattle.file_text.specs.Text.{pose_columns, pose_values, Chain-text, MoveFile-written}
 use Rattle.file_text.specs.RoundTrip.{Floats, TextHolds}
 use Rattle.file_text.specs.Theorem.{with_bottom_row, max_padded_lines, ReadsAs, HoldSame, WrittenRead, SameWritten, AcceptedWritten, SameBits}
 use Rattle.file_text.proofs.Written.{all-posed, text-held, read-written, every_take, every_get, floats-behind}
@@ -175,8 +175,8 @@ held-bottom [] hs = refl
 held-bottom (pose ∷ poses) (h, hs) =
     ap (λ (p : List Float). p ∷ map with_bottom_row poses) h.bottom ∙ ap (λ (ps : List (List Float)). pose ∷ ps) (held-bottom poses hs)
 
-written-reads : (f : List ℕ) → length (MoveFile-poses f) ≤ max_padded_lines → ReadsAs (the-written-MoveFile f) (MoveFile-poses f) (MoveFile-read f).bounds
-unfolding the-written-MoveFile
+written-reads : (f : List ℕ) → length (MoveFile-poses f) ≤ max_padded_lines → ReadsAs (MoveFile-written f) (MoveFile-poses f) (MoveFile-read f).bounds
+unfolding MoveFile-written
 written-reads f room =
     read-written (MoveFile-poses f) (MoveFile-read f).bounds (held-values (MoveFile-poses f) (poses-held f)) room (bounds-held f)
 
@@ -198,27 +198,27 @@ text_bounds : List ℕ → List Float
 text_bounds bytes = values_of (get_or (split line_feed bytes) (pose_lines (split line_feed bytes) + 2) [])
 
 module _ (f : List ℕ) where
-  holds : TextHolds (the-written-MoveFile f) padded_names pose_columns (map pose_values (MoveFile-poses f)) (MoveFile-read f).bounds
-  unfolding the-written-MoveFile
+  holds : TextHolds (MoveFile-written f) padded_names pose_columns (map pose_values (MoveFile-poses f)) (MoveFile-read f).bounds
+  unfolding MoveFile-written
   holds = text-held (MoveFile-poses f) (MoveFile-read f).bounds (held-values (MoveFile-poses f) (poses-held f)) (bounds-held f)
 
-  written-poses : text_poses (the-written-MoveFile f) ≡ MoveFile-poses f
+  written-poses : text_poses (MoveFile-written f) ≡ MoveFile-poses f
   unfolding text_poses
   written-poses =
       let poses = MoveFile-poses f in
       rw (holds.count, holds.values) (all-posed poses (held-values poses (poses-held f)) ∙ held-bottom poses (poses-held f))
 
-  written-bounds : text_bounds (the-written-MoveFile f) ≡ (MoveFile-read f).bounds
+  written-bounds : text_bounds (MoveFile-written f) ≡ (MoveFile-read f).bounds
   unfolding text_bounds
   written-bounds = rw holds.count holds.box
 
 pub same-written : (f g : List ℕ) → SameWritten f g
 same-written f g = (one_form, one-content)
   where
-    one_form : HoldSame f g → the-written-MoveFile f ≡ the-written-MoveFile g
-    one_form h = unfold the-written-MoveFile in rw (h.poses, h.bounds)
+    one_form : HoldSame f g → MoveFile-written f ≡ MoveFile-written g
+    one_form h = unfold MoveFile-written in rw (h.poses, h.bounds)
 
-    one-content : the-written-MoveFile f ≡ the-written-MoveFile g → HoldSame f g
+    one-content : MoveFile-written f ≡ MoveFile-written g → HoldSame f g
     one-content e =
         record {
           poses = sym (written-poses f) ∙ ap text_poses e ∙ written-poses g;
@@ -230,7 +230,7 @@ box-list : (l : List Float) → length l ≡ 6 → Bounds3f-list (Bounds3f-of_li
 box-list l h = entries-all l 6 0 (omega (arith, h)) ∙ take_all 6 l (omega (arith, h))
 
 pub accepted-written : (f : List ℕ) (c : Chain) → AcceptedWritten f c
-unfolding Chain-text the-written-MoveFile
+unfolding Chain-text MoveFile-written
 accepted-written f c a =
     rw (
       built-lists false (MoveFile-poses f) c (held-places (MoveFile-poses f) (poses-held f)) a.chain,

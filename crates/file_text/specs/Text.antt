@@ -1,5 +1,5 @@
 -- The one way to write a move file: `file_text`, of any line of names and any lines of values under it; `MoveFile-text`, of poses and a box; `Chain-text`, of a
--- chain and a box; `the-written-MoveFile`, the written form of a file. Quotations are of document 02, "One way to write a move file", unless another is named.
+-- chain and a box; `MoveFile-written`, the written form of a file. Quotations are of document 02, "One way to write a move file", unless another is named.
 -- A NaN is written as 7fc00000. Definitions only.
 use Rattle.std.specs.Prelude.{ℕ, List, [], ◌∷◌, ◌++◌, map, get_or, take, Float}
 use Rattle.std.specs.Float.{binary32}
@@ -42,5 +42,5 @@ unfoldable pub Chain-text : Chain → Bounds3f → List ℕ
 Chain-text c b = MoveFile-text (Poses-lists (Chain-poses c)) (Bounds3f-list b)
 
 -- the written form of a file
-unfoldable pub the-written-MoveFile : List ℕ → List ℕ
-the-written-MoveFile bytes = MoveFile-text (MoveFile-poses bytes) (MoveFile-read bytes).bounds
+unfoldable pub MoveFile-written : List ℕ → List ℕ
+MoveFile-written bytes = MoveFile-text (MoveFile-poses bytes) (MoveFile-read bytes).bounds

@@ -15,7 +15,7 @@ use Rattle.motion_chain.specs.Built.{Each}
 use Rattle.chain_poses.specs.Poses.{Poses-of_lists}
 use Rattle.built_poses.specs.Poses.{Chain-poses, places_per_pose, Poses-lists}
 use Rattle.motion_file.specs.Layout.{MoveFile-read, MoveFile-box, MoveFile-poses}
-use Rattle.file_text.specs.Text.{pose_columns, pose_values, MoveFile-text, Chain-text, the-written-MoveFile}
+use Rattle.file_text.specs.Text.{pose_columns, pose_values, MoveFile-text, Chain-text, MoveFile-written}
 use Rattle.file_text.specs.RoundTrip.{Floats}
 
 -- ---- what is written
@@ -72,11 +72,11 @@ pub record HoldSame (f g : List ℕ) : Type 0 where
 -- of any bytes, since those that depart from the layout are read as no poses and a box of +0: the written form keeps the layout and holds what they hold, where
 -- it has room for their poses, which of thirteen names may be more,
 abbrev pub WrittenRead : List ℕ → Type 0
-WrittenRead f = length (MoveFile-poses f) ≤ max_padded_lines → ((MoveFile-read (the-written-MoveFile f)).refusal ≡ 0) × HoldSame (the-written-MoveFile f) f
+WrittenRead f = length (MoveFile-poses f) ≤ max_padded_lines → ((MoveFile-read (MoveFile-written f)).refusal ≡ 0) × HoldSame (MoveFile-written f) f
 
 -- and tells what they hold, however many
 abbrev pub SameWritten : List ℕ → List ℕ → Type 0
-SameWritten f g = HoldSame f g ↔ (the-written-MoveFile f ≡ the-written-MoveFile g)
+SameWritten f g = HoldSame f g ↔ (MoveFile-written f ≡ MoveFile-written g)
 
 -- "accepted files (refused neither for layout, chain nor box)": c is a file's chain
 pub record MoveFile-Accepted (bytes : List ℕ) (c : Chain) : Type 0 where
@@ -86,7 +86,7 @@ pub record MoveFile-Accepted (bytes : List ℕ) (c : Chain) : Type 0 where
 
 -- what is written of an accepted file's chain and box is its written form,
 abbrev pub AcceptedWritten : List ℕ → Chain → Type 0
-AcceptedWritten f c = MoveFile-Accepted f c → Chain-text c (MoveFile-box f) ≡ the-written-MoveFile f
+AcceptedWritten f c = MoveFile-Accepted f c → Chain-text c (MoveFile-box f) ≡ MoveFile-written f
 
 -- and "Two accepted files .. hold the same bits exactly when their written forms are the same bytes."
 abbrev pub SameBits : List ℕ → List ℕ → Type 0

@@ -24,7 +24,7 @@ use Rattle.motion_file.proofs.Files.{read-refusals}
 use Rattle.motion_text.specs.Answer.{refusal_text}
 use Rattle.motion_answer.specs.Answer.{MoveFile-chain}
 use Rattle.motion_answer.proofs.Built.{poses-affine}
-use Rattle.file_text.specs.Text.{Chain-text, the-written-MoveFile}
+use Rattle.file_text.specs.Text.{Chain-text, MoveFile-written}
 use Rattle.file_text.proofs.Same.{accepted-written}
 use Rattle.chain_text.specs.Write.{written, refused as refused_by, TextAnswer-refusal, room_refusal, Moves-text, Moves-write_refusal, Moves-write}
 use Rattle.file_rewrite.specs.Rewrite.{boxed_text, ChainAnswer-text, rewritten_text}

@@ -5,13 +5,13 @@ use Rattle.matrix4x4.specs.Rows.{Rows}
 use Rattle.bounds3.specs.declared.Bounds3f.{Bounds3f}
 use Rattle.transform.specs.Answer.{OneOf}
 use Rattle.motion_text.specs.Answer.{refusal_text}
-use Rattle.file_text.specs.Text.{the-written-MoveFile}
+use Rattle.file_text.specs.Text.{MoveFile-written}
 use Rattle.chain_text.specs.Write.{Moves-write, TextAnswer-refusal}
 use Rattle.file_rewrite.specs.Rewrite.{rewritten_text}
 
 -- The file's written form is printed, or the refusal with one of the numbers.
 pub data Rewritten-Numbered (numbers bytes : List ℕ) : Type 0 where
-  form : rewritten_text bytes ≡ the-written-MoveFile bytes → Rewritten-Numbered numbers bytes
+  form : rewritten_text bytes ≡ MoveFile-written bytes → Rewritten-Numbered numbers bytes
   number : (n : ℕ) → OneOf n numbers → rewritten_text bytes ≡ refusal_text n → Rewritten-Numbered numbers bytes
 
 pub record EveryFileAnswer : Type 0 where

@@ -1,7 +1,6 @@
 -- `read_booms` is safe and ends.
 use Prim.Native.Nat.{◌-◌, ◌≤◌}
 use lib.ListN.{length}
-use borrow.Author.Rules.{rules}
 use Rattle.chain_answers.proofs.day.read_booms.Given as goal
 
 abbrev pub invariant-loop-place : goal.invariant-loop-place

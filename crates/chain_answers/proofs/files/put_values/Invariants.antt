@@ -1,7 +1,6 @@
 -- `put_values` is safe and ends.
 use Prim.Native.Nat.{◌-◌, ◌≤◌}
 use lib.ListN.{length}
-use borrow.Author.Rules.{rules}
 use Rattle.chain_answers.proofs.files.put_values.Given as goal
 
 abbrev pub invariant-loop-i : goal.invariant-loop-i

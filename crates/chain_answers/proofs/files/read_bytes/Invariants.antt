@@ -1,6 +1,5 @@
 -- `read_bytes` is safe and ends.
 use Prim.Native.Nat.{◌-◌, ◌≤◌}
-use borrow.Author.Rules.{rules}
 use Rattle.chain_answers.proofs.files.read_bytes.Given as goal
 
 abbrev pub invariant-loop-i : goal.invariant-loop-i

@@ -1,7 +1,6 @@
 -- `word_start` is safe and ends.
 use Prim.Native.Nat.{◌-◌, ◌≤◌}
 use lib.ListN.{length}
-use borrow.Author.Rules.{rules}
 use Rattle.chain_answers.proofs.files.word_start.Given as goal
 
 abbrev pub invariant-loop-at : goal.invariant-loop-at
