@@ -1,4 +1,0 @@
-pub mod Kept
-pub mod Files
-pub mod Interpolate
-pub mod Asked

@@ -1,6 +1,0 @@
-pub mod Answers
-pub mod Examined
-pub mod Kept
-pub mod Chains
-pub mod Files
-pub mod Words

@@ -1,4 +1,0 @@
-pub mod Union
-pub mod Places
-pub mod Clauses
-pub mod Number

@@ -1,4 +1,0 @@
-pub mod Kept
-pub mod Theorem
-pub mod Finer
-pub mod means

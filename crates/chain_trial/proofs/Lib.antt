@@ -1,4 +1,0 @@
-pub mod Beside
-pub mod Blocks
-pub mod Try
-pub mod Kept

@@ -1,3 +1,0 @@
-pub mod Try
-pub mod Theorem
-pub mod means

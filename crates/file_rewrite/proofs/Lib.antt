@@ -1,3 +1,0 @@
-pub mod Printed
-pub mod Same
-pub mod Length

@@ -1,2 +1,0 @@
-pub mod Rewrite
-pub mod Theorem

@@ -1,3 +1,0 @@
-pub mod Pieces
-pub mod Lines
-pub mod Printed

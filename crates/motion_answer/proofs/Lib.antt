@@ -1,6 +1,0 @@
-pub mod Length
-pub mod Built
-pub mod Posed
-pub mod Contains
-pub mod TwoPoses
-pub mod Cases

@@ -1,5 +1,0 @@
-pub mod Poses
-pub mod Walk
-pub mod Number
-pub mod Names
-pub mod Clauses

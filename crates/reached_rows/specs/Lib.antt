@@ -1,3 +1,0 @@
-pub mod Rows
-pub mod Theorem
-pub mod means

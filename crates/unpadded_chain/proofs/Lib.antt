@@ -1,2 +1,0 @@
-pub mod Unpadded
-pub mod Thirteen

@@ -1,4 +1,0 @@
-pub mod Kept
-pub mod Union
-pub mod Slices
-pub mod Same

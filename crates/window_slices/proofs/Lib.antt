@@ -1,3 +1,0 @@
-pub mod Join
-pub mod Same
-pub mod Groups
