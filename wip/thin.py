@@ -33,6 +33,9 @@ for n in own:
         t=re.sub(r'(?m)^ghost use [^;]*;','',t)
         s|=set(re.findall(r'\b(\w+)::',t))|set(re.findall(r'\buse (\w+)\b',t))
     rust[n]=s&own
+# A crate can't pass a library on under the name of a function or a file of its own.
+names={n:{m for p in files(n,('src',)) for m in re.findall(r'\b(?:fn|mod) (\w+)',open(p).read())} for n in own}
+def passed(h,d): return d+'_below' if d in names[h] else d
 keep={}
 for n in own:
     keep[n]=[d for d in O[n] if d in rust[n] or not any(d in below(e) for e in O[n] if e!=d)]
@@ -44,7 +47,7 @@ def route(n,d,kind):
     if (d,kind) not in need[h]:
         need[h][d,kind]=None
         need[h][d,kind]=route(h,d,kind)
-    return f"Rattle.{h}.{kind}.{d}"
+    return f"Rattle.{h}.{kind}.{passed(h,d)}"
 def in_use(line,m):
     pass
 changed={}
@@ -69,7 +72,7 @@ for n in sorted(own):
         lib=f'crates/{n}/{kind}/Lib.antt'
         os.makedirs(os.path.dirname(lib),exist_ok=True)
         L=open(lib).read().rstrip('\n') if os.path.exists(lib) else ''
-        out='\n'.join(f"pub use {path}" if path.rsplit('.',1)[1]==d else f"pub use {path} as {d}" for d,path in ks)
+        out='\n'.join(f"pub use {path}" if path.rsplit('.',1)[1]==passed(n,d) else f"pub use {path} as {passed(n,d)}" for d,path in ks)
         open(lib,'w').write(L+('\n' if L else '')+out+'\n')
 for n in own:
     i=line_of[n]; head,_,_=lines[i].partition(':')
