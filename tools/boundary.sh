@@ -10,13 +10,11 @@
 # Exit status 1 where something is otherwise than it has to be, 2 where the library isn't there or isn't built. Nothing is written but below target/ and to a temporary folder.
 set -u
 cd "$(dirname "$0")/.." || exit 2
-. tools/ported.sh
 case "$*" in
 "") built=no ;;
 --built) built=yes ;;
 *) sed -n '2,11s/^# \{0,1\}//p' "$0"; exit 2 ;;
 esac
-! is_left tools/boundary.sh api_c || exit 0
 here() { command -v "$1" >/dev/null; }
 skipped() { echo "$1: skipped, there is no $2 here"; }
 CC=${CC:-cc} CXX=${CXX:-c++}

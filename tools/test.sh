@@ -14,7 +14,6 @@ case "$*" in
 *) sed -n '2,8s/^# \{0,1\}//p' "$0"; exit 2 ;;
 esac
 command -v rt >/dev/null || { echo "rt, the Rattle toolchain's command, is not on the PATH"; echo "0 passed, 1 failed"; exit 2; }
-. tools/ported.sh
 made=$(mktemp -d)
 trap 'rm -rf "$made"' EXIT
 steps=0
@@ -32,19 +31,17 @@ tests() {
     tools/examples.sh || fail "tools/examples.sh: an example above differs"
     if [ "$proved" -ne 0 ]; then
         echo "tools/boundary.sh: skipped, not everything is proved"
-    elif ! is_left tools/boundary.sh api_c; then
+    else
         export JELLYPLAIN_AFTER_CI=1
         tools/boundary.sh || fail "tools/boundary.sh: the library in C, C++ or Rust is otherwise than it has to be"
     fi
     if command -v python3 >/dev/null; then
-        if ! is_left tools/trusted api_c cover cover_rigid rewrite stretch day $(grep -oE 'crates/\w+/' docs/GUARANTEE.md | cut -d / -f 2 | sort -u); then
-            tools/trusted --check 2>&1 || fail "tools/trusted --check: docs/DEFINITIONS.md or a quotation in docs/GUARANTEE.md and the texts differ"
-            python3 tools/trusted_test.py 2>&1 || fail "tools/trusted_test.py: a tampered text above is not named"
-        fi
+        tools/trusted --check 2>&1 || fail "tools/trusted --check: docs/DEFINITIONS.md or a quotation in docs/GUARANTEE.md and the texts differ"
+        python3 tools/trusted_test.py 2>&1 || fail "tools/trusted_test.py: a tampered text above is not named"
         python3 tools/certificate_test.py 2>&1 || fail "tools/certificate_test.py: a tampered log, tree or program above is not named"
-        is_left tools/numbers refusal_numbers animated_transform || tools/numbers --check || fail "tools/numbers --check: a text and the table of refusal numbers differ"
-        is_left tools/plan_test.py api_c || python3 tools/plan_test.py 2>&1 || fail "tools/plan_test.py: a test of tools/plan above fails"
-        is_left python/tests api_c || python3 python/tests 2>&1 || fail "python/tests: a test of the Python package above fails"
+        tools/numbers --check || fail "tools/numbers --check: a text and the table of refusal numbers differ"
+        python3 tools/plan_test.py 2>&1 || fail "tools/plan_test.py: a test of tools/plan above fails"
+        python3 python/tests 2>&1 || fail "python/tests: a test of the Python package above fails"
         tools/certificate --stamp end
     else
         echo "tools/trusted --check, tools/numbers --check, the tests in Python and tools/certificate --stamp: skipped, there is no python3 here"

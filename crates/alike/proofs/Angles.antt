@@ -11,22 +11,22 @@ use lib.Ieee.{fits}
 use lib.Ieee.Bits.{of_bits-fits}
 use lib.Ieee.Scale.{finite}
 use lib.Ieee.{Float, binary32, of_bits, is_nan, lt, le}
-use Rattle.rounding.specs.Order.{◌≼◌, Number}
-use Rattle.rounding.proofs.Order.{finite_number, number-left, not-lt-≼}
-use Rattle.float32.specs.MinMax.{min_num, max_num}
-use Rattle.float32.specs.Operators.{one}
-use Rattle.float32.proofs.Constants.{one-finite}
-use Rattle.sine_table.specs.Table.{quarter_turn}
-use Rattle.trig.specs.Biased.{biased, biased_sin}
-use Rattle.trig.specs.Units.{angle_units, cos_units}
-use Rattle.trig.specs.SinCos.{sin, cos}
-use Rattle.trig.specs.means.Computing.{computing}
-use Rattle.trig.specs.Units.{fixed}
-use Rattle.trig.specs.Range.{Angle, lies, quarter_turn_float, sin_low, sin_high, cos_low, cos_high}
-use Rattle.trig.proofs.Units.{sin-falls}
-use Rattle.trig.proofs.Monotone.{biased_float, sin-at, sin-unit, cos-at, cos-unit, angle-near, angle-finite, angle_units-mono}
-use Rattle.interval.specs.Interval.{Interval-new}
-use Rattle.interval.specs.Enclosure.{Interval-sin_enclosure, Interval-cos_enclosure}
+use Rattle.own_rounding.specs.rounding.Order.{◌≼◌, Number}
+use Rattle.own_rounding.proofs.rounding.Order.{finite_number, number-left, not-lt-≼}
+use Rattle.own_rounding.specs.float32.MinMax.{min_num, max_num}
+use Rattle.own_rounding.specs.float32.Operators.{one}
+use Rattle.own_rounding.proofs.float32.Constants.{one-finite}
+use Rattle.interval_unjudged.specs.sine_table.Table.{quarter_turn}
+use Rattle.interval_unjudged.specs.trig.Biased.{biased, biased_sin}
+use Rattle.interval_unjudged.specs.trig.Units.{angle_units, cos_units}
+use Rattle.interval_unjudged.specs.trig.SinCos.{sin, cos}
+use Rattle.interval_unjudged.specs.trig.means.Computing.{computing}
+use Rattle.interval_unjudged.specs.trig.Units.{fixed}
+use Rattle.interval_unjudged.specs.trig.Range.{Angle, lies, quarter_turn_float, sin_low, sin_high, cos_low, cos_high}
+use Rattle.interval_unjudged.proofs.trig.Units.{sin-falls}
+use Rattle.interval_unjudged.proofs.trig.Monotone.{biased_float, sin-at, sin-unit, cos-at, cos-unit, angle-near, angle-finite, angle_units-mono}
+use Rattle.interval_unjudged.specs.interval.Interval.{Interval-new}
+use Rattle.interval_unjudged.specs.interval.Enclosure.{Interval-sin_enclosure, Interval-cos_enclosure}
 use Rattle.own_rounding.specs.means.Alike.{Alike}
 use Rattle.alike.proofs.Values.{alike-values}
 use Rattle.alike.proofs.Turns.{sin-fits}

@@ -5,12 +5,12 @@ use lib.Dec.{T}
 use lib.Ieee.{Float, binary32, of_bits}
 use lib.Ieee.Scale.{finite}
 use lib.Ieee.Positive.{positive}
-use Rattle.rounding.specs.Order.{◌≼◌, Between}
-use Rattle.rounding.proofs.Order.{≼_trans}
-use Rattle.rounding.proofs.Arithmetic.{add-mono, sub-mono, mul-between-left, mul-between-right, div_mono, div-between-right}
-use Rattle.float32.specs.Operators.{◌⊕◌, ◌⊖◌, ◌⊗◌, ◌⊘◌, positive_zero}
-use Rattle.square_root.specs.SquareRoot.{sqrt}
-use Rattle.square_root.proofs.Monotone.{sqrt-mono}
+use Rattle.own_rounding.specs.rounding.Order.{◌≼◌, Between}
+use Rattle.own_rounding.proofs.rounding.Order.{≼_trans}
+use Rattle.own_rounding.proofs.rounding.Arithmetic.{add-mono, sub-mono, mul-between-left, mul-between-right, div_mono, div-between-right}
+use Rattle.own_rounding.specs.float32.Operators.{◌⊕◌, ◌⊖◌, ◌⊗◌, ◌⊘◌, positive_zero}
+use Rattle.interval_unjudged.specs.square_root.SquareRoot.{sqrt}
+use Rattle.interval_unjudged.proofs.square_root.Monotone.{sqrt-mono}
 use Rattle.own_rounding.specs.means.Alike.{Alike}
 use Rattle.own_rounding.proofs.OwnRounding.{alike-trans}
 use Rattle.alike.proofs.Equivalence.{alike-finite, alike-positive}

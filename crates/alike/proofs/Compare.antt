@@ -6,10 +6,10 @@ use Prim.Native.Nat.{ℕ, ◌+◌, ◌*◌, ◌≤◌}
 use native.Mathlib.Omega.{arith}
 use lib.Dec.{T, ltb→lt}
 use lib.Ieee.{Float, nan, inf, fin, below, up, down, lt, le, is_nan}
-use Rattle.rounding.specs.Order.{◌≼◌, Number}
-use Rattle.rounding.proofs.Rational.{pos_part, neg_part, pos_part-mul, neg_part-mul}
-use Rattle.rounding.proofs.Order.{not-lt-≼, to-fraction}
-use Rattle.float32.specs.MinMax.{min_num, max_num}
+use Rattle.own_rounding.specs.rounding.Order.{◌≼◌, Number}
+use Rattle.own_rounding.proofs.rounding.Rational.{pos_part, neg_part, pos_part-mul, neg_part-mul}
+use Rattle.own_rounding.proofs.rounding.Order.{not-lt-≼, to-fraction}
+use Rattle.own_rounding.specs.float32.MinMax.{min_num, max_num}
 use Rattle.interval_unjudged.specs.means.Ordered.{lesser, greater}
 use Rattle.own_rounding.specs.means.Alike.{Alike}
 use Rattle.alike.proofs.Equivalence.{alike-sym, alike-left, alike_right, alike-≼}

@@ -12,19 +12,19 @@ use lib.Dec.{T}
 use lib.Ieee.{Float, binary32, lt}
 use lib.Ieee.Scale.{finite}
 use lib.Ieee.Positive.{den, den_pos}
-use Rattle.rounding.specs.Order.{◌≼◌, Number}
-use Rattle.rounding.proofs.Rational.{num_pos, num_neg, FractionLe}
-use Rattle.rounding.proofs.Order.{≼-total, number-left, number-right, finite_number, not-lt-≼, to-fraction}
-use Rattle.rounding.proofs.Monotone.{rounds-mono}
-use Rattle.rounding.proofs.Arithmetic.{mul-rounds}
+use Rattle.own_rounding.specs.rounding.Order.{◌≼◌, Number}
+use Rattle.own_rounding.proofs.rounding.Rational.{num_pos, num_neg, FractionLe}
+use Rattle.own_rounding.proofs.rounding.Order.{≼-total, number-left, number-right, finite_number, not-lt-≼, to-fraction}
+use Rattle.own_rounding.proofs.rounding.Monotone.{rounds-mono}
+use Rattle.own_rounding.proofs.rounding.Arithmetic.{mul-rounds}
 use Rattle.own_rounding.specs.means.Alike.{Alike}
 use Rattle.own_rounding.proofs.OwnRounding.{no-negative}
-use Rattle.float32.specs.Operators.{◌⊗◌, positive_zero}
-use Rattle.interval.specs.declared.Interval.{Interval}
-use Rattle.interval.specs.Contains.{Finite}
-use Rattle.interval.specs.Interval.{Interval-new, Interval-point}
-use Rattle.interval.specs.Enclosure.{Interval-mul_enclosure}
-use Rattle.interval.proofs.Extends.{mul-number}
+use Rattle.own_rounding.specs.float32.Operators.{◌⊗◌, positive_zero}
+use Rattle.interval_unjudged.specs.interval.declared.Interval.{Interval}
+use Rattle.interval_unjudged.specs.interval.Contains.{Finite}
+use Rattle.interval_unjudged.specs.interval.Interval.{Interval-new, Interval-point}
+use Rattle.interval_unjudged.specs.interval.Enclosure.{Interval-mul_enclosure}
+use Rattle.interval_unjudged.proofs.interval.Extends.{mul-number}
 use Rattle.interval_unjudged.specs.means.Ordered.{lesser, greater, Interval-of_four_ordered, Interval-mul_ordered}
 use Rattle.interval_unjudged.proofs.Ordered.{lesser-min, greater-max, mul-ordered}
 use Rattle.alike.specs.means.Alike.{Interval-Alike, Interval-new_ordered}

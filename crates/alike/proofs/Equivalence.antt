@@ -6,8 +6,8 @@ use lib.Dec.{T}
 use lib.Ieee.{Float, fin}
 use lib.Ieee.Scale.{finite}
 use lib.Ieee.Positive.{positive, positive-finite}
-use Rattle.rounding.specs.Order.{◌≼◌, Number}
-use Rattle.rounding.proofs.Order.{≼_refl, ≼_trans, number-left, number-right, finite_number, between-finite, above-positive, zeros_equal}
+use Rattle.own_rounding.specs.rounding.Order.{◌≼◌, Number}
+use Rattle.own_rounding.proofs.rounding.Order.{≼_refl, ≼_trans, number-left, number-right, finite_number, between-finite, above-positive, zeros_equal}
 use Rattle.own_rounding.specs.means.Alike.{Alike}
 
 pub alike_refl : (x : Float) → Number x → Alike x x

@@ -3,11 +3,11 @@
 use lib.Ieee.{Float, of_bits}
 use lib.Ieee.Scale.{finite}
 use lib.Ieee.Positive.{positive}
-use Rattle.square_root.proofs.Monotone.{positive-above-zero}
-use Rattle.interval.specs.declared.Interval.{Interval}
-use Rattle.interval.specs.Contains.{Finite}
-use Rattle.interval.specs.Interval.{Interval-new, Interval-point, Interval-hull, Interval-of_four}
-use Rattle.interval.specs.Enclosure.{Interval-add_enclosure, Interval-sub_enclosure, Interval-mul_enclosure, Interval-div_enclosure, Interval-sqrt_enclosure}
+use Rattle.interval_unjudged.proofs.square_root.Monotone.{positive-above-zero}
+use Rattle.interval_unjudged.specs.interval.declared.Interval.{Interval}
+use Rattle.interval_unjudged.specs.interval.Contains.{Finite}
+use Rattle.interval_unjudged.specs.interval.Interval.{Interval-new, Interval-point, Interval-hull, Interval-of_four}
+use Rattle.interval_unjudged.specs.interval.Enclosure.{Interval-add_enclosure, Interval-sub_enclosure, Interval-mul_enclosure, Interval-div_enclosure, Interval-sqrt_enclosure}
 use Rattle.interval_unjudged.specs.means.Unjudged.{Positive}
 use Rattle.own_rounding.specs.means.Alike.{Alike}
 use Rattle.alike.specs.means.Alike.{Interval-Alike}

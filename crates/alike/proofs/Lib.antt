@@ -10,3 +10,10 @@ pub mod Refines
 pub mod Values
 pub mod Turns
 pub mod Angles
+pub use Rattle.own_rounding.proofs.float32
+pub use Rattle.interval_unjudged.proofs.formula
+pub use Rattle.interval_unjudged.proofs.interval
+pub use Rattle.interval_unjudged.proofs as interval_unjudged
+pub use Rattle.interval_unjudged.proofs.refusal
+pub use Rattle.own_rounding.proofs.rounding
+pub use Rattle.interval_unjudged.proofs.trig

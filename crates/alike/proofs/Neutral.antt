@@ -8,11 +8,11 @@ use lib.Dec.{T}
 use lib.Ieee.{Float, binary32, round, of_bits, fits}
 use lib.Ieee.Scale.{finite}
 use lib.Ieee.Positive.{den, den_pos}
-use Rattle.rounding.proofs.Rational.{num_pos, num_neg}
-use Rattle.rounding.proofs.Monotone.{Rounds, rounds-mono}
-use Rattle.rounding.proofs.Arithmetic.{add_rounds, mul-rounds, mul-comm-finite}
-use Rattle.float32.specs.Operators.{◌⊕◌, ◌⊖◌, ◌⊗◌, positive_zero, one}
-use Rattle.float32.proofs.Constants.{zero-finite, one-finite, zero-rounds}
+use Rattle.own_rounding.proofs.rounding.Rational.{num_pos, num_neg}
+use Rattle.own_rounding.proofs.rounding.Monotone.{Rounds, rounds-mono}
+use Rattle.own_rounding.proofs.rounding.Arithmetic.{add_rounds, mul-rounds, mul-comm-finite}
+use Rattle.own_rounding.specs.float32.Operators.{◌⊕◌, ◌⊖◌, ◌⊗◌, positive_zero, one}
+use Rattle.own_rounding.proofs.float32.Constants.{zero-finite, one-finite, zero-rounds}
 use Rattle.own_rounding.proofs.OwnRounding as own
 use Rattle.own_rounding.specs.means.Alike.{Alike}
 

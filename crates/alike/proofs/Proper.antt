@@ -7,19 +7,19 @@ use lib.Ieee.{Float, nan, inf, fin, binary32, low, up, down, fits}
 use lib.Ieee.Fits.{add-fits, sub-fits, mul-fits, div-fits, round-fits}
 use lib.Ieee.Positive.{positive}
 use lib.Ieee.Scale.{finite}
-use Rattle.rounding.specs.Order.{◌≼◌, Number}
-use Rattle.rounding.proofs.Order.{≼_refl, ≼_trans, finite_number}
-use Rattle.rounding.proofs.Arithmetic.{add-mono, sub-mono}
-use Rattle.float32.specs.Operators.{◌⊗◌, ◌⊘◌}
-use Rattle.float32.proofs.MinMax.{min-picks, max-picks}
-use Rattle.square_root.specs.SquareRoot.{sqrt, round_sqrt, sticky_sqrt}
-use Rattle.square_root.proofs.Monotone.{sqrt-mono, positive-above-zero}
-use Rattle.interval.specs.declared.Interval.{Interval}
-use Rattle.interval.specs.Contains.{Finite, Contains}
-use Rattle.interval.specs.Interval.{Interval-new, Interval-point, Interval-hull, Interval-of_four}
-use Rattle.interval.specs.Enclosure.{Interval-add_enclosure, Interval-sub_enclosure, Interval-mul_enclosure, Interval-div_enclosure, Interval-sqrt_enclosure}
-use Rattle.interval.proofs.Contains.{new-left, hull-left}
-use Rattle.interval.proofs.Extends.{mul-number, div-number}
+use Rattle.own_rounding.specs.rounding.Order.{◌≼◌, Number}
+use Rattle.own_rounding.proofs.rounding.Order.{≼_refl, ≼_trans, finite_number}
+use Rattle.own_rounding.proofs.rounding.Arithmetic.{add-mono, sub-mono}
+use Rattle.own_rounding.specs.float32.Operators.{◌⊗◌, ◌⊘◌}
+use Rattle.own_rounding.proofs.float32.MinMax.{min-picks, max-picks}
+use Rattle.interval_unjudged.specs.square_root.SquareRoot.{sqrt, round_sqrt, sticky_sqrt}
+use Rattle.interval_unjudged.proofs.square_root.Monotone.{sqrt-mono, positive-above-zero}
+use Rattle.interval_unjudged.specs.interval.declared.Interval.{Interval}
+use Rattle.interval_unjudged.specs.interval.Contains.{Finite, Contains}
+use Rattle.interval_unjudged.specs.interval.Interval.{Interval-new, Interval-point, Interval-hull, Interval-of_four}
+use Rattle.interval_unjudged.specs.interval.Enclosure.{Interval-add_enclosure, Interval-sub_enclosure, Interval-mul_enclosure, Interval-div_enclosure, Interval-sqrt_enclosure}
+use Rattle.interval_unjudged.proofs.interval.Contains.{new-left, hull-left}
+use Rattle.interval_unjudged.proofs.interval.Extends.{mul-number, div-number}
 use Rattle.interval_unjudged.specs.means.Unjudged.{Positive}
 use Rattle.alike.specs.means.Alike.{Interval-Values, Interval-Proper}
 

@@ -1,8 +1,8 @@
 -- Alike intervals in order are those that lie in each other: `alike-refines`, `refines-alike`. So every law of isotonicity, used both ways, is one of
 -- alikeness.
-use Rattle.rounding.specs.Order.{◌≼◌}
-use Rattle.interval.specs.declared.Interval.{Interval}
-use Rattle.interval.specs.Contains.{Finite, Refines}
+use Rattle.own_rounding.specs.rounding.Order.{◌≼◌}
+use Rattle.interval_unjudged.specs.interval.declared.Interval.{Interval}
+use Rattle.interval_unjudged.specs.interval.Contains.{Finite, Refines}
 use Rattle.alike.specs.means.Alike.{Interval-Alike}
 use Rattle.alike.proofs.Equivalence.{alike-≼}
 use Rattle.alike.proofs.Intervals.{interval-sym}

@@ -1,12 +1,12 @@
 -- Terms by the constants 0 and 1 may go: of intervals `zero-mul`, `one-mul` and their mirrors, `add_none`, `none-add`, `sub-none` for what is alike to 0.
 use lib.Ieee.{Float}
-use Rattle.rounding.specs.Order.{◌≼◌}
-use Rattle.float32.specs.Operators.{positive_zero, one}
-use Rattle.float32.proofs.Constants.{zero-finite, one-finite, zero-refl}
-use Rattle.interval.specs.declared.Interval.{Interval}
-use Rattle.interval.specs.Contains.{Finite}
-use Rattle.interval.specs.Interval.{Interval-point}
-use Rattle.interval.specs.Enclosure.{Interval-add_enclosure, Interval-sub_enclosure, Interval-mul_enclosure}
+use Rattle.own_rounding.specs.rounding.Order.{◌≼◌}
+use Rattle.own_rounding.specs.float32.Operators.{positive_zero, one}
+use Rattle.own_rounding.proofs.float32.Constants.{zero-finite, one-finite, zero-refl}
+use Rattle.interval_unjudged.specs.interval.declared.Interval.{Interval}
+use Rattle.interval_unjudged.specs.interval.Contains.{Finite}
+use Rattle.interval_unjudged.specs.interval.Interval.{Interval-point}
+use Rattle.interval_unjudged.specs.interval.Enclosure.{Interval-add_enclosure, Interval-sub_enclosure, Interval-mul_enclosure}
 use Rattle.own_rounding.specs.means.Alike.{Alike}
 use Rattle.alike.specs.means.Alike.{Interval-Alike, Interval-Values, Interval-Proper}
 use Rattle.alike.specs.means.Alike.{Interval-new_ordered}

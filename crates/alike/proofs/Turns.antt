@@ -7,22 +7,22 @@ use lib.Dec.{T}
 use lib.Ieee.{Float, binary32, of_bits, le, fits, neg}
 use lib.Ieee.Fits.{and_i, and_l, and_r, cond-fits, round-fits, nan-fits, neg-fits}
 use lib.Ieee.Bits.{of_bits-fits}
-use Rattle.rounding.specs.Order.{◌≼◌}
-use Rattle.rounding.proofs.Order.{≼_trans}
-use Rattle.float32.specs.MinMax.{min_num, max_num}
-use Rattle.float32.specs.Operators.{one}
-use Rattle.float32.proofs.MinMax.{min-picks, max-picks}
-use Rattle.float_bits.specs.Decode.{negative}
-use Rattle.sine_table.specs.Table.{quarter_turn}
-use Rattle.trig.specs.Units.{angle_units, sin_units, cos_units, nearest_float, with_sign}
-use Rattle.trig.specs.SinCos.{sin, cos, near, far_sin, far_cos}
-use Rattle.trig.specs.Range.{full_turn_float, lies, sin_low, sin_high, cos_low, cos_high}
-use Rattle.interval.specs.declared.Interval.{Interval}
-use Rattle.interval.specs.Contains.{Finite}
-use Rattle.interval.specs.Enclosure.{Interval-sin_enclosure, Interval-cos_enclosure, Judged-judge, Judged-sin_enclosure, Judged-cos_enclosure}
-use Rattle.interval.specs.Extension.{Isotone₁, Angles}
-use Rattle.interval.proofs.Refusal.{finite-accepted}
-use Rattle.interval.proofs.Angles.{sin-isotone, cos-isotone}
+use Rattle.own_rounding.specs.rounding.Order.{◌≼◌}
+use Rattle.own_rounding.proofs.rounding.Order.{≼_trans}
+use Rattle.own_rounding.specs.float32.MinMax.{min_num, max_num}
+use Rattle.own_rounding.specs.float32.Operators.{one}
+use Rattle.own_rounding.proofs.float32.MinMax.{min-picks, max-picks}
+use Rattle.own_rounding.specs.float_bits.Decode.{negative}
+use Rattle.interval_unjudged.specs.sine_table.Table.{quarter_turn}
+use Rattle.interval_unjudged.specs.trig.Units.{angle_units, sin_units, cos_units, nearest_float, with_sign}
+use Rattle.interval_unjudged.specs.trig.SinCos.{sin, cos, near, far_sin, far_cos}
+use Rattle.interval_unjudged.specs.trig.Range.{full_turn_float, lies, sin_low, sin_high, cos_low, cos_high}
+use Rattle.interval_unjudged.specs.interval.declared.Interval.{Interval}
+use Rattle.interval_unjudged.specs.interval.Contains.{Finite}
+use Rattle.interval_unjudged.specs.interval.Enclosure.{Interval-sin_enclosure, Interval-cos_enclosure, Judged-judge, Judged-sin_enclosure, Judged-cos_enclosure}
+use Rattle.interval_unjudged.specs.interval.Extension.{Isotone₁, Angles}
+use Rattle.interval_unjudged.proofs.interval.Refusal.{finite-accepted}
+use Rattle.interval_unjudged.proofs.interval.Angles.{sin-isotone, cos-isotone}
 use Rattle.own_rounding.specs.means.Alike.{Alike}
 use Rattle.alike.specs.means.Alike.{Interval-Alike, Interval-Values, Interval-Proper}
 use Rattle.alike.proofs.Intervals.{interval-sym, interval-finite}

@@ -11,9 +11,9 @@ use lib.Ieee.{Float, nan, inf, fin, Format, binary32, prec, low, hid, top, size,
 use lib.Ieee.Fits.{up_pos, down_pos}
 use lib.Ieee.Bits.{of_bits-to_bits}
 use lib.Ieee.Nearest.{div_same}
-use Rattle.rounding.specs.Order.{◌≼◌}
-use Rattle.rounding.proofs.Order.{to-fraction}
-use Rattle.float32.specs.Operators.{positive_zero}
+use Rattle.own_rounding.specs.rounding.Order.{◌≼◌}
+use Rattle.own_rounding.proofs.rounding.Order.{to-fraction}
+use Rattle.own_rounding.specs.float32.Operators.{positive_zero}
 use Rattle.own_rounding.specs.means.Alike.{Alike}
 use Rattle.alike.proofs.Equivalence.{alike-zeros}
 

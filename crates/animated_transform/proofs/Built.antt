@@ -11,13 +11,13 @@ use lib.Ieee.Fits.{and_l, and_r}
 use lib.Ieee.Scale.{finite}
 use Rattle.refusal.proofs.First.{first-zero}
 use Rattle.refusal.specs.First.{first_refusal}
-use Rattle.float32.specs.Operators.{◌⊖◌}
+use Rattle.matrix4x4.specs.float32.Operators.{◌⊖◌}
 use Rattle.vector3.specs.declared.Vector3f.{Vector3f}
 use Rattle.matrix4x4.specs.declared.Matrix4x4.{Matrix4x4}
 use Rattle.matrix4x4.specs.Rows.{positive_zero, Matrix4x4-to_rows}
 use Rattle.matrix4x4.specs.IsFinite.{Matrix4x4-is_finite}
 use Rattle.matrix4x4.specs.IsAffine.{Matrix4x4-is_affine}
-use Rattle.matrix_inverse.specs.Inverse.{Matrix4x4-inverse}
+use Rattle.transform.specs.matrix_inverse.Inverse.{Matrix4x4-inverse}
 use Rattle.transform.specs.declared.Transform.{Transform}
 use Rattle.transform.specs.Transform.{Transform-from_matrix}
 use Rattle.transform.proofs.FromMatrix.{from-matrix-refusal, from-matrix-accepted, from-matrix-finite}
@@ -30,7 +30,7 @@ use Rattle.decomposition.specs.Decompose.{Matrix4x4-decompose}
 use Rattle.decomposition.proofs.Refusal.{Accepted, decompose-accepted}
 use Rattle.coefficients.specs.declared.Coefficients.{Coefficients}
 use Rattle.coefficients.specs.Coefficients.{Coefficients-zero}
-use Rattle.axis_derivative.specs.IsFinite.{DerivativeTerm-is_finite, Derivative-is_finite}
+use Rattle.coefficients.specs.axis_derivative.IsFinite.{DerivativeTerm-is_finite, Derivative-is_finite}
 use Rattle.coefficients.specs.IsFinite.{Coefficients-is_finite}
 use Rattle.pose_pair.specs.declared.Pose.{Pose}
 use Rattle.animated_transform.specs.declared.AnimatedTransform.{AnimatedTransform}

@@ -11,7 +11,7 @@ use lib.Ieee.{Float, lt}
 use lib.Ieee.Scale.{finite}
 use Rattle.refusal.proofs.First.{first-keeps}
 use Rattle.refusal.specs.First.{first_refusal}
-use Rattle.float32.specs.Operators.{◌⊖◌}
+use Rattle.matrix4x4.specs.float32.Operators.{◌⊖◌}
 use Rattle.vector3.specs.declared.Vector3f.{Vector3f}
 use Rattle.quaternion.specs.declared.Quaternion.{Quaternion}
 use Rattle.quaternion.specs.Quaternion.{Quaternion-dot}

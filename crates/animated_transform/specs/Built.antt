@@ -3,8 +3,8 @@ use Rattle.std.specs.Prelude.{◌≡◌, Bool, not, T, Float}
 use Rattle.std.specs.Float.{binary32}
 use Rattle.std.specs.Float.Ieee.{fits, lt}
 use Rattle.std.specs.Float.Ieee.Scale.{finite}
-use Rattle.float32.specs.Operators.{◌⊖◌}
-use Rattle.rounding.specs.Order.{◌≼◌}
+use Rattle.matrix4x4.specs.float32.Operators.{◌⊖◌}
+use Rattle.matrix4x4.specs.rounding.Order.{◌≼◌}
 use Rattle.matrix4x4.specs.declared.Matrix4x4.{Matrix4x4}
 use Rattle.matrix4x4.specs.Rows.{positive_zero, Matrix4x4-to_rows}
 use Rattle.matrix4x4.specs.IsFinite.{Matrix4x4-is_finite}

@@ -14,7 +14,7 @@ use lib.Seq.{paste, paste-zero, take-length, drop-cons, drop-drop, set_split, ap
 use borrow.Author.Tests.{le-leb, lt-leb}
 use Rattle.hexadecimal.specs.Word.{digits, Word-write}
 use Rattle.hexadecimal.proofs.Words.{length_digits, write-fits}
-use Rattle.motion_file.specs.Text.{space}
+use Rattle.motion_text.specs.motion_file.Text.{space}
 use Rattle.motion_text.specs.Answer.{word_of}
 use Rattle.motion_text.proofs.Pastes.{paste-paste}
 use Rattle.answer_lines.specs.Pieces.{put, behind, spaced_floats, floats_text}

@@ -1,7 +1,7 @@
 -- Pieces of text in a lent buffer: `put`, a piece from a place on, and `behind`, the place behind it; `put_all` and `behind_all`, pieces that follow each other;
 -- `decimal`, a whole number, and `floats_text`, floats with a space before each. Rests on the texts of `motion_text` and the digits of its own `decimal`.
 use Rattle.std.specs.Prelude.{ℕ, zero, suc, ◌+◌, ◌/◌, ◌%◌, cond, List, [], ◌∷◌, ◌++◌, leb, ltb, Float, length, take, drop}
-use Rattle.motion_file.specs.Text.{ascii, line_feed, space}
+use Rattle.motion_text.specs.motion_file.Text.{ascii, line_feed, space}
 use Rattle.motion_text.specs.Answer.{word_of}
 
 -- the buffer with a text from a place on, the other bytes kept; the buffer as it came where the text has no room

@@ -8,7 +8,7 @@ use lib.Ieee.{Float}
 use lib.ListN.{length, take, drop, get_or, drop_of_length-le}
 use lib.Seq.{drop-cons}
 use borrow.Author.Tests.{ne_eqb, eq-eqb, le-leb, lt-leb}
-use Rattle.motion_file.specs.Text.{ascii, line_feed}
+use Rattle.answer_lines.specs.motion_file.Text.{ascii, line_feed}
 use Rattle.answer_lines.specs.Pieces.{put_all, behind_all, whole_pieces, refused_pieces, floats_text}
 use Rattle.answer_lines.proofs.Put.{Puts}
 use Rattle.answer_lines.proofs.Pieces.{PutsAll, all_none, all_cons, all_append}

@@ -1,7 +1,7 @@
 -- Answers as lines: `answer_pieces`, `ok` and values or the number of a refusal; `error_text`; whole numbers, rows of floats and places as pieces of text.
 -- Rests on the pieces of `answer_lines`.
 use Rattle.std.specs.Prelude.{ℕ, cond, List, [], ◌∷◌, ◌++◌, eqb, leb, Float, length, take}
-use Rattle.motion_file.specs.Text.{ascii, line_feed, space}
+use Rattle.answer_lines.specs.motion_file.Text.{ascii, line_feed, space}
 use Rattle.answer_lines.specs.Pieces.{decimal, whole_pieces, refused_pieces, floats_text}
 
 -- the line that answers what is no question

@@ -16,11 +16,11 @@ use lib.Ieee.{Float, nan, inf, fin, binary32, up, down, le, neg, minus, of_bits,
 use lib.Ieee.Fits.{down_pos, and_l, and_r}
 use lib.Ieee.Exact.{HasValue}
 use lib.Ieee.Scale.{finite}
-use Rattle.rounding.specs.Order.{◌≼◌}
-use Rattle.rounding.proofs.Encoding.{pow_lt_cancel}
-use Rattle.rounding.proofs.Order.{to-fraction, between-finite}
-use Rattle.float32.specs.Operators.{one}
-use Rattle.float32.proofs.Constants.{one-finite}
+use Rattle.float_bits.specs.rounding.Order.{◌≼◌}
+use Rattle.float_bits.proofs.rounding.Encoding.{pow_lt_cancel}
+use Rattle.float_bits.proofs.rounding.Order.{to-fraction, between-finite}
+use Rattle.trig.specs.float32.Operators.{one}
+use Rattle.trig.proofs.float32.Constants.{one-finite}
 use Rattle.float_bits.specs.declared.Decoded.{Decoded}
 use Rattle.float_bits.specs.Decode.{integer_decode}
 use Rattle.float_bits.proofs.Decode.{decode-value, significand-lt, significand-normal}

@@ -10,10 +10,10 @@ use lib.Dec.{lit≤}
 use lib.Pow.{pow_pos}
 use lib.Signed.{le_z, shr_z}
 use lib.Ieee.{Float, nan, inf, fin, binary32, up, down, minus, round, of_bits}
-use Rattle.rounding.specs.Order.{◌≼◌}
-use Rattle.rounding.proofs.Monotone.{round_mono}
-use Rattle.rounding.proofs.Corners.{Bounds}
-use Rattle.rounding.proofs.Rational.{num_neg}
+use Rattle.float_bits.specs.rounding.Order.{◌≼◌}
+use Rattle.float_bits.proofs.rounding.Monotone.{round_mono}
+use Rattle.float_bits.proofs.rounding.Corners.{Bounds}
+use Rattle.float_bits.proofs.rounding.Rational.{num_neg}
 use Rattle.sine_table.specs.Table.{quarter_turn}
 use Rattle.trig.specs.Units.{cos_units}
 use Rattle.arc_cosine.specs.Acos.{in_domain, least_angle, floor_units, acos}
@@ -22,7 +22,7 @@ use Rattle.trig.specs.means.Computing.{computing}
 use Rattle.arc_cosine.proofs.Floor.{unit-finite}
 use Rattle.arc_cosine.proofs.Least.{least_angle-unique, least_angle-le, least_angle-below}
 use Rattle.trig.specs.Range.{quarter_turn_float, half_turn_float}
-use Rattle.rounding.proofs.Order.{num_neg-none}
+use Rattle.float_bits.proofs.rounding.Order.{num_neg-none}
 
 acos-in : (c : Float) → in_domain c ≡ true → acos c ≡ round binary32 false (least_angle (floor_units c)) (2 ^ 28)
 unfolding acos

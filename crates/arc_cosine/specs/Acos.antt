@@ -4,7 +4,7 @@ use Rattle.std.specs.Int.Signed.{le_z, shr_z}
 use Rattle.std.specs.Float.{nan, inf, fin, binary32}
 use Rattle.std.specs.Float.Ieee.{up, down, le, neg, round}
 use Rattle.sine_table.specs.Table.{quarter_turn}
-use Rattle.float32.specs.Operators.{one}
+use Rattle.trig.specs.float32.Operators.{one}
 use Rattle.trig.specs.Units.{cos_units, with_sign}
 
 -- The least k from j on that passes the test p; where none of the next d does, j + d.

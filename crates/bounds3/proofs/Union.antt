@@ -6,8 +6,8 @@ use mathlib.Core.Path.{◌≡◌, refl}
 use lib.Dec.{T}
 use lib.Ieee.{Float}
 use lib.Ieee.Scale.{finite}
-use Rattle.rounding.specs.Order.{◌≼◌}
-use Rattle.rounding.proofs.Order.{≼_refl, ≼_trans, number-left, number-right, finite_number}
+use Rattle.float32.specs.rounding.Order.{◌≼◌}
+use Rattle.float32.proofs.rounding.Order.{≼_refl, ≼_trans, number-left, number-right, finite_number}
 use Rattle.float32.specs.MinMax.{min_num, max_num}
 use Rattle.float32.proofs.MinMax.{min-left, min-right, max-left, max-right, min-picks, max-picks}
 use Rattle.bounds3.specs.declared.Point3f.{Point3f}

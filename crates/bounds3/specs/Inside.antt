@@ -1,6 +1,6 @@
 -- A point inside a box, `Inside`, and a box inside a box, `Subset`, by IEEE 754's order on each axis. Definitions only.
 -- A NaN is inside nothing and a box with a NaN corner holds nothing; the two zeros are equal.
-use Rattle.rounding.specs.Order.{◌≼◌}
+use Rattle.float32.specs.rounding.Order.{◌≼◌}
 use Rattle.bounds3.specs.declared.Point3f.{Point3f}
 use Rattle.bounds3.specs.declared.Bounds3f.{Bounds3f}
 

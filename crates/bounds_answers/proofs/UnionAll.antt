@@ -4,14 +4,14 @@
 use Prim.Native.Nat.{ℕ}
 use mathlib.Core.Path.{◌≡◌, refl}
 use mathlib.Core.List.{List, [], ◌∷◌, ◌++◌, map}
-use Rattle.bounds3.specs.declared.Bounds3f.{Bounds3f}
-use Rattle.transform.specs.declared.BoundsAnswer.{BoundsAnswer}
-use Rattle.transform.specs.declared.BoundsAnswer.TheVariants.{Bounds, Refused}
-use Rattle.bounds_query.specs.Query.{BoundsAnswer-union_bounds}
-use Rattle.pose_steps.proofs.Box.{order-refl}
-use Rattle.motion_cover.specs.Answer.{Proper, BoundsAnswer-Numbered}
-use Rattle.motion_cover.proofs.NonZero.{BoundsAnswer-NonZero, union-nonzero}
-use Rattle.motion_cover.proofs.Proper.{box-order, union-proper}
+use Rattle.cover_depth.specs.bounds3.declared.Bounds3f.{Bounds3f}
+use Rattle.cover_depth.specs.transform.declared.BoundsAnswer.{BoundsAnswer}
+use Rattle.cover_depth.specs.transform.declared.BoundsAnswer.TheVariants.{Bounds, Refused}
+use Rattle.cover_depth.specs.bounds_query.Query.{BoundsAnswer-union_bounds}
+use Rattle.cover_depth.proofs.pose_steps.Box.{order-refl}
+use Rattle.cover_depth.specs.motion_cover.Answer.{Proper, BoundsAnswer-Numbered}
+use Rattle.cover_depth.proofs.motion_cover.NonZero.{BoundsAnswer-NonZero, union-nonzero}
+use Rattle.cover_depth.proofs.motion_cover.Proper.{box-order, union-proper}
 use Rattle.cover_depth.proofs.Finer.{BoxWithin, within-subset, union-within, parts_within}
 use Rattle.bounds_answers.specs.UnionAll.{BoundsAnswer-union_all, Each}
 

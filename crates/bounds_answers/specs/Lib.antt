@@ -1,1 +1,20 @@
 pub mod UnionAll
+pub use Rattle.cover_depth.specs.animated_transform
+pub use Rattle.cover_depth.specs.bounds3
+pub use Rattle.cover_depth.specs.bounds_query
+pub use Rattle.cover_depth.specs as cover_depth
+pub use Rattle.cover_depth.specs.decomposition
+pub use Rattle.cover_depth.specs.float32
+pub use Rattle.cover_depth.specs.formula
+pub use Rattle.cover_depth.specs.matrix4x4
+pub use Rattle.cover_depth.specs.motion_cover
+pub use Rattle.cover_depth.specs.motion_pad
+pub use Rattle.cover_depth.specs.motion_point
+pub use Rattle.cover_depth.specs.pose_pair
+pub use Rattle.cover_depth.specs.pose_steps
+pub use Rattle.cover_depth.specs.quaternion
+pub use Rattle.cover_depth.specs.refusal
+pub use Rattle.cover_depth.specs.rotation_arc
+pub use Rattle.cover_depth.specs.rounding
+pub use Rattle.cover_depth.specs.stored_box
+pub use Rattle.cover_depth.specs.transform

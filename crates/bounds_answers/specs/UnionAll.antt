@@ -1,7 +1,7 @@
 -- The union of a list of answers, in order: `BoundsAnswer-union_all`, of which the first refusal stands. Definitions only.
 use Rattle.std.specs.Prelude.{List, [], ◌∷◌}
-use Rattle.transform.specs.declared.BoundsAnswer.{BoundsAnswer}
-use Rattle.bounds_query.specs.Query.{BoundsAnswer-union_bounds}
+use Rattle.cover_depth.specs.transform.declared.BoundsAnswer.{BoundsAnswer}
+use Rattle.cover_depth.specs.bounds_query.Query.{BoundsAnswer-union_bounds}
 
 -- r and then the answers, from the left.
 abbrev pub BoundsAnswer-union_all : BoundsAnswer → List BoundsAnswer → BoundsAnswer

@@ -5,8 +5,8 @@ use mathlib.Core.Bool.{false, ◌&&◌, and_comm}
 use lib.Dec.{T}
 use lib.Ieee.{Float, le}
 use lib.Ieee.Fits.{and_i}
-use Rattle.rounding.specs.Order.{◌≼◌}
-use Rattle.rounding.proofs.Order.{≼_trans}
+use Rattle.bounds3.specs.rounding.Order.{◌≼◌}
+use Rattle.bounds3.proofs.rounding.Order.{≼_trans}
 use Rattle.bounds3.specs.declared.Point3f.{Point3f}
 use Rattle.bounds3.specs.declared.Bounds3f.{Bounds3f}
 use Rattle.bounds3.specs.Inside.{Inside}

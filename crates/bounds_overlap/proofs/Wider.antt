@@ -4,8 +4,8 @@ use mathlib.Core.Bool.{◌&&◌}
 use lib.Dec.{T}
 use lib.Ieee.{Float, le}
 use lib.Ieee.Fits.{and_i, and_l, and_r}
-use Rattle.rounding.specs.Order.{◌≼◌}
-use Rattle.rounding.proofs.Order.{≼_refl, ≼_trans, number-left, number-right}
+use Rattle.bounds3.specs.rounding.Order.{◌≼◌}
+use Rattle.bounds3.proofs.rounding.Order.{≼_refl, ≼_trans, number-left, number-right}
 use Rattle.bounds3.specs.declared.Bounds3f.{Bounds3f}
 use Rattle.bounds3.specs.Bounds3f.{Bounds3f-union_bounds}
 use Rattle.bounds3.specs.Inside.{Subset}

@@ -5,8 +5,8 @@ use Prim.Native.Nat.{ℕ}
 use native.Mathlib.Omega.{arith}
 use lib.Dec.{T}
 use lib.Ieee.{lt}
-use Rattle.rounding.specs.Order.{◌≼◌}
-use Rattle.rounding.proofs.Order.{finite_number, not-lt-≼}
+use Rattle.bounds3.specs.rounding.Order.{◌≼◌}
+use Rattle.bounds3.proofs.rounding.Order.{finite_number, not-lt-≼}
 use Rattle.bounds3.specs.declared.Bounds3f.{Bounds3f}
 use Rattle.bounds3.specs.Finite.{Bounds3f-is_finite}
 use Rattle.bounds3.proofs.Finite.{low-finite, high-finite}

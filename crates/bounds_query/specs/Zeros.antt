@@ -1,6 +1,6 @@
 -- A box whose zeros are +0, `Bounds3f-positive_zeros`. Document 01 leaves their sign open: "in what is worked out, a box's zero may have either sign". +0 is added to
 -- each coordinate: rounded to nearest, -0 + +0 is +0, and every other value stays. Definitions only.
-use Rattle.float32.specs.Operators.{◌⊕◌, positive_zero}
+use Rattle.bounds3.specs.float32.Operators.{◌⊕◌, positive_zero}
 use Rattle.bounds3.specs.declared.Point3f.{Point3f}
 use Rattle.bounds3.specs.declared.Bounds3f.{Bounds3f}
 use Rattle.transform.specs.declared.BoundsAnswer.{BoundsAnswer}

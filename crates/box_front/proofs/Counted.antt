@@ -10,13 +10,13 @@ use lib.Dec.{eqb}
 use lib.ListN.{length, take, drop, drop_of_length-le}
 use lib.Seq.{drop-cons}
 use lib.Ieee.{Float}
-use Rattle.bounds3.specs.declared.Bounds3f.{Bounds3f}
+use Rattle.transform.specs.bounds3.declared.Bounds3f.{Bounds3f}
 use Rattle.transform.specs.declared.BoundsAnswer.{BoundsAnswer}
 use Rattle.transform.specs.declared.BoundsAnswer.TheVariants.{Bounds, Refused}
 use Rattle.transform.specs.Answer.{BoundsAnswer-refusal}
 use Rattle.transform.proofs.Answer.{refused-number}
 use Rattle.bounds_query.specs.Query.{cover_refusal}
-use Rattle.motion_cover.proofs.NonZero.{BoundsAnswer-NonZero, nonzero-box, tested-nonzero}
+use Rattle.motion_piece.proofs.motion_cover.NonZero.{BoundsAnswer-NonZero, nonzero-box, tested-nonzero}
 use Rattle.box_front.specs.declared.Front.{Front}
 use Rattle.box_front.specs.means.Front.{place_count, box_at, Boxes-answers, Bounds3f-tested, Front-of, Front-boxes, Front-after}
 

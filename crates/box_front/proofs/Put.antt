@@ -8,8 +8,8 @@ use native.Mathlib.Omega.{arith}
 use lib.ListN.{length, get_or, take, set, length-map, get_or-map}
 use lib.Seq.{get_or-take, length-take-le, set-get_or}
 use lib.Ieee.{Float}
-use Rattle.bounds3.specs.declared.Bounds3f.{Bounds3f}
-use Rattle.bounds3.specs.List.{Bounds3f-of_list}
+use Rattle.transform.specs.bounds3.declared.Bounds3f.{Bounds3f}
+use Rattle.transform.specs.bounds3.List.{Bounds3f-of_list}
 use Rattle.transform.specs.declared.BoundsAnswer.{BoundsAnswer}
 use Rattle.transform.specs.declared.BoundsAnswer.TheVariants.{Bounds, Refused}
 use Rattle.transform.specs.Answer.{BoundsAnswer-refusal}
@@ -17,9 +17,9 @@ use Rattle.transform.proofs.Answer.{refused-number}
 use Rattle.bounds_query.specs.Query.{BoundsAnswer-union_bounds}
 use Rattle.lent_arrays.specs.Arrays.{BoundsAnswer-left}
 use Rattle.motion_piece.specs.declared.PaddedPose.{PaddedPose}
-use Rattle.pose_steps.specs.Enclose.{Pose-enclose_transform_point, Bounds3f-intervals, IntervalVector-bounds}
-use Rattle.motion_cover.specs.Cover.{BoundsAnswer-from_enclosure}
-use Rattle.motion_cover.proofs.NonZero.{BoundsAnswer-NonZero, tested-nonzero, grow-nonzero}
+use Rattle.motion_piece.specs.pose_steps.Enclose.{Pose-enclose_transform_point, Bounds3f-intervals, IntervalVector-bounds}
+use Rattle.motion_piece.specs.motion_cover.Cover.{BoundsAnswer-from_enclosure}
+use Rattle.motion_piece.proofs.motion_cover.NonZero.{BoundsAnswer-NonZero, tested-nonzero, grow-nonzero}
 use Rattle.motion_piece.specs.means.Piece.{PaddedPose-enclose_bounds}
 use Rattle.box_front.specs.declared.Front.{Front}
 use Rattle.box_front.specs.means.Front.{place_count, box_at, Boxes-answers, Front-of, Front-boxes, Front-after, BoundsAnswer-put, Places-put}

@@ -7,30 +7,30 @@ use mathlib.Core.Bool.{not}
 use mathlib.Core.List.{List, [], ◌∷◌, map}
 use lib.Dec.{T}
 use lib.Ieee.{Float, is_nan}
-use Rattle.formula.specs.Promise.{Pairwise}
-use Rattle.bounds3.specs.declared.Point3f.{Point3f}
-use Rattle.bounds3.specs.declared.Bounds3f.{Bounds3f}
-use Rattle.bounds3.specs.Inside.{Inside, Subset}
-use Rattle.transform.specs.declared.PointAnswer.{PointAnswer}
-use Rattle.transform.specs.declared.BoundsAnswer.{BoundsAnswer}
-use Rattle.transform.specs.declared.BoundsAnswer.TheVariants.{Bounds}
-use Rattle.transform.specs.Answer.{BoundsAnswer-refusal, BoundsAnswer-bounds}
-use Rattle.bounds_query.specs.Query.{max_depth}
-use Rattle.animated_transform.specs.declared.AnimatedTransform.{AnimatedTransform}
-use Rattle.animated_transform.specs.Built.{Built}
-use Rattle.motion_point.specs.TransformPoint.{AnimatedTransform-transform_point}
-use Rattle.motion_point.specs.PadAt.{AnimatedTransform-pad_at}
-use Rattle.motion_cover.specs.Cover.{AnimatedTransform-cover}
-use Rattle.motion_cover.specs.Theorem.{MovedInside}
-use Rattle.motion_cover.specs.Answer.{Proper}
-use Rattle.motion_cover.proofs.Contains.{moved-wider, cover-contains}
-use Rattle.motion_cover.proofs.NonZero.{BoundsAnswer-NonZero, nonzero-box, cover-nonzero}
-use Rattle.motion_cover.proofs.Number.{cover-numbered}
-use Rattle.motion_cover.proofs.Proper.{cover-proper}
-use Rattle.cover_depth.specs.Finer.{Within}
-use Rattle.cover_depth.proofs.Finer.{BoxWithin, within-subset}
-use Rattle.bounds_answers.specs.UnionAll.{BoundsAnswer-union_all, Each}
-use Rattle.bounds_answers.proofs.UnionAll.{each_map, union-all-within}
+use Rattle.motion_chain.specs.formula.Promise.{Pairwise}
+use Rattle.motion_chain.specs.bounds3.declared.Point3f.{Point3f}
+use Rattle.motion_chain.specs.bounds3.declared.Bounds3f.{Bounds3f}
+use Rattle.motion_chain.specs.bounds3.Inside.{Inside, Subset}
+use Rattle.motion_chain.specs.transform.declared.PointAnswer.{PointAnswer}
+use Rattle.motion_chain.specs.transform.declared.BoundsAnswer.{BoundsAnswer}
+use Rattle.motion_chain.specs.transform.declared.BoundsAnswer.TheVariants.{Bounds}
+use Rattle.motion_chain.specs.transform.Answer.{BoundsAnswer-refusal, BoundsAnswer-bounds}
+use Rattle.motion_chain.specs.bounds_query.Query.{max_depth}
+use Rattle.motion_chain.specs.animated_transform.declared.AnimatedTransform.{AnimatedTransform}
+use Rattle.motion_chain.specs.animated_transform.Built.{Built}
+use Rattle.motion_chain.specs.motion_point.TransformPoint.{AnimatedTransform-transform_point}
+use Rattle.motion_chain.specs.motion_point.PadAt.{AnimatedTransform-pad_at}
+use Rattle.motion_chain.specs.motion_cover.Cover.{AnimatedTransform-cover}
+use Rattle.motion_chain.specs.motion_cover.Theorem.{MovedInside}
+use Rattle.motion_chain.specs.motion_cover.Answer.{Proper}
+use Rattle.motion_chain.proofs.motion_cover.Contains.{moved-wider, cover-contains}
+use Rattle.motion_chain.proofs.motion_cover.NonZero.{BoundsAnswer-NonZero, nonzero-box, cover-nonzero}
+use Rattle.motion_chain.proofs.motion_cover.Number.{cover-numbered}
+use Rattle.motion_chain.proofs.motion_cover.Proper.{cover-proper}
+use Rattle.motion_chain.specs.cover_depth.Finer.{Within}
+use Rattle.motion_chain.proofs.cover_depth.Finer.{BoxWithin, within-subset}
+use Rattle.motion_chain.specs.bounds_answers.UnionAll.{BoundsAnswer-union_all, Each}
+use Rattle.motion_chain.proofs.bounds_answers.UnionAll.{each_map, union-all-within}
 use Rattle.motion_chain.specs.Chain.{Chain, Chain-moves, Chain-transform_point, Chain-pad_at, Chain-cover}
 use Rattle.motion_chain.specs.Built.{BuiltChain}
 use Rattle.motion_chain.specs.TwoPoses.{Chain-single}

@@ -1,2 +1,5 @@
 pub mod Set
 pub mod Contains
+pub use Rattle.motion_chain.proofs.bounds_answers
+pub use Rattle.motion_chain.proofs as motion_chain
+pub use Rattle.motion_chain.proofs.motion_cover

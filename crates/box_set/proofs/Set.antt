@@ -9,19 +9,19 @@ use native.Mathlib.Omega.{arith}
 use borrow.Author.Tests.{le-ltb, ltb-false}
 use lib.Dec.{ltb}
 use lib.ListN.{length}
-use Rattle.bounds3.specs.declared.Bounds3f.{Bounds3f}
-use Rattle.bounds3.specs.Bounds3f.{Bounds3f-union_bounds}
-use Rattle.transform.specs.declared.BoundsAnswer.{BoundsAnswer}
-use Rattle.transform.specs.declared.BoundsAnswer.TheVariants.{Bounds, Refused}
-use Rattle.transform.specs.Answer.{OneOf, BoundsAnswer-refusal, BoundsAnswer-bounds}
-use Rattle.transform.proofs.Answer.{one-of-more}
-use Rattle.bounds_query.specs.Query.{BoundsAnswer-union_bounds}
-use Rattle.bounds_query.proofs.Union.{refused-bounds}
-use Rattle.motion_cover.specs.Answer.{Proper, BoundsAnswer-Numbered}
-use Rattle.motion_cover.proofs.NonZero.{BoundsAnswer-NonZero, nonzero-box}
-use Rattle.cover_depth.proofs.Finer.{BoxWithin}
-use Rattle.bounds_answers.specs.UnionAll.{BoundsAnswer-union_all, Each}
-use Rattle.bounds_answers.proofs.UnionAll.{each_map, each-unmap, each_of, union-all-nonzero, union-all-parts, union-all-refused, union-all-numbered}
+use Rattle.motion_chain.specs.bounds3.declared.Bounds3f.{Bounds3f}
+use Rattle.motion_chain.specs.bounds3.Bounds3f.{Bounds3f-union_bounds}
+use Rattle.motion_chain.specs.transform.declared.BoundsAnswer.{BoundsAnswer}
+use Rattle.motion_chain.specs.transform.declared.BoundsAnswer.TheVariants.{Bounds, Refused}
+use Rattle.motion_chain.specs.transform.Answer.{OneOf, BoundsAnswer-refusal, BoundsAnswer-bounds}
+use Rattle.motion_chain.proofs.transform.Answer.{one-of-more}
+use Rattle.motion_chain.specs.bounds_query.Query.{BoundsAnswer-union_bounds}
+use Rattle.motion_chain.proofs.bounds_query.Union.{refused-bounds}
+use Rattle.motion_chain.specs.motion_cover.Answer.{Proper, BoundsAnswer-Numbered}
+use Rattle.motion_chain.proofs.motion_cover.NonZero.{BoundsAnswer-NonZero, nonzero-box}
+use Rattle.motion_chain.proofs.cover_depth.Finer.{BoxWithin}
+use Rattle.motion_chain.specs.bounds_answers.UnionAll.{BoundsAnswer-union_all, Each}
+use Rattle.motion_chain.proofs.bounds_answers.UnionAll.{each_map, each-unmap, each_of, union-all-nonzero, union-all-parts, union-all-refused, union-all-numbered}
 use Rattle.box_set.specs.Set.{max_boxes, SetAnswer, covered, refused, SetAnswer-refusal, SetAnswer-covers}
 use Rattle.box_set.specs.Set.{SetAnswer-union, SetAnswer-joined, SetAnswer-of, Boxes-covers}
 use Rattle.box_set.specs.Theorem.{SetAnswer-Numbered, FirstRefused}

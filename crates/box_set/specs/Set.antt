@@ -1,13 +1,13 @@
 -- A set of boxes asked at one depth: each box's cover and their union. Definitions only. Quotations are of document 02, "A boom of many boxes".
 use Rattle.std.specs.Prelude.{ℕ, cond, List, [], ◌∷◌, map, ltb, length}
-use Rattle.bounds3.specs.declared.Bounds3f.{Bounds3f}
-use Rattle.bounds3.specs.Bounds3f.{Bounds3f-from_point}
-use Rattle.transform.specs.declared.BoundsAnswer.{BoundsAnswer}
-use Rattle.transform.specs.declared.BoundsAnswer.TheVariants.{Bounds, Refused}
-use Rattle.transform.specs.Answer.{origin, BoundsAnswer-bounds}
-use Rattle.bounds_answers.specs.UnionAll.{BoundsAnswer-union_all}
-use Rattle.animated_transform.specs.declared.AnimatedTransform.{AnimatedTransform}
-use Rattle.motion_cover.specs.Cover.{AnimatedTransform-cover}
+use Rattle.motion_chain.specs.bounds3.declared.Bounds3f.{Bounds3f}
+use Rattle.motion_chain.specs.bounds3.Bounds3f.{Bounds3f-from_point}
+use Rattle.motion_chain.specs.transform.declared.BoundsAnswer.{BoundsAnswer}
+use Rattle.motion_chain.specs.transform.declared.BoundsAnswer.TheVariants.{Bounds, Refused}
+use Rattle.motion_chain.specs.transform.Answer.{origin, BoundsAnswer-bounds}
+use Rattle.motion_chain.specs.bounds_answers.UnionAll.{BoundsAnswer-union_all}
+use Rattle.motion_chain.specs.animated_transform.declared.AnimatedTransform.{AnimatedTransform}
+use Rattle.motion_chain.specs.motion_cover.Cover.{AnimatedTransform-cover}
 use Rattle.motion_chain.specs.Chain.{Chain, Chain-cover}
 
 -- "1 to 16 boxes"

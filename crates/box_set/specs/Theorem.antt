@@ -8,21 +8,21 @@
 -- of `chain-set-contains`, `move-set-contains`, `chain-set-finer`, `chain-set-numbered`, `move-set-numbered`, and `FirstRefused` of `first-refused`.
 use Rattle.std.specs.Prelude.{ℕ, ◌+◌, ◌≤◌, ◌≡◌, not, List, [], ◌∷◌, ◌++◌, T, length, Float}
 use Rattle.std.specs.Float.Ieee.{is_nan}
-use Rattle.formula.specs.Promise.{Pairwise}
-use Rattle.bounds3.specs.declared.Point3f.{Point3f}
-use Rattle.bounds3.specs.declared.Bounds3f.{Bounds3f}
-use Rattle.bounds3.specs.Inside.{Inside, Subset}
-use Rattle.transform.specs.declared.PointAnswer.{PointAnswer}
-use Rattle.transform.specs.declared.BoundsAnswer.{BoundsAnswer}
-use Rattle.transform.specs.declared.BoundsAnswer.TheVariants.{Refused}
-use Rattle.transform.specs.Answer.{OneOf, BoundsAnswer-refusal}
-use Rattle.bounds_query.specs.Query.{max_depth}
-use Rattle.bounds_answers.specs.UnionAll.{Each}
-use Rattle.animated_transform.specs.declared.AnimatedTransform.{AnimatedTransform}
-use Rattle.animated_transform.specs.Built.{Built}
-use Rattle.motion_point.specs.TransformPoint.{AnimatedTransform-transform_point}
-use Rattle.motion_point.specs.PadAt.{AnimatedTransform-pad_at}
-use Rattle.motion_cover.specs.Theorem.{MovedInside}
+use Rattle.motion_chain.specs.formula.Promise.{Pairwise}
+use Rattle.motion_chain.specs.bounds3.declared.Point3f.{Point3f}
+use Rattle.motion_chain.specs.bounds3.declared.Bounds3f.{Bounds3f}
+use Rattle.motion_chain.specs.bounds3.Inside.{Inside, Subset}
+use Rattle.motion_chain.specs.transform.declared.PointAnswer.{PointAnswer}
+use Rattle.motion_chain.specs.transform.declared.BoundsAnswer.{BoundsAnswer}
+use Rattle.motion_chain.specs.transform.declared.BoundsAnswer.TheVariants.{Refused}
+use Rattle.motion_chain.specs.transform.Answer.{OneOf, BoundsAnswer-refusal}
+use Rattle.motion_chain.specs.bounds_query.Query.{max_depth}
+use Rattle.motion_chain.specs.bounds_answers.UnionAll.{Each}
+use Rattle.motion_chain.specs.animated_transform.declared.AnimatedTransform.{AnimatedTransform}
+use Rattle.motion_chain.specs.animated_transform.Built.{Built}
+use Rattle.motion_chain.specs.motion_point.TransformPoint.{AnimatedTransform-transform_point}
+use Rattle.motion_chain.specs.motion_point.PadAt.{AnimatedTransform-pad_at}
+use Rattle.motion_chain.specs.motion_cover.Theorem.{MovedInside}
 use Rattle.motion_chain.specs.Chain.{Chain, Chain-transform_point, Chain-pad_at}
 use Rattle.motion_chain.specs.Built.{BuiltChain}
 use Rattle.box_set.specs.Set.{max_boxes, SetAnswer, covered, refused, SetAnswer-refusal, SetAnswer-covers, SetAnswer-union, Boxes-covers, Chain-covers}

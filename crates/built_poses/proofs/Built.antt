@@ -7,28 +7,28 @@ use mathlib.Core.List.{List, [], ◌∷◌, map}
 use borrow.Author.Tests.{eqb-true, eqb-false}
 use lib.Dec.{eqb}
 use lib.Ieee.{lt}
-use Rattle.refusal.proofs.First.{first-zero}
-use Rattle.refusal.specs.First.{first_refusal}
-use Rattle.matrix4x4.specs.declared.Matrix4x4.{Matrix4x4}
-use Rattle.matrix4x4.specs.Rows.{Matrix4x4-to_rows}
-use Rattle.transform.specs.declared.Transform.{Transform}
-use Rattle.transform.specs.declared.TransformAnswer.{TransformAnswer}
-use Rattle.transform.specs.Transform.{Transform-from_matrix}
-use Rattle.transform.proofs.FromMatrix.{from-matrix-refusal, from-matrix-accepted}
-use Rattle.quaternion.specs.Quaternion.{Quaternion-dot}
-use Rattle.quaternion.specs.Slerp.{slerp_threshold}
-use Rattle.decomposition.specs.declared.Decomposition.{Decomposition}
-use Rattle.decomposition.specs.Decompose.{Matrix4x4-decompose}
-use Rattle.rotation_arc.specs.ShorterArc.{flip, dots_refusal}
-use Rattle.rotation_arc.specs.ArcCoefficients.{pair_coefficients}
-use Rattle.pose_pair.specs.declared.Pose.{Pose}
-use Rattle.animated_transform.specs.declared.AnimatedTransform.{AnimatedTransform}
-use Rattle.animated_transform.specs.declared.AnimatedTransformAnswer.{AnimatedTransformAnswer}
-use Rattle.animated_transform.specs.New.{AnimatedTransformAnswer-refused, AnimatedTransform-of_fields, AnimatedTransform-from_parts}
-use Rattle.animated_transform.specs.New.{AnimatedTransform-from_poses, build_refusal, AnimatedTransform-new}
-use Rattle.animated_transform.proofs.Kept.{new-kept}
-use Rattle.motion_chain.specs.Chain.{neighbours, first_number, Chain, Chain-moves, built, ChainAnswer-from_moves, Chain-new}
-use Rattle.motion_chain.proofs.Built.{first-none, refused-built, answers, values, new-built, from-moves-built}
+use Rattle.chain_poses.proofs.refusal_below.First.{first-zero}
+use Rattle.chain_poses.specs.refusal_below.First.{first_refusal}
+use Rattle.chain_poses.specs.matrix4x4.declared.Matrix4x4.{Matrix4x4}
+use Rattle.chain_poses.specs.matrix4x4.Rows.{Matrix4x4-to_rows}
+use Rattle.chain_poses.specs.transform.declared.Transform.{Transform}
+use Rattle.chain_poses.specs.transform.declared.TransformAnswer.{TransformAnswer}
+use Rattle.chain_poses.specs.transform.Transform.{Transform-from_matrix}
+use Rattle.chain_poses.proofs.transform.FromMatrix.{from-matrix-refusal, from-matrix-accepted}
+use Rattle.chain_poses.specs.quaternion.Quaternion.{Quaternion-dot}
+use Rattle.chain_poses.specs.quaternion.Slerp.{slerp_threshold}
+use Rattle.chain_poses.specs.decomposition.declared.Decomposition.{Decomposition}
+use Rattle.chain_poses.specs.decomposition.Decompose.{Matrix4x4-decompose}
+use Rattle.chain_poses.specs.rotation_arc.ShorterArc.{flip, dots_refusal}
+use Rattle.chain_poses.specs.rotation_arc.ArcCoefficients.{pair_coefficients}
+use Rattle.chain_poses.specs.pose_pair.declared.Pose.{Pose}
+use Rattle.chain_poses.specs.animated_transform.declared.AnimatedTransform.{AnimatedTransform}
+use Rattle.chain_poses.specs.animated_transform.declared.AnimatedTransformAnswer.{AnimatedTransformAnswer}
+use Rattle.chain_poses.specs.animated_transform.New.{AnimatedTransformAnswer-refused, AnimatedTransform-of_fields, AnimatedTransform-from_parts}
+use Rattle.chain_poses.specs.animated_transform.New.{AnimatedTransform-from_poses, build_refusal, AnimatedTransform-new}
+use Rattle.chain_poses.proofs.animated_transform.Kept.{new-kept}
+use Rattle.chain_poses.specs.motion_chain.Chain.{neighbours, first_number, Chain, Chain-moves, built, ChainAnswer-from_moves, Chain-new}
+use Rattle.chain_poses.proofs.motion_chain.Built.{first-none, refused-built, answers, values, new-built, from-moves-built}
 use Rattle.built_poses.specs.Poses.{AnimatedTransform-start_pose, AnimatedTransform-end_pose, Chain-poses, Chain-is_rigid, BuiltPoses, BuiltPairs, BuiltKind}
 
 -- ---- one pair

@@ -8,9 +8,9 @@ use mathlib.Core.List.{List, [], ◌∷◌}
 use lib.ListN.{length, get_or, take, drop, length-map}
 use lib.Seq.{drop-cons, take_all}
 use lib.Ieee.{Float, nan}
-use Rattle.lent_arrays.specs.Arrays.{Pose-of_list}
-use Rattle.motion_chain.specs.Chain.{Chain, Chain-moves}
-use Rattle.motion_chain.specs.Built.{Each}
+use Rattle.chain_poses.specs.lent_arrays.Arrays.{Pose-of_list}
+use Rattle.chain_poses.specs.motion_chain.Chain.{Chain, Chain-moves}
+use Rattle.chain_poses.specs.motion_chain.Built.{Each}
 use Rattle.chain_poses.specs.Poses.{Poses-of_lists}
 use Rattle.built_poses.specs.Poses.{AnimatedTransform-end_pose, Chain-poses, places_per_pose, Pose-list, Poses-lists, BuiltLists}
 use Rattle.built_poses.proofs.Built.{built-poses}

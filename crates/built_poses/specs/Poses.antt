@@ -2,10 +2,10 @@
 -- are those that it was built from: `BuiltPoses` and `BuiltLists`, the statements of `built-poses` and `built-lists`; each move's are a neighbouring pair:
 -- `BuiltPairs`, that of `built-pairs`; and its kind is the one that it was built in: `BuiltKind`, that of `built-kind`.
 use Rattle.std.specs.Prelude.{ℕ, ◌≡◌, Bool, List, [], ◌∷◌, ◌++◌, map, length, Float}
-use Rattle.pose_pair.specs.declared.Pose.{Pose}
-use Rattle.animated_transform.specs.declared.AnimatedTransform.{AnimatedTransform}
-use Rattle.motion_chain.specs.Chain.{neighbours, Chain, Chain-moves, built, Chain-new}
-use Rattle.motion_chain.specs.Built.{Each}
+use Rattle.chain_poses.specs.pose_pair.declared.Pose.{Pose}
+use Rattle.chain_poses.specs.animated_transform.declared.AnimatedTransform.{AnimatedTransform}
+use Rattle.chain_poses.specs.motion_chain.Chain.{neighbours, Chain, Chain-moves, built, Chain-new}
+use Rattle.chain_poses.specs.motion_chain.Built.{Each}
 use Rattle.chain_poses.specs.Poses.{Poses-of_lists}
 
 abbrev pub AnimatedTransform-start_pose : AnimatedTransform → Pose

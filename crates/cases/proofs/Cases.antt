@@ -9,14 +9,14 @@ use native.Mathlib.Omega.{arith}
 use lib.Dec.{lit≤, lit<}
 use lib.IntN.{negsuc}
 use lib.Ieee.{fin, binary32, round}
-use Rattle.sine_table.specs.Table.{quarter_turn}
-use Rattle.trig.specs.Units.{cos_units}
-use Rattle.arc_cosine.specs.Acos.{floor_units, acos}
-use Rattle.trig.specs.Biased.{biased}
-use Rattle.trig.specs.means.Computing as trig
-use Rattle.arc_cosine.proofs.Range.{acos-unique}
-use Rattle.animated_transform.specs.means.Computing as building
-use Rattle.motion_point.specs.means.Computing as point
+use Rattle.motion_cover.specs.sine_table.Table.{quarter_turn}
+use Rattle.motion_cover.specs.trig.Units.{cos_units}
+use Rattle.motion_cover.specs.arc_cosine.Acos.{floor_units, acos}
+use Rattle.motion_cover.specs.trig.Biased.{biased}
+use Rattle.motion_cover.specs.trig.means.Computing as trig
+use Rattle.motion_cover.proofs.arc_cosine.Range.{acos-unique}
+use Rattle.motion_cover.specs.animated_transform.means.Computing as building
+use Rattle.motion_cover.specs.motion_point.means.Computing as point
 use Rattle.motion_cover.specs.means.Computing as cover
 use Rattle.cases.specs.Query.{number}
 use Rattle.cases.specs.Cases.{Row, holds, fraction, zero, one, translation-midpoint, start-at-minus-infinity, end-at-infinity}

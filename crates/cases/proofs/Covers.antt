@@ -3,14 +3,14 @@
 use mathlib.Core.Path.{◌≡◌, refl}
 use mathlib.Core.Bool.{false}
 use lib.Ieee.{Float, binary32, of_bits}
-use Rattle.float32.specs.Operators.{one}
-use Rattle.matrix4x4.specs.Rows.{positive_zero}
-use Rattle.bounds3.specs.declared.Bounds3f.{Bounds3f}
-use Rattle.transform.specs.Transform.{translation}
-use Rattle.transform.specs.declared.BoundsAnswer.TheVariants.{Bounds}
-use Rattle.animated_transform.specs.declared.AnimatedTransform.{AnimatedTransform}
-use Rattle.animated_transform.specs.New.{AnimatedTransform-new}
-use Rattle.animated_transform.specs.means.Computing as building
+use Rattle.motion_cover.specs.float32.Operators.{one}
+use Rattle.motion_cover.specs.matrix4x4.Rows.{positive_zero}
+use Rattle.motion_cover.specs.bounds3.declared.Bounds3f.{Bounds3f}
+use Rattle.motion_cover.specs.transform.Transform.{translation}
+use Rattle.motion_cover.specs.transform.declared.BoundsAnswer.TheVariants.{Bounds}
+use Rattle.motion_cover.specs.animated_transform.declared.AnimatedTransform.{AnimatedTransform}
+use Rattle.motion_cover.specs.animated_transform.New.{AnimatedTransform-new}
+use Rattle.motion_cover.specs.animated_transform.means.Computing as building
 use Rattle.motion_cover.specs.Cover.{AnimatedTransform-cover}
 use Rattle.motion_cover.specs.means.Computing.{computing}
 

@@ -2,11 +2,11 @@
 use mathlib.Core.Bool.{false}
 use mathlib.Core.Path.{refl, subst}
 use lib.Ieee.{fits}
-use Rattle.rounding.specs.Order.{◌≼◌}
-use Rattle.bounds3.specs.declared.Bounds3f.{Bounds3f}
-use Rattle.animated_transform.specs.means.Computing as building
-use Rattle.motion_point.specs.TransformPoint.{AnimatedTransform-transform_point}
-use Rattle.motion_point.specs.PadAt.{AnimatedTransform-pad_at}
+use Rattle.motion_cover.specs.rounding.Order.{◌≼◌}
+use Rattle.motion_cover.specs.bounds3.declared.Bounds3f.{Bounds3f}
+use Rattle.motion_cover.specs.animated_transform.means.Computing as building
+use Rattle.motion_cover.specs.motion_point.TransformPoint.{AnimatedTransform-transform_point}
+use Rattle.motion_cover.specs.motion_point.PadAt.{AnimatedTransform-pad_at}
 use Rattle.motion_cover.specs.means.Computing as cover
 use Rattle.motion_cover.specs.Theorem.{MovedInside}
 use Rattle.motion_cover.proofs.Contains.{cover-contains}

@@ -5,10 +5,10 @@ use Rattle.std.specs.Prelude.{◌≡◌, true, false, ℕ, ◌*◌, ◌^◌, Flo
 use mathlib.Core.List.{List, [], ◌∷◌, Memᴰ}
 use Rattle.std.specs.Float.{nan, inf, binary32}
 use Rattle.std.specs.Float.Ieee.{round}
-use Rattle.matrix4x4.specs.declared.Matrix4x4.{Matrix4x4}
-use Rattle.bounds3.specs.declared.Point3f.{Point3f}
-use Rattle.bounds3.specs.declared.Bounds3f.{Bounds3f}
-use Rattle.pose_pair.specs.declared.Pose.{Pose}
+use Rattle.motion_cover.specs.matrix4x4.declared.Matrix4x4.{Matrix4x4}
+use Rattle.motion_cover.specs.bounds3.declared.Point3f.{Point3f}
+use Rattle.motion_cover.specs.bounds3.declared.Bounds3f.{Bounds3f}
+use Rattle.motion_cover.specs.pose_pair.declared.Pose.{Pose}
 use Rattle.cases.specs.Query.{Query, sin_of, acos_of, build, point_at, cover_of, Answer, number, built, moved, covered, refused, answer}
 
 pub record Row : Type 0 where

@@ -2,13 +2,13 @@
 -- origin at depth 1 is accepted. The guarantee then gives `MidpointCovered`: at time 0.5 the origin is moved, and to a point of that cover. Statements only.
 use Rattle.std.specs.Prelude.{◌≡◌, false, not, T}
 use Rattle.std.specs.Float.Ieee.{is_nan}
-use Rattle.bounds3.specs.Inside.{Inside}
-use Rattle.transform.specs.Answer.{BoundsAnswer-refusal, BoundsAnswer-bounds}
-use Rattle.animated_transform.specs.declared.AnimatedTransform.{AnimatedTransform}
-use Rattle.animated_transform.specs.New.{AnimatedTransform-new}
-use Rattle.animated_transform.specs.Built.{Built}
-use Rattle.motion_point.specs.TransformPoint.{AnimatedTransform-transform_point}
-use Rattle.motion_point.specs.PadAt.{AnimatedTransform-pad_at}
+use Rattle.motion_cover.specs.bounds3.Inside.{Inside}
+use Rattle.motion_cover.specs.transform.Answer.{BoundsAnswer-refusal, BoundsAnswer-bounds}
+use Rattle.motion_cover.specs.animated_transform.declared.AnimatedTransform.{AnimatedTransform}
+use Rattle.motion_cover.specs.animated_transform.New.{AnimatedTransform-new}
+use Rattle.motion_cover.specs.animated_transform.Built.{Built}
+use Rattle.motion_cover.specs.motion_point.TransformPoint.{AnimatedTransform-transform_point}
+use Rattle.motion_cover.specs.motion_point.PadAt.{AnimatedTransform-pad_at}
 use Rattle.motion_cover.specs.Cover.{AnimatedTransform-cover}
 use Rattle.motion_cover.specs.Theorem.{MovedInside}
 use Rattle.cases.specs.Cases.{zero, one, half, identity_at, shifted_at, origin, origin_box, unit_segment}

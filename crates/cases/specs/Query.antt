@@ -1,18 +1,18 @@
 -- What a row of the table asks, `Query`, and what comes of it, `answer`: a query on a move builds it from its two poses first,
 -- and where building refuses, its number is the answer. Definitions only.
 use Rattle.std.specs.Prelude.{ℕ, false, cond, eqb, Float}
-use Rattle.trig.specs.SinCos.{sin}
-use Rattle.arc_cosine.specs.Acos.{acos}
-use Rattle.bounds3.specs.declared.Point3f.{Point3f}
-use Rattle.bounds3.specs.declared.Bounds3f.{Bounds3f}
-use Rattle.transform.specs.declared.PointAnswer.{PointAnswer}
-use Rattle.transform.specs.declared.BoundsAnswer.{BoundsAnswer}
-use Rattle.transform.specs.Answer.{PointAnswer-refusal, PointAnswer-point, BoundsAnswer-refusal, BoundsAnswer-bounds}
-use Rattle.pose_pair.specs.declared.Pose.{Pose}
-use Rattle.animated_transform.specs.declared.AnimatedTransform.{AnimatedTransform}
-use Rattle.animated_transform.specs.declared.AnimatedTransformAnswer.{AnimatedTransformAnswer}
-use Rattle.animated_transform.specs.New.{AnimatedTransform-new}
-use Rattle.motion_point.specs.TransformPoint.{AnimatedTransform-transform_point}
+use Rattle.motion_cover.specs.trig.SinCos.{sin}
+use Rattle.motion_cover.specs.arc_cosine.Acos.{acos}
+use Rattle.motion_cover.specs.bounds3.declared.Point3f.{Point3f}
+use Rattle.motion_cover.specs.bounds3.declared.Bounds3f.{Bounds3f}
+use Rattle.motion_cover.specs.transform.declared.PointAnswer.{PointAnswer}
+use Rattle.motion_cover.specs.transform.declared.BoundsAnswer.{BoundsAnswer}
+use Rattle.motion_cover.specs.transform.Answer.{PointAnswer-refusal, PointAnswer-point, BoundsAnswer-refusal, BoundsAnswer-bounds}
+use Rattle.motion_cover.specs.pose_pair.declared.Pose.{Pose}
+use Rattle.motion_cover.specs.animated_transform.declared.AnimatedTransform.{AnimatedTransform}
+use Rattle.motion_cover.specs.animated_transform.declared.AnimatedTransformAnswer.{AnimatedTransformAnswer}
+use Rattle.motion_cover.specs.animated_transform.New.{AnimatedTransform-new}
+use Rattle.motion_cover.specs.motion_point.TransformPoint.{AnimatedTransform-transform_point}
 use Rattle.motion_cover.specs.Cover.{AnimatedTransform-cover}
 
 pub data Query : Type 0 where

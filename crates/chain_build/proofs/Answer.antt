@@ -11,18 +11,18 @@ use lib.Seq.{take-append_seam}
 use lib.Ieee.Fits.{and_i}
 use Rattle.chain_number.specs.Number.{Move-number}
 use Rattle.chain_number.proofs.ChainNumber.{numbers-same}
-use Rattle.matrix4x4.specs.Rows.{Rows}
-use Rattle.pose_pair.specs.declared.Pose.{Pose}
-use Rattle.pose_pair.specs.Pose.{Pose-is_binary32}
+use Rattle.lent_arrays.specs.matrix4x4.Rows.{Rows}
+use Rattle.lent_arrays.specs.pose_pair.declared.Pose.{Pose}
+use Rattle.lent_arrays.specs.pose_pair.Pose.{Pose-is_binary32}
 use Rattle.animated_transform.specs.declared.AnimatedTransformAnswer.{AnimatedTransformAnswer}
 use Rattle.animated_transform.specs.New.{AnimatedTransform-new}
 use Rattle.animated_transform.specs.Built.{Built}
 use Rattle.animated_transform.proofs.Kept.{new-kept, built-kept}
 use Rattle.motion_rows.specs.Rows.{AnimatedTransform-to_rows, AnimatedTransformAnswer-left}
-use Rattle.motion_chain.specs.Chain.{neighbours, every, stage, chain_refusal, Chain, ChainAnswer, built, refused, ChainAnswer-refusal}
-use Rattle.motion_chain.specs.Chain.{ChainAnswer-from_moves, Chain-new}
-use Rattle.motion_chain.specs.Built.{Each}
-use Rattle.motion_chain.proofs.Built.{first-none, checks-passed}
+use Rattle.chain_poses.specs.motion_chain.Chain.{neighbours, every, stage, chain_refusal, Chain, ChainAnswer, built, refused, ChainAnswer-refusal}
+use Rattle.chain_poses.specs.motion_chain.Chain.{ChainAnswer-from_moves, Chain-new}
+use Rattle.chain_poses.specs.motion_chain.Built.{Each}
+use Rattle.chain_poses.proofs.motion_chain.Built.{first-none, checks-passed}
 use Rattle.chain_rows.specs.Kept.{Chain-to_rows}
 use Rattle.chain_rows.specs.Theorem.{Moves-Holds}
 use Rattle.chain_poses.proofs.Loops.{pairs-count}

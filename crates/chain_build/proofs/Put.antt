@@ -6,8 +6,8 @@ use mathlib.Core.List.{List, [], ◌∷◌, ◌++◌, map, append_assoc}
 use native.Mathlib.Omega.{arith}
 use lib.ListN.{length, set, drop, length-map}
 use lib.Seq.{set-append_seam, append_snoc}
-use Rattle.matrix4x4.specs.Rows.{Rows}
-use Rattle.pose_pair.specs.declared.Pose.{Pose}
+use Rattle.lent_arrays.specs.matrix4x4.Rows.{Rows}
+use Rattle.lent_arrays.specs.pose_pair.declared.Pose.{Pose}
 use Rattle.chain_build.specs.Build.{blocks_left}
 use Rattle.chain_build.specs.means.Pairs.{Pair-rows}
 

@@ -1,7 +1,7 @@
 -- What building a chain leaves in 31 lent blocks of rows: `ChainAnswer-left`. Definitions only.
 use Rattle.std.specs.Prelude.{List, ◌++◌, length, drop}
-use Rattle.matrix4x4.specs.Rows.{Rows}
-use Rattle.motion_chain.specs.Chain.{ChainAnswer, built, refused}
+use Rattle.lent_arrays.specs.matrix4x4.Rows.{Rows}
+use Rattle.chain_poses.specs.motion_chain.Chain.{ChainAnswer, built, refused}
 use Rattle.chain_rows.specs.Kept.{Chain-to_rows}
 
 -- The blocks at the front places, and behind them what stood there.

@@ -4,8 +4,8 @@
 
 ghost use Rattle.std.specs.Prelude.{◌+◌, ◌-◌, ◌<◌, ◌≤◌, ◌≡◌, map, length, set, take};
 ghost use Rattle.chain_number.specs.Number.{Move-number};
-ghost use Rattle.motion_chain.specs.Chain.{neighbours, stage, chain_refusal, Chain, built, ChainAnswer-refusal, Chain-new};
-ghost use Rattle.motion_chain.specs.Built.{Each};
+ghost use Rattle.chain_poses.specs.motion_chain.Chain.{neighbours, stage, chain_refusal, Chain, built, ChainAnswer-refusal, Chain-new};
+ghost use Rattle.chain_poses.specs.motion_chain.Built.{Each};
 ghost use Rattle.chain_rows.specs.Theorem.{Moves-Holds};
 ghost use Rattle.chain_poses.specs.Poses.{Poses-of_lists, Poses-pair_at};
 ghost use Rattle.chain_build.specs.Build.{blocks_left, ChainAnswer-left};

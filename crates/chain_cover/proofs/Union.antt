@@ -4,13 +4,13 @@ use mathlib.Core.Path.{◌≡◌, refl, sym}
 use mathlib.Core.List.{List, [], ◌∷◌, map}
 use native.Mathlib.Omega.{arith}
 use lib.ListN.{length, get_or, drop, drop_of_length-le}
-use Rattle.matrix4x4.specs.Rows.{Rows}
+use Rattle.transform.specs.matrix4x4.Rows.{Rows}
 use Rattle.bounds3.specs.declared.Bounds3f.{Bounds3f}
 use Rattle.transform.specs.declared.BoundsAnswer.{BoundsAnswer}
 use Rattle.bounds_query.specs.Query.{BoundsAnswer-union_bounds}
-use Rattle.motion_cover.specs.Cover.{AnimatedTransform-cover}
+use Rattle.chain_rows.specs.motion_cover.Cover.{AnimatedTransform-cover}
 use Rattle.motion_rows.specs.Rows.{AnimatedTransform-from_rows}
-use Rattle.motion_chain.specs.Chain.{union_covers}
+use Rattle.chain_rows.specs.motion_chain.Chain.{union_covers}
 
 module _ (b : Bounds3f) (depth : ℕ) (r : BoundsAnswer) where
   -- r with the cover of the move at place i.

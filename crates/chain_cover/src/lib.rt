@@ -4,9 +4,9 @@
 ghost use Rattle.std.specs.Prelude.{◌<◌, ◌≡◌, [], length, get_or};
 ghost use Rattle.transform.specs.Answer.{BoundsAnswer-refusal, BoundsAnswer-bounds};
 ghost use Rattle.bounds_query.specs.Query.{BoundsAnswer-union_bounds};
-ghost use Rattle.motion_cover.specs.Cover.{AnimatedTransform-cover};
+ghost use Rattle.chain_rows.specs.motion_cover.Cover.{AnimatedTransform-cover};
 ghost use Rattle.motion_rows.specs.Rows.{AnimatedTransform-from_rows};
-ghost use Rattle.motion_chain.specs.Chain.{Chain, Chain-cover};
+ghost use Rattle.chain_rows.specs.motion_chain.Chain.{Chain, Chain-cover};
 ghost use Rattle.chain_rows.specs.Kept.{Chain-to_rows, Moves-cover};
 ghost use Rattle.chain_rows.specs.Theorem.{KeptChainContainsMotion};
 ghost use Rattle.chain_rows.specs.Finer.{KeptChainFiner};

@@ -8,13 +8,13 @@ use native.Mathlib.Omega.{arith}
 use lib.ListN.{length, get_or, take, set, length-map}
 use lib.Seq.{take_all, length-take-le}
 use lib.Ieee.{Float}
-use Rattle.bounds3.specs.declared.Bounds3f.{Bounds3f}
-use Rattle.bounds3.specs.Bounds3f.{Bounds3f-union_bounds}
-use Rattle.bounds3.specs.List.{Bounds3f-list, Bounds3f-of_list}
-use Rattle.transform.specs.declared.BoundsAnswer.{BoundsAnswer}
-use Rattle.transform.specs.declared.BoundsAnswer.TheVariants.{Bounds, Refused}
-use Rattle.transform.specs.Answer.{BoundsAnswer-bounds}
-use Rattle.bounds_query.specs.Query.{BoundsAnswer-union_bounds}
+use Rattle.lent_arrays.specs.bounds3.declared.Bounds3f.{Bounds3f}
+use Rattle.lent_arrays.specs.bounds3.Bounds3f.{Bounds3f-union_bounds}
+use Rattle.lent_arrays.specs.bounds3.List.{Bounds3f-list, Bounds3f-of_list}
+use Rattle.lent_arrays.specs.transform.declared.BoundsAnswer.{BoundsAnswer}
+use Rattle.lent_arrays.specs.transform.declared.BoundsAnswer.TheVariants.{Bounds, Refused}
+use Rattle.lent_arrays.specs.transform.Answer.{BoundsAnswer-bounds}
+use Rattle.box_front.specs.bounds_query.Query.{BoundsAnswer-union_bounds}
 use Rattle.box_front.specs.declared.Front.{Front}
 use Rattle.box_front.specs.means.Front.{place_count, Boxes-answers, Front-of, Places-put}
 use Rattle.box_front.proofs.Put.{put_next}

@@ -9,14 +9,14 @@ use borrow.Author.Tests.{eq-eqb, ne_eqb}
 use lib.ListN.{length, get_or, drop, drop_of_length-le}
 use lib.Seq.{drop-cons}
 use lib.Ieee.{Float}
-use Rattle.matrix4x4.specs.Rows.{Rows}
-use Rattle.bounds3.specs.declared.Bounds3f.{Bounds3f}
-use Rattle.transform.specs.declared.BoundsAnswer.{BoundsAnswer}
-use Rattle.bounds_query.specs.Query.{BoundsAnswer-union_bounds}
-use Rattle.animated_transform.specs.declared.AnimatedTransform.{AnimatedTransform}
-use Rattle.motion_cover.specs.Cover.{AnimatedTransform-cover}
+use Rattle.lent_arrays.specs.matrix4x4.Rows.{Rows}
+use Rattle.lent_arrays.specs.bounds3.declared.Bounds3f.{Bounds3f}
+use Rattle.lent_arrays.specs.transform.declared.BoundsAnswer.{BoundsAnswer}
+use Rattle.box_front.specs.bounds_query.Query.{BoundsAnswer-union_bounds}
+use Rattle.motion_rows.specs.animated_transform.declared.AnimatedTransform.{AnimatedTransform}
+use Rattle.box_front.specs.motion_cover.Cover.{AnimatedTransform-cover}
 use Rattle.motion_rows.specs.Rows.{AnimatedTransform-from_rows}
-use Rattle.motion_chain.specs.Chain.{union_covers, Chain-cover}
+use Rattle.chain_rows.specs.motion_chain.Chain.{union_covers, Chain-cover}
 use Rattle.chain_rows.specs.Kept.{Moves-chain, Moves-cover}
 use Rattle.box_front.specs.declared.Front.{Front}
 use Rattle.box_front.specs.means.Front.{place_count, Boxes-answers, Front-of}

@@ -3,8 +3,8 @@
 #![tactic(auto)]
 
 ghost use Rattle.std.specs.Prelude.{◌≤◌, ◌≡◌, [], length};
-ghost use Rattle.bounds_query.specs.Query.{BoundsAnswer-union_bounds};
-ghost use Rattle.motion_cover.specs.Cover.{AnimatedTransform-cover};
+ghost use Rattle.box_front.specs.bounds_query.Query.{BoundsAnswer-union_bounds};
+ghost use Rattle.box_front.specs.motion_cover.Cover.{AnimatedTransform-cover};
 ghost use Rattle.motion_rows.specs.Rows.{AnimatedTransform-from_rows};
 ghost use Rattle.chain_rows.specs.Kept.{Moves-cover};
 ghost use Rattle.box_front.specs.means.Front.{place_count, Boxes-answers, Front-of};

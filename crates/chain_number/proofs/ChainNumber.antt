@@ -8,13 +8,13 @@ use borrow.Author.Tests.{eqb-true}
 use lib.Dec.{eqb}
 use lib.ListN.{length, get_or}
 use lib.Ieee.{Float}
-use Rattle.refusal.specs.First.{first_refusal}
-use Rattle.pose_pair.specs.declared.Pose.{Pose}
+use Rattle.animated_transform.specs.refusal.First.{first_refusal}
+use Rattle.lent_arrays.specs.pose_pair.declared.Pose.{Pose}
 use Rattle.animated_transform.specs.declared.AnimatedTransformAnswer.{AnimatedTransformAnswer}
 use Rattle.animated_transform.specs.New.{AnimatedTransform-new}
 use Rattle.lent_arrays.specs.Arrays.{Pose-of_list}
-use Rattle.motion_chain.specs.Chain.{neighbours, first_number, stage, chain_refusal, built, refused, ChainAnswer-refusal, ChainAnswer-from_moves, Chain-new}
-use Rattle.motion_chain.proofs.Built.{checks-passed}
+use Rattle.chain_poses.specs.motion_chain.Chain.{neighbours, first_number, stage, chain_refusal, built, refused, ChainAnswer-refusal, ChainAnswer-from_moves, Chain-new}
+use Rattle.chain_poses.proofs.motion_chain.Built.{checks-passed}
 use Rattle.chain_poses.proofs.Loops.{pairs_from, pairs_next}
 use Rattle.chain_number.specs.Number.{Move-number, Chain-number}
 

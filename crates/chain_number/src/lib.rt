@@ -3,7 +3,7 @@
 
 ghost use Rattle.std.specs.Prelude.{◌≡◌};
 ghost use Rattle.lent_arrays.specs.Arrays.{Pose-of_list};
-ghost use Rattle.motion_chain.specs.Chain.{neighbours, stage};
+ghost use Rattle.chain_poses.specs.motion_chain.Chain.{neighbours, stage};
 ghost use Rattle.chain_poses.specs.Poses.{Poses-of_lists};
 ghost use Rattle.chain_number.specs.Number.{Move-number, Chain-number};
 

@@ -8,16 +8,16 @@ use native.Mathlib.Omega.{arith}
 use lib.Dec.{T, eqb}
 use lib.ListN.{length}
 use lib.Ieee.{Float, is_nan}
-use Rattle.control_flow.proofs.Choice.{cond-keeps}
-use Rattle.matrix4x4.specs.Rows.{Rows}
+use Rattle.transform.proofs.control_flow.Choice.{cond-keeps}
+use Rattle.transform.specs.matrix4x4.Rows.{Rows}
 use Rattle.bounds3.specs.declared.Point3f.{Point3f}
 use Rattle.bounds3.specs.declared.Bounds3f.{Bounds3f}
 use Rattle.bounds3.specs.Inside.{Inside}
 use Rattle.transform.specs.declared.BoundsAnswer.{BoundsAnswer}
 use Rattle.transform.specs.declared.BoundsAnswer.TheVariants.{Bounds, Refused}
 use Rattle.transform.specs.Answer.{BoundsAnswer-refusal, BoundsAnswer-bounds}
-use Rattle.motion_cover.specs.Theorem.{MovedInside}
-use Rattle.cover_depth.specs.Finer.{Within}
+use Rattle.motion_chain.specs.motion_cover.Theorem.{MovedInside}
+use Rattle.motion_chain.specs.cover_depth.Finer.{Within}
 use Rattle.motion_chain.specs.Chain.{Chain, Chain-transform_point, Chain-pad_at, Chain-cover}
 use Rattle.motion_chain.proofs.Cover.{moves-contain, moves-finer}
 use Rattle.motion_chain.proofs.Times.{times-inside}

@@ -9,12 +9,12 @@ use borrow.Author.Tests.{ne_eqb}
 use lib.Dec.{eqb}
 use lib.ListN.{length, get_or}
 use lib.Ieee.{Float}
-use Rattle.matrix4x4.specs.Rows.{Rows}
+use Rattle.transform.specs.matrix4x4.Rows.{Rows}
 use Rattle.bounds3.specs.declared.Point3f.{Point3f}
 use Rattle.bounds3.specs.declared.Bounds3f.{Bounds3f}
 use Rattle.transform.specs.declared.PointAnswer.{PointAnswer}
-use Rattle.animated_transform.specs.declared.AnimatedTransform.{AnimatedTransform}
-use Rattle.animated_transform.specs.Built.{Built}
+use Rattle.motion_rows.specs.animated_transform.declared.AnimatedTransform.{AnimatedTransform}
+use Rattle.motion_rows.specs.animated_transform.Built.{Built}
 use Rattle.motion_rows.specs.Rows.{AnimatedTransform-to_rows, AnimatedTransform-from_rows}
 use Rattle.motion_rows.specs.TransformPoint.{Rows-transform_point}
 use Rattle.motion_rows.proofs.RoundTrip.{from-rows-inverse, transform-point-kept}

@@ -6,7 +6,7 @@ use mathlib.Core.List.{List, [], ◌∷◌}
 use native.Mathlib.Omega.{arith}
 use lib.ListN.{length, get_or, drop}
 use lib.Ieee.{Float, le}
-use Rattle.matrix4x4.specs.Rows.{Rows, at}
+use Rattle.transform.specs.matrix4x4.Rows.{Rows, at}
 use Rattle.motion_rows.specs.Rows.{AnimatedTransform-from_rows}
 use Rattle.motion_chain.specs.MoveAt.{index_from, Chain-index_at}
 use Rattle.chain_rows.specs.Kept.{Moves-chain}

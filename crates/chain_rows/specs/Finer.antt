@@ -3,10 +3,10 @@
 -- Take rows that hold a built chain or one built move, any box, and any depth at which its cover is accepted. Then
 -- the same query at each greater depth up to 12 is accepted too, and its box lies in that cover on every axis.
 use Rattle.std.specs.Prelude.{ℕ, ◌≤◌, List}
-use Rattle.matrix4x4.specs.Rows.{Rows}
+use Rattle.transform.specs.matrix4x4.Rows.{Rows}
 use Rattle.bounds3.specs.declared.Bounds3f.{Bounds3f}
-use Rattle.bounds_query.specs.Query.{max_depth}
-use Rattle.cover_depth.specs.Finer.{Within}
+use Rattle.motion_chain.specs.bounds_query.Query.{max_depth}
+use Rattle.motion_chain.specs.cover_depth.Finer.{Within}
 use Rattle.chain_rows.specs.Kept.{Moves-cover}
 use Rattle.chain_rows.specs.Theorem.{Moves-Built}
 

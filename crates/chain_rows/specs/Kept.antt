@@ -2,7 +2,7 @@
 -- the chain in them is `Moves-chain`. No moves are no chain, which has at least 2 poses: 12. The point query
 -- reads the constants that the rows hold beside each move, as that of a kept move does. Definitions only.
 use Rattle.std.specs.Prelude.{ℕ, cond, List, [], map, eqb, length, get_or, drop, Float}
-use Rattle.matrix4x4.specs.Rows.{Rows}
+use Rattle.transform.specs.matrix4x4.Rows.{Rows}
 use Rattle.bounds3.specs.declared.Point3f.{Point3f}
 use Rattle.bounds3.specs.declared.Bounds3f.{Bounds3f}
 use Rattle.transform.specs.declared.PointAnswer.{PointAnswer}

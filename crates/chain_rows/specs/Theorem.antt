@@ -2,12 +2,12 @@
 -- `KeptChainContainsMotion`. Definitions only.
 use Rattle.std.specs.Prelude.{◌*◌, ◌≡◌, not, List, [], ◌∷◌, T, length, Float}
 use Rattle.std.specs.Float.Ieee.{is_nan}
-use Rattle.matrix4x4.specs.Rows.{Rows}
+use Rattle.transform.specs.matrix4x4.Rows.{Rows}
 use Rattle.bounds3.specs.declared.Point3f.{Point3f}
 use Rattle.bounds3.specs.declared.Bounds3f.{Bounds3f}
 use Rattle.bounds3.specs.Inside.{Inside}
-use Rattle.animated_transform.specs.declared.AnimatedTransform.{AnimatedTransform}
-use Rattle.motion_cover.specs.Theorem.{MovedInside}
+use Rattle.motion_rows.specs.animated_transform.declared.AnimatedTransform.{AnimatedTransform}
+use Rattle.motion_chain.specs.motion_cover.Theorem.{MovedInside}
 use Rattle.motion_rows.specs.Holds.{Rows-Holds}
 use Rattle.motion_chain.specs.Chain.{Chain}
 use Rattle.motion_chain.specs.Built.{BuiltChain}

@@ -7,18 +7,18 @@ use native.Mathlib.Omega.{arith}
 use lib.Dec.{eqb}
 use lib.ListN.{length, get_or}
 use lib.Ieee.{Float}
-use Rattle.control_flow.proofs.Choice.{cond-keeps}
-use Rattle.matrix4x4.specs.Rows.{Rows}
+use Rattle.time_list.proofs.control_flow.Choice.{cond-keeps}
+use Rattle.time_list.specs.matrix4x4.Rows.{Rows}
 use Rattle.bounds3.specs.declared.Point3f.{Point3f}
 use Rattle.bounds3.specs.List.{Point3f-list}
-use Rattle.transform.specs.declared.PointAnswer.{PointAnswer}
-use Rattle.transform.specs.declared.PointAnswer.TheVariants.{Moved, Refused}
-use Rattle.transform.specs.Answer.{PointAnswer-point}
-use Rattle.motion_point.proofs.NonZero.{PointAnswer-NonZero}
-use Rattle.motion_rows.proofs.NonZero.{rows-point-nonzero}
-use Rattle.motion_chain.specs.MoveAt.{Chain-index_at}
-use Rattle.motion_chain.specs.Times.{PointsAnswer, moved, refused, PointsAnswer-refusal, PointsAnswer-cons}
-use Rattle.motion_chain.specs.Times.{PointsAnswer-append, points_at, Points-list, PointsAnswer-left}
+use Rattle.time_list.specs.transform.declared.PointAnswer.{PointAnswer}
+use Rattle.time_list.specs.transform.declared.PointAnswer.TheVariants.{Moved, Refused}
+use Rattle.time_list.specs.transform.Answer.{PointAnswer-point}
+use Rattle.time_list.proofs.motion_point.NonZero.{PointAnswer-NonZero}
+use Rattle.stretch_points.proofs.motion_rows.NonZero.{rows-point-nonzero}
+use Rattle.time_list.specs.motion_chain.MoveAt.{Chain-index_at}
+use Rattle.time_list.specs.motion_chain.Times.{PointsAnswer, moved, refused, PointsAnswer-refusal, PointsAnswer-cons}
+use Rattle.time_list.specs.motion_chain.Times.{PointsAnswer-append, points_at, Points-list, PointsAnswer-left}
 use Rattle.chain_rows.specs.Kept.{Moves-chain, Moves-transform_point}
 use Rattle.stretch_points.specs.Points.{floats_at}
 

@@ -7,7 +7,7 @@ use native.Mathlib.Omega.{arith}
 use lib.ListN.{length, drop, get_or, drop_of_length-le}
 use lib.Seq.{drop-cons}
 use lib.Ieee.{Float, nan, le}
-use Rattle.motion_chain.specs.Stretches.{count_up_to}
+use Rattle.time_list.specs.motion_chain.Stretches.{count_up_to}
 
 module _ (end : Float) (times : List Float) (i : ℕ) where
   count_at : i < length times → count_up_to end (drop i times) ≡ cond (le (get_or times i nan) end) (suc (count_up_to end (drop (suc i) times))) 0

@@ -5,12 +5,12 @@ use mathlib.Core.List.{List, []}
 use lib.Dec.{T}
 use lib.ListN.{length, take, drop, get_or}
 use lib.Ieee.{Float}
-use Rattle.matrix4x4.specs.Rows.{Rows}
+use Rattle.time_list.specs.matrix4x4.Rows.{Rows}
 use Rattle.bounds3.specs.declared.Point3f.{Point3f}
-use Rattle.motion_rows.proofs.NonZero.{rows-point-nonzero}
-use Rattle.motion_chain.specs.Times.{never_falls, PointsAnswer-refusal, PointsAnswer-append, points_at}
-use Rattle.motion_chain.specs.Stretches.{count_up_to}
-use Rattle.motion_chain.proofs.Stretches.{points-append, points-same}
+use Rattle.stretch_points.proofs.motion_rows.NonZero.{rows-point-nonzero}
+use Rattle.time_list.specs.motion_chain.Times.{never_falls, PointsAnswer-refusal, PointsAnswer-append, points_at}
+use Rattle.time_list.specs.motion_chain.Stretches.{count_up_to}
+use Rattle.time_list.proofs.motion_chain.Stretches.{points-append, points-same}
 use Rattle.chain_rows.proofs.Search.{end_time}
 use Rattle.chain_times.proofs.Answers.{append-refused, append-accepted, points-nonzero}
 use Rattle.chain_times.proofs.Stretches.{asked_from, own, stretch-split, stretch-last}

@@ -7,12 +7,12 @@ use native.Mathlib.Omega.{arith}
 use borrow.Author.Tests.{eq-eqb, ne_eqb}
 use lib.ListN.{length}
 use lib.Ieee.{Float}
-use Rattle.matrix4x4.specs.Rows.{Rows}
+use Rattle.time_list.specs.matrix4x4.Rows.{Rows}
 use Rattle.bounds3.specs.declared.Point3f.{Point3f}
-use Rattle.transform.specs.declared.PointAnswer.{PointAnswer}
-use Rattle.motion_chain.specs.Chain.{Chain}
-use Rattle.motion_chain.specs.Times.{list_refusal, PointsAnswer, moved, refused, PointsAnswer-refusal}
-use Rattle.motion_chain.specs.Times.{points_at, Chain-transform_points, PointsAnswer-left, Chain-points_left}
+use Rattle.time_list.specs.transform.declared.PointAnswer.{PointAnswer}
+use Rattle.time_list.specs.motion_chain.Chain.{Chain}
+use Rattle.time_list.specs.motion_chain.Times.{list_refusal, PointsAnswer, moved, refused, PointsAnswer-refusal}
+use Rattle.time_list.specs.motion_chain.Times.{points_at, Chain-transform_points, PointsAnswer-left, Chain-points_left}
 use Rattle.chain_rows.specs.Kept.{Chain-to_rows, Moves-transform_point, Moves-transform_points}
 use Rattle.chain_rows.proofs.Kept.{kept-points}
 use Rattle.stretch_points.specs.Points.{floats_at}

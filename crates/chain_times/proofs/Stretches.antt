@@ -12,14 +12,14 @@ use lib.ListN.{length, take, drop, get_or, take-append-drop, length-append, leng
 use lib.Seq.{length-take-le, take_all, take_at, drop-drop, get_or-drop}
 use lib.Ieee.{Float, le}
 use lib.Ieee.Bits.{is_true}
-use Rattle.matrix4x4.specs.Rows.{Rows}
+use Rattle.time_list.specs.matrix4x4.Rows.{Rows}
 use Rattle.bounds3.specs.declared.Point3f.{Point3f}
-use Rattle.transform.specs.declared.PointAnswer.{PointAnswer}
-use Rattle.motion_rows.specs.TransformPoint.{Rows-transform_point}
-use Rattle.motion_chain.specs.Built.{Each}
-use Rattle.motion_chain.specs.Times.{never_falls, places_per_time}
-use Rattle.motion_chain.specs.Stretches.{count_up_to}
-use Rattle.motion_chain.proofs.Stretches.{front-up-to, rest-above}
+use Rattle.time_list.specs.transform.declared.PointAnswer.{PointAnswer}
+use Rattle.stretch_points.specs.motion_rows.TransformPoint.{Rows-transform_point}
+use Rattle.time_list.specs.motion_chain.Built.{Each}
+use Rattle.time_list.specs.motion_chain.Times.{never_falls, places_per_time}
+use Rattle.time_list.specs.motion_chain.Stretches.{count_up_to}
+use Rattle.time_list.proofs.motion_chain.Stretches.{front-up-to, rest-above}
 use Rattle.chain_rows.specs.Kept.{Moves-transform_point}
 use Rattle.chain_rows.proofs.Search.{place_from, end_time, place_here, place-next, place-last}
 use Rattle.stretch_points.specs.Points.{floats_at, Rows-points_put}

@@ -3,11 +3,11 @@
 #![tactic(auto)]
 
 ghost use Rattle.std.specs.Prelude.{◌+◌, ◌-◌, ◌*◌, ◌≤◌, ◌<◌, ◌≡◌, true, ◌++◌, length, take, drop};
-ghost use Rattle.motion_rows.specs.TransformPoint.{Rows-transform_point};
-ghost use Rattle.motion_chain.specs.Chain.{Chain};
-ghost use Rattle.motion_chain.specs.Times.{never_falls, places_per_time, PointsAnswer-refusal, points_at};
-ghost use Rattle.motion_chain.specs.Times.{PointsAnswer-left, Chain-transform_points, Chain-points_left};
-ghost use Rattle.motion_chain.specs.Stretches.{count_up_to};
+ghost use Rattle.stretch_points.specs.motion_rows.TransformPoint.{Rows-transform_point};
+ghost use Rattle.time_list.specs.motion_chain.Chain.{Chain};
+ghost use Rattle.time_list.specs.motion_chain.Times.{never_falls, places_per_time, PointsAnswer-refusal, points_at};
+ghost use Rattle.time_list.specs.motion_chain.Times.{PointsAnswer-left, Chain-transform_points, Chain-points_left};
+ghost use Rattle.time_list.specs.motion_chain.Stretches.{count_up_to};
 ghost use Rattle.chain_rows.specs.Kept.{Chain-to_rows, Moves-transform_point, Moves-transform_points};
 ghost use Rattle.stretch_points.specs.Points.{floats_at};
 

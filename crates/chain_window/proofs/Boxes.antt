@@ -11,34 +11,34 @@ use native.Mathlib.Omega.{arith}
 use borrow.Author.Tests.{eqb-false}
 use lib.Dec.{T, eqb}
 use lib.Ieee.{Float, lt}
-use Rattle.rounding.specs.Order.{◌≼◌}
-use Rattle.float32.specs.MinMax.{max_num}
-use Rattle.bounds3.specs.declared.Bounds3f.{Bounds3f}
-use Rattle.bounds3.specs.Bounds3f.{Bounds3f-default}
-use Rattle.transform.specs.declared.Transform.{Transform}
-use Rattle.transform.specs.declared.BoundsAnswer.{BoundsAnswer}
-use Rattle.transform.specs.declared.BoundsAnswer.TheVariants.{Bounds, Refused}
-use Rattle.transform.specs.Answer.{OneOf}
-use Rattle.interval.specs.declared.Interval.{Interval}
-use Rattle.interval.specs.declared.Judged.{Judged}
-use Rattle.pose_steps.specs.declared.JudgedVector.{JudgedVector}
-use Rattle.pose_steps.specs.Enclose.{IntervalMatrix-point, Pose-enclose_point, Bounds3f-intervals, IntervalVector-bounds}
-use Rattle.pose_steps.specs.Promise.{SliceNumber}
-use Rattle.pose_steps.proofs.Number.{transform_point-number, point-number}
-use Rattle.stored_box.specs.EnclosePoints.{Transform-enclose_points}
-use Rattle.animated_transform.specs.declared.AnimatedTransform.{AnimatedTransform}
-use Rattle.animated_transform.specs.Built.{Built}
-use Rattle.animated_transform.proofs.Built.{built-judged}
-use Rattle.motion_point.specs.TransformPoint.{AnimatedTransform-constants}
-use Rattle.motion_pad.specs.Pad.{Pad-enclose, Pad-stored}
-use Rattle.motion_pad.specs.Grow.{BoundsAnswer-grow}
-use Rattle.motion_pad.proofs.Pad.{PadNumber, pad-number as pad-enclose-number}
-use Rattle.motion_pad.proofs.Box.{grow-cases}
-use Rattle.motion_cover.specs.Cover.{BoundsAnswer-from_enclosure, Transform-enclose_bounds, Transform-enclose_padded, AnimatedTransform-enclose_bounds}
-use Rattle.motion_cover.specs.Answer.{BoundsAnswer-Numbered}
-use Rattle.motion_cover.proofs.Zeros.{Valued, grow-valued, union-valued}
-use Rattle.bounds_answers.specs.UnionAll.{Each}
-use Rattle.bounds_answers.proofs.UnionAll.{union-all-keeps}
+use Rattle.dt_share.specs.rounding.Order.{◌≼◌}
+use Rattle.dt_share.specs.float32.MinMax.{max_num}
+use Rattle.motion_chain.specs.bounds3.declared.Bounds3f.{Bounds3f}
+use Rattle.motion_chain.specs.bounds3.Bounds3f.{Bounds3f-default}
+use Rattle.motion_chain.specs.transform.declared.Transform.{Transform}
+use Rattle.motion_chain.specs.transform.declared.BoundsAnswer.{BoundsAnswer}
+use Rattle.motion_chain.specs.transform.declared.BoundsAnswer.TheVariants.{Bounds, Refused}
+use Rattle.motion_chain.specs.transform.Answer.{OneOf}
+use Rattle.dt_share.specs.interval.declared.Interval.{Interval}
+use Rattle.dt_share.specs.interval.declared.Judged.{Judged}
+use Rattle.motion_chain.specs.pose_steps.declared.JudgedVector.{JudgedVector}
+use Rattle.motion_chain.specs.pose_steps.Enclose.{IntervalMatrix-point, Pose-enclose_point, Bounds3f-intervals, IntervalVector-bounds}
+use Rattle.motion_chain.specs.pose_steps.Promise.{SliceNumber}
+use Rattle.motion_chain.proofs.pose_steps.Number.{transform_point-number, point-number}
+use Rattle.motion_chain.specs.stored_box.EnclosePoints.{Transform-enclose_points}
+use Rattle.motion_chain.specs.animated_transform.declared.AnimatedTransform.{AnimatedTransform}
+use Rattle.motion_chain.specs.animated_transform.Built.{Built}
+use Rattle.motion_chain.proofs.animated_transform.Built.{built-judged}
+use Rattle.motion_chain.specs.motion_point.TransformPoint.{AnimatedTransform-constants}
+use Rattle.motion_chain.specs.motion_pad.Pad.{Pad-enclose, Pad-stored}
+use Rattle.motion_chain.specs.motion_pad.Grow.{BoundsAnswer-grow}
+use Rattle.motion_chain.proofs.motion_pad.Pad.{PadNumber, pad-number as pad-enclose-number}
+use Rattle.motion_chain.proofs.motion_pad.Box.{grow-cases}
+use Rattle.motion_chain.specs.motion_cover.Cover.{BoundsAnswer-from_enclosure, Transform-enclose_bounds, Transform-enclose_padded, AnimatedTransform-enclose_bounds}
+use Rattle.motion_chain.specs.motion_cover.Answer.{BoundsAnswer-Numbered}
+use Rattle.motion_chain.proofs.motion_cover.Zeros.{Valued, grow-valued, union-valued}
+use Rattle.motion_chain.specs.bounds_answers.UnionAll.{Each}
+use Rattle.motion_chain.proofs.bounds_answers.UnionAll.{union-all-keeps}
 use Rattle.motion_chain.specs.Chain.{Chain, Chain-moves}
 use Rattle.motion_chain.specs.Built.{BuiltChain, Contiguous}
 use Rattle.motion_chain.proofs.Built.{built-moves}

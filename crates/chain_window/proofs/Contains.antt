@@ -11,45 +11,45 @@ use lib.Ieee.{Float, lt, le, is_nan}
 use lib.Ieee.Bits.{is_true, is_false}
 use lib.Ieee.Fits.{and_i}
 use borrow.Author.Tests.{eqb-true}
-use Rattle.refusal.proofs.First.{first-zero}
-use Rattle.refusal.specs.First.{first_refusal}
-use Rattle.rounding.specs.Order.{◌≼◌, Number}
-use Rattle.rounding.proofs.Order.{≼_trans, lt-≼, number-left, number-right, finite_number, not-lt-≼, or_left, or_right}
-use Rattle.bounds3.specs.declared.Point3f.{Point3f}
-use Rattle.bounds3.specs.declared.Bounds3f.{Bounds3f}
-use Rattle.bounds3.specs.Bounds3f.{Bounds3f-default}
-use Rattle.bounds3.specs.Finite.{Point3f-is_finite, Bounds3f-is_finite}
-use Rattle.bounds3.specs.Inside.{Inside, Subset}
-use Rattle.bounds3.proofs.Finite.{finite-test}
-use Rattle.bounds3.proofs.Union.{subset-trans}
-use Rattle.transform.specs.declared.PointAnswer.{PointAnswer}
-use Rattle.transform.specs.declared.BoundsAnswer.{BoundsAnswer}
-use Rattle.transform.specs.declared.BoundsAnswer.TheVariants.{Bounds, Refused}
-use Rattle.transform.specs.Answer.{BoundsAnswer-refusal, BoundsAnswer-bounds}
-use Rattle.bounds_query.specs.Query.{cover_refusal}
-use Rattle.bounds_query.specs.Zeros.{BoundsAnswer-positive_zeros}
-use Rattle.bounds_query.proofs.Accepted.{refusal-accepted}
-use Rattle.bounds_query.proofs.Union.{refused-bounds}
-use Rattle.bounds_query.proofs.Zeros.{zeros-accepted}
-use Rattle.interval.specs.declared.Interval.{Interval}
-use Rattle.unit_interval.specs.Unit.{dt}
-use Rattle.pose_steps.specs.Pose.{Pose-moved_point}
-use Rattle.pose_steps.specs.Enclose.{Bounds3f-intervals}
-use Rattle.pose_steps.proofs.Box.{inside-encloses, point-finite}
-use Rattle.animated_transform.specs.declared.AnimatedTransform.{AnimatedTransform}
-use Rattle.animated_transform.specs.Built.{Built, AnimatedTransform-Judged}
-use Rattle.animated_transform.proofs.Built.{built-judged}
-use Rattle.motion_point.specs.TransformPoint.{AnimatedTransform-constants, AnimatedTransform-moved_point}
-use Rattle.motion_point.proofs.Built.{built-valid, built-scales}
-use Rattle.motion_point.specs.PadAt.{AnimatedTransform-pad_at}
-use Rattle.motion_point.proofs.PadAt.{pad-at-equal, pad-at-start, pad-at-end, pad-at-between}
-use Rattle.motion_pad.specs.Pad.{Pad-at}
-use Rattle.motion_point.proofs.Query.{moved-point-start, moved-point-end, moved-point-between, transform-point-accepted}
-use Rattle.motion_cover.specs.Cover.{AnimatedTransform-enclose_bounds}
-use Rattle.motion_cover.specs.Theorem.{MovedInside}
-use Rattle.motion_cover.proofs.Contains.{Holds, moved-wider, piece-contains, stored-contains, larger-judged, cover-box}
-use Rattle.motion_cover.proofs.Zeros.{zeros-around}
-use Rattle.bounds_answers.specs.UnionAll.{Each}
+use Rattle.dt_share.proofs.refusal.First.{first-zero}
+use Rattle.dt_share.specs.refusal.First.{first_refusal}
+use Rattle.dt_share.specs.rounding.Order.{◌≼◌, Number}
+use Rattle.dt_share.proofs.rounding.Order.{≼_trans, lt-≼, number-left, number-right, finite_number, not-lt-≼, or_left, or_right}
+use Rattle.motion_chain.specs.bounds3.declared.Point3f.{Point3f}
+use Rattle.motion_chain.specs.bounds3.declared.Bounds3f.{Bounds3f}
+use Rattle.motion_chain.specs.bounds3.Bounds3f.{Bounds3f-default}
+use Rattle.motion_chain.specs.bounds3.Finite.{Point3f-is_finite, Bounds3f-is_finite}
+use Rattle.motion_chain.specs.bounds3.Inside.{Inside, Subset}
+use Rattle.motion_chain.proofs.bounds3.Finite.{finite-test}
+use Rattle.motion_chain.proofs.bounds3.Union.{subset-trans}
+use Rattle.motion_chain.specs.transform.declared.PointAnswer.{PointAnswer}
+use Rattle.motion_chain.specs.transform.declared.BoundsAnswer.{BoundsAnswer}
+use Rattle.motion_chain.specs.transform.declared.BoundsAnswer.TheVariants.{Bounds, Refused}
+use Rattle.motion_chain.specs.transform.Answer.{BoundsAnswer-refusal, BoundsAnswer-bounds}
+use Rattle.motion_chain.specs.bounds_query.Query.{cover_refusal}
+use Rattle.motion_chain.specs.bounds_query.Zeros.{BoundsAnswer-positive_zeros}
+use Rattle.motion_chain.proofs.bounds_query.Accepted.{refusal-accepted}
+use Rattle.motion_chain.proofs.bounds_query.Union.{refused-bounds}
+use Rattle.motion_chain.proofs.bounds_query.Zeros.{zeros-accepted}
+use Rattle.dt_share.specs.interval.declared.Interval.{Interval}
+use Rattle.dt_share.specs.unit_interval.Unit.{dt}
+use Rattle.motion_chain.specs.pose_steps.Pose.{Pose-moved_point}
+use Rattle.motion_chain.specs.pose_steps.Enclose.{Bounds3f-intervals}
+use Rattle.motion_chain.proofs.pose_steps.Box.{inside-encloses, point-finite}
+use Rattle.motion_chain.specs.animated_transform.declared.AnimatedTransform.{AnimatedTransform}
+use Rattle.motion_chain.specs.animated_transform.Built.{Built, AnimatedTransform-Judged}
+use Rattle.motion_chain.proofs.animated_transform.Built.{built-judged}
+use Rattle.motion_chain.specs.motion_point.TransformPoint.{AnimatedTransform-constants, AnimatedTransform-moved_point}
+use Rattle.motion_chain.proofs.motion_point.Built.{built-valid, built-scales}
+use Rattle.motion_chain.specs.motion_point.PadAt.{AnimatedTransform-pad_at}
+use Rattle.motion_chain.proofs.motion_point.PadAt.{pad-at-equal, pad-at-start, pad-at-end, pad-at-between}
+use Rattle.motion_chain.specs.motion_pad.Pad.{Pad-at}
+use Rattle.motion_chain.proofs.motion_point.Query.{moved-point-start, moved-point-end, moved-point-between, transform-point-accepted}
+use Rattle.motion_chain.specs.motion_cover.Cover.{AnimatedTransform-enclose_bounds}
+use Rattle.motion_chain.specs.motion_cover.Theorem.{MovedInside}
+use Rattle.motion_chain.proofs.motion_cover.Contains.{Holds, moved-wider, piece-contains, stored-contains, larger-judged, cover-box}
+use Rattle.motion_chain.proofs.motion_cover.Zeros.{zeros-around}
+use Rattle.motion_chain.specs.bounds_answers.UnionAll.{Each}
 use Rattle.motion_chain.specs.Chain.{Chain, Chain-moves, move_from, Chain-move_at, Chain-transform_point, Chain-pad_at}
 use Rattle.motion_chain.specs.Built.{BuiltChain, Contiguous}
 use Rattle.motion_chain.proofs.Built.{built-moves}

@@ -10,26 +10,26 @@ use mathlib.Core.List.{◌++◌, map, Memᴰ}
 use lib.Dec.{T}
 use lib.Ieee.{lt}
 use borrow.Author.Tests.{eqb-false}
-use Rattle.rounding.specs.Order.{◌≼◌}
-use Rattle.rounding.proofs.Order.{lt-≼}
-use Rattle.bounds3.specs.declared.Bounds3f.{Bounds3f}
-use Rattle.bounds3.specs.Bounds3f.{Bounds3f-default}
-use Rattle.bounds3.proofs.Union.{subset-trans}
-use Rattle.transform.specs.declared.BoundsAnswer.{BoundsAnswer}
-use Rattle.transform.specs.declared.BoundsAnswer.TheVariants.{Bounds}
-use Rattle.transform.specs.Answer.{BoundsAnswer-bounds}
-use Rattle.bounds_query.specs.Query.{max_depth, cover_refusal}
-use Rattle.bounds_query.specs.Zeros.{Bounds3f-positive_zeros, BoundsAnswer-positive_zeros}
-use Rattle.bounds_query.proofs.Zeros.{zeros-box}
-use Rattle.interval.specs.declared.Interval.{Interval}
-use Rattle.animated_transform.specs.declared.AnimatedTransform.{AnimatedTransform}
-use Rattle.motion_point.specs.TransformPoint.{AnimatedTransform-constants}
-use Rattle.motion_cover.specs.Cover.{AnimatedTransform-enclose_bounds}
-use Rattle.motion_cover.proofs.Contains.{cover-box}
-use Rattle.motion_cover.proofs.Proper.{BoxRefines, box-refines}
-use Rattle.motion_cover.proofs.Zeros.{zeros_within}
-use Rattle.cover_depth.proofs.Finer.{BoxWithin, box-within, piece-isotone, arguments-finer}
-use Rattle.bounds_answers.proofs.UnionAll.{union-all-within}
+use Rattle.dt_share.specs.rounding.Order.{◌≼◌}
+use Rattle.dt_share.proofs.rounding.Order.{lt-≼}
+use Rattle.motion_chain.specs.bounds3.declared.Bounds3f.{Bounds3f}
+use Rattle.motion_chain.specs.bounds3.Bounds3f.{Bounds3f-default}
+use Rattle.motion_chain.proofs.bounds3.Union.{subset-trans}
+use Rattle.motion_chain.specs.transform.declared.BoundsAnswer.{BoundsAnswer}
+use Rattle.motion_chain.specs.transform.declared.BoundsAnswer.TheVariants.{Bounds}
+use Rattle.motion_chain.specs.transform.Answer.{BoundsAnswer-bounds}
+use Rattle.motion_chain.specs.bounds_query.Query.{max_depth, cover_refusal}
+use Rattle.motion_chain.specs.bounds_query.Zeros.{Bounds3f-positive_zeros, BoundsAnswer-positive_zeros}
+use Rattle.motion_chain.proofs.bounds_query.Zeros.{zeros-box}
+use Rattle.dt_share.specs.interval.declared.Interval.{Interval}
+use Rattle.motion_chain.specs.animated_transform.declared.AnimatedTransform.{AnimatedTransform}
+use Rattle.motion_chain.specs.motion_point.TransformPoint.{AnimatedTransform-constants}
+use Rattle.motion_chain.specs.motion_cover.Cover.{AnimatedTransform-enclose_bounds}
+use Rattle.motion_chain.proofs.motion_cover.Contains.{cover-box}
+use Rattle.motion_chain.proofs.motion_cover.Proper.{BoxRefines, box-refines}
+use Rattle.motion_chain.proofs.motion_cover.Zeros.{zeros_within}
+use Rattle.motion_chain.proofs.cover_depth.Finer.{BoxWithin, box-within, piece-isotone, arguments-finer}
+use Rattle.motion_chain.proofs.bounds_answers.UnionAll.{union-all-within}
 use Rattle.motion_chain.specs.Chain.{Chain, Chain-moves}
 use Rattle.motion_chain.specs.Built.{BuiltChain}
 use Rattle.dt_share.specs.Share.{pieces}

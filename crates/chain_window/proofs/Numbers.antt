@@ -7,19 +7,19 @@ use mathlib.Core.List.{List, [], ◌∷◌}
 use borrow.Author.Tests.{eqb-false}
 use lib.Dec.{eqb}
 use lib.Ieee.{lt}
-use Rattle.refusal.specs.First.{first_refusal}
-use Rattle.refusal.proofs.First.{first-keeps}
-use Rattle.bounds3.specs.declared.Bounds3f.{Bounds3f}
-use Rattle.bounds3.specs.Bounds3f.{Bounds3f-default}
-use Rattle.transform.specs.declared.BoundsAnswer.{BoundsAnswer}
-use Rattle.transform.specs.declared.BoundsAnswer.TheVariants.{Bounds, Refused}
-use Rattle.transform.specs.Answer.{OneOf}
-use Rattle.transform.proofs.Answer.{one-of-wider}
-use Rattle.bounds_query.specs.Query.{cover_refusal}
-use Rattle.bounds_query.specs.Zeros.{BoundsAnswer-positive_zeros}
-use Rattle.bounds_query.proofs.Numbers.{arguments-keeps}
-use Rattle.motion_cover.specs.Answer.{BoundsAnswer-Numbered}
-use Rattle.bounds_answers.proofs.UnionAll.{union-all-numbered}
+use Rattle.dt_share.specs.refusal.First.{first_refusal}
+use Rattle.dt_share.proofs.refusal.First.{first-keeps}
+use Rattle.motion_chain.specs.bounds3.declared.Bounds3f.{Bounds3f}
+use Rattle.motion_chain.specs.bounds3.Bounds3f.{Bounds3f-default}
+use Rattle.motion_chain.specs.transform.declared.BoundsAnswer.{BoundsAnswer}
+use Rattle.motion_chain.specs.transform.declared.BoundsAnswer.TheVariants.{Bounds, Refused}
+use Rattle.motion_chain.specs.transform.Answer.{OneOf}
+use Rattle.motion_chain.proofs.transform.Answer.{one-of-wider}
+use Rattle.motion_chain.specs.bounds_query.Query.{cover_refusal}
+use Rattle.motion_chain.specs.bounds_query.Zeros.{BoundsAnswer-positive_zeros}
+use Rattle.motion_chain.proofs.bounds_query.Numbers.{arguments-keeps}
+use Rattle.motion_chain.specs.motion_cover.Answer.{BoundsAnswer-Numbered}
+use Rattle.motion_chain.proofs.bounds_answers.UnionAll.{union-all-numbered}
 use Rattle.motion_chain.specs.Chain.{Chain}
 use Rattle.window_times.specs.declared.Window.{Window}
 use Rattle.window_times.specs.Window.{Window-refusal}

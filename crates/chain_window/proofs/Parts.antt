@@ -6,18 +6,18 @@ use mathlib.Core.Path.{◌≡◌, refl, sym, subst}
 use mathlib.Core.List.Memᴰ
 use mathlib.Core.List.{List, [], ◌∷◌, Memᴰ}
 use lib.Ieee.{fits}
-use Rattle.bounds3.specs.declared.Bounds3f.{Bounds3f}
-use Rattle.bounds3.specs.Bounds3f.{Bounds3f-default}
-use Rattle.bounds3.specs.Inside.{Subset}
-use Rattle.bounds3.specs.means.Computing.{computing}
-use Rattle.bounds3.proofs.Union.{finite-self, union_subset_left, union_subset_right}
-use Rattle.transform.specs.declared.BoundsAnswer.{BoundsAnswer}
-use Rattle.transform.specs.declared.BoundsAnswer.TheVariants.{Bounds}
-use Rattle.bounds_query.specs.Query.{BoundsAnswer-union_bounds}
-use Rattle.bounds_query.proofs.Union.{bounds-same, union-accepted}
-use Rattle.motion_cover.proofs.Zeros.{Values, Valued, union-valued}
-use Rattle.cover_depth.proofs.Finer.{BoxWithin, within-subset}
-use Rattle.bounds_answers.specs.UnionAll.{BoundsAnswer-union_all}
+use Rattle.motion_chain.specs.bounds3.declared.Bounds3f.{Bounds3f}
+use Rattle.motion_chain.specs.bounds3.Bounds3f.{Bounds3f-default}
+use Rattle.motion_chain.specs.bounds3.Inside.{Subset}
+use Rattle.motion_chain.specs.bounds3.means.Computing.{computing}
+use Rattle.motion_chain.proofs.bounds3.Union.{finite-self, union_subset_left, union_subset_right}
+use Rattle.motion_chain.specs.transform.declared.BoundsAnswer.{BoundsAnswer}
+use Rattle.motion_chain.specs.transform.declared.BoundsAnswer.TheVariants.{Bounds}
+use Rattle.motion_chain.specs.bounds_query.Query.{BoundsAnswer-union_bounds}
+use Rattle.motion_chain.proofs.bounds_query.Union.{bounds-same, union-accepted}
+use Rattle.motion_chain.proofs.motion_cover.Zeros.{Values, Valued, union-valued}
+use Rattle.motion_chain.proofs.cover_depth.Finer.{BoxWithin, within-subset}
+use Rattle.motion_chain.specs.bounds_answers.UnionAll.{BoundsAnswer-union_all}
 
 default-values : Values Bounds3f-default
 unfolding computing fits

@@ -2,20 +2,20 @@
 -- The boxes stand in one list in the order in which they are worked: slices of all moves, then poses, then moves with equal poses.
 -- The first refusal in it stands. The zeros of a window's cover are +0, as a cover's are.
 use Rattle.std.specs.Prelude.{ℕ, Bool, true, false, not, ◌&&◌, cond, List, [], ◌∷◌, ◌++◌, map, eqb}
-use Rattle.refusal.specs.First.{first_refusal}
-use Rattle.float32.specs.MinMax.{max_num}
-use Rattle.bounds3.specs.declared.Bounds3f.{Bounds3f}
-use Rattle.bounds3.specs.Bounds3f.{Bounds3f-default}
-use Rattle.transform.specs.declared.BoundsAnswer.{BoundsAnswer}
-use Rattle.transform.specs.declared.BoundsAnswer.TheVariants.{Bounds, Refused}
-use Rattle.bounds_query.specs.Query.{cover_refusal}
-use Rattle.bounds_query.specs.Zeros.{BoundsAnswer-positive_zeros}
-use Rattle.bounds_answers.specs.UnionAll.{BoundsAnswer-union_all}
-use Rattle.animated_transform.specs.declared.AnimatedTransform.{AnimatedTransform}
-use Rattle.motion_point.specs.TransformPoint.{AnimatedTransform-constants}
-use Rattle.motion_cover.specs.Cover.{Transform-enclose_padded, AnimatedTransform-enclose_bounds}
+use Rattle.dt_share.specs.refusal.First.{first_refusal}
+use Rattle.dt_share.specs.float32.MinMax.{max_num}
+use Rattle.motion_chain.specs.bounds3.declared.Bounds3f.{Bounds3f}
+use Rattle.motion_chain.specs.bounds3.Bounds3f.{Bounds3f-default}
+use Rattle.motion_chain.specs.transform.declared.BoundsAnswer.{BoundsAnswer}
+use Rattle.motion_chain.specs.transform.declared.BoundsAnswer.TheVariants.{Bounds, Refused}
+use Rattle.motion_chain.specs.bounds_query.Query.{cover_refusal}
+use Rattle.motion_chain.specs.bounds_query.Zeros.{BoundsAnswer-positive_zeros}
+use Rattle.motion_chain.specs.bounds_answers.UnionAll.{BoundsAnswer-union_all}
+use Rattle.motion_chain.specs.animated_transform.declared.AnimatedTransform.{AnimatedTransform}
+use Rattle.motion_chain.specs.motion_point.TransformPoint.{AnimatedTransform-constants}
+use Rattle.motion_chain.specs.motion_cover.Cover.{Transform-enclose_padded, AnimatedTransform-enclose_bounds}
 use Rattle.motion_chain.specs.Chain.{Chain, Chain-moves}
-use Rattle.interval.specs.declared.Interval.{Interval}
+use Rattle.dt_share.specs.interval.declared.Interval.{Interval}
 use Rattle.dt_share.specs.Share.{share, pieces}
 use Rattle.window_times.specs.declared.Window.{Window}
 use Rattle.window_times.specs.Window.{Window-refusal, Window-overlaps, Window-asks_first, Window-asks_end, Window-belongs}

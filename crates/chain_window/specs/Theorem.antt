@@ -9,17 +9,17 @@
 --   MovedInside              a moved point, by itself and less and plus a pad                             crates/motion_cover/specs/Theorem.antt
 --   InWindow w time          the time is no NaN and lies from the earlier tick to the later one           below
 use Rattle.std.specs.Prelude.{ℕ, ◌+◌, ◌≤◌, ◌≡◌, Float}
-use Rattle.rounding.specs.Order.{◌≼◌}
-use Rattle.bounds3.specs.declared.Point3f.{Point3f}
-use Rattle.bounds3.specs.declared.Bounds3f.{Bounds3f}
-use Rattle.bounds3.specs.Inside.{Inside}
-use Rattle.transform.specs.declared.BoundsAnswer.{BoundsAnswer}
-use Rattle.transform.specs.Answer.{BoundsAnswer-refusal, BoundsAnswer-bounds}
-use Rattle.bounds_query.specs.Query.{max_depth}
-use Rattle.animated_transform.specs.declared.AnimatedTransform.{AnimatedTransform}
-use Rattle.animated_transform.specs.Built.{Built}
-use Rattle.motion_cover.specs.Theorem.{MovedInside}
-use Rattle.cover_depth.specs.Finer.{Within}
+use Rattle.dt_share.specs.rounding.Order.{◌≼◌}
+use Rattle.motion_chain.specs.bounds3.declared.Point3f.{Point3f}
+use Rattle.motion_chain.specs.bounds3.declared.Bounds3f.{Bounds3f}
+use Rattle.motion_chain.specs.bounds3.Inside.{Inside}
+use Rattle.motion_chain.specs.transform.declared.BoundsAnswer.{BoundsAnswer}
+use Rattle.motion_chain.specs.transform.Answer.{BoundsAnswer-refusal, BoundsAnswer-bounds}
+use Rattle.motion_chain.specs.bounds_query.Query.{max_depth}
+use Rattle.motion_chain.specs.animated_transform.declared.AnimatedTransform.{AnimatedTransform}
+use Rattle.motion_chain.specs.animated_transform.Built.{Built}
+use Rattle.motion_chain.specs.motion_cover.Theorem.{MovedInside}
+use Rattle.motion_chain.specs.cover_depth.Finer.{Within}
 use Rattle.motion_chain.specs.Chain.{Chain, Chain-transform_point, Chain-pad_at}
 use Rattle.motion_chain.specs.Built.{BuiltChain}
 use Rattle.motion_chain.specs.TwoPoses.{Chain-single}

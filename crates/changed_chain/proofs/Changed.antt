@@ -10,16 +10,16 @@ use borrow.Author.Tests.{eq-eqb, ne_eqb, eqb-true, eqb-false, le-ltb}
 use lib.Dec.{T, eqb, ltb}
 use lib.ListN.{length, take, drop, set, length-set, length-map}
 use lib.Seq.{sets}
-use Rattle.pose_pair.specs.declared.Pose.{Pose}
-use Rattle.pose_pair.specs.Pose.{Pose-is_binary32}
-use Rattle.animated_transform.specs.declared.AnimatedTransform.{AnimatedTransform}
-use Rattle.animated_transform.specs.declared.AnimatedTransformAnswer.{AnimatedTransformAnswer}
-use Rattle.animated_transform.specs.New.{AnimatedTransform-new}
-use Rattle.motion_chain.specs.Chain.{min_poses, max_poses, neighbours, every, first_number, stage, Pose-number, Pair-number, kind_stage, chain_stages, chain_refusal}
-use Rattle.motion_chain.specs.Chain.{Chain, Chain-moves, ChainAnswer, built, refused, ChainAnswer-refusal, ChainAnswer-from_moves, Chain-new}
-use Rattle.motion_chain.specs.Built.{BuiltChain}
-use Rattle.motion_chain.proofs.Built as chain
-use Rattle.motion_chain.proofs.Built.{first-none, first-each, refused-built, checks-passed, values, BuiltFrom, built-from, none-built}
+use Rattle.built_poses.specs.pose_pair.declared.Pose.{Pose}
+use Rattle.built_poses.specs.pose_pair.Pose.{Pose-is_binary32}
+use Rattle.built_poses.specs.animated_transform.declared.AnimatedTransform.{AnimatedTransform}
+use Rattle.built_poses.specs.animated_transform.declared.AnimatedTransformAnswer.{AnimatedTransformAnswer}
+use Rattle.built_poses.specs.animated_transform.New.{AnimatedTransform-new}
+use Rattle.built_poses.specs.motion_chain.Chain.{min_poses, max_poses, neighbours, every, first_number, stage, Pose-number, Pair-number, kind_stage, chain_stages, chain_refusal}
+use Rattle.built_poses.specs.motion_chain.Chain.{Chain, Chain-moves, ChainAnswer, built, refused, ChainAnswer-refusal, ChainAnswer-from_moves, Chain-new}
+use Rattle.built_poses.specs.motion_chain.Built.{BuiltChain}
+use Rattle.built_poses.proofs.motion_chain.Built as chain
+use Rattle.built_poses.proofs.motion_chain.Built.{first-none, first-each, refused-built, checks-passed, values, BuiltFrom, built-from, none-built}
 use Rattle.built_poses.specs.Poses.{AnimatedTransform-start_pose, AnimatedTransform-end_pose, Chain-poses, Chain-is_rigid}
 use Rattle.built_poses.proofs.Built.{new-poses, built-poses, built-kind}
 use Rattle.changed_chain.specs.Trial.{Chain-changed}

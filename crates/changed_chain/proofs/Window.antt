@@ -9,9 +9,9 @@ use lib.Dec.{T}
 use lib.ListN.{length, take, set}
 use lib.Seq.{sets}
 use lib.Ieee.Fits.{and_i, and_l, and_r}
-use Rattle.pose_pair.specs.declared.Pose.{Pose}
-use Rattle.motion_chain.specs.Chain.{neighbours, every, first_number, stage}
-use Rattle.motion_chain.proofs.Built.{first-none}
+use Rattle.built_poses.specs.pose_pair.declared.Pose.{Pose}
+use Rattle.built_poses.specs.motion_chain.Chain.{neighbours, every, first_number, stage}
+use Rattle.built_poses.proofs.motion_chain.Built.{first-none}
 
 -- The pose at a place, with the one before it and the one behind it.
 abbrev pub window : List Pose → ℕ → List Pose

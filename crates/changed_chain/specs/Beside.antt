@@ -1,9 +1,9 @@
 -- A changed pose changes the moves beside it alone: `ChangedBeside`, the statement of `changed-beside`.
 use Rattle.std.specs.Prelude.{ℕ, ◌-◌, ◌≡◌, List, ◌∷◌, ◌++◌, map, take, drop}
 use Rattle.std.proofs.lemmas.List.Edits.{sets}
-use Rattle.pose_pair.specs.declared.Pose.{Pose}
-use Rattle.animated_transform.specs.declared.AnimatedTransform.{AnimatedTransform}
-use Rattle.motion_chain.specs.Chain.{Chain, Chain-moves, ChainAnswer, built, refused, Chain-new}
+use Rattle.built_poses.specs.pose_pair.declared.Pose.{Pose}
+use Rattle.built_poses.specs.animated_transform.declared.AnimatedTransform.{AnimatedTransform}
+use Rattle.built_poses.specs.motion_chain.Chain.{Chain, Chain-moves, ChainAnswer, built, refused, Chain-new}
 use Rattle.built_poses.specs.Poses.{AnimatedTransform-start_pose, AnimatedTransform-end_pose, Chain-is_rigid}
 use Rattle.changed_chain.specs.Trial.{Chain-changed}
 

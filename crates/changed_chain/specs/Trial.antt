@@ -1,11 +1,11 @@
 -- A chain with one pose changed, and what is shown of it before the pose is stored: `Chain-changed` and `Chain-try`. Definitions only.
 -- Quotations are of document 02, "Trying a pose first".
 use Rattle.std.specs.Prelude.{ℕ, cond, ltb, length, set}
-use Rattle.bounds3.specs.declared.Bounds3f.{Bounds3f}
-use Rattle.transform.specs.declared.BoundsAnswer.{BoundsAnswer}
-use Rattle.transform.specs.declared.BoundsAnswer.TheVariants.{Refused}
-use Rattle.pose_pair.specs.declared.Pose.{Pose}
-use Rattle.motion_chain.specs.Chain.{Chain, ChainAnswer, built, refused, Chain-new, Chain-cover}
+use Rattle.built_poses.specs.bounds3.declared.Bounds3f.{Bounds3f}
+use Rattle.built_poses.specs.transform.declared.BoundsAnswer.{BoundsAnswer}
+use Rattle.built_poses.specs.transform.declared.BoundsAnswer.TheVariants.{Refused}
+use Rattle.built_poses.specs.pose_pair.declared.Pose.{Pose}
+use Rattle.built_poses.specs.motion_chain.Chain.{Chain, ChainAnswer, built, refused, Chain-new, Chain-cover}
 use Rattle.built_poses.specs.Poses.{Chain-poses, Chain-is_rigid}
 
 -- "changing a copy": the chain of the same kind and the same poses but for the one at the place

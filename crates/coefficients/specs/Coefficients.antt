@@ -1,14 +1,14 @@
 -- pbrt's c1 to c5 on the three axes. Definitions only.
 use Rattle.std.specs.Prelude.{Float}
 use Rattle.std.specs.Float.Ieee.{neg}
-use Rattle.float32.specs.Operators.{◌⊕◌}
+use Rattle.matrix4x4.specs.float32.Operators.{◌⊕◌}
 use Rattle.vector3.specs.declared.Vector3f.{Vector3f}
 use Rattle.quaternion.specs.declared.Quaternion.{Quaternion}
 use Rattle.matrix4x4.specs.Rows.{Rows, positive_zero}
 use Rattle.matrix4x4.specs.Transpose.{column}
-use Rattle.derivative_x.specs.Terms.{c1x, c2x, c3x, c4x, c5x}
-use Rattle.derivative_y.specs.Terms.{c1y, c2y, c3y, c4y, c5y}
-use Rattle.derivative_z.specs.Terms.{c1z, c2z, c3z, c4z, c5z}
+use Rattle.axis_derivative.specs.derivative_x.Terms.{c1x, c2x, c3x, c4x, c5x}
+use Rattle.axis_derivative.specs.derivative_y.Terms.{c1y, c2y, c3y, c4y, c5y}
+use Rattle.axis_derivative.specs.derivative_z.Terms.{c1z, c2z, c3z, c4z, c5z}
 use Rattle.axis_derivative.specs.declared.DerivativeTerm.{DerivativeTerm}
 use Rattle.axis_derivative.specs.declared.Derivative.{Derivative}
 use Rattle.axis_derivative.specs.AxisDerivative.{derivative}

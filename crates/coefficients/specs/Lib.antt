@@ -1,3 +1,4 @@
 pub mod Coefficients
 pub mod IsFinite
 pub mod means
+pub use Rattle.axis_derivative.specs as axis_derivative

@@ -8,36 +8,36 @@ use native.Mathlib.Omega.{arith}
 use lib.Dec.{eqb}
 use lib.Ieee.{Float}
 use borrow.Author.Tests.{eqb-true, eqb-false, eq-eqb, le-ltb}
-use Rattle.bounds3.specs.declared.Bounds3f.{Bounds3f}
-use Rattle.bounds3.specs.Bounds3f.{Bounds3f-union_bounds}
-use Rattle.bounds3.specs.Inside.{Subset}
-use Rattle.bounds3.proofs.Union.{subset-trans, union-least, union_subset_left, union_subset_right}
-use Rattle.matrix4x4.specs.declared.Matrix4x4.{Matrix4x4}
-use Rattle.transform.specs.declared.BoundsAnswer.{BoundsAnswer}
-use Rattle.transform.specs.declared.BoundsAnswer.TheVariants.{Bounds}
-use Rattle.transform.specs.Answer.{BoundsAnswer-refusal, BoundsAnswer-bounds}
-use Rattle.bounds_query.specs.Query.{Bounds3f-refusal, BoundsAnswer-union_bounds, max_depth, cover_refusal}
-use Rattle.bounds_query.specs.Zeros.{Bounds3f-positive_zeros, BoundsAnswer-positive_zeros}
-use Rattle.bounds_query.proofs.Union.{union-accepted}
-use Rattle.bounds_query.proofs.Zeros.{zeros-box}
-use Rattle.interval.specs.declared.Interval.{Interval}
-use Rattle.interval.specs.Contains as interval
-use Rattle.unit_interval.specs.Unit.{unit_interval, slice}
-use Rattle.unit_interval.proofs.Slices.{slice-unit, slice-finer, finer-lt}
-use Rattle.pose_steps.specs.declared.PoseConstants.{PoseConstants}
-use Rattle.pose_steps.specs.declared.JudgedVector.{JudgedVector}
-use Rattle.pose_steps.specs.Enclose.{Pose-enclose_point, Bounds3f-intervals, IntervalVector-bounds}
-use Rattle.pose_steps.proofs.Isotone.{point-isotone}
-use Rattle.pose_steps.proofs.Box.{refines-subset, refines-finite, wider-finite, refines-order, order-refl}
-use Rattle.animated_transform.specs.declared.AnimatedTransform.{AnimatedTransform}
-use Rattle.animated_transform.specs.Built.{Built}
-use Rattle.animated_transform.proofs.Built.{built-judged}
-use Rattle.motion_point.specs.TransformPoint.{AnimatedTransform-constants}
-use Rattle.motion_point.proofs.Built.{built-valid, built-scales}
-use Rattle.motion_pad.specs.Pad.{Pad-enclose}
-use Rattle.motion_pad.specs.Grow.{Bounds3f-grow, BoundsAnswer-grow}
-use Rattle.motion_pad.proofs.Pad.{pad-high-within}
-use Rattle.motion_pad.proofs.Box.{grow-accepted, grow-isotone}
+use Rattle.motion_cover.specs.bounds3.declared.Bounds3f.{Bounds3f}
+use Rattle.motion_cover.specs.bounds3.Bounds3f.{Bounds3f-union_bounds}
+use Rattle.motion_cover.specs.bounds3.Inside.{Subset}
+use Rattle.motion_cover.proofs.bounds3.Union.{subset-trans, union-least, union_subset_left, union_subset_right}
+use Rattle.motion_cover.specs.matrix4x4.declared.Matrix4x4.{Matrix4x4}
+use Rattle.motion_cover.specs.transform.declared.BoundsAnswer.{BoundsAnswer}
+use Rattle.motion_cover.specs.transform.declared.BoundsAnswer.TheVariants.{Bounds}
+use Rattle.motion_cover.specs.transform.Answer.{BoundsAnswer-refusal, BoundsAnswer-bounds}
+use Rattle.motion_cover.specs.bounds_query.Query.{Bounds3f-refusal, BoundsAnswer-union_bounds, max_depth, cover_refusal}
+use Rattle.motion_cover.specs.bounds_query.Zeros.{Bounds3f-positive_zeros, BoundsAnswer-positive_zeros}
+use Rattle.motion_cover.proofs.bounds_query.Union.{union-accepted}
+use Rattle.motion_cover.proofs.bounds_query.Zeros.{zeros-box}
+use Rattle.motion_cover.specs.interval.declared.Interval.{Interval}
+use Rattle.motion_cover.specs.interval.Contains as interval
+use Rattle.motion_cover.specs.unit_interval.Unit.{unit_interval, slice}
+use Rattle.motion_cover.proofs.unit_interval.Slices.{slice-unit, slice-finer, finer-lt}
+use Rattle.motion_cover.specs.pose_steps.declared.PoseConstants.{PoseConstants}
+use Rattle.motion_cover.specs.pose_steps.declared.JudgedVector.{JudgedVector}
+use Rattle.motion_cover.specs.pose_steps.Enclose.{Pose-enclose_point, Bounds3f-intervals, IntervalVector-bounds}
+use Rattle.motion_cover.proofs.pose_steps.Isotone.{point-isotone}
+use Rattle.motion_cover.proofs.pose_steps.Box.{refines-subset, refines-finite, wider-finite, refines-order, order-refl}
+use Rattle.motion_cover.specs.animated_transform.declared.AnimatedTransform.{AnimatedTransform}
+use Rattle.motion_cover.specs.animated_transform.Built.{Built}
+use Rattle.motion_cover.proofs.animated_transform.Built.{built-judged}
+use Rattle.motion_cover.specs.motion_point.TransformPoint.{AnimatedTransform-constants}
+use Rattle.motion_cover.proofs.motion_point.Built.{built-valid, built-scales}
+use Rattle.motion_cover.specs.motion_pad.Pad.{Pad-enclose}
+use Rattle.motion_cover.specs.motion_pad.Grow.{Bounds3f-grow, BoundsAnswer-grow}
+use Rattle.motion_cover.proofs.motion_pad.Pad.{pad-high-within}
+use Rattle.motion_cover.proofs.motion_pad.Box.{grow-accepted, grow-isotone}
 use Rattle.motion_cover.specs.Cover.{BoundsAnswer-from_enclosure, AnimatedTransform-enclose_bounds, AnimatedTransform-enclose_ends}
 use Rattle.motion_cover.specs.Cover.{union_slices, AnimatedTransform-enclose_motion, AnimatedTransform-cover}
 use Rattle.motion_cover.specs.Answer.{Proper}

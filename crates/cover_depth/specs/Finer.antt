@@ -1,12 +1,12 @@
 -- A finer cover is never a wider one: the statement of `cover-finer`.
 use Rattle.std.specs.Prelude.{ℕ, ◌+◌, ◌≤◌, ◌≡◌}
-use Rattle.bounds3.specs.declared.Bounds3f.{Bounds3f}
-use Rattle.bounds3.specs.Inside.{Subset}
-use Rattle.transform.specs.declared.BoundsAnswer.{BoundsAnswer}
-use Rattle.transform.specs.Answer.{BoundsAnswer-refusal, BoundsAnswer-bounds}
-use Rattle.animated_transform.specs.declared.AnimatedTransform.{AnimatedTransform}
-use Rattle.animated_transform.specs.Built.{Built}
-use Rattle.bounds_query.specs.Query.{max_depth}
+use Rattle.motion_cover.specs.bounds3.declared.Bounds3f.{Bounds3f}
+use Rattle.motion_cover.specs.bounds3.Inside.{Subset}
+use Rattle.motion_cover.specs.transform.declared.BoundsAnswer.{BoundsAnswer}
+use Rattle.motion_cover.specs.transform.Answer.{BoundsAnswer-refusal, BoundsAnswer-bounds}
+use Rattle.motion_cover.specs.animated_transform.declared.AnimatedTransform.{AnimatedTransform}
+use Rattle.motion_cover.specs.animated_transform.Built.{Built}
+use Rattle.motion_cover.specs.bounds_query.Query.{max_depth}
 use Rattle.motion_cover.specs.Cover.{AnimatedTransform-cover}
 
 -- The answer is not refused, and its box lies in c on every axis.

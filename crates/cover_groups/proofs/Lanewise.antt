@@ -6,21 +6,21 @@ use mathlib.Core.Bool.{Bool, true, false, cond}
 use mathlib.Core.List.{[], ◌∷◌}
 use native.Mathlib.Omega.{arith}
 use lib.Ieee.{Float}
-use Rattle.control_flow.specs.Loop.{loop}
-use Rattle.float32.specs.Operators.{◌⊕◌, ◌⊗◌, positive_zero, one}
+use Rattle.pose_steps.specs.control_flow.Loop.{loop}
+use Rattle.bounds3.specs.float32.Operators.{◌⊕◌, ◌⊗◌, positive_zero, one}
 use Rattle.trig.specs.SinCos.{sin, cos}
 use Rattle.quaternion.specs.declared.Quaternion.{Quaternion}
 use Rattle.matrix4x4.specs.declared.Matrix4x4.{Matrix4x4}
 use Rattle.bounds3.specs.declared.Bounds3f.{Bounds3f}
-use Rattle.interval.specs.declared.Interval.{Interval}
-use Rattle.unit_interval.specs.Unit.{slice_end, slice}
-use Rattle.unit_interval.proofs.Slices.{slice_end-next}
+use Rattle.lanes.specs.interval.declared.Interval.{Interval}
+use Rattle.pose_steps.specs.unit_interval.Unit.{slice_end, slice}
+use Rattle.pose_steps.proofs.unit_interval.Slices.{slice_end-next}
 use Rattle.pose_steps.specs.declared.PoseConstants.{PoseConstants}
 use Rattle.pose_steps.specs.declared.IntervalVector.{IntervalVector}
 use Rattle.pose_steps.specs.declared.IntervalQuaternion.{IntervalQuaternion}
 use Rattle.pose_steps.specs.Pose.{is_near}
 use Rattle.pose_steps.specs.Enclose.{Bounds3f-intervals}
-use Rattle.pose_lean.specs.means.Lean.{one_minus, at_borders, slerp_by, second_by, Lean-slerp, rotation, linear_by, shifted, pad_high, LeanPose, LeanPose-over, LeanPose-vector}
+use Rattle.lanes_rotation.specs.pose_lean.means.Lean.{one_minus, at_borders, slerp_by, second_by, Lean-slerp, rotation, linear_by, shifted, pad_high, LeanPose, LeanPose-over, LeanPose-vector}
 use Rattle.lanes.specs.declared.Lanes.{Lanes}
 use Rattle.lanes.specs.means.Lanes.{Lane, place, Lanes-lane, Lanes-of}
 use Rattle.lanes_rotation.specs.declared.LanesVector.{LanesVector}

@@ -4,12 +4,12 @@
 #![tactic(auto)]
 
 ghost use Rattle.std.specs.Prelude.{◌*◌, ◌/◌, ◌^◌, ◌≤◌, min, ◌≡◌};
-ghost use Rattle.control_flow.specs.Loop.{loop};
+ghost use Rattle.pose_steps.specs.control_flow.Loop.{loop};
 ghost use Rattle.sine_table.specs.Table.{sine_table};
-ghost use Rattle.unit_interval.specs.Unit.{slice_end};
-ghost use Rattle.bounds_query.specs.Query.{max_depth};
+ghost use Rattle.pose_steps.specs.unit_interval.Unit.{slice_end};
+ghost use Rattle.motion_cover.specs.bounds_query.Query.{max_depth};
 ghost use Rattle.pose_steps.specs.Pose.{is_near};
-ghost use Rattle.pose_lean.specs.means.Lean.{second_by};
+ghost use Rattle.lanes_rotation.specs.pose_lean.means.Lean.{second_by};
 ghost use Rattle.cover_groups.specs.means.Groups.{Lanes-ends, Border-at, Border-last, LanesBorders-steps, LanesVector-pieces};
 ghost use Rattle.cover_groups.specs.means.Groups.{LanesVector-group, Groups-union};
 

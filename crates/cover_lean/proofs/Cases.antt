@@ -4,22 +4,22 @@ use mathlib.Core.Path.{◌≡◌, refl}
 use mathlib.Core.Bool.{Bool, true, false}
 use lib.Dec.{T, lit<}
 use lib.Ieee.{Float, binary32, of_bits, fits}
-use Rattle.float32.specs.Operators.{positive_zero, one}
-use Rattle.bounds3.specs.declared.Bounds3f.{Bounds3f}
-use Rattle.transform.specs.declared.BoundsAnswer.{BoundsAnswer}
-use Rattle.transform.specs.declared.BoundsAnswer.TheVariants.{Bounds, Refused}
-use Rattle.transform.specs.Answer.{BoundsAnswer-bounds}
-use Rattle.bounds_query.specs.Query.{Bounds3f-refusal}
-use Rattle.bounds_query.specs.Same.{BoundsAnswer-Same}
-use Rattle.unit_interval.specs.Unit.{slice}
-use Rattle.unit_interval.proofs.Slices.{slice-unit, slice-finer}
-use Rattle.pose_steps.specs.declared.PoseConstants.{PoseConstants}
-use Rattle.pose_steps.specs.Pose.{Matrix4x4-identity}
+use Rattle.dt_share.specs.float32.Operators.{positive_zero, one}
+use Rattle.pose_lean.specs.bounds3.declared.Bounds3f.{Bounds3f}
+use Rattle.pose_lean.specs.transform.declared.BoundsAnswer.{BoundsAnswer}
+use Rattle.pose_lean.specs.transform.declared.BoundsAnswer.TheVariants.{Bounds, Refused}
+use Rattle.pose_lean.specs.transform.Answer.{BoundsAnswer-bounds}
+use Rattle.bounds_answers.specs.bounds_query.Query.{Bounds3f-refusal}
+use Rattle.bounds_answers.specs.bounds_query.Same.{BoundsAnswer-Same}
+use Rattle.dt_share.specs.unit_interval.Unit.{slice}
+use Rattle.dt_share.proofs.unit_interval.Slices.{slice-unit, slice-finer}
+use Rattle.pose_lean.specs.pose_steps.declared.PoseConstants.{PoseConstants}
+use Rattle.pose_lean.specs.pose_steps.Pose.{Matrix4x4-identity}
 use Rattle.pose_lean.specs.means.Lean.{Lean-box}
 use Rattle.pose_lean.specs.means.Values.{ScaleValues, PoseValues, Bounds3f-Values}
-use Rattle.motion_cover.specs.means.Computing as cover
-use Rattle.motion_cover.proofs.Proper.{box-refines}
-use Rattle.cover_depth.specs.means.Piece.{Pose-enclose_bounds, Enclosable}
+use Rattle.bounds_answers.specs.motion_cover.means.Computing as cover
+use Rattle.bounds_answers.proofs.motion_cover.Proper.{box-refines}
+use Rattle.bounds_answers.specs.cover_depth.means.Piece.{Pose-enclose_bounds, Enclosable}
 use Rattle.cover_lean.specs.means.Test.{Vector3f-is_finite, is_finite_front, is_finite_scale, is_quarter_angle, is_pad, PoseConstants-is_valid, Pose-is_enclosable}
 use Rattle.cover_lean.proofs.Piece.{piece-lean}
 use Rattle.cover_lean.proofs.Union.{slice-proper}

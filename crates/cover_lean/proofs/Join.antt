@@ -7,16 +7,16 @@ use mathlib.Core.List.{List, [], ◌∷◌}
 use lib.ListN.{length, get_or}
 use native.Mathlib.Omega.{arith}
 use native.Mathlib.Decide.{dec_lt}
-use Rattle.control_flow.specs.Loop.{loop}
-use Rattle.rounding.proofs.Order.{number-left}
-use Rattle.bounds3.specs.declared.Bounds3f.{Bounds3f}
-use Rattle.bounds3.specs.Point3f.{Point3f-min, Point3f-max}
-use Rattle.bounds3.specs.Bounds3f.{Bounds3f-union_bounds}
-use Rattle.bounds3.specs.Inside.{Subset}
-use Rattle.bounds3.proofs.Union.{union-least, union_subset_left, union_subset_right, union-isotone}
-use Rattle.interval_unjudged.proofs.Ordered.{lesser-min, greater-max}
-use Rattle.pose_steps.specs.declared.IntervalVector.{IntervalVector}
-use Rattle.pose_steps.specs.Enclose.{Bounds3f-intervals, IntervalVector-bounds}
+use Rattle.pose_lean.specs.control_flow.Loop.{loop}
+use Rattle.dt_share.proofs.rounding.Order.{number-left}
+use Rattle.pose_lean.specs.bounds3.declared.Bounds3f.{Bounds3f}
+use Rattle.pose_lean.specs.bounds3.Point3f.{Point3f-min, Point3f-max}
+use Rattle.pose_lean.specs.bounds3.Bounds3f.{Bounds3f-union_bounds}
+use Rattle.pose_lean.specs.bounds3.Inside.{Subset}
+use Rattle.pose_lean.proofs.bounds3.Union.{union-least, union_subset_left, union_subset_right, union-isotone}
+use Rattle.pose_lean.proofs.interval_unjudged.Ordered.{lesser-min, greater-max}
+use Rattle.pose_lean.specs.pose_steps.declared.IntervalVector.{IntervalVector}
+use Rattle.pose_lean.specs.pose_steps.Enclose.{Bounds3f-intervals, IntervalVector-bounds}
 use Rattle.cover_lean.specs.means.Union.{union_of, IntervalVector-join_ordered, stride, in_pairs}
 
 -- A box that lies in itself has no NaN.

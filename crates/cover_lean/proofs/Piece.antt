@@ -4,41 +4,41 @@ use mathlib.Core.List.{[], ◌∷◌}
 use lib.Dec.{T}
 use lib.Ieee.{Float, le, of_bits, fits}
 use lib.Ieee.Scale.{finite}
-use Rattle.float32.specs.Operators.{◌⊕◌, ◌⊖◌}
-use Rattle.own_rounding.specs.means.Alike.{Alike}
-use Rattle.bounds3.specs.declared.Bounds3f.{Bounds3f}
-use Rattle.bounds3.specs.Inside.{Subset}
-use Rattle.matrix4x4.specs.declared.Matrix4x4.{Matrix4x4}
-use Rattle.transform.specs.declared.BoundsAnswer.{BoundsAnswer}
-use Rattle.transform.specs.declared.BoundsAnswer.TheVariants.{Bounds}
-use Rattle.bounds_query.specs.Same.{BoundsAnswer-Same, same-box}
-use Rattle.interval.specs.declared.Interval.{Interval}
-use Rattle.interval.specs.Contains as interval
-use Rattle.interval.proofs.Contains as contains
-use Rattle.unit_interval.specs.Unit.{unit_interval}
-use Rattle.alike.specs.means.Alike.{Interval-Proper}
-use Rattle.alike.proofs.Arithmetic.{add-alike, sub_alike}
-use Rattle.formula_lean.specs.means.Lean.{number, range, Lean-of, Expr-lean, Expr-lean_all, Program-lean}
-use Rattle.formula_lean.proofs.Operations.{Stands}
-use Rattle.pose_steps.specs.declared.PoseConstants.{PoseConstants}
-use Rattle.pose_steps.specs.declared.IntervalVector.{IntervalVector}
-use Rattle.pose_steps.specs.Enclose.{Pose-enclose_transform_point, Pose-enclose_matrix, Pose-enclose_point, Bounds3f-intervals, IntervalVector-bounds}
+use Rattle.dt_share.specs.float32.Operators.{◌⊕◌, ◌⊖◌}
+use Rattle.dt_share.specs.own_rounding.means.Alike.{Alike}
+use Rattle.pose_lean.specs.bounds3.declared.Bounds3f.{Bounds3f}
+use Rattle.pose_lean.specs.bounds3.Inside.{Subset}
+use Rattle.pose_lean.specs.matrix4x4.declared.Matrix4x4.{Matrix4x4}
+use Rattle.pose_lean.specs.transform.declared.BoundsAnswer.{BoundsAnswer}
+use Rattle.pose_lean.specs.transform.declared.BoundsAnswer.TheVariants.{Bounds}
+use Rattle.bounds_answers.specs.bounds_query.Same.{BoundsAnswer-Same, same-box}
+use Rattle.dt_share.specs.interval.declared.Interval.{Interval}
+use Rattle.dt_share.specs.interval.Contains as interval
+use Rattle.dt_share.proofs.interval.Contains as contains
+use Rattle.dt_share.specs.unit_interval.Unit.{unit_interval}
+use Rattle.pose_lean.specs.alike.means.Alike.{Interval-Proper}
+use Rattle.pose_lean.proofs.alike.Arithmetic.{add-alike, sub_alike}
+use Rattle.pose_lean.specs.formula_lean.means.Lean.{number, range, Lean-of, Expr-lean, Expr-lean_all, Program-lean}
+use Rattle.pose_lean.proofs.formula_lean.Operations.{Stands}
+use Rattle.pose_lean.specs.pose_steps.declared.PoseConstants.{PoseConstants}
+use Rattle.pose_lean.specs.pose_steps.declared.IntervalVector.{IntervalVector}
+use Rattle.pose_lean.specs.pose_steps.Enclose.{Pose-enclose_transform_point, Pose-enclose_matrix, Pose-enclose_point, Bounds3f-intervals, IntervalVector-bounds}
 use Rattle.pose_lean.specs.means.Lean.{lerp, one_minus, pad_high, LeanPose-over, Interval-grown}
 use Rattle.pose_lean.specs.means.Lean.{IntervalVector-grown, LeanPose-vector, LeanPose-box, Lean-box}
 use Rattle.pose_lean.specs.means.Values.{PoseValues, Bounds3f-Values}
 use Rattle.pose_lean.proofs.Stages.{number-stands, range-stands, stage-lean, StandsVector}
 use Rattle.pose_lean.proofs.Pose.{point-accepted}
-use Rattle.animated_transform.specs.Built.{Pad-Judged}
-use Rattle.motion_pad.specs.Pad.{pad_stage, Pad-inputs, Pad-enclose}
-use Rattle.motion_pad.specs.Grow.{Bounds3f-grow, BoundsAnswer-grow}
-use Rattle.motion_pad.proofs.Box.{grow-accepted}
-use Rattle.motion_cover.specs.Cover.{BoundsAnswer-from_enclosure}
-use Rattle.motion_cover.proofs.Contains.{from-enclosure-accepted}
-use Rattle.motion_cover.proofs.Zeros.{grow-valued}
-use Rattle.motion_cover.proofs.Proper.{BoxRefines}
-use Rattle.bounds3.proofs.Union.{finite-self}
-use Rattle.cover_depth.specs.means.Piece.{Pose-enclose_bounds, Enclosable}
-use Rattle.cover_depth.proofs.Finer.{part-isotone}
+use Rattle.bounds_answers.specs.animated_transform.Built.{Pad-Judged}
+use Rattle.bounds_answers.specs.motion_pad.Pad.{pad_stage, Pad-inputs, Pad-enclose}
+use Rattle.bounds_answers.specs.motion_pad.Grow.{Bounds3f-grow, BoundsAnswer-grow}
+use Rattle.bounds_answers.proofs.motion_pad.Box.{grow-accepted}
+use Rattle.bounds_answers.specs.motion_cover.Cover.{BoundsAnswer-from_enclosure}
+use Rattle.bounds_answers.proofs.motion_cover.Contains.{from-enclosure-accepted}
+use Rattle.bounds_answers.proofs.motion_cover.Zeros.{grow-valued}
+use Rattle.bounds_answers.proofs.motion_cover.Proper.{BoxRefines}
+use Rattle.pose_lean.proofs.bounds3.Union.{finite-self}
+use Rattle.bounds_answers.specs.cover_depth.means.Piece.{Pose-enclose_bounds, Enclosable}
+use Rattle.bounds_answers.proofs.cover_depth.Finer.{part-isotone}
 
 -- ---- the pad
 pad-stands : {pad0 pad1 : Float} {D : Interval} → Pad-Judged pad0 → Pad-Judged pad1 → Interval-Proper D → (Pad-enclose pad0 pad1 D).refusal ≡ 0

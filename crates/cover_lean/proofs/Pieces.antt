@@ -6,25 +6,25 @@ use mathlib.Core.Logic.{inl, inr}
 use mathlib.Core.List.Memᴰ
 use mathlib.Core.List.{List, [], ◌∷◌, map, Memᴰ}
 use lib.Ieee.{Float}
-use Rattle.bounds3.specs.declared.Bounds3f.{Bounds3f}
-use Rattle.matrix4x4.specs.declared.Matrix4x4.{Matrix4x4}
-use Rattle.transform.specs.declared.BoundsAnswer.{BoundsAnswer}
-use Rattle.transform.specs.declared.BoundsAnswer.TheVariants.{Bounds}
-use Rattle.bounds_query.specs.Query.{BoundsAnswer-union_bounds}
-use Rattle.bounds_query.specs.Same.{BoundsAnswer-Same}
-use Rattle.bounds_query.proofs.Union.{union-accepted, union-same}
-use Rattle.interval.specs.declared.Interval.{Interval}
-use Rattle.interval.proofs.Contains.{subset-finite}
+use Rattle.pose_lean.specs.bounds3.declared.Bounds3f.{Bounds3f}
+use Rattle.pose_lean.specs.matrix4x4.declared.Matrix4x4.{Matrix4x4}
+use Rattle.pose_lean.specs.transform.declared.BoundsAnswer.{BoundsAnswer}
+use Rattle.pose_lean.specs.transform.declared.BoundsAnswer.TheVariants.{Bounds}
+use Rattle.bounds_answers.specs.bounds_query.Query.{BoundsAnswer-union_bounds}
+use Rattle.bounds_answers.specs.bounds_query.Same.{BoundsAnswer-Same}
+use Rattle.bounds_answers.proofs.bounds_query.Union.{union-accepted, union-same}
+use Rattle.dt_share.specs.interval.declared.Interval.{Interval}
+use Rattle.dt_share.proofs.interval.Contains.{subset-finite}
 use Rattle.dt_share.specs.Share.{pieces}
 use Rattle.dt_share.specs.means.Part.{UnitPart}
 use Rattle.dt_share.proofs.Pieces.{pieces-part, pieces-finer}
-use Rattle.alike.specs.means.Alike.{Interval-Proper}
-use Rattle.pose_steps.specs.declared.PoseConstants.{PoseConstants}
-use Rattle.pose_steps.proofs.Angle.{unit-finite}
+use Rattle.pose_lean.specs.alike.means.Alike.{Interval-Proper}
+use Rattle.pose_lean.specs.pose_steps.declared.PoseConstants.{PoseConstants}
+use Rattle.pose_lean.proofs.pose_steps.Angle.{unit-finite}
 use Rattle.pose_lean.specs.means.Lean.{Lean-box}
 use Rattle.pose_lean.specs.means.Values.{PoseValues, Bounds3f-Values}
-use Rattle.motion_cover.proofs.Proper.{BoxRefines}
-use Rattle.cover_depth.specs.means.Piece.{Pose-enclose_bounds, Enclosable}
+use Rattle.bounds_answers.proofs.motion_cover.Proper.{BoxRefines}
+use Rattle.bounds_answers.specs.cover_depth.means.Piece.{Pose-enclose_bounds, Enclosable}
 use Rattle.bounds_answers.specs.UnionAll.{BoundsAnswer-union_all}
 use Rattle.cover_lean.proofs.Piece.{piece-lean}
 use Rattle.cover_lean.proofs.Join.{union_list}

@@ -4,18 +4,18 @@ use lib.Dec.{T}
 use lib.Ieee.{Float, binary32, le, fits}
 use lib.Ieee.Fits.{and_l, and_r}
 use lib.Ieee.Scale.{finite}
-use Rattle.float32.specs.Operators.{positive_zero}
-use Rattle.trig.specs.Range.{quarter_turn_float}
-use Rattle.vector3.specs.declared.Vector3f.{Vector3f}
-use Rattle.quaternion.specs.IsFinite.{Quaternion-is_finite}
-use Rattle.matrix4x4.specs.declared.Matrix4x4.{Matrix4x4}
-use Rattle.matrix4x4.specs.Rows.{Row, col}
-use Rattle.pose_steps.specs.declared.PoseConstants.{PoseConstants}
-use Rattle.pose_steps.specs.Pose.{Vector3f-list, three}
-use Rattle.pose_steps.specs.Promise.{AllFinite, PoseConstants-Valid, FiniteScale}
-use Rattle.pose_steps.proofs.Finite.{quaternion-each}
-use Rattle.animated_transform.specs.Built.{Pad-Judged}
-use Rattle.cover_depth.specs.means.Piece.{Enclosable}
+use Rattle.dt_share.specs.float32.Operators.{positive_zero}
+use Rattle.dt_share.specs.trig.Range.{quarter_turn_float}
+use Rattle.pose_lean.specs.vector3.declared.Vector3f.{Vector3f}
+use Rattle.pose_lean.specs.quaternion.IsFinite.{Quaternion-is_finite}
+use Rattle.pose_lean.specs.matrix4x4.declared.Matrix4x4.{Matrix4x4}
+use Rattle.pose_lean.specs.matrix4x4.Rows.{Row, col}
+use Rattle.pose_lean.specs.pose_steps.declared.PoseConstants.{PoseConstants}
+use Rattle.pose_lean.specs.pose_steps.Pose.{Vector3f-list, three}
+use Rattle.pose_lean.specs.pose_steps.Promise.{AllFinite, PoseConstants-Valid, FiniteScale}
+use Rattle.pose_lean.proofs.pose_steps.Finite.{quaternion-each}
+use Rattle.bounds_answers.specs.animated_transform.Built.{Pad-Judged}
+use Rattle.bounds_answers.specs.cover_depth.means.Piece.{Enclosable}
 use Rattle.cover_lean.specs.means.Test.{Vector3f-is_finite, is_finite_front, is_finite_scale, is_quarter_angle, is_pad, PoseConstants-is_valid, Pose-is_enclosable}
 
 -- Both of two.

@@ -9,34 +9,34 @@ use lib.Dec.{T, eqb}
 use lib.Ieee.{binary32}
 use lib.Ieee.Fits.{round-fits}
 use borrow.Author.Tests.{eqb-true, eqb-false}
-use Rattle.bounds3.specs.declared.Bounds3f.{Bounds3f}
-use Rattle.bounds3.specs.Bounds3f.{Bounds3f-union_bounds}
-use Rattle.bounds3.specs.Finite.{Bounds3f-is_finite}
-use Rattle.bounds3.specs.Inside.{Subset}
-use Rattle.bounds3.proofs.Union.{subset-trans, finite-self}
-use Rattle.transform.specs.declared.BoundsAnswer.{BoundsAnswer}
-use Rattle.transform.specs.declared.BoundsAnswer.TheVariants.{Bounds}
-use Rattle.bounds_query.specs.Query.{BoundsAnswer-union_bounds}
-use Rattle.bounds_query.specs.Same.{BoundsAnswer-Same, same-box}
-use Rattle.bounds_query.specs.Zeros.{Bounds3f-positive_zeros, BoundsAnswer-positive_zeros}
-use Rattle.bounds_query.proofs.Union.{union-accepted, union-same}
-use Rattle.interval.specs.declared.Interval.{Interval}
-use Rattle.interval.proofs.Contains.{subset-finite}
-use Rattle.unit_interval.specs.Unit.{slice_end, slice}
-use Rattle.unit_interval.proofs.Slices.{slice-unit, slice-finer, finer-lt}
-use Rattle.alike.specs.means.Alike.{Interval-Proper}
-use Rattle.pose_steps.specs.declared.PoseConstants.{PoseConstants}
-use Rattle.pose_steps.specs.declared.IntervalVector.{IntervalVector}
-use Rattle.pose_steps.specs.Enclose.{Bounds3f-intervals, IntervalVector-bounds}
-use Rattle.pose_steps.proofs.Angle.{unit-finite}
+use Rattle.pose_lean.specs.bounds3.declared.Bounds3f.{Bounds3f}
+use Rattle.pose_lean.specs.bounds3.Bounds3f.{Bounds3f-union_bounds}
+use Rattle.pose_lean.specs.bounds3.Finite.{Bounds3f-is_finite}
+use Rattle.pose_lean.specs.bounds3.Inside.{Subset}
+use Rattle.pose_lean.proofs.bounds3.Union.{subset-trans, finite-self}
+use Rattle.pose_lean.specs.transform.declared.BoundsAnswer.{BoundsAnswer}
+use Rattle.pose_lean.specs.transform.declared.BoundsAnswer.TheVariants.{Bounds}
+use Rattle.bounds_answers.specs.bounds_query.Query.{BoundsAnswer-union_bounds}
+use Rattle.bounds_answers.specs.bounds_query.Same.{BoundsAnswer-Same, same-box}
+use Rattle.bounds_answers.specs.bounds_query.Zeros.{Bounds3f-positive_zeros, BoundsAnswer-positive_zeros}
+use Rattle.bounds_answers.proofs.bounds_query.Union.{union-accepted, union-same}
+use Rattle.dt_share.specs.interval.declared.Interval.{Interval}
+use Rattle.dt_share.proofs.interval.Contains.{subset-finite}
+use Rattle.dt_share.specs.unit_interval.Unit.{slice_end, slice}
+use Rattle.dt_share.proofs.unit_interval.Slices.{slice-unit, slice-finer, finer-lt}
+use Rattle.pose_lean.specs.alike.means.Alike.{Interval-Proper}
+use Rattle.pose_lean.specs.pose_steps.declared.PoseConstants.{PoseConstants}
+use Rattle.pose_lean.specs.pose_steps.declared.IntervalVector.{IntervalVector}
+use Rattle.pose_lean.specs.pose_steps.Enclose.{Bounds3f-intervals, IntervalVector-bounds}
+use Rattle.pose_lean.proofs.pose_steps.Angle.{unit-finite}
 use Rattle.pose_lean.specs.means.Lean.{LeanPose-over, LeanPose-vector, LeanPose-box, Lean-box}
 use Rattle.pose_lean.specs.means.Values.{PoseValues, Bounds3f-Values}
-use Rattle.animated_transform.specs.declared.AnimatedTransform.{AnimatedTransform}
-use Rattle.motion_pad.proofs.Zeros.{same-zeros, answers-zeros}
-use Rattle.motion_cover.specs.Cover.{Transform-enclose_padded, AnimatedTransform-enclose_bounds, AnimatedTransform-enclose_ends, union_slices}
-use Rattle.motion_cover.proofs.Zeros.{stored-valued, union-valued}
-use Rattle.motion_cover.proofs.Proper.{BoxRefines}
-use Rattle.cover_depth.specs.means.Piece.{Enclosable}
+use Rattle.bounds_answers.specs.animated_transform.declared.AnimatedTransform.{AnimatedTransform}
+use Rattle.bounds_answers.proofs.motion_pad.Zeros.{same-zeros, answers-zeros}
+use Rattle.bounds_answers.specs.motion_cover.Cover.{Transform-enclose_padded, AnimatedTransform-enclose_bounds, AnimatedTransform-enclose_ends, union_slices}
+use Rattle.bounds_answers.proofs.motion_cover.Zeros.{stored-valued, union-valued}
+use Rattle.bounds_answers.proofs.motion_cover.Proper.{BoxRefines}
+use Rattle.bounds_answers.specs.cover_depth.means.Piece.{Enclosable}
 use Rattle.cover_lean.specs.means.Union.{union_of, stride, in_pairs}
 use Rattle.cover_lean.proofs.Piece.{piece-lean}
 use Rattle.cover_lean.proofs.Join.{Self, SameBox, lanes-same, groups-same}

@@ -1,1 +1,2 @@
 pub mod means
+pub use Rattle.pose_lean.specs as pose_lean

@@ -5,8 +5,8 @@
 ghost use Rattle.std.specs.Prelude.{◌≤◌, ◌≡◌};
 ghost use Rattle.bounds_query.specs.Query.{max_depth};
 ghost use Rattle.bounds_query.specs.Zeros.{BoundsAnswer-positive_zeros};
-ghost use Rattle.motion_cover.specs.Cover.{AnimatedTransform-enclose_ends, AnimatedTransform-enclose_motion, AnimatedTransform-cover};
-ghost use Rattle.motion_cover.specs.Theorem.{CoverContainsMotion};
+ghost use Rattle.motion_piece.specs.motion_cover.Cover.{AnimatedTransform-enclose_ends, AnimatedTransform-enclose_motion, AnimatedTransform-cover};
+ghost use Rattle.motion_piece.specs.motion_cover.Theorem.{CoverContainsMotion};
 
 use animated_transform::AnimatedTransform;
 use bounds3::Bounds3f;

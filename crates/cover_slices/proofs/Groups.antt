@@ -6,27 +6,27 @@ use native.Mathlib.Omega.{arith}
 use lib.Dec.{T}
 use lib.Pow.{pow-add}
 use Rattle.bounds3.specs.declared.Bounds3f.{Bounds3f}
-use Rattle.matrix4x4.specs.declared.Matrix4x4.{Matrix4x4}
+use Rattle.transform.specs.matrix4x4.declared.Matrix4x4.{Matrix4x4}
 use lib.Ieee.{Float}
 use Rattle.transform.specs.declared.BoundsAnswer.{BoundsAnswer}
 use Rattle.transform.specs.declared.BoundsAnswer.TheVariants.{Bounds, Refused}
 use Rattle.bounds_query.specs.Zeros.{Bounds3f-positive_zeros, BoundsAnswer-positive_zeros}
-use Rattle.unit_interval.specs.Unit.{slice}
+use Rattle.pose_steps.specs.unit_interval.Unit.{slice}
 use Rattle.pose_steps.specs.declared.PoseConstants.{PoseConstants}
 use Rattle.pose_steps.specs.declared.IntervalVector.{IntervalVector}
 use Rattle.pose_steps.specs.Pose.{is_near}
 use Rattle.pose_steps.specs.Enclose.{Bounds3f-intervals, IntervalVector-bounds}
-use Rattle.pose_lean.specs.means.Lean.{LeanPose-over, LeanPose-vector}
+use Rattle.cover_groups.specs.pose_lean.means.Lean.{LeanPose-over, LeanPose-vector}
 use Rattle.animated_transform.specs.declared.AnimatedTransform.{AnimatedTransform}
-use Rattle.motion_cover.specs.Cover.{union_slices}
-use Rattle.motion_cover.proofs.Proper.{box-refines}
-use Rattle.lanes.specs.means.Lanes.{Lanes-of, Interval-join, Lanes-joined}
-use Rattle.lanes_rotation.specs.means.Matrices.{LanesVector-of}
-use Rattle.lanes_box.specs.means.Boxes.{IntervalVector-join, LanesVector-joined}
+use Rattle.motion_piece.specs.motion_cover.Cover.{union_slices}
+use Rattle.motion_piece.proofs.motion_cover.Proper.{box-refines}
+use Rattle.cover_groups.specs.lanes.means.Lanes.{Lanes-of, Interval-join, Lanes-joined}
+use Rattle.cover_groups.specs.lanes_rotation.means.Matrices.{LanesVector-of}
+use Rattle.cover_groups.specs.lanes_box.means.Boxes.{IntervalVector-join, LanesVector-joined}
 use Rattle.cover_groups.specs.means.Groups.{lean_piece, lane_union, Groups-union}
-use Rattle.cover_lean.specs.means.Union.{stride, in_pairs}
-use Rattle.cover_lean.proofs.Test.{tested-enclosable}
-use Rattle.cover_lean.proofs.Union.{Answered, lanes-zeros}
+use Rattle.cover_test.specs.cover_lean.means.Union.{stride, in_pairs}
+use Rattle.cover_test.proofs.cover_lean.Test.{tested-enclosable}
+use Rattle.cover_test.proofs.cover_lean.Union.{Answered, lanes-zeros}
 use Rattle.cover_slices.specs.means.Lean.{coarse_depth, BoundsAnswer-is_box, Lean}
 
 -- The four lanes, joined in pairs.

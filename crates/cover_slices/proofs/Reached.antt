@@ -8,11 +8,11 @@ use Rattle.bounds3.specs.Bounds3f.{Bounds3f-union_bounds}
 use Rattle.transform.specs.declared.BoundsAnswer.{BoundsAnswer}
 use Rattle.transform.specs.declared.BoundsAnswer.TheVariants.{Bounds, Refused}
 use Rattle.bounds_query.specs.Query.{BoundsAnswer-union_bounds}
-use Rattle.unit_interval.specs.Unit.{slice}
+use Rattle.pose_steps.specs.unit_interval.Unit.{slice}
 use Rattle.pose_steps.specs.declared.PoseConstants.{PoseConstants}
 use Rattle.animated_transform.specs.declared.AnimatedTransform.{AnimatedTransform}
-use Rattle.motion_cover.specs.Cover.{AnimatedTransform-enclose_bounds, union_slices}
-use Rattle.motion_cover.proofs.Slices.{union_slices-refused}
+use Rattle.motion_piece.specs.motion_cover.Cover.{AnimatedTransform-enclose_bounds, union_slices}
+use Rattle.motion_piece.proofs.motion_cover.Slices.{union_slices-refused}
 
 module _ (m : AnimatedTransform) (a : PoseConstants) (b : Bounds3f) (d : ℕ) (first : Bounds3f) (k : ℕ) (union : Bounds3f)
     (joined : union_slices m a b d (Bounds first) k ≡ Bounds union) (s : BoundsAnswer) (e : s ≡ AnimatedTransform-enclose_bounds m a (slice d k) b) where

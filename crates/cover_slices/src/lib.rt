@@ -5,11 +5,11 @@
 
 ghost use Rattle.std.specs.Prelude.{◌^◌, ◌≤◌, ◌<◌, min, ◌≡◌, true};
 ghost use Rattle.transform.specs.declared.BoundsAnswer.TheVariants.{Bounds};
-ghost use Rattle.unit_interval.specs.Unit.{slice};
+ghost use Rattle.pose_steps.specs.unit_interval.Unit.{slice};
 ghost use Rattle.motion_point.specs.TransformPoint.{AnimatedTransform-constants};
 ghost use Rattle.bounds_query.specs.Query.{max_depth};
 ghost use Rattle.bounds_query.specs.Zeros.{BoundsAnswer-positive_zeros};
-ghost use Rattle.motion_cover.specs.Cover.{AnimatedTransform-enclose_bounds, union_slices};
+ghost use Rattle.motion_piece.specs.motion_cover.Cover.{AnimatedTransform-enclose_bounds, union_slices};
 ghost use Rattle.cover_slices.specs.means.Lean.{coarse_depth, BoundsAnswer-is_box, Lean};
 
 use animated_transform::AnimatedTransform;

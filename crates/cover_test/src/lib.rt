@@ -10,7 +10,7 @@ ghost use Rattle.bounds3.specs.List.{Point3f-list};
 ghost use Rattle.bounds3.specs.Finite.{Point3f-is_finite, Bounds3f-is_finite};
 ghost use Rattle.quaternion.specs.IsFinite.{Quaternion-is_finite};
 ghost use Rattle.pose_steps.specs.Pose.{Vector3f-list, Quaternion-list, three};
-ghost use Rattle.pose_lean.specs.means.Values.{AllValues, PoseConstants-Values, ScaleValues, Bounds3f-Values};
+ghost use Rattle.cover_lean.specs.pose_lean.means.Values.{AllValues, PoseConstants-Values, ScaleValues, Bounds3f-Values};
 ghost use Rattle.cover_lean.specs.means.Test.{Vector3f-is_finite, is_finite_front, is_finite_scale, is_quarter_angle, is_pad, PoseConstants-is_valid, Pose-is_enclosable};
 ghost use Rattle.cover_test.specs.means.Values.{Parts-Values};
 

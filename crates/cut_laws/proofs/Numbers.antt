@@ -5,8 +5,8 @@ use mathlib.Core.Path.{refl}
 use mathlib.Core.Bool.{Bool, true, false, ◌||◌, cond}
 use mathlib.Core.List.{List, [], ◌∷◌}
 use lib.Dec.{eqb, ltb}
-use Rattle.bounds3.specs.declared.Bounds3f.{Bounds3f}
-use Rattle.transform.specs.Answer.{OneOf}
+use Rattle.bounds_query.specs.bounds3.declared.Bounds3f.{Bounds3f}
+use Rattle.bounds_query.specs.transform.Answer.{OneOf}
 use Rattle.bounds_query.specs.Query.{Bounds3f-refusal}
 use Rattle.bounds_query.proofs.Numbers.{box-keeps}
 use Rattle.cut_laws.specs.Cut.{max_parts, cut_refusal}

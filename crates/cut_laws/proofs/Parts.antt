@@ -14,14 +14,14 @@ use lib.Ieee.{Float, nan, inf, fin, binary32, up, down, fits, below, level, lt, 
 use lib.Ieee.Bits.{is_true}
 use lib.Ieee.Fits.{and_l, and_r}
 use lib.Ieee.Scale.{finite}
-use Rattle.rounding.specs.Order.{◌≼◌}
-use Rattle.rounding.proofs.Order.{≼_refl, ≼_trans, finite_number, between-finite}
-use Rattle.bounds3.specs.declared.Point3f.{Point3f}
-use Rattle.bounds3.specs.declared.Bounds3f.{Bounds3f}
-use Rattle.bounds3.specs.List.{Bounds3f-list, Bounds3f-of_list}
-use Rattle.bounds3.specs.Inside.{Inside, Subset}
-use Rattle.bounds3.specs.Finite.{Bounds3f-is_finite, Finite}
-use Rattle.bounds3.proofs.Finite.{low-finite, high-finite, box-finite}
+use Rattle.own_rounding.specs.rounding.Order.{◌≼◌}
+use Rattle.own_rounding.proofs.rounding.Order.{≼_refl, ≼_trans, finite_number, between-finite}
+use Rattle.bounds_query.specs.bounds3.declared.Point3f.{Point3f}
+use Rattle.bounds_query.specs.bounds3.declared.Bounds3f.{Bounds3f}
+use Rattle.bounds_query.specs.bounds3.List.{Bounds3f-list, Bounds3f-of_list}
+use Rattle.bounds_query.specs.bounds3.Inside.{Inside, Subset}
+use Rattle.bounds_query.specs.bounds3.Finite.{Bounds3f-is_finite, Finite}
+use Rattle.bounds_query.proofs.bounds3.Finite.{low-finite, high-finite, box-finite}
 use Rattle.bounds_query.specs.Query.{Bounds3f-is_ordered, Bounds3f-refusal}
 use Rattle.bounds_query.proofs.Accepted.{refusal-accepted}
 use Rattle.lent_laws.proofs.Front.{front_at}

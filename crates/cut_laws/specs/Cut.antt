@@ -3,11 +3,11 @@
 use Rattle.std.specs.Prelude.{ℕ, zero, suc, Bool, false, not, ◌||◌, cond, List, [], ◌∷◌, ◌++◌, eqb, ltb, Float}
 use Rattle.std.specs.Float.{binary32}
 use Rattle.std.specs.Float.Ieee.{lt, round}
-use Rattle.float32.specs.Operators.{◌⊕◌, ◌⊖◌, ◌⊗◌}
-use Rattle.float32.specs.MinMax.{min_num}
-use Rattle.bounds3.specs.declared.Point3f.{Point3f}
-use Rattle.bounds3.specs.declared.Bounds3f.{Bounds3f}
-use Rattle.bounds3.specs.List.{Bounds3f-list}
+use Rattle.own_rounding.specs.float32.Operators.{◌⊕◌, ◌⊖◌, ◌⊗◌}
+use Rattle.own_rounding.specs.float32.MinMax.{min_num}
+use Rattle.bounds_query.specs.bounds3.declared.Point3f.{Point3f}
+use Rattle.bounds_query.specs.bounds3.declared.Bounds3f.{Bounds3f}
+use Rattle.bounds_query.specs.bounds3.List.{Bounds3f-list}
 use Rattle.bounds_query.specs.Query.{Bounds3f-refusal}
 use Rattle.lent_laws.specs.Front.{in_front}
 

@@ -5,10 +5,10 @@
 --   Bounds3f-refusal      6 or 7 of a box, 0 is none                                crates/bounds_query/specs/Query.antt
 --   Subset, Inside        by IEEE 754's order on each axis                          crates/bounds3/specs/Inside.antt
 use Rattle.std.specs.Prelude.{ℕ, ◌<◌, ◌≡◌, List, [], get_or, Float}
-use Rattle.bounds3.specs.declared.Point3f.{Point3f}
-use Rattle.bounds3.specs.declared.Bounds3f.{Bounds3f}
-use Rattle.bounds3.specs.List.{Bounds3f-of_list}
-use Rattle.bounds3.specs.Inside.{Inside, Subset}
+use Rattle.bounds_query.specs.bounds3.declared.Point3f.{Point3f}
+use Rattle.bounds_query.specs.bounds3.declared.Bounds3f.{Bounds3f}
+use Rattle.bounds_query.specs.bounds3.List.{Bounds3f-of_list}
+use Rattle.bounds_query.specs.bounds3.Inside.{Inside, Subset}
 use Rattle.bounds_query.specs.Query.{Bounds3f-refusal}
 
 abbrev pub part_at : List (List Float) → ℕ → Bounds3f

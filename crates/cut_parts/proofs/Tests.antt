@@ -10,8 +10,8 @@ use lib.ListN.{length, set}
 use lib.Ieee.{Float}
 use Rattle.bounds3.specs.declared.Bounds3f.{Bounds3f}
 use Rattle.bounds3.specs.List.{Bounds3f-list}
-use Rattle.lent_laws.specs.Front.{in_front}
-use Rattle.lent_laws.proofs.Front.{front-next}
+use Rattle.cut_laws.specs.lent_laws.Front.{in_front}
+use Rattle.cut_laws.proofs.lent_laws.Front.{front-next}
 use Rattle.cut_laws.specs.Cut.{max_parts, cut_refusal, Bounds3f-part, Bounds3f-parts, Bounds3f-cut}
 use Rattle.cut_laws.specs.Theorem.{PartsWithin, PartsCover}
 use Rattle.cut_laws.proofs.Parts.{LowFits, parts-counted, parts-length, parts_within, parts-cover}

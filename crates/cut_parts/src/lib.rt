@@ -2,7 +2,7 @@
 #![tactic(auto)]
 
 ghost use Rattle.std.specs.Prelude.{ℕ, suc, ◌≤◌, ◌<◌, ◌≡◌, length};
-ghost use Rattle.lent_laws.specs.Front.{in_front};
+ghost use Rattle.cut_laws.specs.lent_laws.Front.{in_front};
 ghost use Rattle.cut_laws.specs.Theorem.{PartsWithin, PartsCover};
 ghost use Rattle.cut_laws.specs.Cut.{max_parts, inner_face, face, longest_x, longest_y, with_x, with_y, with_z, Bounds3f-part, Bounds3f-parts, cut_refusal, Bounds3f-cut};
 

@@ -15,7 +15,7 @@ use Rattle.matrix4x4.specs.Transpose.{Matrix4x4-transpose}
 use Rattle.matrix4x4.specs.IsFinite.{Matrix4x4-is_finite}
 use Rattle.matrix_inverse.specs.declared.InverseAnswer.{InverseAnswer}
 use Rattle.matrix_inverse.specs.Inverse.{Matrix4x4-inverse}
-use Rattle.control_flow.proofs.Loop.{loop-keeps}
+use Rattle.matrix_inverse.proofs.control_flow.Loop.{loop-keeps}
 use Rattle.matrix_inverse.proofs.Refusal.{inverse-refusal}
 use Rattle.quaternion.specs.declared.Quaternion.{Quaternion}
 use Rattle.quaternion.specs.IsFinite.{Quaternion-is_finite}

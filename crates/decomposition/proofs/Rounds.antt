@@ -14,7 +14,7 @@ use borrow.Author.Tests.{leb-true, leb-false, eq-eqb, ne_eqb}
 use Rattle.matrix4x4.specs.Rows.{Rows}
 use Rattle.matrix4x4.specs.Transpose.{Matrix4x4-transpose}
 use Rattle.matrix4x4.specs.IsFinite.{Matrix4x4-is_finite}
-use Rattle.control_flow.specs.Loop.{loop}
+use Rattle.matrix_inverse.specs.control_flow.Loop.{loop}
 use Rattle.matrix_inverse.specs.declared.InverseAnswer.{InverseAnswer}
 use Rattle.matrix_inverse.specs.Inverse.{Matrix4x4-inverse}
 use Rattle.polar_round.specs.PolarRound.{linear_part, mean, distance}

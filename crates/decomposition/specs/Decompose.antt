@@ -2,7 +2,7 @@
 -- A refusal stands beside them: 4 or 5 of an inverse, 5 where a polar round's matrix, the quaternion or the scale holds a value that isn't
 -- finite, in working order; after it every number is +0. Definitions only.
 use Rattle.std.specs.Prelude.{ℕ, Bool, true, false, ◌&&◌, cond, eqb}
-use Rattle.float32.specs.Operators.{one}
+use Rattle.matrix4x4.specs.float32.Operators.{one}
 use Rattle.vector3.specs.declared.Vector3f.{Vector3f}
 use Rattle.matrix4x4.specs.Rows.{Rows, at, tabulate, positive_zero, Matrix4x4-from_rows, Matrix4x4-zero}
 use Rattle.matrix4x4.specs.Mul.{Matrix4x4-mul}

@@ -6,7 +6,7 @@ use Rattle.std.specs.Float.Ieee.{of_bits, le}
 use Rattle.matrix4x4.specs.Rows.{Rows}
 use Rattle.matrix4x4.specs.Transpose.{Matrix4x4-transpose}
 use Rattle.matrix4x4.specs.IsFinite.{Matrix4x4-is_finite}
-use Rattle.control_flow.specs.Loop.{loop}
+use Rattle.matrix_inverse.specs.control_flow.Loop.{loop}
 use Rattle.polar_round.specs.PolarRound.{linear_part, mean, distance}
 use Rattle.matrix_inverse.specs.Inverse.{Matrix4x4-inverse}
 

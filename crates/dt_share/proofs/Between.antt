@@ -2,8 +2,8 @@
 use lib.Dec.{T}
 use lib.Ieee.{Float, binary32, add, round, of_bits, fits}
 use lib.Ieee.Scale.{finite}
-use Rattle.rounding.proofs.Order.{between-finite}
-use Rattle.rounding.proofs.Arithmetic.{add-mono}
+use Rattle.float32.proofs.rounding.Order.{between-finite}
+use Rattle.float32.proofs.rounding.Arithmetic.{add-mono}
 use Rattle.float32.specs.Operators.{◌⊕◌, positive_zero, one}
 use Rattle.float32.proofs.Constants.{zero-finite, one-finite}
 use Rattle.midpoint.proofs.Midpoint.{midpoint-between}

@@ -8,9 +8,9 @@ use lib.Ieee.{Float, nan, inf, fin, binary32, fits, lt, le, eq, neg, add, sub, d
 use lib.Ieee.Fits.{div-fits}
 use lib.Ieee.Scale.{finite}
 use lib.Ieee.Positive.{positive}
-use Rattle.rounding.specs.Order.{◌≼◌, Number}
-use Rattle.rounding.proofs.Order.{≼_refl, number-left, number-right, finite_number, below-infinity}
-use Rattle.rounding.proofs.Arithmetic.{sub-mono, div_mono}
+use Rattle.float32.specs.rounding.Order.{◌≼◌, Number}
+use Rattle.float32.proofs.rounding.Order.{≼_refl, number-left, number-right, finite_number, below-infinity}
+use Rattle.float32.proofs.rounding.Arithmetic.{sub-mono, div_mono}
 use Rattle.float32.specs.Operators.{◌⊖◌, ◌⊘◌}
 use Rattle.interval.specs.Contains.{Contains}
 use Rattle.unit_interval.specs.Unit.{dt}

@@ -4,8 +4,8 @@ use mathlib.Core.Bool.{Bool, true, false, not, cond}
 use lib.Dec.{T}
 use lib.Ieee.{Float, binary32, fits, lt, le, of_bits}
 use lib.Ieee.Fits.{cond-fits}
-use Rattle.rounding.specs.Order.{◌≼◌, Number}
-use Rattle.rounding.proofs.Order.{≼_refl, ≼_trans, number-left, number-right, lt-≼, not-lt-≼}
+use Rattle.float32.specs.rounding.Order.{◌≼◌, Number}
+use Rattle.float32.proofs.rounding.Order.{≼_refl, ≼_trans, number-left, number-right, lt-≼, not-lt-≼}
 use Rattle.float32.specs.Operators.{positive_zero, one}
 use Rattle.float32.specs.Clamp.{clamp}
 use Rattle.float32.proofs.Constants.{zero-refl}

@@ -8,7 +8,7 @@ use Prim.Native.Nat.{ℕ, zero, suc, ◌+◌}
 use native.Mathlib.Omega.{arith}
 use lib.Ieee.{Float, binary32}
 use lib.Ieee.Fits.{mul-fits}
-use Rattle.rounding.proofs.Order.{≼_refl, ≼-total, number-left, number-right}
+use Rattle.float32.proofs.rounding.Order.{≼_refl, ≼-total, number-left, number-right}
 use Rattle.float32.specs.Operators.{◌⊕◌, half}
 use Rattle.interval.specs.declared.Interval.{Interval}
 use Rattle.interval.specs.Interval.{Interval-midpoint}

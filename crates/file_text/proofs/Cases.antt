@@ -5,15 +5,15 @@ use mathlib.Core.Path.{◌≡◌, refl, ap, ◌∙◌}
 use mathlib.Core.Bool.{false}
 use mathlib.Core.List.{List, [], ◌∷◌, map}
 use lib.Ieee.{Float, binary32, of_bits, to_bits}
-use Rattle.hexadecimal.specs.Digit.{digit_value}
-use Rattle.hexadecimal.specs.Word.{digits, digits_only, number}
-use Rattle.animated_transform.specs.New.{AnimatedTransform-new}
-use Rattle.lent_arrays.specs.Arrays.{Pose-of_list}
-use Rattle.motion_chain.specs.Chain.{Chain, built, Chain-new}
-use Rattle.motion_chain.specs.means.Computing as chain
-use Rattle.chain_poses.specs.Poses.{Poses-of_lists}
-use Rattle.motion_file.specs.Text.{ascii, split, single_spaced, equal}
-use Rattle.motion_file.specs.Layout.{all_values, fits, values_of, conforms, keeps_columns, has_pads, keeps_layout, pose_of, MoveFile-read, MoveFile-poses}
+use Rattle.motion_text.specs.hexadecimal.Digit.{digit_value}
+use Rattle.motion_text.specs.hexadecimal.Word.{digits, digits_only, number}
+use Rattle.built_poses.specs.animated_transform.New.{AnimatedTransform-new}
+use Rattle.built_poses.specs.lent_arrays.Arrays.{Pose-of_list}
+use Rattle.built_poses.specs.motion_chain.Chain.{Chain, built, Chain-new}
+use Rattle.built_poses.specs.motion_chain.means.Computing as chain
+use Rattle.built_poses.specs.chain_poses.Poses.{Poses-of_lists}
+use Rattle.motion_text.specs.motion_file.Text.{ascii, split, single_spaced, equal}
+use Rattle.motion_text.specs.motion_file.Layout.{all_values, fits, values_of, conforms, keeps_columns, has_pads, keeps_layout, pose_of, MoveFile-read, MoveFile-poses}
 use Rattle.motion_text.specs.Answer.{line, bounds_text}
 use Rattle.file_text.specs.Text.{lines_text, file_text, MoveFile-text, MoveFile-written}
 use Rattle.file_text.specs.Theorem.{MoveFile-Accepted}

@@ -7,14 +7,14 @@ use mathlib.Core.List.{List, [], ◌∷◌, ◌++◌, map}
 use lib.ListN.{length, get_or, take, length-append, length-map}
 use lib.Seq.{length-take-le}
 use lib.Ieee.{Float, binary32, of_bits}
-use Rattle.bounds3.specs.declared.Bounds3f.{Bounds3f}
-use Rattle.bounds3.specs.List.{Bounds3f-list}
-use Rattle.motion_chain.specs.Chain.{Chain}
-use Rattle.motion_chain.specs.Built.{Each}
+use Rattle.motion_text.specs.bounds3.declared.Bounds3f.{Bounds3f}
+use Rattle.motion_text.specs.bounds3.List.{Bounds3f-list}
+use Rattle.built_poses.specs.motion_chain.Chain.{Chain}
+use Rattle.built_poses.specs.motion_chain.Built.{Each}
 use Rattle.built_poses.specs.Poses.{places_per_pose, Chain-poses, Poses-lists}
 use Rattle.built_poses.proofs.Lists.{poses-count}
-use Rattle.motion_file.specs.Text.{ascii, line_feed}
-use Rattle.motion_file.specs.Layout.{padded_names}
+use Rattle.motion_text.specs.motion_file.Text.{ascii, line_feed}
+use Rattle.motion_text.specs.motion_file.Layout.{padded_names}
 use Rattle.motion_text.specs.Answer.{bounds_text}
 use Rattle.motion_text.proofs.Written.{length-values, length-bounds}
 use Rattle.file_text.specs.Text.{values_text, lines_text, file_text, pose_columns, pose_values, MoveFile-text, Chain-text}

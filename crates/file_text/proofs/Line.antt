@@ -13,13 +13,13 @@ use lib.Ieee.{Float, binary32, to_bits}
 use lib.Ieee as ieee
 use lib.Ieee.Bits.{of_bits-to_bits, to_bits-lt}
 use lib.Ieee.Fits.{and_l, and_r}
-use Rattle.hexadecimal.specs.Digit.{position, digit_value}
-use Rattle.hexadecimal.specs.Word.{digits_only, digits}
-use Rattle.hexadecimal.proofs.Words.{length_digits}
-use Rattle.hexadecimal.proofs.Inverse.{digits-only, number_digits}
-use Rattle.motion_chain.specs.Chain.{every}
-use Rattle.motion_file.specs.Text.{line_feed, space, starts_with, split, single_spaced}
-use Rattle.motion_file.specs.Layout.{values, words, value_of, all_values, fits, values_of}
+use Rattle.motion_text.specs.hexadecimal.Digit.{position, digit_value}
+use Rattle.motion_text.specs.hexadecimal.Word.{digits_only, digits}
+use Rattle.motion_text.proofs.hexadecimal.Words.{length_digits}
+use Rattle.motion_text.proofs.hexadecimal.Inverse.{digits-only, number_digits}
+use Rattle.built_poses.specs.motion_chain.Chain.{every}
+use Rattle.motion_text.specs.motion_file.Text.{line_feed, space, starts_with, split, single_spaced}
+use Rattle.motion_text.specs.motion_file.Layout.{values, words, value_of, all_values, fits, values_of}
 use Rattle.motion_text.specs.Answer.{line, word_of}
 use Rattle.file_text.specs.Text.{values_text}
 

@@ -6,12 +6,12 @@ use mathlib.Core.List.{List, [], ◌∷◌, map}
 use Prim.Native.Nat.{ℕ}
 use lib.ListN.{replicate}
 use lib.Ieee.{Float, binary32, of_bits}
-use Rattle.hexadecimal.specs.Digit.{digit_value}
-use Rattle.hexadecimal.specs.Word.{digits_only, number}
-use Rattle.motion_file.specs.Text.{ascii, split, single_spaced, equal}
-use Rattle.motion_file.specs.Layout.{all_values, fits, values_of, conforms, keeps_columns, has_pads}
-use Rattle.motion_file.specs.Layout.{keeps_layout, pose_of, MoveFile-departs, MoveFile-read, MoveFile-poses}
-use Rattle.motion_file.specs.declared.MoveFile.{MoveFile}
+use Rattle.motion_text.specs.hexadecimal.Digit.{digit_value}
+use Rattle.motion_text.specs.hexadecimal.Word.{digits_only, number}
+use Rattle.motion_text.specs.motion_file.Text.{ascii, split, single_spaced, equal}
+use Rattle.motion_text.specs.motion_file.Layout.{all_values, fits, values_of, conforms, keeps_columns, has_pads}
+use Rattle.motion_text.specs.motion_file.Layout.{keeps_layout, pose_of, MoveFile-departs, MoveFile-read, MoveFile-poses}
+use Rattle.motion_text.specs.motion_file.declared.MoveFile.{MoveFile}
 
 -- a line of names, a pose that leaves everything in its place at time 0 and at time 1, a box from 1 2 3 to 4 5 6
 abbrev pose_names : String

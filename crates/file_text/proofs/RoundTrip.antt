@@ -11,9 +11,9 @@ use lib.Dec.{eqb}
 use lib.ListN.{length, get_or, drop, replicate, length-map, length-append}
 use lib.Seq.{take_at, get_or-append-add}
 use lib.Ieee.{Float}
-use Rattle.motion_chain.specs.Built.{Each}
-use Rattle.motion_file.specs.Text.{ascii, line_feed, on_first, split, single_spaced, equal}
-use Rattle.motion_file.specs.Layout.{Line, names, values, bounds_names, layout, conforms, fits, values_of}
+use Rattle.built_poses.specs.motion_chain.Built.{Each}
+use Rattle.motion_text.specs.motion_file.Text.{ascii, line_feed, on_first, split, single_spaced, equal}
+use Rattle.motion_text.specs.motion_file.Layout.{Line, names, values, bounds_names, layout, conforms, fits, values_of}
 use Rattle.motion_text.specs.Answer.{bounds_text}
 use Rattle.file_text.specs.Text.{values_text, lines_text, file_text}
 use Rattle.file_text.specs.RoundTrip.{Floats, NamesLine, TextHolds, RoundTrip}

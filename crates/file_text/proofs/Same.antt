@@ -14,19 +14,19 @@ use lib.Ieee.{Float, binary32, of_bits}
 use lib.Ieee as ieee
 use lib.Ieee.Bits.{of_bits-fits}
 use lib.Ieee.Fits.{and_i}
-use Rattle.hexadecimal.specs.Word.{number}
-use Rattle.bounds3.specs.List.{Bounds3f-list, Bounds3f-of_list}
-use Rattle.matrix4x4.specs.IsAffine.{bottom_row}
-use Rattle.motion_chain.specs.Chain.{every, Chain}
-use Rattle.motion_chain.specs.Built.{Each}
+use Rattle.motion_text.specs.hexadecimal.Word.{number}
+use Rattle.motion_text.specs.bounds3.List.{Bounds3f-list, Bounds3f-of_list}
+use Rattle.motion_text.specs.matrix4x4.IsAffine.{bottom_row}
+use Rattle.built_poses.specs.motion_chain.Chain.{every, Chain}
+use Rattle.built_poses.specs.motion_chain.Built.{Each}
 use Rattle.built_poses.specs.Poses.{places_per_pose}
 use Rattle.built_poses.proofs.Lists.{entries-all, built-lists}
-use Rattle.motion_file.specs.Text.{line_feed, split}
-use Rattle.motion_file.specs.declared.MoveFile.{MoveFile}
-use Rattle.motion_file.specs.Layout.{names, values, pose_names, padded_names, bounds_names, layout, words, value_of, all_values, fits, values_of, conforms, max_bytes}
-use Rattle.motion_file.specs.Layout.{pose_lines, keeps_columns, has_pads, keeps_layout, MoveFile-departs}
-use Rattle.motion_file.specs.Layout.{MoveFile-contents, pose_of_values, pose_of, MoveFile-read, MoveFile-poses}
-use Rattle.motion_file.proofs.Shapes.{Shaped, AllShaped, poses-shaped}
+use Rattle.motion_text.specs.motion_file.Text.{line_feed, split}
+use Rattle.motion_text.specs.motion_file.declared.MoveFile.{MoveFile}
+use Rattle.motion_text.specs.motion_file.Layout.{names, values, pose_names, padded_names, bounds_names, layout, words, value_of, all_values, fits, values_of, conforms, max_bytes}
+use Rattle.motion_text.specs.motion_file.Layout.{pose_lines, keeps_columns, has_pads, keeps_layout, MoveFile-departs}
+use Rattle.motion_text.specs.motion_file.Layout.{MoveFile-contents, pose_of_values, pose_of, MoveFile-read, MoveFile-poses}
+use Rattle.motion_text.proofs.motion_file.Shapes.{Shaped, AllShaped, poses-shaped}
 use Rattle.file_text.specs.Text.{pose_columns, pose_values, Chain-text, MoveFile-written}
 use Rattle.file_text.specs.RoundTrip.{Floats, TextHolds}
 use Rattle.file_text.specs.Theorem.{with_bottom_row, max_padded_lines, ReadsAs, HoldSame, WrittenRead, SameWritten, AcceptedWritten, SameBits}

@@ -13,19 +13,19 @@ use lib.Ieee.{Float, binary32, of_bits}
 use lib.Ieee as ieee
 use lib.Ieee.Bits.{of_bits-fits}
 use lib.Ieee.Fits.{and_l, and_r, and_i}
-use Rattle.bounds3.specs.declared.Bounds3f.{Bounds3f}
-use Rattle.bounds3.specs.List.{Bounds3f-list}
-use Rattle.motion_chain.specs.Chain.{every, Chain, built, Chain-new}
-use Rattle.motion_chain.specs.Built.{Each}
-use Rattle.motion_chain.proofs.Built.{checks-passed, new-built}
-use Rattle.lent_arrays.specs.Arrays.{Pose-of_list}
-use Rattle.chain_poses.specs.Poses.{Poses-of_lists}
+use Rattle.motion_text.specs.bounds3.declared.Bounds3f.{Bounds3f}
+use Rattle.motion_text.specs.bounds3.List.{Bounds3f-list}
+use Rattle.built_poses.specs.motion_chain.Chain.{every, Chain, built, Chain-new}
+use Rattle.built_poses.specs.motion_chain.Built.{Each}
+use Rattle.built_poses.proofs.motion_chain.Built.{checks-passed, new-built}
+use Rattle.built_poses.specs.lent_arrays.Arrays.{Pose-of_list}
+use Rattle.built_poses.specs.chain_poses.Poses.{Poses-of_lists}
 use Rattle.built_poses.specs.Poses.{places_per_pose, Chain-poses, Poses-lists}
 use Rattle.built_poses.proofs.Lists.{built-lists, poses-count}
-use Rattle.motion_file.specs.Text.{ascii, line_feed, split, single_spaced}
-use Rattle.motion_file.specs.Layout.{names, values, padded_names, bounds_names, layout, conforms, fits, max_bytes}
-use Rattle.motion_file.specs.Layout.{keeps_columns, has_pads, keeps_layout, values_of, pose_of_values, pose_of}
-use Rattle.motion_file.specs.Layout.{MoveFile-read, MoveFile-poses}
+use Rattle.motion_text.specs.motion_file.Text.{ascii, line_feed, split, single_spaced}
+use Rattle.motion_text.specs.motion_file.Layout.{names, values, padded_names, bounds_names, layout, conforms, fits, max_bytes}
+use Rattle.motion_text.specs.motion_file.Layout.{keeps_columns, has_pads, keeps_layout, values_of, pose_of_values, pose_of}
+use Rattle.motion_text.specs.motion_file.Layout.{MoveFile-read, MoveFile-poses}
 use Rattle.file_text.specs.Text.{pose_columns, pose_values, file_text, MoveFile-text, Chain-text}
 use Rattle.file_text.specs.RoundTrip.{Floats, NamesLine, TextHolds}
 use Rattle.file_text.specs.Theorem.{with_bottom_row, max_padded_lines, ReadsAs, ReadWritten, ChainReadWritten, BuiltReadWritten}

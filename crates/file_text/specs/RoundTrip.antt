@@ -3,10 +3,10 @@
 use Rattle.std.specs.Prelude.{ℕ, ◌+◌, ◌*◌, ◌<◌, ◌≡◌, true, List, [], ◌∷◌, map, T, length, get_or, take, drop, Float}
 use Rattle.std.specs.Float.{binary32}
 use Rattle.std.specs.Float.Ieee.{fits}
-use Rattle.motion_chain.specs.Chain.{every}
-use Rattle.motion_chain.specs.Built.{Each}
-use Rattle.motion_file.specs.Text.{line_feed, split, single_spaced}
-use Rattle.motion_file.specs.Layout.{layout, conforms, pose_lines, values_of}
+use Rattle.built_poses.specs.motion_chain.Chain.{every}
+use Rattle.built_poses.specs.motion_chain.Built.{Each}
+use Rattle.motion_text.specs.motion_file.Text.{line_feed, split, single_spaced}
+use Rattle.motion_text.specs.motion_file.Layout.{layout, conforms, pose_lines, values_of}
 use Rattle.file_text.specs.Text.{file_text}
 
 -- so many 32-bit floats

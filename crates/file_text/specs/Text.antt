@@ -4,12 +4,12 @@
 use Rattle.std.specs.Prelude.{ℕ, List, [], ◌∷◌, ◌++◌, map, get_or, take, Float}
 use Rattle.std.specs.Float.{binary32}
 use Rattle.std.specs.Float.Ieee.{of_bits}
-use Rattle.bounds3.specs.declared.Bounds3f.{Bounds3f}
-use Rattle.bounds3.specs.List.{Bounds3f-list}
-use Rattle.motion_chain.specs.Chain.{Chain}
+use Rattle.motion_text.specs.bounds3.declared.Bounds3f.{Bounds3f}
+use Rattle.motion_text.specs.bounds3.List.{Bounds3f-list}
+use Rattle.built_poses.specs.motion_chain.Chain.{Chain}
 use Rattle.built_poses.specs.Poses.{Chain-poses, Poses-lists}
-use Rattle.motion_file.specs.Text.{line_feed}
-use Rattle.motion_file.specs.Layout.{padded_names, MoveFile-read, MoveFile-poses}
+use Rattle.motion_text.specs.motion_file.Text.{line_feed}
+use Rattle.motion_text.specs.motion_file.Layout.{padded_names, MoveFile-read, MoveFile-poses}
 use Rattle.motion_text.specs.Answer.{line, word_of, bounds_text}
 
 -- a line of values: "lower-case digits, single spaces, line feeds, no space at a line's end"

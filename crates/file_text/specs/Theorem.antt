@@ -6,15 +6,15 @@
 use Rattle.std.specs.Prelude.{ℕ, ◌+◌, ◌*◌, ◌≤◌, ◌<◌, ◌≡◌, ◌↔◌, Bool, false, List, [], ◌∷◌, ◌++◌, map, length, get_or, take, Float}
 use Rattle.std.specs.Float.{binary32}
 use Rattle.std.specs.Float.Ieee.{of_bits}
-use Rattle.bounds3.specs.declared.Bounds3f.{Bounds3f}
-use Rattle.bounds3.specs.List.{Bounds3f-list}
-use Rattle.matrix4x4.specs.IsAffine.{bottom_row}
-use Rattle.bounds_query.specs.Query.{Bounds3f-refusal}
-use Rattle.motion_chain.specs.Chain.{Chain, Chain-moves, built, Chain-new}
-use Rattle.motion_chain.specs.Built.{Each}
-use Rattle.chain_poses.specs.Poses.{Poses-of_lists}
+use Rattle.motion_text.specs.bounds3.declared.Bounds3f.{Bounds3f}
+use Rattle.motion_text.specs.bounds3.List.{Bounds3f-list}
+use Rattle.motion_text.specs.matrix4x4.IsAffine.{bottom_row}
+use Rattle.built_poses.specs.bounds_query.Query.{Bounds3f-refusal}
+use Rattle.built_poses.specs.motion_chain.Chain.{Chain, Chain-moves, built, Chain-new}
+use Rattle.built_poses.specs.motion_chain.Built.{Each}
+use Rattle.built_poses.specs.chain_poses.Poses.{Poses-of_lists}
 use Rattle.built_poses.specs.Poses.{Chain-poses, places_per_pose, Poses-lists}
-use Rattle.motion_file.specs.Layout.{MoveFile-read, MoveFile-box, MoveFile-poses}
+use Rattle.motion_text.specs.motion_file.Layout.{MoveFile-read, MoveFile-box, MoveFile-poses}
 use Rattle.file_text.specs.Text.{pose_columns, pose_values, MoveFile-text, Chain-text, MoveFile-written}
 use Rattle.file_text.specs.RoundTrip.{Floats}
 

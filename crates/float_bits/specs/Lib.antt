@@ -1,1 +1,2 @@
 pub mod Decode
+pub use Rattle.rounding.specs as rounding

@@ -5,8 +5,8 @@ use mathlib.Core.Path.{◌≡◌, sym, ap, ◌∙◌}
 use Prim.Native.Nat.{ℕ}
 use mathlib.Core.List.{List, [], ◌∷◌, ◌++◌}
 use lib.ListN.{length, get_or}
-use Rattle.refusal.specs.First.{first_refusal}
-use Rattle.refusal.proofs.First.{first-zero, first-stands, first-right, first-assoc}
+use Rattle.interval.specs.refusal.First.{first_refusal}
+use Rattle.interval.proofs.refusal.First.{first-zero, first-stands, first-right, first-assoc}
 use Rattle.interval.specs.declared.Interval.{Interval}
 use Rattle.interval.specs.declared.Judged.{Judged}
 use Rattle.interval.specs.Interval.{Interval-point}

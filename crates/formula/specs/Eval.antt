@@ -3,8 +3,8 @@
 use Rattle.std.specs.Prelude.{List, [], ◌∷◌, ◌++◌, length, get_or, Float}
 use Rattle.std.specs.Float.{nan, binary32}
 use Rattle.std.specs.Float.Ieee.{add, sub, mul, div}
-use Rattle.square_root.specs.SquareRoot
-use Rattle.trig.specs.SinCos
+use Rattle.interval.specs.square_root.SquareRoot
+use Rattle.interval.specs.trig.SinCos
 use Rattle.formula.specs.Program.{Binary, sum, difference, product, quotient, Unary, root, sine}
 use Rattle.formula.specs.Program.{cosine, Expr, var, con, binary, unary, Program, ◌>>=◌, give}
 

@@ -2,16 +2,16 @@
 use mathlib.Core.Path.{◌≡◌, sym, subst}
 use lib.Ieee.{Float}
 use lib.Ieee.Scale.{finite}
-use Rattle.float32.specs.Operators.{◌⊗◌}
-use Rattle.interval.specs.declared.Interval.{Interval}
-use Rattle.interval.specs.Contains.{Finite}
-use Rattle.interval.specs.Interval.{Interval-point}
-use Rattle.interval.specs.Enclosure.{Interval-add_enclosure, Interval-sub_enclosure, Interval-mul_enclosure, Interval-div_enclosure, Interval-sqrt_enclosure}
-use Rattle.interval.proofs.Extends.{mul-number}
-use Rattle.interval.proofs.Points.{add-point, sub-point, mul-point, div-point, sqrt-point}
-use Rattle.interval_unjudged.specs.means.Ordered.{Interval-mul_ordered, Interval-div_ordered}
-use Rattle.interval_unjudged.specs.means.Unjudged.{Positive}
-use Rattle.interval_unjudged.proofs.Ordered.{mul-ordered, div-ordered}
+use Rattle.alike.specs.float32.Operators.{◌⊗◌}
+use Rattle.alike.specs.interval.declared.Interval.{Interval}
+use Rattle.alike.specs.interval.Contains.{Finite}
+use Rattle.alike.specs.interval.Interval.{Interval-point}
+use Rattle.alike.specs.interval.Enclosure.{Interval-add_enclosure, Interval-sub_enclosure, Interval-mul_enclosure, Interval-div_enclosure, Interval-sqrt_enclosure}
+use Rattle.alike.proofs.interval.Extends.{mul-number}
+use Rattle.alike.proofs.interval.Points.{add-point, sub-point, mul-point, div-point, sqrt-point}
+use Rattle.alike.specs.interval_unjudged.means.Ordered.{Interval-mul_ordered, Interval-div_ordered}
+use Rattle.alike.specs.interval_unjudged.means.Unjudged.{Positive}
+use Rattle.alike.proofs.interval_unjudged.Ordered.{mul-ordered, div-ordered}
 use Rattle.alike.specs.means.Alike.{Interval-Alike, Interval-Proper}
 use Rattle.alike.proofs.Intervals.{interval-self, interval-trans, interval-finite, interval-positive, add-alike, sub_alike, mul-alike, div-alike, sqrt-alike}
 use Rattle.alike.proofs.Constant.{ordered-finite, ordered-both, mul-span, mul-rising}

@@ -9,24 +9,24 @@ use lib.Dec.{T, ltb, ltb→lt}
 use lib.Ieee.{Float, nan, binary32, le, fits}
 use lib.Ieee.Fits.{and_l, and_r}
 use lib.Ieee.Scale.{finite}
-use Rattle.refusal.specs.First.{first_refusal}
-use Rattle.refusal.proofs.First.{first-zero}
-use Rattle.rounding.proofs.Order.{above-positive}
-use Rattle.float32.specs.Operators.{positive_zero, one}
-use Rattle.interval.specs.declared.Interval.{Interval}
-use Rattle.interval.specs.Contains.{Finite}
-use Rattle.interval.specs.Interval.{Interval-point}
-use Rattle.interval.specs.Enclosure.{Interval-add_enclosure, Interval-sub_enclosure, Interval-mul_enclosure, Interval-div_enclosure, Interval-sqrt_enclosure}
-use Rattle.interval.specs.Enclosure.{not_finite, not_positive, Judged-judge, Judged-add_enclosure, Judged-sub_enclosure, Judged-mul_enclosure}
-use Rattle.interval.specs.Enclosure.{Judged-div_enclosure, Judged-sqrt_enclosure, Judged-sin_enclosure, Judged-cos_enclosure}
-use Rattle.interval.proofs.Refusal.{accepted-finite, judged-positive}
-use Rattle.formula.specs.Program.{Binary, sum, difference, product, quotient, Unary, root, sine, cosine, Expr, var, con, binary, unary, Program, ◌>>=◌, give}
-use Rattle.formula.specs.Enclose.{Binary-enclose, Unary-enclose, unbound, Expr-enclose, enclosure, Expr-enclose_all, extend, Program-enclose}
-use Rattle.formula.specs.Promise.{Pairwise}
-use Rattle.formula.proofs.Pairwise.{pairwise-length, pairwise-get_d, pairwise_append}
-use Rattle.formula.proofs.Carries.{binary-zero, unary-zero, expr-zero, all-zero, program-zero}
-use Rattle.interval_unjudged.specs.means.Unjudged.{All, Positive}
-use Rattle.interval_unjudged.proofs.Unjudged.{all_left, all_right}
+use Rattle.alike.specs.refusal.First.{first_refusal}
+use Rattle.alike.proofs.refusal.First.{first-zero}
+use Rattle.alike.proofs.rounding.Order.{above-positive}
+use Rattle.alike.specs.float32.Operators.{positive_zero, one}
+use Rattle.alike.specs.interval.declared.Interval.{Interval}
+use Rattle.alike.specs.interval.Contains.{Finite}
+use Rattle.alike.specs.interval.Interval.{Interval-point}
+use Rattle.alike.specs.interval.Enclosure.{Interval-add_enclosure, Interval-sub_enclosure, Interval-mul_enclosure, Interval-div_enclosure, Interval-sqrt_enclosure}
+use Rattle.alike.specs.interval.Enclosure.{not_finite, not_positive, Judged-judge, Judged-add_enclosure, Judged-sub_enclosure, Judged-mul_enclosure}
+use Rattle.alike.specs.interval.Enclosure.{Judged-div_enclosure, Judged-sqrt_enclosure, Judged-sin_enclosure, Judged-cos_enclosure}
+use Rattle.alike.proofs.interval.Refusal.{accepted-finite, judged-positive}
+use Rattle.alike.specs.formula.Program.{Binary, sum, difference, product, quotient, Unary, root, sine, cosine, Expr, var, con, binary, unary, Program, ◌>>=◌, give}
+use Rattle.alike.specs.formula.Enclose.{Binary-enclose, Unary-enclose, unbound, Expr-enclose, enclosure, Expr-enclose_all, extend, Program-enclose}
+use Rattle.alike.specs.formula.Promise.{Pairwise}
+use Rattle.alike.proofs.formula.Pairwise.{pairwise-length, pairwise-get_d, pairwise_append}
+use Rattle.alike.proofs.formula.Carries.{binary-zero, unary-zero, expr-zero, all-zero, program-zero}
+use Rattle.alike.specs.interval_unjudged.means.Unjudged.{All, Positive}
+use Rattle.alike.proofs.interval_unjudged.Unjudged.{all_left, all_right}
 use Rattle.alike.specs.means.Alike.{Interval-Alike, Interval-Proper}
 use Rattle.alike.proofs.Intervals.{interval-self, point-alike}
 use Rattle.alike.proofs.Proper.{point-proper}

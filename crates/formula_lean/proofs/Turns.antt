@@ -4,21 +4,21 @@ use lib.Dec.{T}
 use lib.Ieee.{Float, binary32, of_bits, le, neg}
 use lib.Ieee.Fits.{and_i, and_l, and_r}
 use lib.Ieee.Scale.{finite}
-use Rattle.rounding.specs.Order.{◌≼◌}
-use Rattle.rounding.proofs.Corners.{Bounds}
-use Rattle.rounding.proofs.Order.{≼_refl, ≼_trans, finite_number, number-left, between-finite}
-use Rattle.float32.specs.Operators.{one}
-use Rattle.float32.proofs.Constants.{one-finite}
-use Rattle.trig.specs.SinCos.{sin, cos}
-use Rattle.trig.specs.Range.{Angle, full_turn_float}
-use Rattle.trig.proofs.Range as Range
-use Rattle.interval.specs.declared.Interval.{Interval}
-use Rattle.interval.specs.Contains.{Finite}
-use Rattle.interval.specs.Interval.{Interval-new, Interval-point}
-use Rattle.interval.specs.Enclosure.{Interval-sin_enclosure, Interval-cos_enclosure}
-use Rattle.interval.specs.Extension.{Angles}
-use Rattle.interval.proofs.Points.{point-angle, sin-point, cos-point}
-use Rattle.trig.proofs.Monotone.{angle-finite, sin-unit, cos-unit, angle-near}
+use Rattle.alike.specs.rounding.Order.{◌≼◌}
+use Rattle.alike.proofs.rounding.Corners.{Bounds}
+use Rattle.alike.proofs.rounding.Order.{≼_refl, ≼_trans, finite_number, number-left, between-finite}
+use Rattle.alike.specs.float32.Operators.{one}
+use Rattle.alike.proofs.float32.Constants.{one-finite}
+use Rattle.alike.specs.trig.SinCos.{sin, cos}
+use Rattle.alike.specs.trig.Range.{Angle, full_turn_float}
+use Rattle.alike.proofs.trig.Range as Range
+use Rattle.alike.specs.interval.declared.Interval.{Interval}
+use Rattle.alike.specs.interval.Contains.{Finite}
+use Rattle.alike.specs.interval.Interval.{Interval-new, Interval-point}
+use Rattle.alike.specs.interval.Enclosure.{Interval-sin_enclosure, Interval-cos_enclosure}
+use Rattle.alike.specs.interval.Extension.{Angles}
+use Rattle.alike.proofs.interval.Points.{point-angle, sin-point, cos-point}
+use Rattle.alike.proofs.trig.Monotone.{angle-finite, sin-unit, cos-unit, angle-near}
 use Rattle.alike.specs.means.Alike.{Interval-Alike, Interval-new_ordered}
 use Rattle.alike.specs.means.Angles.{QuarterAngles}
 use Rattle.alike.proofs.Equivalence.{alike-≼}

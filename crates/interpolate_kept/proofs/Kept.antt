@@ -7,21 +7,21 @@ use native.Mathlib.Omega.{arith}
 use lib.Dec.{T, eqb}
 use lib.ListN.{length, get_or}
 use lib.Ieee.{Float, is_nan}
-use Rattle.matrix4x4.specs.Rows.{Rows}
-use Rattle.bounds3.specs.declared.Point3f.{Point3f}
-use Rattle.bounds3.specs.Finite.{Point3f-is_finite, Finite}
-use Rattle.bounds3.proofs.Finite.{finite-test}
+use Rattle.transform.specs.matrix4x4.Rows.{Rows}
+use Rattle.transform.specs.bounds3.declared.Point3f.{Point3f}
+use Rattle.transform.specs.bounds3.Finite.{Point3f-is_finite, Finite}
+use Rattle.transform.proofs.bounds3.Finite.{finite-test}
 use Rattle.transform.specs.declared.Transform.{Transform}
 use Rattle.transform.specs.declared.TransformAnswer.{TransformAnswer}
 use Rattle.transform.specs.declared.PointAnswer.{PointAnswer}
 use Rattle.transform.specs.declared.PointAnswer.TheVariants.{Refused}
 use Rattle.transform.specs.Transform.{TransformAnswer-refused}
 use Rattle.transform.specs.TransformPoint.{Transform-transform_point}
-use Rattle.unit_interval.specs.Unit.{dt}
-use Rattle.pose_steps.specs.declared.PoseConstants.{PoseConstants}
-use Rattle.animated_transform.specs.declared.AnimatedTransform.{AnimatedTransform}
-use Rattle.animated_transform.specs.AtTime.{at_start, at_end}
-use Rattle.motion_point.specs.TransformPoint.{AnimatedTransform-constants, AnimatedTransform-moved_point}
+use Rattle.pose_slerp.specs.unit_interval.Unit.{dt}
+use Rattle.pose_slerp.specs.pose_steps.declared.PoseConstants.{PoseConstants}
+use Rattle.interpolation.specs.animated_transform.declared.AnimatedTransform.{AnimatedTransform}
+use Rattle.interpolation.specs.animated_transform.AtTime.{at_start, at_end}
+use Rattle.motion_rows.specs.motion_point.TransformPoint.{AnimatedTransform-constants, AnimatedTransform-moved_point}
 use Rattle.interpolation.specs.Interpolate.{Transform-is_finite, TransformAnswer-accepted, TransformAnswer-judged, AnimatedTransform-pose_at, Pose-transform, AnimatedTransform-interpolate_by}
 use Rattle.interpolation.specs.Interpolate.{AnimatedTransform-interpolate}
 use Rattle.interpolation.specs.Promise.{InterpolationNumber}
@@ -30,8 +30,8 @@ use Rattle.interpolation.proofs.Pose.{transform-same, transform-point}
 use Rattle.motion_rows.specs.Rows.{AnimatedTransform-to_rows, AnimatedTransform-from_rows, PoseConstants-from_rows}
 use Rattle.motion_rows.specs.TransformPoint.{Rows-transform_point}
 use Rattle.motion_rows.proofs.RoundTrip.{from-rows-inverse, constants-inverse}
-use Rattle.motion_chain.specs.Chain.{Chain, Chain-move_at}
-use Rattle.motion_chain.specs.MoveAt.{Chain-index_at}
+use Rattle.chain_rows.specs.motion_chain.Chain.{Chain, Chain-move_at}
+use Rattle.chain_rows.specs.motion_chain.MoveAt.{Chain-index_at}
 use Rattle.chain_rows.specs.Kept.{Chain-to_rows, Moves-chain, Moves-transform_point}
 use Rattle.chain_rows.proofs.Kept.{chain-inverse, not-empty, move-kept}
 use Rattle.interpolate_kept.specs.Kept.{Rows-interpolate, Chain-interpolate, Moves-interpolate}

@@ -2,13 +2,13 @@
 -- rows hold, as for the point query. Of the rows of a move it is `AnimatedTransform-interpolate` (`interpolate-kept`). That of a chain is its move's to which
 -- the time belongs: `Chain-interpolate`, and of any rows `Moves-interpolate`. Definitions only.
 use Rattle.std.specs.Prelude.{cond, List, [], eqb, length, get_or, Float}
-use Rattle.matrix4x4.specs.Rows.{Rows}
+use Rattle.transform.specs.matrix4x4.Rows.{Rows}
 use Rattle.transform.specs.declared.TransformAnswer.{TransformAnswer}
 use Rattle.transform.specs.Transform.{TransformAnswer-refused}
 use Rattle.interpolation.specs.Interpolate.{Pose-transform, AnimatedTransform-interpolate_by, AnimatedTransform-interpolate}
 use Rattle.motion_rows.specs.Rows.{AnimatedTransform-from_rows, PoseConstants-from_rows}
-use Rattle.motion_chain.specs.Chain.{Chain, Chain-move_at}
-use Rattle.motion_chain.specs.MoveAt.{Chain-index_at}
+use Rattle.chain_rows.specs.motion_chain.Chain.{Chain, Chain-move_at}
+use Rattle.chain_rows.specs.motion_chain.MoveAt.{Chain-index_at}
 use Rattle.chain_rows.specs.Kept.{Moves-chain}
 
 unfoldable pub Rows-interpolate : Rows → Float → TransformAnswer

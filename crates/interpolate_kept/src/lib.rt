@@ -5,7 +5,7 @@
 ghost use Rattle.std.specs.Prelude.{◌≡◌};
 ghost use Rattle.interpolation.specs.Interpolate.{Pose-transform};
 ghost use Rattle.motion_rows.specs.Rows.{AnimatedTransform-from_rows, PoseConstants-from_rows};
-ghost use Rattle.motion_chain.specs.Chain.{Chain};
+ghost use Rattle.chain_rows.specs.motion_chain.Chain.{Chain};
 ghost use Rattle.chain_rows.specs.Kept.{Chain-to_rows};
 ghost use Rattle.interpolate_kept.specs.Kept.{Rows-interpolate, Chain-interpolate, Moves-interpolate};
 ghost use Rattle.interpolate_kept.specs.Theorem.{MovesPoints};

@@ -13,7 +13,7 @@ use Rattle.matrix4x4.specs.Rows.{Row}
 use Rattle.transform.specs.declared.Transform.{Transform}
 use Rattle.transform.specs.declared.TransformAnswer.{TransformAnswer}
 use Rattle.transform.specs.Transform.{TransformAnswer-refused}
-use Rattle.coefficients.specs.Coefficients.{Coefficients-zero}
+use Rattle.animated_transform.specs.coefficients.Coefficients.{Coefficients-zero}
 use Rattle.animated_transform.specs.declared.AnimatedTransform.{AnimatedTransform}
 use Rattle.animated_transform.specs.New.{AnimatedTransform-new}
 use Rattle.interpolation.specs.Interpolate.{TransformAnswer-accepted, AnimatedTransform-interpolate}

@@ -18,7 +18,7 @@ use Rattle.transform.specs.declared.Transform.{Transform}
 use Rattle.transform.specs.declared.TransformAnswer.{TransformAnswer}
 use Rattle.transform.specs.Transform.{TransformAnswer-refused, Transform-from_matrix, Transform-translate, Transform-mul}
 use Rattle.rotation.specs.FromQuaternion.{Transform-from_quaternion}
-use Rattle.pose_steps.specs.Composition.{lerp_translation, lerp_scale_by}
+use Rattle.pose_parts.specs.pose_steps.Composition.{lerp_translation, lerp_scale_by}
 use Rattle.animated_transform.specs.declared.AnimatedTransform.{AnimatedTransform}
 use Rattle.interpolation.specs.Interpolate.{Transform-is_finite, TransformAnswer-accepted, TransformAnswer-judged}
 use Rattle.interpolation.specs.Interpolate.{scaled, composed, AnimatedTransform-pose_at, AnimatedTransform-interpolate}

@@ -7,7 +7,7 @@ use mathlib.Core.Logic.{◌⊎◌, inl, inr}
 use Prim.Native.Nat.{ℕ}
 use lib.Dec.{eqb}
 use lib.Ieee.{Float, is_nan}
-use Rattle.control_flow.proofs.Choice.{cond-keeps}
+use Rattle.transform.proofs.control_flow.Choice.{cond-keeps}
 use Rattle.matrix4x4.specs.declared.Matrix4x4.{Matrix4x4}
 use Rattle.matrix4x4.specs.Rows.{Rows, Matrix4x4-to_rows}
 use Rattle.matrix4x4.specs.IsFinite.{Matrix4x4-is_finite}
@@ -21,9 +21,9 @@ use Rattle.transform.specs.Transform.{TransformAnswer-refused, Transform-from_ma
 use Rattle.transform.proofs.FromMatrix.{from-matrix-numbers}
 use Rattle.rotation.specs.FromQuaternion.{Transform-from_quaternion}
 use Rattle.unit_interval.specs.Unit.{dt}
-use Rattle.pose_steps.specs.declared.PoseConstants.{PoseConstants}
-use Rattle.pose_steps.specs.Pose.{Pose-slerp}
-use Rattle.pose_steps.specs.Composition.{lerp_translation, lerp_scale_by}
+use Rattle.pose_parts.specs.pose_steps.declared.PoseConstants.{PoseConstants}
+use Rattle.pose_parts.specs.pose_steps.Pose.{Pose-slerp}
+use Rattle.pose_parts.specs.pose_steps.Composition.{lerp_translation, lerp_scale_by}
 use Rattle.animated_transform.specs.declared.AnimatedTransform.{AnimatedTransform}
 use Rattle.animated_transform.specs.AtTime.{at_start, at_end}
 use Rattle.interpolation.specs.Interpolate.{Transform-is_finite, TransformAnswer-accepted, TransformAnswer-judged}

@@ -9,8 +9,8 @@ use lib.Dec.{T, eqb}
 use lib.Ieee.{Float, nan, inf, fin, mul, unlike}
 use lib.Ieee.Fits.{and_l, and_r, and_i}
 use lib.Ieee.Scale.{finite}
-use Rattle.float32.specs.Operators.{◌⊕◌, ◌⊗◌, two}
-use Rattle.interval.proofs.Finite.{add-finite}
+use Rattle.matrix4x4.specs.float32.Operators.{◌⊕◌, ◌⊗◌, two}
+use Rattle.unit_interval.proofs.interval.Finite.{add-finite}
 use Rattle.matrix4x4.specs.Rows.{Row, Rows, row, col, at, all, Matrix4x4-to_rows}
 use Rattle.matrix4x4.specs.Transpose.{column, Matrix4x4-transpose}
 use Rattle.matrix4x4.specs.Mul.{dot4, Matrix4x4-mul}
@@ -23,7 +23,7 @@ use Rattle.transform.specs.declared.TransformAnswer.{TransformAnswer}
 use Rattle.transform.specs.Transform.{TransformAnswer-refused, Transform-from_matrix, Transform-translate, Transform-mul}
 use Rattle.transform.proofs.FromMatrix.{from-matrix-refusal, from-matrix-accepted}
 use Rattle.rotation.specs.FromQuaternion.{inverse_rotation, Transform-from_quaternion}
-use Rattle.pose_steps.proofs.Finite.{all-each}
+use Rattle.pose_parts.proofs.pose_steps.Finite.{all-each}
 use Rattle.interpolation.specs.Interpolate.{Transform-is_finite, TransformAnswer-accepted, TransformAnswer-judged, scaled, composed}
 use Rattle.interpolation.proofs.Finite.{first_product, last_product}
 

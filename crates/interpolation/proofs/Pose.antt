@@ -15,8 +15,8 @@ use Rattle.matrix4x4.specs.IsAffine.{bottom_row, Matrix4x4-is_affine}
 use Rattle.quaternion.specs.declared.Quaternion.{Quaternion}
 use Rattle.quaternion.specs.Slerp.{Quaternion-slerp}
 use Rattle.quaternion.specs.IsFinite.{Quaternion-is_finite}
-use Rattle.bounds3.specs.declared.Point3f.{Point3f}
-use Rattle.bounds3.specs.Finite.{Finite}
+use Rattle.transform.specs.bounds3.declared.Point3f.{Point3f}
+use Rattle.transform.specs.bounds3.Finite.{Finite}
 use Rattle.transform.specs.declared.Transform.{Transform}
 use Rattle.transform.specs.declared.TransformAnswer.{TransformAnswer}
 use Rattle.transform.specs.Transform.{translation, Transform-from_matrix, Transform-translate, Transform-mul}
@@ -24,13 +24,13 @@ use Rattle.transform.specs.TransformPoint.{PointAnswer-judged, Transform-transfo
 use Rattle.transform.proofs.FromMatrix.{from-matrix-refusal, from-matrix-accepted}
 use Rattle.rotation.specs.FromQuaternion.{Transform-from_quaternion}
 use Rattle.unit_interval.specs.Unit.{dt}
-use Rattle.pose_steps.specs.declared.PoseConstants.{PoseConstants}
-use Rattle.pose_steps.specs.Pose.{PoseConstants-new, Pose-translation, Pose-slerp, Pose-scale_by, Pose-rotation}
-use Rattle.pose_steps.specs.Pose.{Pose-mul, Pose-transform_point, all_finite, PoseAnswer-judged, Pose-matrix, Pose-moved_point}
-use Rattle.pose_steps.specs.Composition.{lerp_translation, lerp_scale_by, composition}
-use Rattle.pose_steps.proofs.Rows.{scale-by-bottom, rotation-bottom, mul-bottom}
-use Rattle.pose_steps.proofs.Composition.{translation-same, slerp-same, scale-by-same, rotation-same}
-use Rattle.pose_steps.proofs.Composition.{product, product-same, point-affine}
+use Rattle.pose_parts.specs.pose_steps.declared.PoseConstants.{PoseConstants}
+use Rattle.pose_parts.specs.pose_steps.Pose.{PoseConstants-new, Pose-translation, Pose-slerp, Pose-scale_by, Pose-rotation}
+use Rattle.pose_parts.specs.pose_steps.Pose.{Pose-mul, Pose-transform_point, all_finite, PoseAnswer-judged, Pose-matrix, Pose-moved_point}
+use Rattle.pose_parts.specs.pose_steps.Composition.{lerp_translation, lerp_scale_by, composition}
+use Rattle.pose_parts.proofs.pose_steps.Rows.{scale-by-bottom, rotation-bottom, mul-bottom}
+use Rattle.pose_parts.proofs.pose_steps.Composition.{translation-same, slerp-same, scale-by-same, rotation-same}
+use Rattle.pose_parts.proofs.pose_steps.Composition.{product, product-same, point-affine}
 use Rattle.animated_transform.specs.declared.AnimatedTransform.{AnimatedTransform}
 use Rattle.interpolation.specs.Interpolate.{Transform-is_finite, composed, AnimatedTransform-pose_at, Pose-transform, AnimatedTransform-interpolate}
 use Rattle.interpolation.specs.Promise.{Between}

@@ -15,9 +15,9 @@ use Rattle.transform.specs.declared.TransformAnswer.{TransformAnswer}
 use Rattle.transform.specs.Transform.{TransformAnswer-refused, Transform-from_matrix, Transform-translate, Transform-mul}
 use Rattle.rotation.specs.FromQuaternion.{Transform-from_quaternion}
 use Rattle.unit_interval.specs.Unit.{dt}
-use Rattle.pose_steps.specs.declared.PoseConstants.{PoseConstants}
-use Rattle.pose_steps.specs.Pose.{Pose-slerp}
-use Rattle.pose_steps.specs.Composition.{lerp_translation, lerp_scale_by}
+use Rattle.pose_parts.specs.pose_steps.declared.PoseConstants.{PoseConstants}
+use Rattle.pose_parts.specs.pose_steps.Pose.{Pose-slerp}
+use Rattle.pose_parts.specs.pose_steps.Composition.{lerp_translation, lerp_scale_by}
 use Rattle.animated_transform.specs.declared.AnimatedTransform.{AnimatedTransform}
 use Rattle.animated_transform.specs.AtTime.{at_start, at_end}
 

@@ -2,8 +2,8 @@
 -- Rests on the laws of `trig`, which has both for two ends.
 use lib.Ieee.{Float, binary32, of_bits, le}
 use lib.Ieee.Fits.{and_i, and_l, and_r}
-use Rattle.rounding.specs.Order.{◌≼◌}
-use Rattle.rounding.proofs.Order.{≼_trans}
+use Rattle.float32.specs.rounding.Order.{◌≼◌}
+use Rattle.float32.proofs.rounding.Order.{≼_trans}
 use Rattle.trig.specs.SinCos.{sin, cos}
 use Rattle.trig.specs.Range.{Angle, full_turn_float}
 use Rattle.trig.proofs.Range

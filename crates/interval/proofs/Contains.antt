@@ -4,8 +4,8 @@
 use Rattle.std.proofs.Common.{T}
 use lib.Ieee.{Float}
 use lib.Ieee.Scale.{finite}
-use Rattle.rounding.specs.Order.{◌≼◌, Number}
-use Rattle.rounding.proofs.Order.{≼_refl, ≼_trans, finite_number, number-left, number-right, between-finite}
+use Rattle.float32.specs.rounding.Order.{◌≼◌, Number}
+use Rattle.float32.proofs.rounding.Order.{≼_refl, ≼_trans, finite_number, number-left, number-right, between-finite}
 use Rattle.float32.proofs.MinMax.{min-left, min-right, max-left, max-right, min-picks, max-picks}
 use Rattle.interval.specs.declared.Interval.{Interval}
 use Rattle.interval.specs.Contains.{Contains, Subset, Finite, Encloses, Refines}

@@ -6,12 +6,12 @@ use lib.Ieee.{Float, binary32}
 use lib.Ieee.Scale.{finite}
 use lib.Ieee.Positive.{positive}
 use Rattle.refusal.specs.First.{first_refusal}
-use Rattle.rounding.specs.Order.{◌≼◌, Number}
-use Rattle.rounding.proofs.Order.{≼_refl, ≼_trans, finite_number, number-left, above-positive}
-use Rattle.rounding.proofs.Arithmetic.{add-mono, sub-mono, mul-between-left, div_mono}
+use Rattle.float32.specs.rounding.Order.{◌≼◌, Number}
+use Rattle.float32.proofs.rounding.Order.{≼_refl, ≼_trans, finite_number, number-left, above-positive}
+use Rattle.float32.proofs.rounding.Arithmetic.{add-mono, sub-mono, mul-between-left, div_mono}
 use Rattle.square_root.specs.SquareRoot.{sqrt}
 use Rattle.square_root.proofs.Monotone.{sqrt-mono, positive-above-zero}
-use Rattle.rounding.proofs.Corners.{Bounds, mul-corners, div-corners}
+use Rattle.float32.proofs.rounding.Corners.{Bounds, mul-corners, div-corners}
 use Rattle.float32.specs.Operators.{◌⊕◌, ◌⊖◌, ◌⊗◌, ◌⊘◌}
 use Rattle.interval.specs.declared.Interval.{Interval}
 use Rattle.interval.specs.Contains.{Contains, Finite, Encloses}

@@ -6,7 +6,7 @@ use lib.Ieee.Scale.{finite}
 use lib.Ieee.Positive.{positive}
 use Rattle.refusal.specs.First.{first_refusal}
 use Rattle.refusal.proofs.First.{zero-first}
-use Rattle.rounding.proofs.Order.{≼_trans, above-positive}
+use Rattle.float32.proofs.rounding.Order.{≼_trans, above-positive}
 use Rattle.interval.specs.declared.Interval.{Interval}
 use Rattle.interval.specs.Contains.{Contains, Subset, Finite, Refines}
 use Rattle.interval.specs.Interval.{Interval-of_four}

@@ -9,3 +9,8 @@ pub mod Divisor
 pub mod Points
 pub mod InOrder
 mod Cases
+pub use Rattle.float32.proofs as float32
+pub use Rattle.square_root.proofs.float_bits
+pub use Rattle.refusal.proofs as refusal
+pub use Rattle.float32.proofs.rounding
+pub use Rattle.trig.proofs as trig

@@ -4,7 +4,7 @@
 use Rattle.std.proofs.Common.{◌≡◌, ℕ, ◌*◌, ◌^◌, ◌<◌, ◌≤◌, min, max, Bool, true, false, not, ◌&&◌, ◌||◌, T, leb, refl, ◌∙◌, ap₂, arith, le→leb, leb→le}
 use lib.Dec.{nleb→lt}
 use lib.Ieee.{Float}
-use Rattle.sine_table.specs.Table.{quarter_turn}
+use Rattle.trig.specs.sine_table.Table.{quarter_turn}
 use Rattle.trig.specs.declared.SinCos.{SinCos}
 use Rattle.trig.specs.Units.{angle_units}
 use Rattle.trig.specs.SinCos.{sin, cos}

@@ -6,7 +6,7 @@ use lib.Ieee.Fits.{and_l, and_r}
 use Rattle.float32.specs.MinMax.{min_num, max_num}
 use Rattle.float32.specs.Operators.{◌⊕◌, ◌⊖◌, ◌⊗◌, ◌⊘◌, one}
 use Rattle.square_root.specs.SquareRoot.{sqrt}
-use Rattle.sine_table.specs.Table.{quarter_turn}
+use Rattle.trig.specs.sine_table.Table.{quarter_turn}
 use Rattle.trig.specs.Biased.{biased, biased_sin}
 use Rattle.trig.specs.Units.{angle_units, cos_units}
 use Rattle.trig.specs.SinCos.{sin, cos}

@@ -9,7 +9,7 @@ use lib.Ieee.Scale.{finite}
 use lib.Ieee.Positive.{positive}
 use Rattle.refusal.specs.First.{first_refusal}
 use Rattle.refusal.proofs.First.{first-zero, zero-first, first-assoc}
-use Rattle.rounding.proofs.Order.{of-fraction, zeros_equal, above-positive}
+use Rattle.float32.proofs.rounding.Order.{of-fraction, zeros_equal, above-positive}
 use Rattle.interval.specs.declared.Interval.{Interval}
 use Rattle.interval.specs.Contains.{Contains, Subset, Finite, Encloses}
 use Rattle.interval.specs.Enclosure.{Interval-div_enclosure, Interval-sqrt_enclosure, not_finite, not_positive, Judged-judge}

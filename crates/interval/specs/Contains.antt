@@ -2,7 +2,7 @@
 -- An interval is its two ends as they are; one whose low end is above its high end contains nothing. The two zeros are equal, as in IEEE 754's comparison.
 use Rattle.std.specs.Prelude.{T, Float}
 use Rattle.std.specs.Float.Ieee.Scale.{finite}
-use Rattle.rounding.specs.Order.{◌≼◌}
+use Rattle.float32.specs.rounding.Order.{◌≼◌}
 use Rattle.interval.specs.declared.Interval.{Interval}
 
 -- document 01, Cover: "Inside means low ≤ value ≤ high"

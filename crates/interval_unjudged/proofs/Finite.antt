@@ -5,7 +5,7 @@ use mathlib.Core.Bool.{Bool, true, false, cond}
 use lib.Dec.{T, eqb}
 use lib.Ieee.{Float, nan, inf, fin, mul, div, lt, unlike}
 use lib.Ieee.Scale.{finite}
-use Rattle.float32.specs.Operators.{◌⊗◌, ◌⊘◌}
+use Rattle.interval.specs.float32.Operators.{◌⊗◌, ◌⊘◌}
 use Rattle.interval.specs.declared.Interval.{Interval}
 use Rattle.interval.specs.Contains.{Finite}
 use Rattle.interval.specs.Interval.{Interval-point}

@@ -6,9 +6,9 @@ use mathlib.Core.Bool.{Bool, true, false, not, cond}
 use lib.Dec.{T}
 use lib.Ieee.{Float, is_nan, lt}
 use lib.Ieee.Scale.{finite}
-use Rattle.rounding.specs.Order.{Number}
-use Rattle.float32.specs.MinMax.{min_num, max_num}
-use Rattle.float32.specs.Operators.{◌⊗◌, ◌⊘◌}
+use Rattle.square_root.specs.rounding.Order.{Number}
+use Rattle.interval.specs.float32.MinMax.{min_num, max_num}
+use Rattle.interval.specs.float32.Operators.{◌⊗◌, ◌⊘◌}
 use Rattle.interval.specs.declared.Interval.{Interval}
 use Rattle.interval.specs.Contains.{Finite}
 use Rattle.interval.proofs.Contains.{contains-finite, new-left, new-right, hull-left, hull-right}

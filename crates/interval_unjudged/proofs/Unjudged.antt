@@ -8,7 +8,7 @@ use lib.ListN.{length, get_or}
 use lib.Dec.{T, ltb→lt}
 use lib.Ieee.Fits.{and_l, and_r}
 use lib.Ieee.Scale.{finite}
-use Rattle.refusal.proofs.First.{first-right}
+use Rattle.interval.proofs.refusal.First.{first-right}
 use Rattle.interval.specs.declared.Interval.{Interval}
 use Rattle.interval.specs.declared.Judged.{Judged}
 use Rattle.interval.specs.Contains.{Finite}

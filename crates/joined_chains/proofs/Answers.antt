@@ -8,25 +8,25 @@ use mathlib.Core.List.{List, [], ◌∷◌, ◌++◌, map, map-append}
 use lib.Dec.{T}
 use lib.Ieee.{Float, le}
 use lib.Ieee.Bits.{is_false}
-use Rattle.rounding.specs.Order.{◌≼◌}
-use Rattle.rounding.proofs.Order.{≼_refl, ≼_trans, number-right, lt-≼}
-use Rattle.bounds3.specs.declared.Point3f.{Point3f}
-use Rattle.bounds3.specs.declared.Bounds3f.{Bounds3f}
-use Rattle.transform.specs.declared.BoundsAnswer.{BoundsAnswer}
-use Rattle.bounds_query.specs.Query.{BoundsAnswer-union_bounds}
-use Rattle.bounds_answers.specs.UnionAll.{BoundsAnswer-union_all}
-use Rattle.bounds_answers.proofs.UnionAll.{each-implies}
-use Rattle.animated_transform.specs.declared.AnimatedTransform.{AnimatedTransform}
-use Rattle.motion_point.specs.TransformPoint.{AnimatedTransform-transform_point}
-use Rattle.motion_point.specs.PadAt.{AnimatedTransform-pad_at}
-use Rattle.motion_cover.specs.Cover.{AnimatedTransform-cover}
-use Rattle.motion_chain.specs.Chain.{Chain, Chain-moves, move_from, Chain-move_at, Chain-transform_point, Chain-pad_at, union_covers, Chain-cover}
-use Rattle.motion_chain.specs.Built.{BuiltChain, Contiguous}
-use Rattle.motion_chain.specs.MoveAt.{last_from}
-use Rattle.motion_chain.specs.Times.{PointsAnswer, PointsAnswer-cons, PointsAnswer-append, points_at}
-use Rattle.motion_chain.proofs.Built.{built-moves}
-use Rattle.motion_chain.proofs.MoveAt.{above_earlier, first-move, later-move}
-use Rattle.motion_chain.proofs.Stretches.{points-append, points-same}
+use Rattle.pose_bits.specs.rounding.Order.{◌≼◌}
+use Rattle.pose_bits.proofs.rounding.Order.{≼_refl, ≼_trans, number-right, lt-≼}
+use Rattle.pose_bits.specs.bounds3.declared.Point3f.{Point3f}
+use Rattle.pose_bits.specs.bounds3.declared.Bounds3f.{Bounds3f}
+use Rattle.pose_bits.specs.transform.declared.BoundsAnswer.{BoundsAnswer}
+use Rattle.built_poses.specs.bounds_query.Query.{BoundsAnswer-union_bounds}
+use Rattle.built_poses.specs.bounds_answers.UnionAll.{BoundsAnswer-union_all}
+use Rattle.built_poses.proofs.bounds_answers.UnionAll.{each-implies}
+use Rattle.built_poses.specs.animated_transform.declared.AnimatedTransform.{AnimatedTransform}
+use Rattle.built_poses.specs.motion_point.TransformPoint.{AnimatedTransform-transform_point}
+use Rattle.built_poses.specs.motion_point.PadAt.{AnimatedTransform-pad_at}
+use Rattle.built_poses.specs.motion_cover.Cover.{AnimatedTransform-cover}
+use Rattle.built_poses.specs.motion_chain.Chain.{Chain, Chain-moves, move_from, Chain-move_at, Chain-transform_point, Chain-pad_at, union_covers, Chain-cover}
+use Rattle.built_poses.specs.motion_chain.Built.{BuiltChain, Contiguous}
+use Rattle.built_poses.specs.motion_chain.MoveAt.{last_from}
+use Rattle.built_poses.specs.motion_chain.Times.{PointsAnswer, PointsAnswer-cons, PointsAnswer-append, points_at}
+use Rattle.built_poses.proofs.motion_chain.Built.{built-moves}
+use Rattle.built_poses.proofs.motion_chain.MoveAt.{above_earlier, first-move, later-move}
+use Rattle.built_poses.proofs.motion_chain.Stretches.{points-append, points-same}
 use Rattle.joined_chains.specs.Theorem.{Chain-append, AnswersAs, shared_time, JoinAnswers}
 use Rattle.joined_chains.proofs.Union.{union-all-append}
 

@@ -11,19 +11,19 @@ use borrow.Author.Tests.{eq-eqb, le-ltb, ltb-false}
 use lib.Dec.{T, ltb}
 use lib.ListN.{length, drop}
 use lib.Ieee.Fits.{and_l, and_r, and_i}
-use Rattle.refusal.specs.First.{first_refusal}
-use Rattle.refusal.proofs.First.{first-zero}
-use Rattle.pose_pair.specs.declared.Pose.{Pose}
-use Rattle.pose_pair.specs.Pose.{Pose-is_binary32}
+use Rattle.built_poses.specs.refusal.First.{first_refusal}
+use Rattle.built_poses.proofs.refusal.First.{first-zero}
+use Rattle.pose_bits.specs.pose_pair.declared.Pose.{Pose}
+use Rattle.pose_bits.specs.pose_pair.Pose.{Pose-is_binary32}
 use Rattle.pose_bits.specs.Bits.{Pose-same_bits}
-use Rattle.animated_transform.specs.declared.AnimatedTransform.{AnimatedTransform}
-use Rattle.animated_transform.specs.declared.AnimatedTransformAnswer.{AnimatedTransformAnswer}
-use Rattle.animated_transform.specs.New.{AnimatedTransform-new}
-use Rattle.motion_chain.specs.Chain.{min_poses, max_poses, neighbours, every, first_number, stage, Pose-number, Pair-number, kind_stage, chain_stages, chain_refusal}
-use Rattle.motion_chain.specs.Chain.{Chain, Chain-moves, built, ChainAnswer-from_moves, Chain-new}
-use Rattle.motion_chain.specs.Built.{BuiltChain, Each}
-use Rattle.motion_chain.specs.MoveAt.{last_from}
-use Rattle.motion_chain.proofs.Built.{first-none, first-each, checks-passed, answers, values, BuiltFrom, built-from}
+use Rattle.built_poses.specs.animated_transform.declared.AnimatedTransform.{AnimatedTransform}
+use Rattle.built_poses.specs.animated_transform.declared.AnimatedTransformAnswer.{AnimatedTransformAnswer}
+use Rattle.built_poses.specs.animated_transform.New.{AnimatedTransform-new}
+use Rattle.built_poses.specs.motion_chain.Chain.{min_poses, max_poses, neighbours, every, first_number, stage, Pose-number, Pair-number, kind_stage, chain_stages, chain_refusal}
+use Rattle.built_poses.specs.motion_chain.Chain.{Chain, Chain-moves, built, ChainAnswer-from_moves, Chain-new}
+use Rattle.built_poses.specs.motion_chain.Built.{BuiltChain, Each}
+use Rattle.built_poses.specs.motion_chain.MoveAt.{last_from}
+use Rattle.built_poses.proofs.motion_chain.Built.{first-none, first-each, checks-passed, answers, values, BuiltFrom, built-from}
 use Rattle.built_poses.specs.Poses.{AnimatedTransform-start_pose, AnimatedTransform-end_pose, Chain-poses, Chain-is_rigid}
 use Rattle.built_poses.proofs.Built.{built-poses, built-kind}
 use Rattle.joined_chains.specs.Join.{Chain-last_pose, Chain-first_pose, Chain-joined_poses}

@@ -9,18 +9,18 @@ use borrow.Author.Tests.{le-ltb}
 use lib.Dec.{T, eqb, ltb, ltb→lt, eqb→eq}
 use lib.Ieee.{Float, nan, inf, fin, up, down, below, level, lt, le, is_nan}
 use lib.Ieee.Fits.{and_l, and_r}
-use Rattle.bounds_answers.proofs.UnionAll.{union-append}
-use Rattle.rounding.specs.Order.{◌≼◌, Number}
-use Rattle.rounding.proofs.Order.{≼_trans, lt-≼, not-lt-≼}
-use Rattle.float32.specs.MinMax.{min_num, max_num}
-use Rattle.bounds3.specs.declared.Point3f.{Point3f}
-use Rattle.bounds3.specs.declared.Bounds3f.{Bounds3f}
-use Rattle.bounds3.specs.Point3f.{Point3f-min, Point3f-max}
-use Rattle.bounds3.specs.Bounds3f.{Bounds3f-union_bounds}
-use Rattle.transform.specs.declared.BoundsAnswer.{BoundsAnswer}
-use Rattle.transform.specs.declared.BoundsAnswer.TheVariants.{Bounds, Refused}
-use Rattle.bounds_query.specs.Query.{BoundsAnswer-union_bounds}
-use Rattle.bounds_answers.specs.UnionAll.{BoundsAnswer-union_all}
+use Rattle.built_poses.proofs.bounds_answers.UnionAll.{union-append}
+use Rattle.pose_bits.specs.rounding.Order.{◌≼◌, Number}
+use Rattle.pose_bits.proofs.rounding.Order.{≼_trans, lt-≼, not-lt-≼}
+use Rattle.pose_bits.specs.float32.MinMax.{min_num, max_num}
+use Rattle.pose_bits.specs.bounds3.declared.Point3f.{Point3f}
+use Rattle.pose_bits.specs.bounds3.declared.Bounds3f.{Bounds3f}
+use Rattle.pose_bits.specs.bounds3.Point3f.{Point3f-min, Point3f-max}
+use Rattle.pose_bits.specs.bounds3.Bounds3f.{Bounds3f-union_bounds}
+use Rattle.pose_bits.specs.transform.declared.BoundsAnswer.{BoundsAnswer}
+use Rattle.pose_bits.specs.transform.declared.BoundsAnswer.TheVariants.{Bounds, Refused}
+use Rattle.built_poses.specs.bounds_query.Query.{BoundsAnswer-union_bounds}
+use Rattle.built_poses.specs.bounds_answers.UnionAll.{BoundsAnswer-union_all}
 
 -- ---- what is at most another is not strictly beyond it
 either : (a b : ℕ) (x y : Bool) → (T x → a < b) → (T y → a ≡ b) → T (x || y && true) → ltb b a ≡ false

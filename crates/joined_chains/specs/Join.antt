@@ -2,11 +2,11 @@
 -- "Two chains made one". Definitions only.
 use Rattle.std.specs.Prelude.{ℕ, ◌&&◌, cond, List, ◌++◌, eqb, ltb, length, drop}
 use Rattle.std.specs.Bool.{beq}
-use Rattle.refusal.specs.First.{first_refusal}
-use Rattle.pose_pair.specs.declared.Pose.{Pose}
+use Rattle.built_poses.specs.refusal.First.{first_refusal}
+use Rattle.pose_bits.specs.pose_pair.declared.Pose.{Pose}
 use Rattle.pose_bits.specs.Bits.{Pose-same_bits}
-use Rattle.motion_chain.specs.Chain.{max_poses, neighbours, stage, Pair-number, Chain, ChainAnswer, refused, Chain-new}
-use Rattle.motion_chain.specs.MoveAt.{Chain-last}
+use Rattle.built_poses.specs.motion_chain.Chain.{max_poses, neighbours, stage, Pair-number, Chain, ChainAnswer, refused, Chain-new}
+use Rattle.built_poses.specs.motion_chain.MoveAt.{Chain-last}
 use Rattle.built_poses.specs.Poses.{AnimatedTransform-start_pose, AnimatedTransform-end_pose, Chain-poses, Chain-is_rigid}
 
 -- ---- the pose that they share

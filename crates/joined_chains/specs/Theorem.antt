@@ -3,12 +3,12 @@
 -- "Two chains made one"), `JoinAnswers`. The statements of `joins` and `join-answers`.
 use Rattle.std.specs.Prelude.{ℕ, ◌≡◌, not, List, ◌++◌, T, Float}
 use Rattle.std.specs.Float.Ieee.{le}
-use Rattle.bounds3.specs.declared.Point3f.{Point3f}
-use Rattle.bounds3.specs.declared.Bounds3f.{Bounds3f}
-use Rattle.bounds_query.specs.Query.{BoundsAnswer-union_bounds}
-use Rattle.motion_chain.specs.Chain.{Chain, Chain-moves, built, Chain-move_at, Chain-transform_point, Chain-pad_at, Chain-cover}
-use Rattle.motion_chain.specs.Built.{BuiltChain, Each}
-use Rattle.motion_chain.specs.Times.{PointsAnswer-append, points_at}
+use Rattle.pose_bits.specs.bounds3.declared.Point3f.{Point3f}
+use Rattle.pose_bits.specs.bounds3.declared.Bounds3f.{Bounds3f}
+use Rattle.built_poses.specs.bounds_query.Query.{BoundsAnswer-union_bounds}
+use Rattle.built_poses.specs.motion_chain.Chain.{Chain, Chain-moves, built, Chain-move_at, Chain-transform_point, Chain-pad_at, Chain-cover}
+use Rattle.built_poses.specs.motion_chain.Built.{BuiltChain, Each}
+use Rattle.built_poses.specs.motion_chain.Times.{PointsAnswer-append, points_at}
 use Rattle.joined_chains.specs.Join.{Chain-last_pose, Chain-first_pose, Chain-join_refusal, Chain-join}
 
 -- The moves of the first, then those of the second.

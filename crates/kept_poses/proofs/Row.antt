@@ -3,7 +3,7 @@ use mathlib.Core.Path.{◌≡◌, refl}
 use mathlib.Core.List.{[], ◌∷◌}
 use native.Mathlib.Omega.{arith}
 use lib.ListN.{length}
-use Rattle.matrix4x4.specs.Rows.{Row, col}
+use Rattle.motion_rows.specs.matrix4x4.Rows.{Row, col}
 
 pub row-entries : (r : Row) → length r ≡ 4 → col r 0 ∷ col r 1 ∷ col r 2 ∷ col r 3 ∷ [] ≡ r
 row-entries [] h = absurd (omega (arith, h))

@@ -2,7 +2,7 @@
 #![tactic(auto)]
 
 ghost use Rattle.std.specs.Prelude.{◌≡◌};
-ghost use Rattle.lent_arrays.specs.Arrays.{Pose-of_list};
+ghost use Rattle.motion_rows.specs.lent_arrays.Arrays.{Pose-of_list};
 ghost use Rattle.motion_rows.specs.Rows.{AnimatedTransform-from_rows};
 ghost use Rattle.built_poses.specs.Poses.{AnimatedTransform-start_pose, AnimatedTransform-end_pose};
 ghost use Rattle.kept_poses.specs.means.Poses.{pose};

@@ -5,7 +5,7 @@
 ghost use Rattle.std.specs.Prelude.{◌≡◌};
 ghost use Rattle.std.specs.Float.{binary32};
 ghost use Rattle.square_root.specs.SquareRoot.{sqrt};
-ghost use Rattle.float32.specs.Operators.{◌⊕◌, ◌⊖◌, ◌⊗◌, ◌⊘◌, one};
+ghost use Rattle.interval.specs.float32.Operators.{◌⊕◌, ◌⊖◌, ◌⊗◌, ◌⊘◌, one};
 ghost use Rattle.interval.specs.Interval.{Interval-point};
 ghost use Rattle.interval.specs.Enclosure.{Interval-add_enclosure, Interval-sub_enclosure, Interval-sqrt_enclosure};
 ghost use Rattle.interval_unjudged.specs.means.Ordered.{lesser, greater, Interval-mul_ordered, Interval-div_ordered};

@@ -8,7 +8,7 @@ use Rattle.lanes_rotation.specs.declared.LanesMatrix.{LanesMatrix}
 use Rattle.lanes_rotation.specs.means.Matrices.{LanesVector-lane, LanesVector-of, LanesMatrix-lane}
 use Rattle.lanes_pose.specs.declared.LanesPose.{LanesPose}
 use Rattle.lanes_pose.specs.means.Poses.{LanesPose-lane}
-use Rattle.pose_lean.specs.means.Lean.{moved_by, IntervalVector-grown, LeanPose-vector}
+use Rattle.lanes_rotation.specs.pose_lean.means.Lean.{moved_by, IntervalVector-grown, LeanPose-vector}
 
 -- ---- each stage in lanes, as its contract has it
 unfoldable pub moved_by_lanes : LanesVector → LanesMatrix → LanesVector → LanesVector

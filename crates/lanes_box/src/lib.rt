@@ -4,8 +4,8 @@
 ghost use Rattle.std.specs.Prelude.{◌≡◌};
 ghost use Rattle.lanes.specs.means.Lanes.{Lane, at, Lanes-lane, Lanes-of};
 ghost use Rattle.lanes_rotation.specs.means.Matrices.{LanesVector-lane, LanesVector-of, LanesMatrix-lane};
-ghost use Rattle.pose_steps.specs.Enclose.{Bounds3f-intervals};
-ghost use Rattle.pose_lean.specs.means.Lean.{moved, moved_by, IntervalVector-grown, LeanPose-vector};
+ghost use Rattle.lanes_rotation.specs.pose_steps.Enclose.{Bounds3f-intervals};
+ghost use Rattle.lanes_rotation.specs.pose_lean.means.Lean.{moved, moved_by, IntervalVector-grown, LeanPose-vector};
 ghost use Rattle.lanes_pose.specs.means.Poses.{LanesPose-lane};
 ghost use Rattle.lanes_box.specs.means.Boxes.{IntervalVector-join, LanesVector-joined};
 

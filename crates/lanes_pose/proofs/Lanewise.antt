@@ -3,15 +3,15 @@ use mathlib.Core.Path.{◌≡◌, refl}
 use mathlib.Core.Bool.{Bool, true, false}
 use mathlib.Core.List.{List}
 use lib.Ieee.{Float}
-use Rattle.float32.specs.Operators.{one}
+use Rattle.matrix4x4.specs.float32.Operators.{one}
 use Rattle.vector3.specs.declared.Vector3f.{Vector3f}
 use Rattle.quaternion.specs.declared.Quaternion.{Quaternion}
 use Rattle.matrix4x4.specs.declared.Matrix4x4.{Matrix4x4}
-use Rattle.interval.specs.Interval.{Interval-point}
-use Rattle.interval.specs.Enclosure.{Interval-sub_enclosure}
+use Rattle.lanes.specs.interval.Interval.{Interval-point}
+use Rattle.lanes.specs.interval.Enclosure.{Interval-sub_enclosure}
 use Rattle.pose_steps.specs.declared.PoseConstants.{PoseConstants}
 use Rattle.pose_steps.specs.Pose.{is_near}
-use Rattle.pose_lean.specs.means.Lean.{one_minus, slerp_by, rotation, scale, product, linear_by, shifted, pad_high}
+use Rattle.lanes_slerp.specs.pose_lean.means.Lean.{one_minus, slerp_by, rotation, scale, product, linear_by, shifted, pad_high}
 use Rattle.lanes.specs.declared.Lanes.{Lanes}
 use Rattle.lanes.specs.means.Lanes.{Lane, four, Lanes-lane, Lanes-map}
 use Rattle.lanes_slerp.specs.declared.LanesQuaternion.{LanesQuaternion}

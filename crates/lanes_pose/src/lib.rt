@@ -5,7 +5,7 @@
 ghost use Rattle.std.specs.Prelude.{◌≡◌};
 ghost use Rattle.lanes.specs.means.Lanes.{Lane, four, Lanes-lane, Lanes-of, Lanes-zip};
 ghost use Rattle.lanes_rotation.specs.means.Matrices.{LanesVector-lane, LanesVector-of, LanesMatrix-lane, LanesMatrix-of};
-ghost use Rattle.pose_lean.specs.means.Lean.{lerp, shifted, scale_row, scale, dot, row_by, product, pad_high};
+ghost use Rattle.lanes_slerp.specs.pose_lean.means.Lean.{lerp, shifted, scale_row, scale, dot, row_by, product, pad_high};
 ghost use Rattle.lanes_pose.specs.means.Poses.{LeanPose-by, LanesPose-of, LanesMatrix-linear_by};
 
 use lanes::Lanes;

@@ -3,7 +3,7 @@ use mathlib.Core.Path.{◌≡◌, refl}
 use Rattle.lanes.specs.means.Lanes.{Lane, Lanes-lane, Lanes-of, Lanes-zip}
 use Rattle.lanes_slerp.specs.declared.LanesQuaternion.{LanesQuaternion}
 use Rattle.lanes_slerp.specs.means.Quaternions.{LanesQuaternion-lane}
-use Rattle.pose_lean.specs.means.Lean.{rotation}
+use Rattle.lanes_slerp.specs.pose_lean.means.Lean.{rotation}
 use Rattle.lanes_rotation.specs.means.Matrices.{LanesVector-of, LanesMatrix-of, LanesProducts-of, LanesMatrix-entries}
 
 pub rotation-lanes : (q : LanesQuaternion) → LanesMatrix-entries (LanesProducts-of q) ≡ LanesMatrix-of (λ (k : Lane). rotation (LanesQuaternion-lane k q))

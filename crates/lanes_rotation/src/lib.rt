@@ -4,7 +4,7 @@
 ghost use Rattle.std.specs.Prelude.{◌≡◌};
 ghost use Rattle.lanes.specs.means.Lanes.{Lane, Lanes-zip};
 ghost use Rattle.lanes_slerp.specs.means.Quaternions.{LanesQuaternion-lane};
-ghost use Rattle.pose_lean.specs.means.Lean.{diagonal, twice_sum, twice_difference, rotation};
+ghost use Rattle.lanes_slerp.specs.pose_lean.means.Lean.{diagonal, twice_sum, twice_difference, rotation};
 ghost use Rattle.lanes_rotation.specs.means.Matrices.{LanesMatrix-of, LanesProducts-of, LanesMatrix-entries};
 
 use lanes::Lanes;

@@ -1,10 +1,10 @@
 -- Slerp in lanes, stage after stage, is slerp lane by lane: `near_lanes`, `far-lanes`.
 use mathlib.Core.Path.{◌≡◌, refl}
 use mathlib.Core.Bool.{true, false}
-use Rattle.float32.specs.Operators.{one}
+use Rattle.quaternion.specs.float32.Operators.{one}
 use Rattle.quaternion.specs.declared.Quaternion.{Quaternion}
-use Rattle.interval.specs.Interval.{Interval-point}
-use Rattle.interval.specs.Enclosure.{Interval-sub_enclosure}
+use Rattle.lanes.specs.interval.Interval.{Interval-point}
+use Rattle.lanes.specs.interval.Enclosure.{Interval-sub_enclosure}
 use Rattle.lanes.specs.declared.Lanes.{Lanes}
 use Rattle.lanes.specs.means.Lanes.{Lane, Lanes-lane, Lanes-of, Lanes-map, Lanes-chosen}
 use Rattle.pose_lean.specs.means.Lean.{one_minus, turned, normalized, near, slerp_by}

@@ -1,6 +1,6 @@
 -- A mask of windows in an answer line: a space and sixteen hexadecimal digits. Definitions only.
 use Rattle.std.specs.Prelude.{ℕ, ◌/◌, ◌%◌, List, ◌∷◌, ◌++◌}
-use Rattle.motion_file.specs.Text.{space}
+use Rattle.answer_lines.specs.motion_file.Text.{space}
 use Rattle.hexadecimal.specs.Word.{digits}
 
 -- the digits of the upper half, then those of the lower

@@ -4,7 +4,7 @@ use mathlib.Core.Path.{◌≡◌, refl}
 use mathlib.Core.Bool.{true, false}
 use mathlib.Core.List.{[], ◌∷◌}
 use lib.Ieee.{Float, binary32, round}
-use Rattle.matrix4x4.specs.Rows.{Row, Rows}
+use Rattle.transform.specs.matrix4x4.Rows.{Row, Rows}
 use Rattle.quaternion.specs.declared.Quaternion.{Quaternion}
 use Rattle.matrix_quaternion.specs.FromMatrix.{Quaternion-from_matrix}
 use Rattle.matrix_quaternion.specs.means.Computing.{computing}

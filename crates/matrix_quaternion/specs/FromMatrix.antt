@@ -3,9 +3,9 @@
 use Rattle.std.specs.Prelude.{ℕ, cond, [], ◌∷◌, get_or, set, Float}
 use Rattle.std.specs.Float.{nan, binary32}
 use Rattle.std.specs.Float.Ieee.{lt, ne}
-use Rattle.float32.specs.Operators.{◌⊕◌, ◌⊖◌, ◌⊗◌, ◌⊘◌, one, two, half}
+use Rattle.vector3.specs.float32.Operators.{◌⊕◌, ◌⊖◌, ◌⊗◌, ◌⊘◌, one, two, half}
 use Rattle.square_root.specs.SquareRoot.{sqrt}
-use Rattle.matrix4x4.specs.Rows.{Rows, at, positive_zero, Matrix4x4-to_rows}
+use Rattle.transform.specs.matrix4x4.Rows.{Rows, at, positive_zero, Matrix4x4-to_rows}
 use Rattle.transform.specs.declared.Transform.{Transform}
 use Rattle.quaternion.specs.declared.Quaternion.{Quaternion}
 

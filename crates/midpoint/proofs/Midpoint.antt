@@ -15,14 +15,14 @@ use lib.Ieee.Fits.{down_pos, and_r, neg-fits, add-fits}
 use lib.Ieee.Exact.{HasValue, round_exact}
 use lib.Ieee.Scale.{finite}
 use lib.Ieee.Positive.{den, den_pos}
-use Rattle.rounding.specs.Order.{◌≼◌}
-use Rattle.rounding.proofs.Rational.{pos_part, neg_part, num_pos, num_neg, FractionLe, fraction-trans}
-use Rattle.rounding.proofs.Order.{≼_trans, to-fraction, neg-finite, neg-neg}
-use Rattle.rounding.proofs.Monotone.{Rounds, rounds-mono, round-neg}
-use Rattle.rounding.proofs.Arithmetic.{add_rounds, mul-rounds}
-use Rattle.float32.specs.Operators.{◌⊕◌, ◌⊗◌, half}
-use Rattle.float_bits.specs.Decode.{integer_decode}
-use Rattle.float_bits.proofs.Decode.{decode-value, significand-lt}
+use Rattle.own_rounding.specs.rounding.Order.{◌≼◌}
+use Rattle.own_rounding.proofs.rounding.Rational.{pos_part, neg_part, num_pos, num_neg, FractionLe, fraction-trans}
+use Rattle.own_rounding.proofs.rounding.Order.{≼_trans, to-fraction, neg-finite, neg-neg}
+use Rattle.own_rounding.proofs.rounding.Monotone.{Rounds, rounds-mono, round-neg}
+use Rattle.own_rounding.proofs.rounding.Arithmetic.{add_rounds, mul-rounds}
+use Rattle.own_rounding.specs.float32.Operators.{◌⊕◌, ◌⊗◌, half}
+use Rattle.own_rounding.specs.float_bits.Decode.{integer_decode}
+use Rattle.own_rounding.proofs.float_bits.Decode.{decode-value, significand-lt}
 use Rattle.own_rounding.proofs.OwnRounding.{own-rounding}
 
 -- ---- a value of the format beside the rounding of a fraction

@@ -5,7 +5,7 @@ use native.Mathlib.Numerals.{add-one}
 use Rattle.bounds3.specs.declared.Point3f.{Point3f}
 use Rattle.bounds3.specs.declared.Bounds3f.{Bounds3f}
 use Rattle.bounds3.specs.Bounds3f.{Bounds3f-default, Bounds3f-corner}
-use Rattle.control_flow.specs.Loop.{loop}
+use Rattle.transform.specs.control_flow.Loop.{loop}
 use Rattle.transform.specs.declared.BoundsAnswer.{BoundsAnswer}
 use Rattle.transform.specs.declared.BoundsAnswer.TheVariants.{Bounds, Refused}
 use Rattle.bounds_query.specs.Query.{BoundsAnswer-union_bounds}

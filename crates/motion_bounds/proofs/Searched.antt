@@ -6,8 +6,8 @@ use native.Mathlib.Omega.{arith}
 use Rattle.bounds3.specs.declared.Point3f.{Point3f}
 use Rattle.bounds3.specs.declared.Bounds3f.{Bounds3f}
 use Rattle.bounds3.specs.Bounds3f.{Bounds3f-corner}
-use Rattle.control_flow.specs.Loop.{loop}
-use Rattle.control_flow.proofs.Choice.{cond-keeps}
+use Rattle.transform.specs.control_flow.Loop.{loop}
+use Rattle.transform.proofs.control_flow.Choice.{cond-keeps}
 use Rattle.axis_derivative.specs.declared.Derivative.{Derivative}
 use Rattle.zero_search.specs.Stored.{Stored}
 use Rattle.zero_search.proofs.Stored.{interval_find_zeros-stored}

@@ -10,7 +10,7 @@ use Rattle.bounds3.specs.declared.Point3f.{Point3f}
 use Rattle.bounds3.specs.declared.Bounds3f.{Bounds3f}
 use Rattle.bounds3.specs.Bounds3f.{Bounds3f-default, Bounds3f-from_points, Bounds3f-corner}
 use Rattle.bounds3.specs.Finite.{Point3f-is_finite}
-use Rattle.control_flow.specs.Loop.{loop}
+use Rattle.transform.specs.control_flow.Loop.{loop}
 use Rattle.transform.specs.declared.PointAnswer.{PointAnswer}
 use Rattle.transform.specs.declared.PointAnswer.TheVariants as point
 use Rattle.transform.specs.declared.BoundsAnswer.{BoundsAnswer}

@@ -11,34 +11,34 @@ use native.Mathlib.Omega.{arith}
 use lib.Dec.{T, eqb}
 use lib.ListN.{get_or}
 use lib.Ieee.{Float, nan}
-use Rattle.bounds3.specs.declared.Point3f.{Point3f}
-use Rattle.bounds3.specs.declared.Bounds3f.{Bounds3f}
-use Rattle.bounds3.specs.Bounds3f.{Bounds3f-default, Bounds3f-from_point, Bounds3f-union_point, Bounds3f-corner}
-use Rattle.bounds3.specs.Finite.{Finite, Point3f-is_finite, Bounds3f-is_finite}
-use Rattle.bounds3.specs.Inside.{Inside, Subset}
-use Rattle.bounds3.proofs.Finite.{test-finite}
-use Rattle.bounds3.proofs.Union.{subset-inside, union-inside-left, union-least, union_subset_left, finite-self, inside-subset}
-use Rattle.bounds3.proofs.Union.{union-isotone, from-point-inside, union-point-box, union-point-keeps}
-use Rattle.control_flow.specs.Loop.{loop}
-use Rattle.transform.specs.declared.PointAnswer.{PointAnswer}
-use Rattle.transform.specs.declared.PointAnswer.TheVariants as point
-use Rattle.transform.specs.declared.BoundsAnswer.{BoundsAnswer}
-use Rattle.transform.specs.declared.BoundsAnswer.TheVariants.{Bounds, Refused}
-use Rattle.transform.specs.Answer.{PointAnswer-Judged, BoundsAnswer-bounds}
-use Rattle.transform.specs.TransformPoint.{Transform-transform_point}
-use Rattle.transform.specs.TransformBounds.{BoundsAnswer-from_moved, BoundsAnswer-union_moved}
-use Rattle.transform.proofs.Judged.{transform-point-judged, transform-bounds-judged}
-use Rattle.bounds_query.specs.Query.{Bounds3f-refusal}
-use Rattle.bounds_query.specs.Same.{BoundsAnswer-Same, same-box, same-refusal}
-use Rattle.bounds_query.proofs.Union.{union-same}
-use Rattle.axis_derivative.specs.declared.Derivative.{Derivative}
-use Rattle.zero_list.specs.declared.Zeros.{Zeros}
-use Rattle.zero_search.specs.Stored.{Stored}
-use Rattle.pose_steps.specs.declared.PoseConstants.{PoseConstants}
-use Rattle.animated_transform.specs.declared.AnimatedTransform.{AnimatedTransform}
-use Rattle.animated_transform.specs.Built.{Built}
-use Rattle.motion_point.specs.TransformPoint.{AnimatedTransform-constants}
-use Rattle.motion_point.proofs.Query.{moved-point-judged}
+use Rattle.motion_bounds.specs.bounds3.declared.Point3f.{Point3f}
+use Rattle.motion_bounds.specs.bounds3.declared.Bounds3f.{Bounds3f}
+use Rattle.motion_bounds.specs.bounds3.Bounds3f.{Bounds3f-default, Bounds3f-from_point, Bounds3f-union_point, Bounds3f-corner}
+use Rattle.motion_bounds.specs.bounds3.Finite.{Finite, Point3f-is_finite, Bounds3f-is_finite}
+use Rattle.motion_bounds.specs.bounds3.Inside.{Inside, Subset}
+use Rattle.motion_bounds.proofs.bounds3.Finite.{test-finite}
+use Rattle.motion_bounds.proofs.bounds3.Union.{subset-inside, union-inside-left, union-least, union_subset_left, finite-self, inside-subset}
+use Rattle.motion_bounds.proofs.bounds3.Union.{union-isotone, from-point-inside, union-point-box, union-point-keeps}
+use Rattle.motion_bounds.specs.control_flow.Loop.{loop}
+use Rattle.motion_bounds.specs.transform.declared.PointAnswer.{PointAnswer}
+use Rattle.motion_bounds.specs.transform.declared.PointAnswer.TheVariants as point
+use Rattle.motion_bounds.specs.transform.declared.BoundsAnswer.{BoundsAnswer}
+use Rattle.motion_bounds.specs.transform.declared.BoundsAnswer.TheVariants.{Bounds, Refused}
+use Rattle.motion_bounds.specs.transform.Answer.{PointAnswer-Judged, BoundsAnswer-bounds}
+use Rattle.motion_bounds.specs.transform.TransformPoint.{Transform-transform_point}
+use Rattle.motion_bounds.specs.transform.TransformBounds.{BoundsAnswer-from_moved, BoundsAnswer-union_moved}
+use Rattle.motion_bounds.proofs.transform.Judged.{transform-point-judged, transform-bounds-judged}
+use Rattle.motion_bounds.specs.bounds_query.Query.{Bounds3f-refusal}
+use Rattle.motion_bounds.specs.bounds_query.Same.{BoundsAnswer-Same, same-box, same-refusal}
+use Rattle.motion_bounds.proofs.bounds_query.Union.{union-same}
+use Rattle.motion_bounds.specs.axis_derivative.declared.Derivative.{Derivative}
+use Rattle.motion_bounds.specs.zero_list.declared.Zeros.{Zeros}
+use Rattle.motion_bounds.specs.zero_search.Stored.{Stored}
+use Rattle.motion_bounds.specs.pose_steps.declared.PoseConstants.{PoseConstants}
+use Rattle.motion_bounds.specs.animated_transform.declared.AnimatedTransform.{AnimatedTransform}
+use Rattle.motion_bounds.specs.animated_transform.Built.{Built}
+use Rattle.motion_bounds.specs.motion_point.TransformPoint.{AnimatedTransform-constants}
+use Rattle.motion_bounds.proofs.motion_point.Query.{moved-point-judged}
 use Rattle.motion_bounds.specs.MotionBounds.{BoundsAnswer-from_ends, axis_search, point_at, union_zero, union_zeros, all_places, stored_places}
 use Rattle.motion_bounds.specs.MotionBounds.{union_axis, point_bounds, union_corner, union_corners, box_bounds, bound_point_motion, motion_bounds}
 use Rattle.motion_bounds.specs.declared.Examined.{Examined}

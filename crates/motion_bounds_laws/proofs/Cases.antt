@@ -5,18 +5,18 @@ use mathlib.Core.Bool.{false}
 use mathlib.Core.List.{[], ◌∷◌}
 use Prim.Native.Nat.{ℕ}
 use lib.Ieee.{Float, nan, binary32, of_bits}
-use Rattle.bounds3.specs.declared.Point3f.{Point3f}
-use Rattle.bounds3.specs.declared.Bounds3f.{Bounds3f}
-use Rattle.bounds3.specs.Bounds3f.{Bounds3f-from_point}
-use Rattle.matrix4x4.specs.declared.Matrix4x4.{Matrix4x4}
+use Rattle.motion_bounds.specs.bounds3.declared.Point3f.{Point3f}
+use Rattle.motion_bounds.specs.bounds3.declared.Bounds3f.{Bounds3f}
+use Rattle.motion_bounds.specs.bounds3.Bounds3f.{Bounds3f-from_point}
+use Rattle.motion_bounds.specs.matrix4x4.declared.Matrix4x4.{Matrix4x4}
 use Rattle.motion_bounds.specs.declared.Examined.{Examined}
 use Rattle.motion_bounds.specs.declared.MotionBoundsAnswer.TheVariants.{Bounds, Refused}
-use Rattle.vector3.specs.declared.Vector3f.{Vector3f}
-use Rattle.quaternion.specs.declared.Quaternion.{Quaternion}
-use Rattle.pose_steps.specs.declared.PoseConstants.{PoseConstants}
-use Rattle.animated_transform.specs.declared.AnimatedTransform.{AnimatedTransform}
-use Rattle.animated_transform.specs.New.{AnimatedTransform-new}
-use Rattle.animated_transform.specs.means.Computing as animated
+use Rattle.motion_bounds.specs.vector3.declared.Vector3f.{Vector3f}
+use Rattle.motion_bounds.specs.quaternion.declared.Quaternion.{Quaternion}
+use Rattle.motion_bounds.specs.pose_steps.declared.PoseConstants.{PoseConstants}
+use Rattle.motion_bounds.specs.animated_transform.declared.AnimatedTransform.{AnimatedTransform}
+use Rattle.motion_bounds.specs.animated_transform.New.{AnimatedTransform-new}
+use Rattle.motion_bounds.specs.animated_transform.means.Computing as animated
 use Rattle.motion_bounds.specs.MotionBounds.{all_places, point_bounds}
 use Rattle.motion_bounds.specs.Examined.{Examined-none, point_examined}
 use Rattle.motion_bounds.specs.Answer.{BoundsAnswer-counted, AnimatedTransform-bound_point_motion, AnimatedTransform-motion_bounds}

@@ -1,9 +1,9 @@
 -- The box of two moved points is the first's own box joined with the second: `from-ends-union`.
 use mathlib.Core.Path.{◌≡◌, refl}
-use Rattle.bounds3.specs.Bounds3f.{Bounds3f-from_points, Bounds3f-union_point}
-use Rattle.transform.specs.declared.PointAnswer.{PointAnswer}
-use Rattle.transform.specs.declared.PointAnswer.TheVariants.{Moved, Refused}
-use Rattle.transform.specs.TransformBounds.{BoundsAnswer-from_moved, BoundsAnswer-union_moved}
+use Rattle.motion_bounds.specs.bounds3.Bounds3f.{Bounds3f-from_points, Bounds3f-union_point}
+use Rattle.motion_bounds.specs.transform.declared.PointAnswer.{PointAnswer}
+use Rattle.motion_bounds.specs.transform.declared.PointAnswer.TheVariants.{Moved, Refused}
+use Rattle.motion_bounds.specs.transform.TransformBounds.{BoundsAnswer-from_moved, BoundsAnswer-union_moved}
 use Rattle.motion_bounds.specs.MotionBounds.{BoundsAnswer-from_ends}
 
 pub from-ends-union : (a b : PointAnswer) → BoundsAnswer-from_ends a b ≡ BoundsAnswer-union_moved (BoundsAnswer-from_moved a) b

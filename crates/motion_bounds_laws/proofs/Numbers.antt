@@ -9,28 +9,28 @@ use mathlib.Core.List.{List, [], ◌∷◌}
 use lib.Dec.{T, eqb}
 use lib.ListN.{get_or}
 use lib.Ieee.{Float, nan, of_bits, neg}
-use Rattle.bounds3.specs.declared.Point3f.{Point3f}
-use Rattle.bounds3.specs.declared.Bounds3f.{Bounds3f}
-use Rattle.bounds3.specs.Bounds3f.{Bounds3f-default, Bounds3f-from_point, Bounds3f-corner}
-use Rattle.bounds3.specs.Finite.{Point3f-is_finite, Bounds3f-is_finite}
-use Rattle.bounds3.proofs.Finite.{test-finite, box-finite, union-point-finite, union-finite}
-use Rattle.control_flow.proofs.Loop.{loop-keeps}
-use Rattle.control_flow.proofs.Choice.{cond-keeps}
-use Rattle.transform.specs.declared.PointAnswer.{PointAnswer}
-use Rattle.transform.specs.declared.PointAnswer.TheVariants as point
-use Rattle.transform.specs.declared.BoundsAnswer.{BoundsAnswer}
-use Rattle.transform.specs.declared.BoundsAnswer.TheVariants.{Bounds, Refused}
-use Rattle.transform.specs.Answer.{OneOf, origin, PointAnswer-Judged, BoundsAnswer-Judged}
-use Rattle.transform.specs.TransformBounds.{BoundsAnswer-from_moved, BoundsAnswer-union_moved}
-use Rattle.transform.proofs.Judged.{transform-point-judged, transform-bounds-judged}
-use Rattle.transform.proofs.Answer.{one-of-wider}
-use Rattle.bounds_query.specs.Query.{Bounds3f-refusal, BoundsAnswer-union_bounds}
-use Rattle.bounds_query.proofs.Numbers.{box-keeps}
-use Rattle.axis_derivative.specs.declared.Derivative.{Derivative}
-use Rattle.pose_steps.specs.declared.PoseConstants.{PoseConstants}
-use Rattle.animated_transform.specs.declared.AnimatedTransform.{AnimatedTransform}
-use Rattle.motion_point.specs.TransformPoint.{AnimatedTransform-constants}
-use Rattle.motion_point.proofs.Query.{moved-point-judged}
+use Rattle.motion_bounds.specs.bounds3.declared.Point3f.{Point3f}
+use Rattle.motion_bounds.specs.bounds3.declared.Bounds3f.{Bounds3f}
+use Rattle.motion_bounds.specs.bounds3.Bounds3f.{Bounds3f-default, Bounds3f-from_point, Bounds3f-corner}
+use Rattle.motion_bounds.specs.bounds3.Finite.{Point3f-is_finite, Bounds3f-is_finite}
+use Rattle.motion_bounds.proofs.bounds3.Finite.{test-finite, box-finite, union-point-finite, union-finite}
+use Rattle.motion_bounds.proofs.control_flow.Loop.{loop-keeps}
+use Rattle.motion_bounds.proofs.control_flow.Choice.{cond-keeps}
+use Rattle.motion_bounds.specs.transform.declared.PointAnswer.{PointAnswer}
+use Rattle.motion_bounds.specs.transform.declared.PointAnswer.TheVariants as point
+use Rattle.motion_bounds.specs.transform.declared.BoundsAnswer.{BoundsAnswer}
+use Rattle.motion_bounds.specs.transform.declared.BoundsAnswer.TheVariants.{Bounds, Refused}
+use Rattle.motion_bounds.specs.transform.Answer.{OneOf, origin, PointAnswer-Judged, BoundsAnswer-Judged}
+use Rattle.motion_bounds.specs.transform.TransformBounds.{BoundsAnswer-from_moved, BoundsAnswer-union_moved}
+use Rattle.motion_bounds.proofs.transform.Judged.{transform-point-judged, transform-bounds-judged}
+use Rattle.motion_bounds.proofs.transform.Answer.{one-of-wider}
+use Rattle.motion_bounds.specs.bounds_query.Query.{Bounds3f-refusal, BoundsAnswer-union_bounds}
+use Rattle.motion_bounds.proofs.bounds_query.Numbers.{box-keeps}
+use Rattle.motion_bounds.specs.axis_derivative.declared.Derivative.{Derivative}
+use Rattle.motion_bounds.specs.pose_steps.declared.PoseConstants.{PoseConstants}
+use Rattle.motion_bounds.specs.animated_transform.declared.AnimatedTransform.{AnimatedTransform}
+use Rattle.motion_bounds.specs.motion_point.TransformPoint.{AnimatedTransform-constants}
+use Rattle.motion_bounds.proofs.motion_point.Query.{moved-point-judged}
 use Rattle.motion_bounds.specs.MotionBounds.{axis_search, point_at, union_zero, union_zeros, all_places, union_axis, point_bounds}
 use Rattle.motion_bounds.specs.MotionBounds.{union_corner, union_corners, box_bounds, bound_point_motion, motion_bounds}
 use Rattle.motion_bounds.specs.declared.Examined.{Examined}

@@ -13,26 +13,26 @@ use lib.Ieee.Fits.{down_pos, mul-fits}
 use lib.Ieee.Exact.{HasValue, round_exact}
 use lib.Ieee.Scale.{finite}
 use lib.Ieee.Positive.{den, den_pos}
-use Rattle.rounding.specs.Order.{◌≼◌}
-use Rattle.rounding.proofs.Rational.{pos_part, neg_part, num_pos, num_neg, FractionLe}
-use Rattle.rounding.proofs.Order.{≼_trans, between-finite, of-fraction}
-use Rattle.rounding.proofs.Monotone.{Rounds, rounds-mono}
-use Rattle.rounding.proofs.Arithmetic.{add_rounds, mul-rounds}
-use Rattle.float32.specs.Operators.{◌⊕◌, ◌⊖◌, ◌⊗◌, one}
-use Rattle.float32.specs.Lerp.{lerp}
-use Rattle.float32.proofs.Constants.{one-finite}
-use Rattle.matrix4x4.specs.Rows.{positive_zero}
-use Rattle.matrix4x4.proofs.Zero.{Zero, signed, zero-zero, zero-mul}
-use Rattle.bounds3.specs.declared.Point3f.{Point3f}
-use Rattle.transform.specs.TransformPoint.{Transform-transform_point}
-use Rattle.pose_steps.specs.declared.PoseConstants.{PoseConstants}
-use Rattle.animated_transform.specs.declared.AnimatedTransform.{AnimatedTransform}
-use Rattle.animated_transform.specs.Built.{Built}
-use Rattle.animated_transform.proofs.Built.{built-judged}
-use Rattle.motion_point.proofs.Query.{moved-point-start}
+use Rattle.motion_bounds.specs.rounding.Order.{◌≼◌}
+use Rattle.motion_bounds.proofs.rounding.Rational.{pos_part, neg_part, num_pos, num_neg, FractionLe}
+use Rattle.motion_bounds.proofs.rounding.Order.{≼_trans, between-finite, of-fraction}
+use Rattle.motion_bounds.proofs.rounding.Monotone.{Rounds, rounds-mono}
+use Rattle.motion_bounds.proofs.rounding.Arithmetic.{add_rounds, mul-rounds}
+use Rattle.motion_bounds.specs.float32.Operators.{◌⊕◌, ◌⊖◌, ◌⊗◌, one}
+use Rattle.motion_bounds.specs.float32.Lerp.{lerp}
+use Rattle.motion_bounds.proofs.float32.Constants.{one-finite}
+use Rattle.motion_bounds.specs.matrix4x4.Rows.{positive_zero}
+use Rattle.motion_bounds.proofs.matrix4x4.Zero.{Zero, signed, zero-zero, zero-mul}
+use Rattle.motion_bounds.specs.bounds3.declared.Point3f.{Point3f}
+use Rattle.motion_bounds.specs.transform.TransformPoint.{Transform-transform_point}
+use Rattle.motion_bounds.specs.pose_steps.declared.PoseConstants.{PoseConstants}
+use Rattle.motion_bounds.specs.animated_transform.declared.AnimatedTransform.{AnimatedTransform}
+use Rattle.motion_bounds.specs.animated_transform.Built.{Built}
+use Rattle.motion_bounds.proofs.animated_transform.Built.{built-judged}
+use Rattle.motion_bounds.proofs.motion_point.Query.{moved-point-start}
 use Rattle.motion_bounds.specs.MotionBounds.{point_at}
-use Rattle.float_bits.specs.Decode.{integer_decode}
-use Rattle.float_bits.proofs.Decode.{magnitude-lt, decode-exact, decode-value, significand-lt}
+use Rattle.motion_bounds.specs.float_bits.Decode.{integer_decode}
+use Rattle.motion_bounds.proofs.float_bits.Decode.{magnitude-lt, decode-exact, decode-value, significand-lt}
 
 -- ---- a value of the format is its own rounding
 module _ (s : Bool) (m : ℕ) (e : ℤ) (h : T (fits binary32 (fin s m e))) where

@@ -1,9 +1,9 @@
 -- What is promised of every answer about a motion box, `MotionBoundsAnswer-Answered`: the statement of
 -- `bound-point-motion-numbers` and `motion-bounds-numbers`; of its box alone, `BoundsAnswer-Answered`. Definitions only.
 use Rattle.std.specs.Prelude.{ℕ, List, T}
-use Rattle.bounds3.specs.Finite.{Bounds3f-is_finite}
-use Rattle.transform.specs.declared.BoundsAnswer.{BoundsAnswer}
-use Rattle.transform.specs.Answer.{OneOf, BoundsAnswer-refusal, BoundsAnswer-bounds}
+use Rattle.motion_bounds.specs.bounds3.Finite.{Bounds3f-is_finite}
+use Rattle.motion_bounds.specs.transform.declared.BoundsAnswer.{BoundsAnswer}
+use Rattle.motion_bounds.specs.transform.Answer.{OneOf, BoundsAnswer-refusal, BoundsAnswer-bounds}
 use Rattle.motion_bounds.specs.declared.MotionBoundsAnswer.{MotionBoundsAnswer}
 use Rattle.motion_bounds.specs.Examined.{Examined-AtMost}
 use Rattle.motion_bounds.specs.Answer.{MotionBoundsAnswer-refusal, MotionBoundsAnswer-bounds, MotionBoundsAnswer-examined}

@@ -1,9 +1,9 @@
 -- The motion box by the rule of the book Physically Based Rendering, third edition: only the places of the zero array in which a zero is stored are joined.
 -- Definitions only.
-use Rattle.bounds3.specs.declared.Point3f.{Point3f}
-use Rattle.bounds3.specs.declared.Bounds3f.{Bounds3f}
-use Rattle.transform.specs.declared.BoundsAnswer.{BoundsAnswer}
-use Rattle.animated_transform.specs.declared.AnimatedTransform.{AnimatedTransform}
+use Rattle.motion_bounds.specs.bounds3.declared.Point3f.{Point3f}
+use Rattle.motion_bounds.specs.bounds3.declared.Bounds3f.{Bounds3f}
+use Rattle.motion_bounds.specs.transform.declared.BoundsAnswer.{BoundsAnswer}
+use Rattle.motion_bounds.specs.animated_transform.declared.AnimatedTransform.{AnimatedTransform}
 use Rattle.motion_bounds.specs.MotionBounds.{stored_places, bound_point_motion, motion_bounds}
 
 abbrev pub Book-bound_point_motion : AnimatedTransform → Point3f → BoundsAnswer

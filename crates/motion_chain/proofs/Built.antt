@@ -13,15 +13,15 @@ use lib.ListN.{length}
 use lib.Ieee.{Float, lt}
 use lib.Ieee.Bits.{is_true}
 use lib.Ieee.Fits.{and_l, and_r}
-use Rattle.refusal.proofs.First.{first-zero, first-right, first-keeps}
-use Rattle.refusal.specs.First.{first_refusal}
-use Rattle.pose_pair.specs.declared.Pose.{Pose}
-use Rattle.pose_pair.specs.Pose.{Pose-is_finite, Pose-is_binary32, Pose-is_affine, Pose-is_padded, times_refusal, poses_refusal, Pose-kind_number}
-use Rattle.animated_transform.specs.declared.AnimatedTransform.{AnimatedTransform}
-use Rattle.animated_transform.specs.declared.AnimatedTransformAnswer.{AnimatedTransformAnswer}
-use Rattle.animated_transform.specs.New.{AnimatedTransform-from_poses, AnimatedTransform-new}
-use Rattle.animated_transform.specs.Built.{Built}
-use Rattle.animated_transform.proofs.Kept.{new-kept}
+use Rattle.bounds_answers.proofs.refusal.First.{first-zero, first-right, first-keeps}
+use Rattle.bounds_answers.specs.refusal.First.{first_refusal}
+use Rattle.bounds_answers.specs.pose_pair.declared.Pose.{Pose}
+use Rattle.bounds_answers.specs.pose_pair.Pose.{Pose-is_finite, Pose-is_binary32, Pose-is_affine, Pose-is_padded, times_refusal, poses_refusal, Pose-kind_number}
+use Rattle.bounds_answers.specs.animated_transform.declared.AnimatedTransform.{AnimatedTransform}
+use Rattle.bounds_answers.specs.animated_transform.declared.AnimatedTransformAnswer.{AnimatedTransformAnswer}
+use Rattle.bounds_answers.specs.animated_transform.New.{AnimatedTransform-from_poses, AnimatedTransform-new}
+use Rattle.bounds_answers.specs.animated_transform.Built.{Built}
+use Rattle.bounds_answers.proofs.animated_transform.Kept.{new-kept}
 use Rattle.bounds_answers.proofs.UnionAll.{each_of}
 use Rattle.motion_chain.specs.Chain.{min_poses, max_poses, neighbours, every, first_number, stage}
 use Rattle.motion_chain.specs.Chain.{Pose-number, Pair-number, kind_stage, chain_stages, chain_refusal}

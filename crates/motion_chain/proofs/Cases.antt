@@ -7,16 +7,16 @@ use mathlib.Core.Path.{◌≡◌, refl, subst}
 use mathlib.Core.Bool.{true, false}
 use mathlib.Core.List.{List, [], ◌∷◌}
 use lib.Ieee.{Float, nan, inf, binary32, round, fits}
-use Rattle.rounding.specs.Order.{◌≼◌}
-use Rattle.matrix4x4.specs.declared.Matrix4x4.{Matrix4x4}
-use Rattle.bounds3.specs.declared.Point3f.{Point3f}
-use Rattle.bounds3.specs.declared.Bounds3f.{Bounds3f}
-use Rattle.transform.specs.declared.PointAnswer.TheVariants as point
-use Rattle.transform.specs.Answer.{BoundsAnswer-refusal, BoundsAnswer-bounds}
-use Rattle.pose_pair.specs.declared.Pose.{Pose}
-use Rattle.animated_transform.specs.declared.AnimatedTransform.{AnimatedTransform}
-use Rattle.animated_transform.specs.New.{AnimatedTransform-new}
-use Rattle.motion_cover.specs.Theorem.{MovedInside}
+use Rattle.bounds_answers.specs.rounding.Order.{◌≼◌}
+use Rattle.bounds_answers.specs.matrix4x4.declared.Matrix4x4.{Matrix4x4}
+use Rattle.bounds_answers.specs.bounds3.declared.Point3f.{Point3f}
+use Rattle.bounds_answers.specs.bounds3.declared.Bounds3f.{Bounds3f}
+use Rattle.bounds_answers.specs.transform.declared.PointAnswer.TheVariants as point
+use Rattle.bounds_answers.specs.transform.Answer.{BoundsAnswer-refusal, BoundsAnswer-bounds}
+use Rattle.bounds_answers.specs.pose_pair.declared.Pose.{Pose}
+use Rattle.bounds_answers.specs.animated_transform.declared.AnimatedTransform.{AnimatedTransform}
+use Rattle.bounds_answers.specs.animated_transform.New.{AnimatedTransform-new}
+use Rattle.bounds_answers.specs.motion_cover.Theorem.{MovedInside}
 use Rattle.motion_chain.specs.Chain.{chain_refusal, Chain, built, refused, Chain-new, Chain-transform_point, Chain-pad_at, Chain-cover}
 use Rattle.motion_chain.specs.Built.{BuiltChain}
 use Rattle.motion_chain.specs.MoveAt.{index_from, Chain-index_at}

@@ -8,25 +8,25 @@ use mathlib.Core.Bool.{Bool, true, false, not, cond}
 use mathlib.Core.List.{List, [], ◌∷◌, map}
 use lib.Dec.{T}
 use lib.Ieee.{Float, is_nan, le}
-use Rattle.bounds3.specs.declared.Point3f.{Point3f}
-use Rattle.bounds3.specs.declared.Bounds3f.{Bounds3f}
-use Rattle.bounds3.specs.Inside.{Inside}
-use Rattle.transform.specs.declared.BoundsAnswer.{BoundsAnswer}
-use Rattle.transform.specs.declared.BoundsAnswer.TheVariants.{Bounds}
-use Rattle.transform.specs.Answer.{BoundsAnswer-refusal, BoundsAnswer-bounds}
-use Rattle.animated_transform.specs.declared.AnimatedTransform.{AnimatedTransform}
-use Rattle.animated_transform.specs.Built.{Built}
-use Rattle.motion_point.specs.TransformPoint.{AnimatedTransform-transform_point}
-use Rattle.bounds_query.specs.Query.{max_depth}
-use Rattle.motion_point.specs.PadAt.{AnimatedTransform-pad_at}
-use Rattle.motion_cover.specs.Cover.{AnimatedTransform-cover}
-use Rattle.motion_cover.specs.Theorem.{MovedInside}
-use Rattle.motion_cover.specs.Answer.{Proper}
-use Rattle.motion_cover.proofs.Contains.{moved-wider, cover-contains}
-use Rattle.motion_cover.proofs.NonZero.{BoundsAnswer-NonZero, nonzero-box, cover-nonzero}
-use Rattle.motion_cover.proofs.Proper.{cover-proper}
-use Rattle.cover_depth.specs.Finer.{Within}
-use Rattle.cover_depth.proofs.Finer.{BoxWithin, box-within, within-subset, cover-box-finer}
+use Rattle.bounds_answers.specs.bounds3.declared.Point3f.{Point3f}
+use Rattle.bounds_answers.specs.bounds3.declared.Bounds3f.{Bounds3f}
+use Rattle.bounds_answers.specs.bounds3.Inside.{Inside}
+use Rattle.bounds_answers.specs.transform.declared.BoundsAnswer.{BoundsAnswer}
+use Rattle.bounds_answers.specs.transform.declared.BoundsAnswer.TheVariants.{Bounds}
+use Rattle.bounds_answers.specs.transform.Answer.{BoundsAnswer-refusal, BoundsAnswer-bounds}
+use Rattle.bounds_answers.specs.animated_transform.declared.AnimatedTransform.{AnimatedTransform}
+use Rattle.bounds_answers.specs.animated_transform.Built.{Built}
+use Rattle.bounds_answers.specs.motion_point.TransformPoint.{AnimatedTransform-transform_point}
+use Rattle.bounds_answers.specs.bounds_query.Query.{max_depth}
+use Rattle.bounds_answers.specs.motion_point.PadAt.{AnimatedTransform-pad_at}
+use Rattle.bounds_answers.specs.motion_cover.Cover.{AnimatedTransform-cover}
+use Rattle.bounds_answers.specs.motion_cover.Theorem.{MovedInside}
+use Rattle.bounds_answers.specs.motion_cover.Answer.{Proper}
+use Rattle.bounds_answers.proofs.motion_cover.Contains.{moved-wider, cover-contains}
+use Rattle.bounds_answers.proofs.motion_cover.NonZero.{BoundsAnswer-NonZero, nonzero-box, cover-nonzero}
+use Rattle.bounds_answers.proofs.motion_cover.Proper.{cover-proper}
+use Rattle.bounds_answers.specs.cover_depth.Finer.{Within}
+use Rattle.bounds_answers.proofs.cover_depth.Finer.{BoxWithin, box-within, within-subset, cover-box-finer}
 use Rattle.bounds_answers.proofs.UnionAll.{each_map, each-unmap, each_of, union-all-proper, union-all-nonzero, union-all-within, union-all-parts}
 use Rattle.motion_chain.specs.Chain.{Chain, Chain-moves, move_from, Chain-move_at, Chain-transform_point, Chain-pad_at, union_covers, Chain-cover}
 use Rattle.motion_chain.specs.Built.{BuiltChain, Each}

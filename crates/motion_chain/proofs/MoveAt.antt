@@ -9,9 +9,9 @@ use lib.Dec.{T}
 use lib.ListN.{length, get_or}
 use lib.Ieee.{Float, le}
 use lib.Ieee.Bits.{is_true}
-use Rattle.rounding.specs.Order.{◌≼◌, Number}
-use Rattle.rounding.proofs.Order.{≼_refl, ≼_trans, number-right, lt-≼}
-use Rattle.animated_transform.specs.declared.AnimatedTransform.{AnimatedTransform}
+use Rattle.bounds_answers.specs.rounding.Order.{◌≼◌, Number}
+use Rattle.bounds_answers.proofs.rounding.Order.{≼_refl, ≼_trans, number-right, lt-≼}
+use Rattle.bounds_answers.specs.animated_transform.declared.AnimatedTransform.{AnimatedTransform}
 use Rattle.motion_chain.specs.Chain.{Chain, move_from, Chain-move_at}
 use Rattle.motion_chain.specs.Built.{BuiltChain, Each, Contiguous}
 use Rattle.motion_chain.specs.MoveAt.{last_from, index_from, MoveAt, MoveIndex}

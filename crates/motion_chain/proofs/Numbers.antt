@@ -1,12 +1,12 @@
 -- A chain's cover gives the numbers of a move's cover alone, and one whose number is 0 is a box: `chain-cover-numbered`.
 use Prim.Native.Nat.{ℕ}
 use mathlib.Core.List.{List, [], ◌∷◌, map}
-use Rattle.bounds3.specs.declared.Bounds3f.{Bounds3f}
-use Rattle.transform.specs.declared.BoundsAnswer.{BoundsAnswer}
-use Rattle.animated_transform.specs.declared.AnimatedTransform.{AnimatedTransform}
-use Rattle.motion_cover.specs.Cover.{AnimatedTransform-cover}
-use Rattle.motion_cover.specs.Answer.{BoundsAnswer-Numbered}
-use Rattle.motion_cover.proofs.Number.{cover-numbered}
+use Rattle.bounds_answers.specs.bounds3.declared.Bounds3f.{Bounds3f}
+use Rattle.bounds_answers.specs.transform.declared.BoundsAnswer.{BoundsAnswer}
+use Rattle.bounds_answers.specs.animated_transform.declared.AnimatedTransform.{AnimatedTransform}
+use Rattle.bounds_answers.specs.motion_cover.Cover.{AnimatedTransform-cover}
+use Rattle.bounds_answers.specs.motion_cover.Answer.{BoundsAnswer-Numbered}
+use Rattle.bounds_answers.proofs.motion_cover.Number.{cover-numbered}
 use Rattle.bounds_answers.proofs.UnionAll.{each_map, each_of, union-all-numbered}
 use Rattle.motion_chain.specs.Chain.{Chain, union_covers, Chain-cover}
 

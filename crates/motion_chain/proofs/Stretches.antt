@@ -11,14 +11,14 @@ use lib.ListN.{length, take, drop, take-append-drop}
 use lib.Ieee.{Float, le}
 use lib.Ieee.Bits.{is_true}
 use lib.Ieee.Fits.{and_l, and_r}
-use Rattle.rounding.specs.Order.{◌≼◌}
-use Rattle.rounding.proofs.Order.{≼_trans}
-use Rattle.bounds3.specs.declared.Point3f.{Point3f}
-use Rattle.bounds3.specs.List.{Point3f-list}
-use Rattle.transform.specs.declared.PointAnswer.{PointAnswer}
-use Rattle.transform.specs.declared.PointAnswer.TheVariants.{Moved, Refused}
-use Rattle.animated_transform.specs.declared.AnimatedTransform.{AnimatedTransform}
-use Rattle.motion_point.specs.TransformPoint.{AnimatedTransform-transform_point}
+use Rattle.bounds_answers.specs.rounding.Order.{◌≼◌}
+use Rattle.bounds_answers.proofs.rounding.Order.{≼_trans}
+use Rattle.bounds_answers.specs.bounds3.declared.Point3f.{Point3f}
+use Rattle.bounds_answers.specs.bounds3.List.{Point3f-list}
+use Rattle.bounds_answers.specs.transform.declared.PointAnswer.{PointAnswer}
+use Rattle.bounds_answers.specs.transform.declared.PointAnswer.TheVariants.{Moved, Refused}
+use Rattle.bounds_answers.specs.animated_transform.declared.AnimatedTransform.{AnimatedTransform}
+use Rattle.bounds_answers.specs.motion_point.TransformPoint.{AnimatedTransform-transform_point}
 use Rattle.motion_chain.specs.Chain.{Chain, Chain-moves, move_from, Chain-move_at, Chain-transform_point}
 use Rattle.motion_chain.specs.Built.{Each}
 use Rattle.motion_chain.specs.MoveAt.{index_from}

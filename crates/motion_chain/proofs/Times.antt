@@ -14,21 +14,21 @@ use lib.ListN.{length}
 use lib.Ieee.{Float, inf, is_nan}
 use lib.Ieee.Bits.{is_true, is_false}
 use lib.Ieee.Fits.{and_l, and_r}
-use Rattle.bounds3.specs.declared.Point3f.{Point3f}
-use Rattle.bounds3.specs.declared.Bounds3f.{Bounds3f}
-use Rattle.bounds3.specs.Finite.{Point3f-is_finite}
-use Rattle.bounds3.specs.List.{Point3f-list}
-use Rattle.transform.specs.declared.PointAnswer.{PointAnswer}
-use Rattle.transform.specs.declared.PointAnswer.TheVariants.{Moved, Refused}
-use Rattle.transform.specs.Answer.{OneOf, PointAnswer-refusal, PointAnswer-point, PointAnswer-Judged, BoundsAnswer-bounds}
-use Rattle.animated_transform.specs.declared.AnimatedTransform.{AnimatedTransform}
-use Rattle.motion_point.specs.TransformPoint.{AnimatedTransform-constants, AnimatedTransform-moved_point, AnimatedTransform-transform_point}
-use Rattle.motion_point.specs.Answer.{PointAnswer-Numbered}
-use Rattle.motion_point.proofs.Query.{moved-point-judged, transform-point-accepted}
-use Rattle.motion_point.proofs.NonZero.{transform-point-numbered}
-use Rattle.motion_cover.specs.Theorem.{MovedInside}
-use Rattle.formula.specs.Promise.{Pairwise}
-use Rattle.motion_pad.specs.Grow.{PaddedInside}
+use Rattle.bounds_answers.specs.bounds3.declared.Point3f.{Point3f}
+use Rattle.bounds_answers.specs.bounds3.declared.Bounds3f.{Bounds3f}
+use Rattle.bounds_answers.specs.bounds3.Finite.{Point3f-is_finite}
+use Rattle.bounds_answers.specs.bounds3.List.{Point3f-list}
+use Rattle.bounds_answers.specs.transform.declared.PointAnswer.{PointAnswer}
+use Rattle.bounds_answers.specs.transform.declared.PointAnswer.TheVariants.{Moved, Refused}
+use Rattle.bounds_answers.specs.transform.Answer.{OneOf, PointAnswer-refusal, PointAnswer-point, PointAnswer-Judged, BoundsAnswer-bounds}
+use Rattle.bounds_answers.specs.animated_transform.declared.AnimatedTransform.{AnimatedTransform}
+use Rattle.bounds_answers.specs.motion_point.TransformPoint.{AnimatedTransform-constants, AnimatedTransform-moved_point, AnimatedTransform-transform_point}
+use Rattle.bounds_answers.specs.motion_point.Answer.{PointAnswer-Numbered}
+use Rattle.bounds_answers.proofs.motion_point.Query.{moved-point-judged, transform-point-accepted}
+use Rattle.bounds_answers.proofs.motion_point.NonZero.{transform-point-numbered}
+use Rattle.bounds_answers.specs.motion_cover.Theorem.{MovedInside}
+use Rattle.bounds_answers.specs.formula.Promise.{Pairwise}
+use Rattle.bounds_answers.specs.motion_pad.Grow.{PaddedInside}
 use Rattle.motion_chain.specs.Chain.{every, Chain, Chain-move_at, Chain-transform_point, Chain-pad_at, Chain-cover}
 use Rattle.motion_chain.specs.Built.{BuiltChain}
 use Rattle.motion_chain.specs.Times.{times_are_numbers, never_falls, places_per_time, list_refusal, PointsAnswer, moved}

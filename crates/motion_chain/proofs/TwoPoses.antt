@@ -13,21 +13,21 @@ use lib.Ieee.Bits.{is_true, is_false}
 use lib.Ieee.Fits.{and_l, and_r}
 use lib.Ieee.Scale.{finite}
 use lib.Ieee.Positive.{den, den_pos}
-use Rattle.refusal.specs.First.{first_refusal}
-use Rattle.rounding.proofs.Rational.{num_pos, num_neg, FractionLe}
-use Rattle.rounding.proofs.Order.{≼_refl, finite_number, between-finite}
-use Rattle.rounding.proofs.Monotone.{rounds-mono}
-use Rattle.rounding.proofs.Arithmetic.{sub-rounds}
-use Rattle.float32.specs.Operators.{◌⊖◌}
-use Rattle.float32.proofs.Constants.{zero-finite, zero-rounds}
-use Rattle.unit_interval.proofs.DtUnit.{sub-nonnegative}
-use Rattle.matrix4x4.specs.Rows.{Matrix4x4-to_rows}
-use Rattle.matrix4x4.specs.IsFinite.{Matrix4x4-is_finite}
-use Rattle.pose_pair.specs.declared.Pose.{Pose}
-use Rattle.pose_pair.specs.Pose.{Pose-is_finite, Pose-is_affine, Pose-is_padded, times_refusal, poses_refusal, Pose-kind_number}
-use Rattle.animated_transform.specs.declared.AnimatedTransform.{AnimatedTransform}
-use Rattle.animated_transform.specs.declared.AnimatedTransformAnswer.{AnimatedTransformAnswer}
-use Rattle.animated_transform.specs.New.{AnimatedTransformAnswer-refused, AnimatedTransform-from_poses, build_refusal, AnimatedTransform-new}
+use Rattle.bounds_answers.specs.refusal.First.{first_refusal}
+use Rattle.bounds_answers.proofs.rounding.Rational.{num_pos, num_neg, FractionLe}
+use Rattle.bounds_answers.proofs.rounding.Order.{≼_refl, finite_number, between-finite}
+use Rattle.bounds_answers.proofs.rounding.Monotone.{rounds-mono}
+use Rattle.bounds_answers.proofs.rounding.Arithmetic.{sub-rounds}
+use Rattle.bounds_answers.specs.float32.Operators.{◌⊖◌}
+use Rattle.bounds_answers.proofs.float32.Constants.{zero-finite, zero-rounds}
+use Rattle.bounds_answers.proofs.unit_interval.DtUnit.{sub-nonnegative}
+use Rattle.bounds_answers.specs.matrix4x4.Rows.{Matrix4x4-to_rows}
+use Rattle.bounds_answers.specs.matrix4x4.IsFinite.{Matrix4x4-is_finite}
+use Rattle.bounds_answers.specs.pose_pair.declared.Pose.{Pose}
+use Rattle.bounds_answers.specs.pose_pair.Pose.{Pose-is_finite, Pose-is_affine, Pose-is_padded, times_refusal, poses_refusal, Pose-kind_number}
+use Rattle.bounds_answers.specs.animated_transform.declared.AnimatedTransform.{AnimatedTransform}
+use Rattle.bounds_answers.specs.animated_transform.declared.AnimatedTransformAnswer.{AnimatedTransformAnswer}
+use Rattle.bounds_answers.specs.animated_transform.New.{AnimatedTransformAnswer-refused, AnimatedTransform-from_poses, build_refusal, AnimatedTransform-new}
 use Rattle.motion_chain.specs.Chain.{neighbours, every, first_number, Pose-number, Pair-number, kind_stage}
 use Rattle.motion_chain.specs.Chain.{chain_refusal, built, refused, ChainAnswer-from_moves, Chain-new}
 use Rattle.motion_chain.specs.Chain.{move_from, Chain-move_at, Chain-transform_point, union_covers, Chain-cover}

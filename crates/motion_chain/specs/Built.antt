@@ -3,11 +3,11 @@
 use Rattle.std.specs.Prelude.{◌<◌, ◌≡◌, Bool, List, [], ◌∷◌, T, length, Float}
 use Rattle.std.specs.Float.Ieee.{lt}
 pub use Rattle.bounds_answers.specs.UnionAll.{Each}
-use Rattle.pose_pair.specs.declared.Pose.{Pose}
-use Rattle.pose_pair.specs.Pose.{Pose-is_binary32}
-use Rattle.animated_transform.specs.declared.AnimatedTransform.{AnimatedTransform}
-use Rattle.animated_transform.specs.New.{AnimatedTransform-from_poses, AnimatedTransform-new}
-use Rattle.animated_transform.specs.Built.{Built}
+use Rattle.bounds_answers.specs.pose_pair.declared.Pose.{Pose}
+use Rattle.bounds_answers.specs.pose_pair.Pose.{Pose-is_binary32}
+use Rattle.bounds_answers.specs.animated_transform.declared.AnimatedTransform.{AnimatedTransform}
+use Rattle.bounds_answers.specs.animated_transform.New.{AnimatedTransform-from_poses, AnimatedTransform-new}
+use Rattle.bounds_answers.specs.animated_transform.Built.{Built}
 use Rattle.motion_chain.specs.Chain.{max_poses, neighbours, every, chain_refusal, Chain, Chain-moves, built, Chain-new}
 
 -- of either kind, rigid or not; as a built move of document 01: building gives no refusal, and the times and pads are 32-bit floats

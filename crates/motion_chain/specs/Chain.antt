@@ -2,20 +2,20 @@
 -- Quotations are of document 02, "Poses in a chain", unless another document is named.
 use Rattle.std.specs.Prelude.{ℕ, Bool, true, false, ◌&&◌, ◌||◌, cond, List, [], ◌∷◌, map, eqb, ltb, length, Float}
 use Rattle.std.specs.Float.Ieee.{lt, le}
-use Rattle.refusal.specs.First.{first_refusal}
-use Rattle.bounds3.specs.declared.Point3f.{Point3f}
-use Rattle.bounds3.specs.declared.Bounds3f.{Bounds3f}
-use Rattle.transform.specs.declared.PointAnswer.{PointAnswer}
-use Rattle.transform.specs.declared.BoundsAnswer.{BoundsAnswer}
+use Rattle.bounds_answers.specs.refusal.First.{first_refusal}
+use Rattle.bounds_answers.specs.bounds3.declared.Point3f.{Point3f}
+use Rattle.bounds_answers.specs.bounds3.declared.Bounds3f.{Bounds3f}
+use Rattle.bounds_answers.specs.transform.declared.PointAnswer.{PointAnswer}
+use Rattle.bounds_answers.specs.transform.declared.BoundsAnswer.{BoundsAnswer}
 use Rattle.bounds_answers.specs.UnionAll.{BoundsAnswer-union_all}
-use Rattle.pose_pair.specs.declared.Pose.{Pose}
-use Rattle.pose_pair.specs.Pose.{Pose-is_finite, Pose-is_affine, Pose-is_padded, times_refusal, Pose-kind_number}
-use Rattle.animated_transform.specs.declared.AnimatedTransform.{AnimatedTransform}
-use Rattle.animated_transform.specs.declared.AnimatedTransformAnswer.{AnimatedTransformAnswer}
-use Rattle.animated_transform.specs.New.{AnimatedTransform-new}
-use Rattle.motion_point.specs.TransformPoint.{AnimatedTransform-transform_point}
-use Rattle.motion_point.specs.PadAt.{AnimatedTransform-pad_at}
-use Rattle.motion_cover.specs.Cover.{AnimatedTransform-cover}
+use Rattle.bounds_answers.specs.pose_pair.declared.Pose.{Pose}
+use Rattle.bounds_answers.specs.pose_pair.Pose.{Pose-is_finite, Pose-is_affine, Pose-is_padded, times_refusal, Pose-kind_number}
+use Rattle.bounds_answers.specs.animated_transform.declared.AnimatedTransform.{AnimatedTransform}
+use Rattle.bounds_answers.specs.animated_transform.declared.AnimatedTransformAnswer.{AnimatedTransformAnswer}
+use Rattle.bounds_answers.specs.animated_transform.New.{AnimatedTransform-new}
+use Rattle.bounds_answers.specs.motion_point.TransformPoint.{AnimatedTransform-transform_point}
+use Rattle.bounds_answers.specs.motion_point.PadAt.{AnimatedTransform-pad_at}
+use Rattle.bounds_answers.specs.motion_cover.Cover.{AnimatedTransform-cover}
 
 -- ---- the poses
 

@@ -7,3 +7,20 @@ pub mod Times
 pub mod Stretches
 pub mod TimesAnswer
 pub mod means
+pub use Rattle.bounds_answers.specs.animated_transform
+pub use Rattle.bounds_answers.specs.bounds3
+pub use Rattle.bounds_answers.specs as bounds_answers
+pub use Rattle.bounds_answers.specs.bounds_query
+pub use Rattle.bounds_answers.specs.cover_depth
+pub use Rattle.bounds_answers.specs.decomposition
+pub use Rattle.bounds_answers.specs.formula
+pub use Rattle.bounds_answers.specs.matrix4x4
+pub use Rattle.bounds_answers.specs.motion_cover
+pub use Rattle.bounds_answers.specs.motion_pad
+pub use Rattle.bounds_answers.specs.motion_point
+pub use Rattle.bounds_answers.specs.pose_pair
+pub use Rattle.bounds_answers.specs.pose_steps
+pub use Rattle.bounds_answers.specs.quaternion
+pub use Rattle.bounds_answers.specs.rotation_arc
+pub use Rattle.bounds_answers.specs.stored_box
+pub use Rattle.bounds_answers.specs.transform

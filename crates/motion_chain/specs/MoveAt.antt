@@ -2,8 +2,8 @@
 -- the statements of `move_at` and `move-index`.
 use Rattle.std.specs.Prelude.{ℕ, suc, ◌≤◌, ◌<◌, ◌≡◌, not, cond, List, [], ◌∷◌, T, length, get_or, Float}
 use Rattle.std.specs.Float.Ieee.{le}
-use Rattle.rounding.specs.Order.{◌≼◌}
-use Rattle.animated_transform.specs.declared.AnimatedTransform.{AnimatedTransform}
+use Rattle.bounds_answers.specs.rounding.Order.{◌≼◌}
+use Rattle.bounds_answers.specs.animated_transform.declared.AnimatedTransform.{AnimatedTransform}
 use Rattle.motion_chain.specs.Chain.{Chain, Chain-moves, Chain-move_at}
 use Rattle.motion_chain.specs.Built.{Each}
 

@@ -3,8 +3,8 @@
 use Rattle.std.specs.Prelude.{ℕ, suc, ◌*◌, ◌≡◌, cond, T, length, take, drop, Float}
 use mathlib.Core.List.{List, [], ◌∷◌, flatten}
 use Rattle.std.specs.Float.Ieee.{le}
-use Rattle.bounds3.specs.declared.Point3f.{Point3f}
-use Rattle.animated_transform.specs.declared.AnimatedTransform.{AnimatedTransform}
+use Rattle.bounds_answers.specs.bounds3.declared.Point3f.{Point3f}
+use Rattle.bounds_answers.specs.animated_transform.declared.AnimatedTransform.{AnimatedTransform}
 use Rattle.motion_chain.specs.Chain.{Chain, Chain-moves}
 use Rattle.motion_chain.specs.Built.{Each}
 use Rattle.motion_chain.specs.MoveAt.{Chain-index_at}

@@ -15,14 +15,14 @@
 -- And that a finer cover of a chain is never a wider one: `ChainCoverFiner`, the statement of `chain-cover-finer`.
 use Rattle.std.specs.Prelude.{ℕ, ◌+◌, ◌≤◌, ◌≡◌, not, T, Float}
 use Rattle.std.specs.Float.Ieee.{is_nan}
-use Rattle.bounds3.specs.declared.Point3f.{Point3f}
-use Rattle.bounds3.specs.declared.Bounds3f.{Bounds3f}
-use Rattle.bounds3.specs.Inside.{Inside}
-use Rattle.transform.specs.declared.BoundsAnswer.{BoundsAnswer}
-use Rattle.transform.specs.Answer.{BoundsAnswer-refusal, BoundsAnswer-bounds}
-use Rattle.bounds_query.specs.Query.{max_depth}
-use Rattle.motion_cover.specs.Theorem.{MovedInside}
-use Rattle.cover_depth.specs.Finer.{Within}
+use Rattle.bounds_answers.specs.bounds3.declared.Point3f.{Point3f}
+use Rattle.bounds_answers.specs.bounds3.declared.Bounds3f.{Bounds3f}
+use Rattle.bounds_answers.specs.bounds3.Inside.{Inside}
+use Rattle.bounds_answers.specs.transform.declared.BoundsAnswer.{BoundsAnswer}
+use Rattle.bounds_answers.specs.transform.Answer.{BoundsAnswer-refusal, BoundsAnswer-bounds}
+use Rattle.bounds_answers.specs.bounds_query.Query.{max_depth}
+use Rattle.bounds_answers.specs.motion_cover.Theorem.{MovedInside}
+use Rattle.bounds_answers.specs.cover_depth.Finer.{Within}
 use Rattle.motion_chain.specs.Chain.{Chain, Chain-transform_point, Chain-pad_at, Chain-cover}
 use Rattle.motion_chain.specs.Built.{BuiltChain}
 

@@ -4,13 +4,13 @@
 -- An empty list does not fall: for a finite point and no places it answers no points.
 use Rattle.std.specs.Prelude.{ℕ, ◌*◌, Bool, true, not, ◌&&◌, ◌||◌, cond, List, [], ◌∷◌, ◌++◌, eqb, length, Float}
 use Rattle.std.specs.Float.Ieee.{is_nan, le}
-use Rattle.bounds3.specs.declared.Point3f.{Point3f}
-use Rattle.bounds3.specs.Finite.{Point3f-is_finite}
-use Rattle.bounds3.specs.List.{Point3f-list}
-use Rattle.transform.specs.declared.PointAnswer.{PointAnswer}
-use Rattle.transform.specs.declared.PointAnswer.TheVariants as point
-use Rattle.animated_transform.specs.declared.AnimatedTransform.{AnimatedTransform}
-use Rattle.motion_point.specs.TransformPoint.{AnimatedTransform-transform_point}
+use Rattle.bounds_answers.specs.bounds3.declared.Point3f.{Point3f}
+use Rattle.bounds_answers.specs.bounds3.Finite.{Point3f-is_finite}
+use Rattle.bounds_answers.specs.bounds3.List.{Point3f-list}
+use Rattle.bounds_answers.specs.transform.declared.PointAnswer.{PointAnswer}
+use Rattle.bounds_answers.specs.transform.declared.PointAnswer.TheVariants as point
+use Rattle.bounds_answers.specs.animated_transform.declared.AnimatedTransform.{AnimatedTransform}
+use Rattle.bounds_answers.specs.motion_point.TransformPoint.{AnimatedTransform-transform_point}
 use Rattle.motion_chain.specs.Chain.{every, Chain, Chain-transform_point}
 
 -- ---- judging

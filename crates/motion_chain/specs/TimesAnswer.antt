@@ -2,13 +2,13 @@
 -- which numbers it can give, `TimesNumbers`; that the lent answers keep their length, `TimesLeft`; and the guarantee,
 -- `ChainContainsTimes`. The statements of `times-answered`, `times-numbers`, `times-left` and `chain-contains-times`.
 use Rattle.std.specs.Prelude.{ℕ, ◌*◌, ◌≡◌, List, [], ◌∷◌, ◌++◌, T, length, Float}
-use Rattle.bounds3.specs.declared.Point3f.{Point3f}
-use Rattle.bounds3.specs.declared.Bounds3f.{Bounds3f}
-use Rattle.bounds3.specs.Inside.{Inside}
-use Rattle.transform.specs.declared.BoundsAnswer.{BoundsAnswer}
-use Rattle.transform.specs.Answer.{OneOf, PointAnswer-refusal, PointAnswer-point, BoundsAnswer-refusal, BoundsAnswer-bounds}
-use Rattle.formula.specs.Promise.{Pairwise}
-use Rattle.motion_pad.specs.Grow.{PaddedInside}
+use Rattle.bounds_answers.specs.bounds3.declared.Point3f.{Point3f}
+use Rattle.bounds_answers.specs.bounds3.declared.Bounds3f.{Bounds3f}
+use Rattle.bounds_answers.specs.bounds3.Inside.{Inside}
+use Rattle.bounds_answers.specs.transform.declared.BoundsAnswer.{BoundsAnswer}
+use Rattle.bounds_answers.specs.transform.Answer.{OneOf, PointAnswer-refusal, PointAnswer-point, BoundsAnswer-refusal, BoundsAnswer-bounds}
+use Rattle.bounds_answers.specs.formula.Promise.{Pairwise}
+use Rattle.bounds_answers.specs.motion_pad.Grow.{PaddedInside}
 use Rattle.motion_chain.specs.Chain.{Chain, Chain-transform_point, Chain-pad_at}
 use Rattle.motion_chain.specs.Built.{BuiltChain}
 use Rattle.motion_chain.specs.Times.{times_are_numbers, never_falls, places_per_time, list_refusal, PointsAnswer, moved}

@@ -2,14 +2,14 @@
 -- `TwoPoses` and `SingleMove`, the statements of `two-poses` and `single-move`.
 use Rattle.std.specs.Prelude.{ℕ, ◌≡◌, Bool, not, [], ◌∷◌, T, Float}
 use Rattle.std.specs.Float.Ieee.{lt}
-use Rattle.bounds3.specs.declared.Point3f.{Point3f}
-use Rattle.bounds3.specs.declared.Bounds3f.{Bounds3f}
-use Rattle.pose_pair.specs.declared.Pose.{Pose}
-use Rattle.pose_pair.specs.Pose.{Pose-is_finite, Pose-is_affine, Pose-is_padded, Pose-kind_number}
-use Rattle.animated_transform.specs.declared.AnimatedTransform.{AnimatedTransform}
-use Rattle.animated_transform.specs.New.{AnimatedTransform-from_poses, AnimatedTransform-new}
-use Rattle.motion_point.specs.TransformPoint.{AnimatedTransform-transform_point}
-use Rattle.motion_cover.specs.Cover.{AnimatedTransform-cover}
+use Rattle.bounds_answers.specs.bounds3.declared.Point3f.{Point3f}
+use Rattle.bounds_answers.specs.bounds3.declared.Bounds3f.{Bounds3f}
+use Rattle.bounds_answers.specs.pose_pair.declared.Pose.{Pose}
+use Rattle.bounds_answers.specs.pose_pair.Pose.{Pose-is_finite, Pose-is_affine, Pose-is_padded, Pose-kind_number}
+use Rattle.bounds_answers.specs.animated_transform.declared.AnimatedTransform.{AnimatedTransform}
+use Rattle.bounds_answers.specs.animated_transform.New.{AnimatedTransform-from_poses, AnimatedTransform-new}
+use Rattle.bounds_answers.specs.motion_point.TransformPoint.{AnimatedTransform-transform_point}
+use Rattle.bounds_answers.specs.motion_cover.Cover.{AnimatedTransform-cover}
 use Rattle.motion_chain.specs.Chain.{every, Chain, built, refused, Chain-new, Chain-transform_point, Chain-cover}
 
 -- The chain of one move.

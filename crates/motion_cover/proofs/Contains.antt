@@ -10,51 +10,51 @@ use lib.Dec.{T, eqb, ltb}
 use borrow.Author.Tests.{eqb-true, eqb-false, ltb-false}
 use lib.Ieee.{Float, is_nan, le, lt}
 use lib.Ieee.Bits.{is_true, is_false}
-use Rattle.rounding.specs.Order.{◌≼◌, Number}
-use Rattle.rounding.proofs.Order.{≼_refl, finite_number, not-lt-≼}
-use Rattle.float32.specs.MinMax.{max_num}
-use Rattle.float32.proofs.MinMax.{max-picks}
-use Rattle.interval.specs.declared.Interval.{Interval}
-use Rattle.interval.specs.declared.Judged.{Judged}
-use Rattle.interval.specs.Contains.{Contains, Subset, Encloses}
-use Rattle.bounds3.specs.declared.Point3f.{Point3f}
-use Rattle.bounds3.specs.declared.Bounds3f.{Bounds3f}
-use Rattle.bounds3.specs.Finite.{Point3f-is_finite, Bounds3f-is_finite}
-use Rattle.bounds3.proofs.Finite.{finite-test, box-finite}
-use Rattle.bounds3.specs.Inside.{Inside, Subset as Subset3}
-use Rattle.bounds3.specs.List.{Point3f-list}
-use Rattle.bounds3.proofs.Union.{union-inside-left, union-inside-right, subset-inside}
-use Rattle.transform.specs.declared.Transform.{Transform}
-use Rattle.transform.specs.declared.PointAnswer.{PointAnswer}
-use Rattle.transform.specs.declared.PointAnswer.TheVariants.{Moved}
-use Rattle.transform.specs.declared.BoundsAnswer.{BoundsAnswer}
-use Rattle.transform.specs.declared.BoundsAnswer.TheVariants.{Bounds, Refused}
-use Rattle.transform.specs.Answer.{PointAnswer-refusal, PointAnswer-point, BoundsAnswer-bounds}
-use Rattle.transform.specs.TransformPoint.{Transform-transform_point}
-use Rattle.transform.proofs.Judged.{judged-moved}
-use Rattle.bounds_query.specs.Query.{Bounds3f-refusal, BoundsAnswer-union_bounds, max_depth, cover_refusal}
-use Rattle.bounds_query.proofs.Accepted.{refusal-accepted}
-use Rattle.bounds_query.specs.Zeros.{Bounds3f-positive_zeros, BoundsAnswer-positive_zeros}
-use Rattle.bounds_query.proofs.Zeros.{zeros-accepted}
-use Rattle.bounds_query.proofs.Union.{refused-bounds, bounds-same, union-accepted}
-use Rattle.unit_interval.specs.Unit.{unit_interval, slice, dt}
-use Rattle.unit_interval.proofs.Slices.{slice-unit, slice-covers}
-use Rattle.unit_interval.proofs.DtUnit.{dt-unit}
-use Rattle.pose_steps.specs.declared.PoseConstants.{PoseConstants}
-use Rattle.formula.specs.Promise.{Pairwise}
-use Rattle.pose_steps.specs.declared.IntervalVector.{IntervalVector}
-use Rattle.pose_steps.specs.declared.JudgedVector.{JudgedVector}
-use Rattle.pose_steps.specs.Pose.{Pose-transform_point, Pose-moved_point}
-use Rattle.pose_steps.specs.Enclose.{IntervalVector-list, Pose-enclose_point, Bounds3f-intervals, IntervalVector-bounds}
-use Rattle.pose_steps.specs.Promise.{PoseConstants-Valid, FiniteScale, EnclosesAnswer}
-use Rattle.pose_steps.proofs.Finite.{stored-encloses}
-use Rattle.pose_steps.proofs.Extends.{transform_point-extends, moved_point-extends}
-use Rattle.pose_steps.proofs.Composition.{point-affine}
-use Rattle.pose_steps.proofs.Box.{inside-encloses, encloses-inside, point-finite}
+use Rattle.stored_box.specs.rounding.Order.{◌≼◌, Number}
+use Rattle.stored_box.proofs.rounding.Order.{≼_refl, finite_number, not-lt-≼}
+use Rattle.stored_box.specs.float32.MinMax.{max_num}
+use Rattle.stored_box.proofs.float32.MinMax.{max-picks}
+use Rattle.stored_box.specs.interval.declared.Interval.{Interval}
+use Rattle.stored_box.specs.interval.declared.Judged.{Judged}
+use Rattle.stored_box.specs.interval.Contains.{Contains, Subset, Encloses}
+use Rattle.stored_box.specs.bounds3.declared.Point3f.{Point3f}
+use Rattle.stored_box.specs.bounds3.declared.Bounds3f.{Bounds3f}
+use Rattle.stored_box.specs.bounds3.Finite.{Point3f-is_finite, Bounds3f-is_finite}
+use Rattle.stored_box.proofs.bounds3.Finite.{finite-test, box-finite}
+use Rattle.stored_box.specs.bounds3.Inside.{Inside, Subset as Subset3}
+use Rattle.stored_box.specs.bounds3.List.{Point3f-list}
+use Rattle.stored_box.proofs.bounds3.Union.{union-inside-left, union-inside-right, subset-inside}
+use Rattle.stored_box.specs.transform.declared.Transform.{Transform}
+use Rattle.stored_box.specs.transform.declared.PointAnswer.{PointAnswer}
+use Rattle.stored_box.specs.transform.declared.PointAnswer.TheVariants.{Moved}
+use Rattle.stored_box.specs.transform.declared.BoundsAnswer.{BoundsAnswer}
+use Rattle.stored_box.specs.transform.declared.BoundsAnswer.TheVariants.{Bounds, Refused}
+use Rattle.stored_box.specs.transform.Answer.{PointAnswer-refusal, PointAnswer-point, BoundsAnswer-bounds}
+use Rattle.stored_box.specs.transform.TransformPoint.{Transform-transform_point}
+use Rattle.stored_box.proofs.transform.Judged.{judged-moved}
+use Rattle.stored_box.specs.bounds_query.Query.{Bounds3f-refusal, BoundsAnswer-union_bounds, max_depth, cover_refusal}
+use Rattle.stored_box.proofs.bounds_query.Accepted.{refusal-accepted}
+use Rattle.stored_box.specs.bounds_query.Zeros.{Bounds3f-positive_zeros, BoundsAnswer-positive_zeros}
+use Rattle.stored_box.proofs.bounds_query.Zeros.{zeros-accepted}
+use Rattle.stored_box.proofs.bounds_query.Union.{refused-bounds, bounds-same, union-accepted}
+use Rattle.stored_box.specs.unit_interval.Unit.{unit_interval, slice, dt}
+use Rattle.stored_box.proofs.unit_interval.Slices.{slice-unit, slice-covers}
+use Rattle.stored_box.proofs.unit_interval.DtUnit.{dt-unit}
+use Rattle.stored_box.specs.pose_steps.declared.PoseConstants.{PoseConstants}
+use Rattle.stored_box.specs.formula.Promise.{Pairwise}
+use Rattle.stored_box.specs.pose_steps.declared.IntervalVector.{IntervalVector}
+use Rattle.stored_box.specs.pose_steps.declared.JudgedVector.{JudgedVector}
+use Rattle.stored_box.specs.pose_steps.Pose.{Pose-transform_point, Pose-moved_point}
+use Rattle.stored_box.specs.pose_steps.Enclose.{IntervalVector-list, Pose-enclose_point, Bounds3f-intervals, IntervalVector-bounds}
+use Rattle.stored_box.specs.pose_steps.Promise.{PoseConstants-Valid, FiniteScale, EnclosesAnswer}
+use Rattle.stored_box.proofs.pose_steps.Finite.{stored-encloses}
+use Rattle.stored_box.proofs.pose_steps.Extends.{transform_point-extends, moved_point-extends}
+use Rattle.stored_box.proofs.pose_steps.Composition.{point-affine}
+use Rattle.stored_box.proofs.pose_steps.Box.{inside-encloses, encloses-inside, point-finite}
 use Rattle.stored_box.specs.EnclosePoints.{Transform-enclose_points}
-use Rattle.animated_transform.specs.declared.AnimatedTransform.{AnimatedTransform}
-use Rattle.animated_transform.specs.Built.{StoredPose, Pad-Judged, Built}
-use Rattle.animated_transform.proofs.Built.{built-judged}
+use Rattle.motion_point.specs.animated_transform.declared.AnimatedTransform.{AnimatedTransform}
+use Rattle.motion_point.specs.animated_transform.Built.{StoredPose, Pad-Judged, Built}
+use Rattle.motion_point.proofs.animated_transform.Built.{built-judged}
 use Rattle.motion_point.specs.TransformPoint.{AnimatedTransform-constants, AnimatedTransform-moved_point, AnimatedTransform-transform_point}
 use Rattle.motion_point.proofs.Built.{built-valid, built-scales}
 use Rattle.motion_point.proofs.Query.{moved-point-start, moved-point-end, moved-point-between, transform-point-accepted}

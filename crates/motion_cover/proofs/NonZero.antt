@@ -8,21 +8,21 @@ use native.Mathlib.Omega.{arith}
 use lib.Dec.{eqb}
 use borrow.Author.Tests.{eqb-false}
 use lib.Ieee.{Float}
-use Rattle.float32.specs.MinMax.{max_num}
-use Rattle.bounds3.specs.declared.Bounds3f.{Bounds3f}
-use Rattle.transform.specs.declared.Transform.{Transform}
-use Rattle.transform.specs.declared.BoundsAnswer.{BoundsAnswer}
-use Rattle.transform.specs.declared.BoundsAnswer.TheVariants.{Bounds, Refused}
-use Rattle.transform.specs.Answer.{OneOf, BoundsAnswer-refusal, BoundsAnswer-bounds}
-use Rattle.bounds_query.specs.Query.{BoundsAnswer-union_bounds, cover_refusal}
-use Rattle.bounds_query.specs.Zeros.{BoundsAnswer-positive_zeros}
-use Rattle.interval.specs.declared.Judged.{Judged}
-use Rattle.unit_interval.specs.Unit.{slice}
-use Rattle.pose_steps.specs.declared.PoseConstants.{PoseConstants}
-use Rattle.pose_steps.specs.declared.JudgedVector.{JudgedVector}
-use Rattle.pose_steps.specs.Enclose.{Pose-enclose_point, Bounds3f-intervals, IntervalVector-bounds}
+use Rattle.stored_box.specs.float32.MinMax.{max_num}
+use Rattle.stored_box.specs.bounds3.declared.Bounds3f.{Bounds3f}
+use Rattle.stored_box.specs.transform.declared.Transform.{Transform}
+use Rattle.stored_box.specs.transform.declared.BoundsAnswer.{BoundsAnswer}
+use Rattle.stored_box.specs.transform.declared.BoundsAnswer.TheVariants.{Bounds, Refused}
+use Rattle.stored_box.specs.transform.Answer.{OneOf, BoundsAnswer-refusal, BoundsAnswer-bounds}
+use Rattle.stored_box.specs.bounds_query.Query.{BoundsAnswer-union_bounds, cover_refusal}
+use Rattle.stored_box.specs.bounds_query.Zeros.{BoundsAnswer-positive_zeros}
+use Rattle.stored_box.specs.interval.declared.Judged.{Judged}
+use Rattle.stored_box.specs.unit_interval.Unit.{slice}
+use Rattle.stored_box.specs.pose_steps.declared.PoseConstants.{PoseConstants}
+use Rattle.stored_box.specs.pose_steps.declared.JudgedVector.{JudgedVector}
+use Rattle.stored_box.specs.pose_steps.Enclose.{Pose-enclose_point, Bounds3f-intervals, IntervalVector-bounds}
 use Rattle.stored_box.specs.EnclosePoints.{Transform-enclose_points}
-use Rattle.animated_transform.specs.declared.AnimatedTransform.{AnimatedTransform}
+use Rattle.motion_point.specs.animated_transform.declared.AnimatedTransform.{AnimatedTransform}
 use Rattle.motion_point.specs.TransformPoint.{AnimatedTransform-constants}
 use Rattle.motion_pad.specs.Pad.{Pad-enclose, Pad-stored}
 use Rattle.motion_pad.specs.Grow.{BoundsAnswer-grow}

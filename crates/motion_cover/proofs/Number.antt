@@ -7,27 +7,27 @@ use mathlib.Core.Logic.{inl, inr}
 use mathlib.Core.List.{[], ◌∷◌}
 use lib.Dec.{eqb}
 use lib.Ieee.{Float}
-use Rattle.float32.specs.MinMax.{max_num}
-use Rattle.bounds3.specs.declared.Bounds3f.{Bounds3f}
-use Rattle.interval.specs.declared.Interval.{Interval}
-use Rattle.interval.specs.declared.Judged.{Judged}
-use Rattle.transform.specs.declared.Transform.{Transform}
-use Rattle.transform.specs.declared.BoundsAnswer.{BoundsAnswer}
-use Rattle.transform.specs.declared.BoundsAnswer.TheVariants.{Bounds, Refused}
-use Rattle.transform.specs.Answer.{OneOf, BoundsAnswer-refusal}
-use Rattle.bounds_query.specs.Query.{cover_refusal}
-use Rattle.bounds_query.specs.Zeros.{BoundsAnswer-positive_zeros}
-use Rattle.bounds_query.proofs.Numbers.{arguments-keeps}
-use Rattle.bounds_query.proofs.Union.{union-keeps}
-use Rattle.bounds_query.proofs.Zeros.{zeros-refusal}
-use Rattle.unit_interval.specs.Unit.{slice}
-use Rattle.pose_steps.specs.declared.PoseConstants.{PoseConstants}
-use Rattle.pose_steps.specs.declared.JudgedVector.{JudgedVector}
-use Rattle.pose_steps.specs.Enclose.{IntervalMatrix-point, Pose-enclose_point, Bounds3f-intervals, IntervalVector-bounds}
-use Rattle.pose_steps.specs.Promise.{SliceNumber}
-use Rattle.pose_steps.proofs.Number.{transform_point-number, point-number}
+use Rattle.stored_box.specs.float32.MinMax.{max_num}
+use Rattle.stored_box.specs.bounds3.declared.Bounds3f.{Bounds3f}
+use Rattle.stored_box.specs.interval.declared.Interval.{Interval}
+use Rattle.stored_box.specs.interval.declared.Judged.{Judged}
+use Rattle.stored_box.specs.transform.declared.Transform.{Transform}
+use Rattle.stored_box.specs.transform.declared.BoundsAnswer.{BoundsAnswer}
+use Rattle.stored_box.specs.transform.declared.BoundsAnswer.TheVariants.{Bounds, Refused}
+use Rattle.stored_box.specs.transform.Answer.{OneOf, BoundsAnswer-refusal}
+use Rattle.stored_box.specs.bounds_query.Query.{cover_refusal}
+use Rattle.stored_box.specs.bounds_query.Zeros.{BoundsAnswer-positive_zeros}
+use Rattle.stored_box.proofs.bounds_query.Numbers.{arguments-keeps}
+use Rattle.stored_box.proofs.bounds_query.Union.{union-keeps}
+use Rattle.stored_box.proofs.bounds_query.Zeros.{zeros-refusal}
+use Rattle.stored_box.specs.unit_interval.Unit.{slice}
+use Rattle.stored_box.specs.pose_steps.declared.PoseConstants.{PoseConstants}
+use Rattle.stored_box.specs.pose_steps.declared.JudgedVector.{JudgedVector}
+use Rattle.stored_box.specs.pose_steps.Enclose.{IntervalMatrix-point, Pose-enclose_point, Bounds3f-intervals, IntervalVector-bounds}
+use Rattle.stored_box.specs.pose_steps.Promise.{SliceNumber}
+use Rattle.stored_box.proofs.pose_steps.Number.{transform_point-number, point-number}
 use Rattle.stored_box.specs.EnclosePoints.{Transform-enclose_points}
-use Rattle.animated_transform.specs.declared.AnimatedTransform.{AnimatedTransform}
+use Rattle.motion_point.specs.animated_transform.declared.AnimatedTransform.{AnimatedTransform}
 use Rattle.motion_point.specs.TransformPoint.{AnimatedTransform-constants}
 use Rattle.motion_pad.specs.Pad.{Pad-enclose, Pad-stored}
 use Rattle.motion_pad.specs.Grow.{BoundsAnswer-grow}

@@ -8,38 +8,38 @@ use lib.Dec.{T, eqb}
 use borrow.Author.Tests.{eqb-true, eqb-false}
 use lib.Ieee.{Float}
 use lib.Ieee.Scale.{finite}
-use Rattle.rounding.specs.Order.{◌≼◌}
-use Rattle.rounding.proofs.Order.{≼_trans, ≼_refl, number-left, number-right, finite_number, between-finite}
-use Rattle.interval.specs.declared.Interval.{Interval}
-use Rattle.interval.specs.declared.Judged.{Judged}
-use Rattle.interval.specs.Contains.{Subset, Refines}
-use Rattle.bounds3.specs.declared.Bounds3f.{Bounds3f}
-use Rattle.bounds3.specs.Bounds3f.{Bounds3f-union_bounds}
-use Rattle.bounds3.specs.Finite.{Bounds3f-is_finite}
-use Rattle.bounds3.specs.Inside.{Inside}
-use Rattle.bounds3.specs.Inside as bounds3
-use Rattle.bounds3.proofs.Finite.{low-finite, high-finite, box-finite, union-finite}
-use Rattle.bounds3.proofs.Union.{union-inside-left}
-use Rattle.transform.specs.declared.Transform.{Transform}
-use Rattle.transform.specs.declared.BoundsAnswer.{BoundsAnswer}
-use Rattle.transform.specs.declared.BoundsAnswer.TheVariants.{Bounds, Refused}
-use Rattle.transform.specs.Answer.{BoundsAnswer-refusal, BoundsAnswer-bounds}
-use Rattle.bounds_query.specs.Query.{Bounds3f-refusal, BoundsAnswer-union_bounds, cover_refusal}
-use Rattle.bounds_query.specs.Zeros.{Bounds3f-positive_zeros, BoundsAnswer-positive_zeros}
-use Rattle.bounds_query.proofs.Accepted.{refusal-accepted}
-use Rattle.unit_interval.specs.Unit.{unit_interval, slice}
-use Rattle.unit_interval.proofs.Slices.{slice-unit}
-use Rattle.formula.specs.Promise.{Pairwise}
-use Rattle.pose_steps.specs.declared.JudgedVector.{JudgedVector}
-use Rattle.pose_steps.specs.Enclose.{IntervalVector-list, IntervalMatrix-point, Pose-enclose_transform_point}
-use Rattle.pose_steps.specs.Enclose.{Pose-enclose_point, Bounds3f-intervals, IntervalVector-bounds}
-use Rattle.pose_steps.specs.Promise.{InOrder}
-use Rattle.pose_steps.proofs.Finite.{stored-refines}
-use Rattle.pose_steps.proofs.Isotone.{transform_point-isotone, point-isotone}
-use Rattle.pose_steps.proofs.Box.{subset-refines, refines-finite, refines-order, order-refl}
-use Rattle.animated_transform.specs.declared.AnimatedTransform.{AnimatedTransform}
-use Rattle.animated_transform.specs.Built.{StoredPose, Pad-Judged, Built}
-use Rattle.animated_transform.proofs.Built.{built-judged}
+use Rattle.stored_box.specs.rounding.Order.{◌≼◌}
+use Rattle.stored_box.proofs.rounding.Order.{≼_trans, ≼_refl, number-left, number-right, finite_number, between-finite}
+use Rattle.stored_box.specs.interval.declared.Interval.{Interval}
+use Rattle.stored_box.specs.interval.declared.Judged.{Judged}
+use Rattle.stored_box.specs.interval.Contains.{Subset, Refines}
+use Rattle.stored_box.specs.bounds3.declared.Bounds3f.{Bounds3f}
+use Rattle.stored_box.specs.bounds3.Bounds3f.{Bounds3f-union_bounds}
+use Rattle.stored_box.specs.bounds3.Finite.{Bounds3f-is_finite}
+use Rattle.stored_box.specs.bounds3.Inside.{Inside}
+use Rattle.stored_box.specs.bounds3.Inside as bounds3
+use Rattle.stored_box.proofs.bounds3.Finite.{low-finite, high-finite, box-finite, union-finite}
+use Rattle.stored_box.proofs.bounds3.Union.{union-inside-left}
+use Rattle.stored_box.specs.transform.declared.Transform.{Transform}
+use Rattle.stored_box.specs.transform.declared.BoundsAnswer.{BoundsAnswer}
+use Rattle.stored_box.specs.transform.declared.BoundsAnswer.TheVariants.{Bounds, Refused}
+use Rattle.stored_box.specs.transform.Answer.{BoundsAnswer-refusal, BoundsAnswer-bounds}
+use Rattle.stored_box.specs.bounds_query.Query.{Bounds3f-refusal, BoundsAnswer-union_bounds, cover_refusal}
+use Rattle.stored_box.specs.bounds_query.Zeros.{Bounds3f-positive_zeros, BoundsAnswer-positive_zeros}
+use Rattle.stored_box.proofs.bounds_query.Accepted.{refusal-accepted}
+use Rattle.stored_box.specs.unit_interval.Unit.{unit_interval, slice}
+use Rattle.stored_box.proofs.unit_interval.Slices.{slice-unit}
+use Rattle.stored_box.specs.formula.Promise.{Pairwise}
+use Rattle.stored_box.specs.pose_steps.declared.JudgedVector.{JudgedVector}
+use Rattle.stored_box.specs.pose_steps.Enclose.{IntervalVector-list, IntervalMatrix-point, Pose-enclose_transform_point}
+use Rattle.stored_box.specs.pose_steps.Enclose.{Pose-enclose_point, Bounds3f-intervals, IntervalVector-bounds}
+use Rattle.stored_box.specs.pose_steps.Promise.{InOrder}
+use Rattle.stored_box.proofs.pose_steps.Finite.{stored-refines}
+use Rattle.stored_box.proofs.pose_steps.Isotone.{transform_point-isotone, point-isotone}
+use Rattle.stored_box.proofs.pose_steps.Box.{subset-refines, refines-finite, refines-order, order-refl}
+use Rattle.motion_point.specs.animated_transform.declared.AnimatedTransform.{AnimatedTransform}
+use Rattle.motion_point.specs.animated_transform.Built.{StoredPose, Pad-Judged, Built}
+use Rattle.motion_point.proofs.animated_transform.Built.{built-judged}
 use Rattle.motion_point.specs.TransformPoint.{AnimatedTransform-constants}
 use Rattle.motion_point.proofs.Built.{built-valid, built-scales}
 use Rattle.motion_pad.specs.Pad.{Pad-enclose, Pad-stored}

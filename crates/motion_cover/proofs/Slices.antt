@@ -8,13 +8,13 @@ use native.Mathlib.Nat.{eq-or-lt_of_le, le_of_suc-le-suc, mod-eq_of_lt}
 use native.Mathlib.Omega.{arith}
 use lib.Pow.{shl_exact}
 use lib.Ieee.{binary32, round}
-use Rattle.bounds3.specs.declared.Bounds3f.{Bounds3f}
-use Rattle.transform.specs.declared.BoundsAnswer.{BoundsAnswer}
-use Rattle.transform.specs.declared.BoundsAnswer.TheVariants.{Refused}
-use Rattle.bounds_query.specs.Query.{BoundsAnswer-union_bounds, max_depth}
-use Rattle.unit_interval.specs.Unit.{slice_end}
-use Rattle.pose_steps.specs.declared.PoseConstants.{PoseConstants}
-use Rattle.animated_transform.specs.declared.AnimatedTransform.{AnimatedTransform}
+use Rattle.stored_box.specs.bounds3.declared.Bounds3f.{Bounds3f}
+use Rattle.stored_box.specs.transform.declared.BoundsAnswer.{BoundsAnswer}
+use Rattle.stored_box.specs.transform.declared.BoundsAnswer.TheVariants.{Refused}
+use Rattle.stored_box.specs.bounds_query.Query.{BoundsAnswer-union_bounds, max_depth}
+use Rattle.stored_box.specs.unit_interval.Unit.{slice_end}
+use Rattle.stored_box.specs.pose_steps.declared.PoseConstants.{PoseConstants}
+use Rattle.motion_point.specs.animated_transform.declared.AnimatedTransform.{AnimatedTransform}
 use Rattle.motion_cover.specs.Cover.{union_slices}
 
 pub union_slices-refused : (m : AnimatedTransform) (a : PoseConstants) (b : Bounds3f) (d : ℕ) (r : BoundsAnswer) (n i k : ℕ)

@@ -5,20 +5,20 @@ use mathlib.Core.Path.{◌≡◌, refl}
 use mathlib.Core.Bool.{Bool, true, false, cond}
 use lib.Dec.{eqb}
 use borrow.Author.Tests.{eqb-true, eqb-false}
-use Rattle.bounds3.specs.declared.Bounds3f.{Bounds3f}
-use Rattle.transform.specs.declared.Transform.{Transform}
-use Rattle.transform.specs.declared.BoundsAnswer.{BoundsAnswer}
-use Rattle.transform.specs.declared.BoundsAnswer.TheVariants.{Bounds, Refused}
-use Rattle.transform.specs.Answer.{BoundsAnswer-refusal}
-use Rattle.transform.specs.TransformBounds.{Transform-transform_bounds}
-use Rattle.bounds_query.specs.Query.{Bounds3f-refusal}
-use Rattle.bounds_query.specs.Same.{BoundsAnswer-Same, same-box, same-refusal}
-use Rattle.bounds_query.specs.Zeros.{BoundsAnswer-positive_zeros}
-use Rattle.pose_steps.specs.declared.JudgedVector.{JudgedVector}
-use Rattle.pose_steps.specs.Enclose.{IntervalVector-bounds}
+use Rattle.stored_box.specs.bounds3.declared.Bounds3f.{Bounds3f}
+use Rattle.stored_box.specs.transform.declared.Transform.{Transform}
+use Rattle.stored_box.specs.transform.declared.BoundsAnswer.{BoundsAnswer}
+use Rattle.stored_box.specs.transform.declared.BoundsAnswer.TheVariants.{Bounds, Refused}
+use Rattle.stored_box.specs.transform.Answer.{BoundsAnswer-refusal}
+use Rattle.stored_box.specs.transform.TransformBounds.{Transform-transform_bounds}
+use Rattle.stored_box.specs.bounds_query.Query.{Bounds3f-refusal}
+use Rattle.stored_box.specs.bounds_query.Same.{BoundsAnswer-Same, same-box, same-refusal}
+use Rattle.stored_box.specs.bounds_query.Zeros.{BoundsAnswer-positive_zeros}
+use Rattle.stored_box.specs.pose_steps.declared.JudgedVector.{JudgedVector}
+use Rattle.stored_box.specs.pose_steps.Enclose.{IntervalVector-bounds}
 use Rattle.stored_box.proofs.StoredBox.{stored-box-same, stored-box-accepted, stored-box-refusal}
 use Rattle.stored_box.specs.EnclosePoints.{Transform-enclose_points}
-use Rattle.animated_transform.specs.Built.{StoredPose}
+use Rattle.motion_point.specs.animated_transform.Built.{StoredPose}
 use Rattle.motion_pad.proofs.Zeros.{answers-zeros}
 use Rattle.motion_cover.specs.Cover.{BoundsAnswer-from_enclosure, Transform-enclose_bounds}
 

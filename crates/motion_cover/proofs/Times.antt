@@ -5,18 +5,18 @@ use mathlib.Core.Bool.{Bool, true, false, not, ◌||◌, cond, true≢false}
 use lib.Dec.{T}
 use lib.Ieee.{Float, is_nan, le}
 use lib.Ieee.Bits.{is_true, is_false}
-use Rattle.float32.specs.MinMax.{max_num}
-use Rattle.bounds3.specs.declared.Point3f.{Point3f}
-use Rattle.bounds3.specs.declared.Bounds3f.{Bounds3f}
-use Rattle.bounds3.specs.Inside.{Inside}
-use Rattle.transform.specs.declared.PointAnswer.{PointAnswer}
-use Rattle.transform.specs.Answer.{BoundsAnswer-refusal, BoundsAnswer-bounds}
-use Rattle.animated_transform.specs.declared.AnimatedTransform.{AnimatedTransform}
-use Rattle.animated_transform.specs.Built.{Built}
-use Rattle.animated_transform.specs.AtTime.{at_start, at_end}
+use Rattle.stored_box.specs.float32.MinMax.{max_num}
+use Rattle.stored_box.specs.bounds3.declared.Point3f.{Point3f}
+use Rattle.stored_box.specs.bounds3.declared.Bounds3f.{Bounds3f}
+use Rattle.stored_box.specs.bounds3.Inside.{Inside}
+use Rattle.stored_box.specs.transform.declared.PointAnswer.{PointAnswer}
+use Rattle.stored_box.specs.transform.Answer.{BoundsAnswer-refusal, BoundsAnswer-bounds}
+use Rattle.motion_point.specs.animated_transform.declared.AnimatedTransform.{AnimatedTransform}
+use Rattle.motion_point.specs.animated_transform.Built.{Built}
+use Rattle.motion_point.specs.animated_transform.AtTime.{at_start, at_end}
 use Rattle.motion_point.specs.TransformPoint.{AnimatedTransform-constants, AnimatedTransform-moved_point, AnimatedTransform-transform_point}
 use Rattle.motion_point.proofs.Query.{moved-point-start, moved-point-end, moved-point-between}
-use Rattle.unit_interval.specs.Unit.{dt}
+use Rattle.stored_box.specs.unit_interval.Unit.{dt}
 use Rattle.motion_point.specs.PadAt.{AnimatedTransform-pad_at}
 use Rattle.motion_point.proofs.PadAt.{pad-at-equal, pad-at-start, pad-at-end, pad-at-between}
 use Rattle.motion_pad.specs.Pad.{Pad-at}

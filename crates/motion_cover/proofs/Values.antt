@@ -6,18 +6,18 @@ use native.Mathlib.Omega.{arith}
 use lib.Dec.{eqb}
 use lib.Ieee.{Float, binary32, eq}
 use lib.Ieee.Fits.{add-fits, div-fits}
-use Rattle.float32.specs.Operators.{one}
-use Rattle.matrix4x4.specs.declared.Matrix4x4.{Matrix4x4}
-use Rattle.matrix4x4.specs.Rows.{Rows, row, Matrix4x4-to_rows}
-use Rattle.bounds3.specs.declared.Point3f.{Point3f}
-use Rattle.bounds3.specs.Point3f.{Point3f-div}
-use Rattle.bounds3.specs.Finite.{Point3f-is_finite}
-use Rattle.transform.specs.declared.Transform.{Transform}
-use Rattle.transform.specs.declared.PointAnswer.TheVariants.{Moved, Refused}
-use Rattle.transform.specs.Answer.{PointAnswer-refusal, PointAnswer-point}
-use Rattle.transform.specs.TransformPoint.{mul_point, moved_point, PointAnswer-judged, Transform-transform_point}
-use Rattle.pose_steps.specs.declared.PoseConstants.{PoseConstants}
-use Rattle.pose_steps.specs.Pose.{Pose-matrix, Pose-transform_point, Pose-moved_point}
+use Rattle.stored_box.specs.float32.Operators.{one}
+use Rattle.stored_box.specs.matrix4x4.declared.Matrix4x4.{Matrix4x4}
+use Rattle.stored_box.specs.matrix4x4.Rows.{Rows, row, Matrix4x4-to_rows}
+use Rattle.stored_box.specs.bounds3.declared.Point3f.{Point3f}
+use Rattle.stored_box.specs.bounds3.Point3f.{Point3f-div}
+use Rattle.stored_box.specs.bounds3.Finite.{Point3f-is_finite}
+use Rattle.stored_box.specs.transform.declared.Transform.{Transform}
+use Rattle.stored_box.specs.transform.declared.PointAnswer.TheVariants.{Moved, Refused}
+use Rattle.stored_box.specs.transform.Answer.{PointAnswer-refusal, PointAnswer-point}
+use Rattle.stored_box.specs.transform.TransformPoint.{mul_point, moved_point, PointAnswer-judged, Transform-transform_point}
+use Rattle.stored_box.specs.pose_steps.declared.PoseConstants.{PoseConstants}
+use Rattle.stored_box.specs.pose_steps.Pose.{Pose-matrix, Pose-transform_point, Pose-moved_point}
 use Rattle.motion_pad.proofs.Box.{Binary32}
 
 -- A point that was judged.

@@ -6,25 +6,25 @@ use mathlib.Core.Bool.{Bool, true, false, cond}
 use lib.Dec.{T}
 use lib.Ieee.{Float, binary32, fits}
 use lib.Ieee.Fits.{add-fits, sub-fits}
-use Rattle.float32.specs.MinMax.{max_num}
-use Rattle.float32.proofs.MinMax.{min-picks, max-picks}
-use Rattle.bounds3.specs.declared.Point3f.{Point3f}
-use Rattle.bounds3.specs.declared.Bounds3f.{Bounds3f}
-use Rattle.bounds3.specs.Point3f.{Point3f-min, Point3f-max}
-use Rattle.bounds3.specs.Bounds3f.{Bounds3f-union_bounds}
-use Rattle.bounds3.specs.Finite.{Bounds3f-is_finite}
-use Rattle.bounds3.specs.Inside.{Subset}
-use Rattle.bounds3.proofs.Finite.{union-finite}
-use Rattle.transform.specs.declared.Transform.{Transform}
-use Rattle.transform.specs.declared.BoundsAnswer.{BoundsAnswer}
-use Rattle.transform.specs.declared.BoundsAnswer.TheVariants.{Bounds}
-use Rattle.bounds_query.specs.Query.{BoundsAnswer-union_bounds}
-use Rattle.bounds_query.specs.Zeros.{Bounds3f-positive_zeros}
-use Rattle.bounds_query.proofs.Union.{union-accepted}
-use Rattle.interval.specs.declared.Judged.{Judged}
-use Rattle.unit_interval.specs.Unit.{slice}
-use Rattle.pose_steps.specs.declared.PoseConstants.{PoseConstants}
-use Rattle.animated_transform.specs.declared.AnimatedTransform.{AnimatedTransform}
+use Rattle.stored_box.specs.float32.MinMax.{max_num}
+use Rattle.stored_box.proofs.float32.MinMax.{min-picks, max-picks}
+use Rattle.stored_box.specs.bounds3.declared.Point3f.{Point3f}
+use Rattle.stored_box.specs.bounds3.declared.Bounds3f.{Bounds3f}
+use Rattle.stored_box.specs.bounds3.Point3f.{Point3f-min, Point3f-max}
+use Rattle.stored_box.specs.bounds3.Bounds3f.{Bounds3f-union_bounds}
+use Rattle.stored_box.specs.bounds3.Finite.{Bounds3f-is_finite}
+use Rattle.stored_box.specs.bounds3.Inside.{Subset}
+use Rattle.stored_box.proofs.bounds3.Finite.{union-finite}
+use Rattle.stored_box.specs.transform.declared.Transform.{Transform}
+use Rattle.stored_box.specs.transform.declared.BoundsAnswer.{BoundsAnswer}
+use Rattle.stored_box.specs.transform.declared.BoundsAnswer.TheVariants.{Bounds}
+use Rattle.stored_box.specs.bounds_query.Query.{BoundsAnswer-union_bounds}
+use Rattle.stored_box.specs.bounds_query.Zeros.{Bounds3f-positive_zeros}
+use Rattle.stored_box.proofs.bounds_query.Union.{union-accepted}
+use Rattle.stored_box.specs.interval.declared.Judged.{Judged}
+use Rattle.stored_box.specs.unit_interval.Unit.{slice}
+use Rattle.stored_box.specs.pose_steps.declared.PoseConstants.{PoseConstants}
+use Rattle.motion_point.specs.animated_transform.declared.AnimatedTransform.{AnimatedTransform}
 use Rattle.motion_point.specs.TransformPoint.{AnimatedTransform-constants}
 use Rattle.motion_pad.specs.Pad.{Pad-enclose, Pad-stored}
 use Rattle.motion_pad.specs.Grow.{Bounds3f-grow, BoundsAnswer-grow}

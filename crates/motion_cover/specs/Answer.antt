@@ -1,11 +1,11 @@
 -- What is promised of every answer to a cover query: which numbers it can give (`CoverNumber`, and of any box `BoundsAnswer-Numbered`), and that an accepted
 -- cover's corners are finite and in order (`Proper`). The statements of `cover-number`, `cover-numbered` and `cover-proper`.
 use Rattle.std.specs.Prelude.{ℕ, ◌≡◌, ◌⊎◌, List, T}
-use Rattle.bounds3.specs.Finite.{Bounds3f-is_finite}
-use Rattle.transform.specs.declared.BoundsAnswer.{BoundsAnswer}
-use Rattle.transform.specs.declared.BoundsAnswer.TheVariants.{Bounds}
-use Rattle.transform.specs.Answer.{OneOf, BoundsAnswer-refusal, BoundsAnswer-bounds}
-use Rattle.pose_steps.specs.Promise.{InOrder, SliceNumber}
+use Rattle.stored_box.specs.bounds3.Finite.{Bounds3f-is_finite}
+use Rattle.stored_box.specs.transform.declared.BoundsAnswer.{BoundsAnswer}
+use Rattle.stored_box.specs.transform.declared.BoundsAnswer.TheVariants.{Bounds}
+use Rattle.stored_box.specs.transform.Answer.{OneOf, BoundsAnswer-refusal, BoundsAnswer-bounds}
+use Rattle.stored_box.specs.pose_steps.Promise.{InOrder, SliceNumber}
 
 -- document 01, Refusals: 6, 7 and 8 of the query; 0, 5 and 10 of the numbers themselves
 abbrev pub CoverNumber : ℕ → Type 0

@@ -2,20 +2,20 @@
 -- document 02, "Pads for the spray": "a box grows on every face as soon as it is worked out". Definitions only.
 -- A query is judged first: 6, 7, 8. Then start box, end box and slices are worked in rising order, and the first number met, 5 or 10, stands. A cover's zeros are +0.
 use Rattle.std.specs.Prelude.{ℕ, zero, suc, ◌^◌, cond, eqb, Float}
-use Rattle.float32.specs.MinMax.{max_num}
-use Rattle.bounds3.specs.declared.Bounds3f.{Bounds3f}
-use Rattle.transform.specs.declared.Transform.{Transform}
-use Rattle.transform.specs.declared.BoundsAnswer.{BoundsAnswer}
-use Rattle.transform.specs.declared.BoundsAnswer.TheVariants.{Bounds, Refused}
-use Rattle.bounds_query.specs.Query.{BoundsAnswer-union_bounds, cover_refusal}
-use Rattle.bounds_query.specs.Zeros.{BoundsAnswer-positive_zeros}
-use Rattle.interval.specs.declared.Interval.{Interval}
-use Rattle.unit_interval.specs.Unit.{slice}
-use Rattle.pose_steps.specs.declared.PoseConstants.{PoseConstants}
-use Rattle.pose_steps.specs.declared.JudgedVector.{JudgedVector}
+use Rattle.stored_box.specs.float32.MinMax.{max_num}
+use Rattle.stored_box.specs.bounds3.declared.Bounds3f.{Bounds3f}
+use Rattle.stored_box.specs.transform.declared.Transform.{Transform}
+use Rattle.stored_box.specs.transform.declared.BoundsAnswer.{BoundsAnswer}
+use Rattle.stored_box.specs.transform.declared.BoundsAnswer.TheVariants.{Bounds, Refused}
+use Rattle.stored_box.specs.bounds_query.Query.{BoundsAnswer-union_bounds, cover_refusal}
+use Rattle.stored_box.specs.bounds_query.Zeros.{BoundsAnswer-positive_zeros}
+use Rattle.stored_box.specs.interval.declared.Interval.{Interval}
+use Rattle.stored_box.specs.unit_interval.Unit.{slice}
+use Rattle.stored_box.specs.pose_steps.declared.PoseConstants.{PoseConstants}
+use Rattle.stored_box.specs.pose_steps.declared.JudgedVector.{JudgedVector}
 use Rattle.stored_box.specs.EnclosePoints.{Transform-enclose_points}
-use Rattle.pose_steps.specs.Enclose.{Pose-enclose_point, Bounds3f-intervals, IntervalVector-bounds}
-use Rattle.animated_transform.specs.declared.AnimatedTransform.{AnimatedTransform}
+use Rattle.stored_box.specs.pose_steps.Enclose.{Pose-enclose_point, Bounds3f-intervals, IntervalVector-bounds}
+use Rattle.motion_point.specs.animated_transform.declared.AnimatedTransform.{AnimatedTransform}
 use Rattle.motion_point.specs.TransformPoint.{AnimatedTransform-constants}
 use Rattle.motion_pad.specs.Pad.{Pad-enclose, Pad-stored}
 use Rattle.motion_pad.specs.Grow.{BoundsAnswer-grow}

@@ -14,14 +14,14 @@
 -- The contract of `cover` says `CoverContainsMotion m b r` of what it returns, beside `r ≡ AnimatedTransform-cover m b depth`.
 use Rattle.std.specs.Prelude.{◌≡◌, not, T, Float}
 use Rattle.std.specs.Float.Ieee.{is_nan}
-use Rattle.bounds3.specs.declared.Point3f.{Point3f}
-use Rattle.bounds3.specs.declared.Bounds3f.{Bounds3f}
-use Rattle.bounds3.specs.Inside.{Inside}
-use Rattle.transform.specs.declared.PointAnswer.{PointAnswer}
-use Rattle.transform.specs.declared.BoundsAnswer.{BoundsAnswer}
-use Rattle.transform.specs.Answer.{PointAnswer-refusal, PointAnswer-point, BoundsAnswer-refusal, BoundsAnswer-bounds}
-use Rattle.animated_transform.specs.declared.AnimatedTransform.{AnimatedTransform}
-use Rattle.animated_transform.specs.Built.{Built}
+use Rattle.stored_box.specs.bounds3.declared.Point3f.{Point3f}
+use Rattle.stored_box.specs.bounds3.declared.Bounds3f.{Bounds3f}
+use Rattle.stored_box.specs.bounds3.Inside.{Inside}
+use Rattle.stored_box.specs.transform.declared.PointAnswer.{PointAnswer}
+use Rattle.stored_box.specs.transform.declared.BoundsAnswer.{BoundsAnswer}
+use Rattle.stored_box.specs.transform.Answer.{PointAnswer-refusal, PointAnswer-point, BoundsAnswer-refusal, BoundsAnswer-bounds}
+use Rattle.motion_point.specs.animated_transform.declared.AnimatedTransform.{AnimatedTransform}
+use Rattle.motion_point.specs.animated_transform.Built.{Built}
 use Rattle.motion_point.specs.TransformPoint.{AnimatedTransform-transform_point}
 use Rattle.motion_point.specs.PadAt.{AnimatedTransform-pad_at}
 use Rattle.motion_pad.specs.Grow.{PaddedInside}

@@ -2,19 +2,19 @@
 -- statements of `before-inside`, `during-inside` and `after-inside`; together they are `CoverContainsMotion`, since a time that is no NaN is one of the three.
 use Rattle.std.specs.Prelude.{◌≡◌, not, cond, T, Float}
 use Rattle.std.specs.Float.Ieee.{is_nan}
-use Rattle.float32.specs.MinMax.{max_num}
-use Rattle.bounds3.specs.declared.Point3f.{Point3f}
-use Rattle.bounds3.specs.declared.Bounds3f.{Bounds3f}
-use Rattle.bounds3.specs.Inside.{Inside}
-use Rattle.transform.specs.declared.PointAnswer.{PointAnswer}
-use Rattle.transform.specs.declared.BoundsAnswer.{BoundsAnswer}
-use Rattle.transform.specs.Answer.{BoundsAnswer-refusal, BoundsAnswer-bounds}
-use Rattle.transform.specs.TransformPoint.{Transform-transform_point}
-use Rattle.unit_interval.specs.Unit.{dt}
-use Rattle.pose_steps.specs.Pose.{Pose-moved_point}
-use Rattle.animated_transform.specs.declared.AnimatedTransform.{AnimatedTransform}
-use Rattle.animated_transform.specs.Built.{Built}
-use Rattle.animated_transform.specs.AtTime.{at_start, at_end}
+use Rattle.stored_box.specs.float32.MinMax.{max_num}
+use Rattle.stored_box.specs.bounds3.declared.Point3f.{Point3f}
+use Rattle.stored_box.specs.bounds3.declared.Bounds3f.{Bounds3f}
+use Rattle.stored_box.specs.bounds3.Inside.{Inside}
+use Rattle.stored_box.specs.transform.declared.PointAnswer.{PointAnswer}
+use Rattle.stored_box.specs.transform.declared.BoundsAnswer.{BoundsAnswer}
+use Rattle.stored_box.specs.transform.Answer.{BoundsAnswer-refusal, BoundsAnswer-bounds}
+use Rattle.stored_box.specs.transform.TransformPoint.{Transform-transform_point}
+use Rattle.stored_box.specs.unit_interval.Unit.{dt}
+use Rattle.stored_box.specs.pose_steps.Pose.{Pose-moved_point}
+use Rattle.motion_point.specs.animated_transform.declared.AnimatedTransform.{AnimatedTransform}
+use Rattle.motion_point.specs.animated_transform.Built.{Built}
+use Rattle.motion_point.specs.animated_transform.AtTime.{at_start, at_end}
 use Rattle.motion_point.specs.TransformPoint.{AnimatedTransform-constants, AnimatedTransform-transform_point}
 use Rattle.motion_point.specs.PadAt.{AnimatedTransform-pad_at}
 use Rattle.motion_pad.specs.Pad.{Pad-at}

@@ -12,8 +12,8 @@ use lib.Dec.{ltb, eqb}
 use lib.Ieee.{Float, nan, inf, fin, up, down, lt, eq, level, of_bits}
 use lib.Ieee.Fits.{down_pos}
 use lib.Ieee.Nearest.{div_mono}
-use Rattle.float32.specs.Abs.{abs}
-use Rattle.float_bits.specs.Decode.{negative}
+use Rattle.trig.specs.float32.Abs.{abs}
+use Rattle.trig.specs.float_bits.Decode.{negative}
 use Rattle.trig.specs.Units.{fixed, sin_units, with_sign}
 use Rattle.trig.specs.SinCos.{near, sin, cos}
 use Rattle.trig.specs.means.Computing.{computing}

@@ -3,7 +3,7 @@
 -- A zero is of either sign.
 use Rattle.std.specs.Prelude.{ℕ, zero, suc, Bool, cond, ◌||◌, Float}
 use Rattle.std.specs.Float.Ieee.{lt, eq}
-use Rattle.float32.specs.Operators.{◌⊕◌, ◌⊖◌, ◌⊗◌, ◌⊘◌, positive_zero, two}
+use Rattle.trig.specs.float32.Operators.{◌⊕◌, ◌⊖◌, ◌⊗◌, ◌⊘◌, positive_zero, two}
 use Rattle.trig.specs.SinCos.{sin, cos}
 use Rattle.interval.specs.declared.Interval.{Interval}
 use Rattle.interval.specs.Interval.{Interval-point, Interval-add, Interval-mul, Interval-sin, Interval-cos}

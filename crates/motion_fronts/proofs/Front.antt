@@ -10,13 +10,13 @@ use lib.Dec.{eqb}
 use lib.ListN.{length, take, length-map}
 use lib.Seq.{take_all}
 use lib.Ieee.{Float}
-use Rattle.bounds3.specs.declared.Bounds3f.{Bounds3f}
-use Rattle.bounds3.specs.Bounds3f.{Bounds3f-union_bounds}
-use Rattle.bounds3.specs.List.{Bounds3f-list, Bounds3f-of_list}
-use Rattle.transform.specs.declared.BoundsAnswer.{BoundsAnswer}
-use Rattle.transform.specs.declared.BoundsAnswer.TheVariants.{Bounds, Refused}
-use Rattle.transform.specs.Answer.{BoundsAnswer-bounds}
-use Rattle.bounds_query.specs.Query.{BoundsAnswer-union_bounds}
+use Rattle.motion_pad.specs.bounds3.declared.Bounds3f.{Bounds3f}
+use Rattle.motion_pad.specs.bounds3.Bounds3f.{Bounds3f-union_bounds}
+use Rattle.motion_pad.specs.bounds3.List.{Bounds3f-list, Bounds3f-of_list}
+use Rattle.motion_pad.specs.transform.declared.BoundsAnswer.{BoundsAnswer}
+use Rattle.motion_pad.specs.transform.declared.BoundsAnswer.TheVariants.{Bounds, Refused}
+use Rattle.motion_pad.specs.transform.Answer.{BoundsAnswer-bounds}
+use Rattle.motion_pad.specs.bounds_query.Query.{BoundsAnswer-union_bounds}
 use Rattle.motion_piece.specs.declared.PaddedPose.{PaddedPose}
 use Rattle.motion_piece.specs.means.Piece.{PaddedPose-enclose_bounds}
 use Rattle.box_front.specs.declared.Front.{Front}

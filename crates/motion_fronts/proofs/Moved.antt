@@ -9,18 +9,18 @@ use borrow.Author.Tests.{eqb-true}
 use lib.Dec.{eqb}
 use lib.ListN.{length}
 use lib.Ieee.{Float}
-use Rattle.float32.specs.MinMax.{max_num}
-use Rattle.bounds3.specs.declared.Bounds3f.{Bounds3f}
-use Rattle.bounds3.specs.List.{Bounds3f-list, Bounds3f-of_list}
-use Rattle.transform.specs.declared.BoundsAnswer.{BoundsAnswer}
-use Rattle.transform.specs.declared.BoundsAnswer.TheVariants.{Bounds, Refused}
-use Rattle.transform.specs.Answer.{BoundsAnswer-bounds}
-use Rattle.bounds_query.specs.Query.{BoundsAnswer-union_bounds, max_depth, cover_refusal}
+use Rattle.interval.specs.float32.MinMax.{max_num}
+use Rattle.motion_pad.specs.bounds3.declared.Bounds3f.{Bounds3f}
+use Rattle.motion_pad.specs.bounds3.List.{Bounds3f-list, Bounds3f-of_list}
+use Rattle.motion_pad.specs.transform.declared.BoundsAnswer.{BoundsAnswer}
+use Rattle.motion_pad.specs.transform.declared.BoundsAnswer.TheVariants.{Bounds, Refused}
+use Rattle.motion_pad.specs.transform.Answer.{BoundsAnswer-bounds}
+use Rattle.motion_pad.specs.bounds_query.Query.{BoundsAnswer-union_bounds, max_depth, cover_refusal}
 use Rattle.animated_transform.specs.declared.AnimatedTransform.{AnimatedTransform}
 use Rattle.motion_point.specs.TransformPoint.{AnimatedTransform-constants}
-use Rattle.motion_cover.specs.Cover.{AnimatedTransform-enclose_ends, union_slices, AnimatedTransform-enclose_motion}
-use Rattle.motion_cover.proofs.Contains.{cover-depth, motion-stored, motion-slices}
-use Rattle.motion_cover.proofs.Slices.{refused-first}
+use Rattle.motion_piece.specs.motion_cover.Cover.{AnimatedTransform-enclose_ends, union_slices, AnimatedTransform-enclose_motion}
+use Rattle.motion_piece.proofs.motion_cover.Contains.{cover-depth, motion-stored, motion-slices}
+use Rattle.motion_piece.proofs.motion_cover.Slices.{refused-first}
 use Rattle.motion_piece.specs.declared.PaddedPose.{PaddedPose}
 use Rattle.motion_piece.specs.means.Piece.{PaddedPose-enclose_bounds, PaddedPose-stored}
 use Rattle.motion_piece.proofs.Piece.{stored-composition}

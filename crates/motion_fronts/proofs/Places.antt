@@ -10,11 +10,11 @@ use lib.Dec.{eqb}
 use lib.ListN.{length, take, replicate, length-map, length-append, length-replicate}
 use lib.Seq.{take_at}
 use lib.Ieee.{Float}
-use Rattle.matrix4x4.specs.Rows.{positive_zero}
-use Rattle.bounds3.specs.declared.Bounds3f.{Bounds3f}
-use Rattle.bounds3.specs.List.{Bounds3f-list, Bounds3f-of_list}
-use Rattle.transform.specs.declared.BoundsAnswer.{BoundsAnswer}
-use Rattle.transform.specs.Answer.{BoundsAnswer-bounds}
+use Rattle.motion_pad.specs.matrix4x4.Rows.{positive_zero}
+use Rattle.motion_pad.specs.bounds3.declared.Bounds3f.{Bounds3f}
+use Rattle.motion_pad.specs.bounds3.List.{Bounds3f-list, Bounds3f-of_list}
+use Rattle.motion_pad.specs.transform.declared.BoundsAnswer.{BoundsAnswer}
+use Rattle.motion_pad.specs.transform.Answer.{BoundsAnswer-bounds}
 use Rattle.box_front.specs.declared.Front.{Front}
 use Rattle.box_front.specs.means.Front.{place_count, Boxes-answers, Front-of, Places-put}
 use Rattle.motion_fronts.specs.means.Covered.{Boxes-asked, Places-of, Places-answered, Covered}

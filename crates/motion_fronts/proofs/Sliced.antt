@@ -6,15 +6,15 @@ use mathlib.Core.List.{List}
 use native.Mathlib.Numerals.{add-one}
 use lib.ListN.{length}
 use lib.Ieee.{Float}
-use Rattle.bounds3.specs.declared.Bounds3f.{Bounds3f}
-use Rattle.transform.specs.declared.BoundsAnswer.{BoundsAnswer}
-use Rattle.bounds_query.specs.Query.{BoundsAnswer-union_bounds}
-use Rattle.unit_interval.specs.Unit.{slice}
-use Rattle.pose_steps.specs.declared.PoseConstants.{PoseConstants}
+use Rattle.motion_pad.specs.bounds3.declared.Bounds3f.{Bounds3f}
+use Rattle.motion_pad.specs.transform.declared.BoundsAnswer.{BoundsAnswer}
+use Rattle.motion_pad.specs.bounds_query.Query.{BoundsAnswer-union_bounds}
+use Rattle.motion_pad.specs.unit_interval.Unit.{slice}
+use Rattle.motion_pad.specs.pose_steps.declared.PoseConstants.{PoseConstants}
 use Rattle.motion_piece.specs.declared.PaddedPose.{PaddedPose}
 use Rattle.animated_transform.specs.declared.AnimatedTransform.{AnimatedTransform}
 use Rattle.motion_point.specs.TransformPoint.{AnimatedTransform-constants}
-use Rattle.motion_cover.specs.Cover.{union_slices}
+use Rattle.motion_piece.specs.motion_cover.Cover.{union_slices}
 use Rattle.motion_piece.specs.means.Piece.{PaddedPose-enclose_bounds, PaddedPose-over}
 use Rattle.motion_piece.proofs.Piece.{piece-composition}
 use Rattle.box_front.specs.declared.Front.{Front}

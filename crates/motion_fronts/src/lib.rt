@@ -2,10 +2,10 @@
 #![tactic(auto)]
 
 ghost use Rattle.std.specs.Prelude.{◌^◌, ◌≤◌, ◌≡◌, length};
-ghost use Rattle.bounds_query.specs.Query.{max_depth};
-ghost use Rattle.unit_interval.specs.Unit.{slice};
+ghost use Rattle.motion_pad.specs.bounds_query.Query.{max_depth};
+ghost use Rattle.motion_pad.specs.unit_interval.Unit.{slice};
 ghost use Rattle.motion_point.specs.TransformPoint.{AnimatedTransform-constants};
-ghost use Rattle.motion_cover.specs.Cover.{union_slices, AnimatedTransform-cover};
+ghost use Rattle.motion_piece.specs.motion_cover.Cover.{union_slices, AnimatedTransform-cover};
 ghost use Rattle.box_front.specs.means.Front.{place_count, Boxes-answers, Front-of};
 ghost use Rattle.motion_fronts.specs.means.Covered.{Boxes-asked, Places-answered, Covered, Continues};
 ghost use Rattle.motion_fronts.specs.means.Zeros.{AnimatedTransform-enclose_tested, Place-positive_zeros, Places-positive_zeros};

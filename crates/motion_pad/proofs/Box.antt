@@ -11,9 +11,9 @@ use borrow.Author.Tests.{eqb-true, eqb-false, eq-eqb}
 use lib.Ieee.{Float, binary32, fits}
 use lib.Ieee.Bits.{is_true}
 use lib.Ieee.Scale.{finite}
-use Rattle.rounding.specs.Order.{◌≼◌}
-use Rattle.rounding.proofs.Order.{≼_refl, ≼_trans, finite_number, between-finite}
-use Rattle.rounding.proofs.Arithmetic.{add-mono, sub-mono}
+use Rattle.float32.specs.rounding.Order.{◌≼◌}
+use Rattle.float32.proofs.rounding.Order.{≼_refl, ≼_trans, finite_number, between-finite}
+use Rattle.float32.proofs.rounding.Arithmetic.{add-mono, sub-mono}
 use Rattle.float32.specs.Operators.{◌⊕◌, ◌⊖◌, positive_zero}
 use Rattle.float32.proofs.Constants.{zero-finite}
 use Rattle.own_rounding.proofs.OwnRounding.{sub-add, add-above, sub-below, add-zero, sub-zero}

@@ -3,3 +3,4 @@ pub mod Box
 pub mod Zeros
 mod Tested
 mod Unjudged
+pub use Rattle.bounds_query.proofs as bounds_query

@@ -11,13 +11,13 @@ use lib.Dec.{T}
 use lib.Ieee.{Float, nan, inf, fin, binary32, of_bits, round, add, sub, le}
 use lib.Ieee.Scale.{finite}
 use lib.Ieee.Positive.{den, den_pos}
-use Rattle.refusal.proofs.First.{first-keeps}
-use Rattle.refusal.specs.First.{first_refusal}
-use Rattle.rounding.specs.Order.{◌≼◌}
-use Rattle.rounding.proofs.Rational.{num_pos, num_neg, FractionLe}
-use Rattle.rounding.proofs.Order.{≼_refl, ≼_trans, finite_number, between-finite}
-use Rattle.rounding.proofs.Monotone.{Rounds, rounds-mono}
-use Rattle.rounding.proofs.Arithmetic.{add_rounds, mul-rounds, sub-mono}
+use Rattle.interval.proofs.refusal.First.{first-keeps}
+use Rattle.interval.specs.refusal.First.{first_refusal}
+use Rattle.float32.specs.rounding.Order.{◌≼◌}
+use Rattle.float32.proofs.rounding.Rational.{num_pos, num_neg, FractionLe}
+use Rattle.float32.proofs.rounding.Order.{≼_refl, ≼_trans, finite_number, between-finite}
+use Rattle.float32.proofs.rounding.Monotone.{Rounds, rounds-mono}
+use Rattle.float32.proofs.rounding.Arithmetic.{add_rounds, mul-rounds, sub-mono}
 use Rattle.float32.specs.Operators.{◌⊕◌, ◌⊖◌, ◌⊗◌, one, positive_zero}
 use Rattle.float32.specs.Lerp.{lerp}
 use Rattle.float32.proofs.Constants.{zero-finite, one-finite, zero-rounds}
@@ -27,10 +27,10 @@ use Rattle.interval.specs.Interval.{Interval-point}
 use Rattle.interval.specs.Contains.{Contains, Subset, Encloses, Refines}
 use Rattle.interval.specs.Enclosure.{not_finite, Judged-judge, Judged-add_enclosure, Judged-sub_enclosure, Judged-mul_enclosure}
 use Rattle.interval.proofs.Contains.{point-encloses, point-refines, subset-finite, subset-trans, contains-subset, own-low}
-use Rattle.formula.specs.Enclose.{enclosure, Expr-enclose, Expr-enclose_all, Program-enclose}
-use Rattle.formula.proofs.Stage.{stage-extends, stage-isotone}
-use Rattle.unit_interval.specs.Unit.{unit_interval}
-use Rattle.unit_interval.proofs.DtUnit.{sub-nonnegative}
+use Rattle.interval_unjudged.specs.formula.Enclose.{enclosure, Expr-enclose, Expr-enclose_all, Program-enclose}
+use Rattle.interval_unjudged.proofs.formula.Stage.{stage-extends, stage-isotone}
+use Rattle.pose_steps.specs.unit_interval.Unit.{unit_interval}
+use Rattle.pose_steps.proofs.unit_interval.DtUnit.{sub-nonnegative}
 use Rattle.pose_steps.proofs.Angle.{unit-finite}
 use Rattle.motion_pad.proofs.Box.{PadWithin}
 use Rattle.motion_pad.specs.Pad.{pad_stage, Pad-at, Pad-inputs, Pad-enclose}

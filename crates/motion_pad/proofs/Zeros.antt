@@ -12,9 +12,9 @@ use lib.Ieee.{Float, nan, inf, fin, Format, binary32, up, down, round, sum, add,
 use lib.Ieee.Fits.{down_pos}
 use lib.Ieee.Bits.{is_true}
 use lib.Ieee.Scale.{round_same}
-use Rattle.rounding.specs.Order.{◌≼◌}
-use Rattle.rounding.proofs.Rational.{pos_part, neg_part, FractionLe}
-use Rattle.rounding.proofs.Order.{to-fraction}
+use Rattle.float32.specs.rounding.Order.{◌≼◌}
+use Rattle.float32.proofs.rounding.Rational.{pos_part, neg_part, FractionLe}
+use Rattle.float32.proofs.rounding.Order.{to-fraction}
 use Rattle.float32.specs.Operators.{◌⊕◌, positive_zero}
 use Rattle.own_rounding.specs.means.Alike.{Alike}
 use Rattle.bounds3.specs.declared.Bounds3f.{Bounds3f}

@@ -6,8 +6,8 @@ use Rattle.float32.specs.Lerp as float
 use Rattle.interval.specs.declared.Interval.{Interval}
 use Rattle.interval.specs.declared.Judged.{Judged}
 use Rattle.interval.specs.Interval.{Interval-point}
-use Rattle.formula.specs.Program.{var, Program, give}
-use Rattle.formula.specs.Enclose.{Enclosure, enclosure, Program-enclose}
+use Rattle.interval_unjudged.specs.formula.Program.{var, Program, give}
+use Rattle.interval_unjudged.specs.formula.Enclose.{Enclosure, enclosure, Program-enclose}
 use Rattle.pose_steps.specs.Stages.{lerp}
 use Rattle.pose_steps.specs.Enclose.{at}
 

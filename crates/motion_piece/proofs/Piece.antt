@@ -6,7 +6,7 @@ use Rattle.transform.specs.declared.Transform.{Transform}
 use Rattle.interval.specs.declared.Interval.{Interval}
 use Rattle.pose_steps.specs.declared.PoseConstants.{PoseConstants}
 use Rattle.pose_steps.specs.Enclose.{Pose-enclose_point}
-use Rattle.animated_transform.specs.declared.AnimatedTransform.{AnimatedTransform}
+use Rattle.motion_cover.specs.animated_transform.declared.AnimatedTransform.{AnimatedTransform}
 use Rattle.motion_cover.specs.Cover.{Transform-enclose_bounds, Transform-enclose_padded, AnimatedTransform-enclose_bounds}
 use Rattle.motion_piece.specs.means.Piece.{PaddedPose-enclose_bounds, PaddedPose-over, PaddedPose-stored}
 

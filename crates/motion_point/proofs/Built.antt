@@ -2,10 +2,10 @@
 -- read are finite (`built-scales`). What building has judged says so (`built-judged`).
 use mathlib.Core.Path.{◌≡◌, sym, subst}
 use lib.Dec.{T}
-use Rattle.vector3.specs.declared.Vector3f.{Vector3f}
-use Rattle.matrix4x4.specs.declared.Matrix4x4.{Matrix4x4}
-use Rattle.matrix4x4.specs.Rows.{Matrix4x4-to_rows}
-use Rattle.decomposition.specs.Decompose.{translation_of}
+use Rattle.transform.specs.vector3.declared.Vector3f.{Vector3f}
+use Rattle.transform.specs.matrix4x4.declared.Matrix4x4.{Matrix4x4}
+use Rattle.transform.specs.matrix4x4.Rows.{Matrix4x4-to_rows}
+use Rattle.animated_transform.specs.decomposition.Decompose.{translation_of}
 use Rattle.pose_steps.specs.Pose.{Vector3f-list, all_finite}
 use Rattle.pose_steps.specs.Promise.{AllFinite, PoseConstants-Valid, FiniteScale}
 use Rattle.pose_steps.proofs.Angle.{new-valid}

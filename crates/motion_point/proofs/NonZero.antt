@@ -8,8 +8,8 @@ use mathlib.Core.List.{List, [], ◌∷◌}
 use native.Mathlib.Omega.{arith}
 use lib.Dec.{eqb}
 use lib.Ieee.{Float, is_nan}
-use Rattle.control_flow.proofs.Choice.{cond-keeps}
-use Rattle.matrix4x4.specs.Rows.{Matrix4x4-to_rows}
+use Rattle.transform.proofs.control_flow.Choice.{cond-keeps}
+use Rattle.transform.specs.matrix4x4.Rows.{Matrix4x4-to_rows}
 use Rattle.bounds3.specs.declared.Point3f.{Point3f}
 use Rattle.bounds3.specs.Finite.{Point3f-is_finite}
 use Rattle.transform.specs.declared.Transform.{Transform}

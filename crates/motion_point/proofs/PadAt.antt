@@ -2,8 +2,8 @@
 use mathlib.Core.Path.{◌≡◌}
 use mathlib.Core.Bool.{true, false}
 use lib.Ieee.{Float, le}
-use Rattle.float32.specs.MinMax.{max_num}
-use Rattle.float32.specs.Lerp.{lerp}
+use Rattle.bounds3.specs.float32.MinMax.{max_num}
+use Rattle.bounds3.specs.float32.Lerp.{lerp}
 use Rattle.unit_interval.specs.Unit.{dt}
 use Rattle.animated_transform.specs.declared.AnimatedTransform.{AnimatedTransform}
 use Rattle.motion_point.specs.PadAt.{AnimatedTransform-pad_at}

@@ -5,7 +5,7 @@ use mathlib.Core.Path.{◌≡◌, refl}
 use mathlib.Core.Bool.{Bool, true, false, not, ◌||◌, cond}
 use mathlib.Core.Logic.{◌⊎◌, inl, inr}
 use lib.Ieee.{Float, is_nan, of_bits}
-use Rattle.control_flow.proofs.Choice.{cond-keeps}
+use Rattle.transform.proofs.control_flow.Choice.{cond-keeps}
 use Rattle.bounds3.specs.declared.Point3f.{Point3f}
 use Rattle.bounds3.specs.Finite.{Point3f-is_finite}
 use Rattle.transform.specs.declared.PointAnswer.{PointAnswer}

@@ -1,8 +1,8 @@
 -- The pad of a move at a time, document 02's "Pads for the spray". Definitions only.
 use Rattle.std.specs.Prelude.{not, cond, Float}
 use Rattle.std.specs.Float.Ieee.{le}
-use Rattle.float32.specs.MinMax.{max_num}
-use Rattle.float32.specs.Lerp.{lerp}
+use Rattle.bounds3.specs.float32.MinMax.{max_num}
+use Rattle.bounds3.specs.float32.Lerp.{lerp}
 use Rattle.unit_interval.specs.Unit.{dt}
 use Rattle.animated_transform.specs.declared.AnimatedTransform.{AnimatedTransform}
 use Rattle.animated_transform.specs.AtTime.{at_end}

@@ -1,2 +1,3 @@
 pub mod RoundTrip
 pub mod NonZero
+pub use Rattle.motion_point.proofs as motion_point

@@ -1,7 +1,7 @@
 -- No point query of a kept move is refused with 0, whatever its rows: `rows-point-nonzero`.
 use mathlib.Core.Bool.{not, ◌||◌}
 use lib.Ieee.{Float, is_nan}
-use Rattle.control_flow.proofs.Choice.{cond-keeps}
+use Rattle.transform.proofs.control_flow.Choice.{cond-keeps}
 use Rattle.matrix4x4.specs.Rows.{Rows}
 use Rattle.bounds3.specs.declared.Point3f.{Point3f}
 use Rattle.bounds3.specs.Finite.{Point3f-is_finite}

@@ -3,7 +3,7 @@
 use mathlib.Core.Path.{◌≡◌, refl}
 use mathlib.Core.Bool.{Bool, true, false}
 use lib.Ieee.{Float, eq, of_bits}
-use Rattle.float32.specs.Operators.{one}
+use Rattle.bounds3.specs.float32.Operators.{one}
 use Rattle.bounds3.specs.declared.Point3f.{Point3f}
 use Rattle.pose_steps.specs.Pose.{PoseConstants-new}
 use Rattle.animated_transform.specs.declared.AnimatedTransform.{AnimatedTransform}

@@ -4,7 +4,7 @@
 -- with the dot product of the rotations and the angle between them (43); the two pads, whether it is rigid, 1 for yes, and +0 (44).
 use Rattle.std.specs.Prelude.{ℕ, ◌+◌, Bool, cond, [], ◌∷◌, ◌++◌, eqb, Float}
 use Rattle.std.specs.Float.Ieee.{eq}
-use Rattle.float32.specs.Operators.{one}
+use Rattle.bounds3.specs.float32.Operators.{one}
 use Rattle.matrix4x4.specs.declared.Matrix4x4.{Matrix4x4}
 use Rattle.matrix4x4.specs.Rows.{Row, Rows, row, at, positive_zero, Matrix4x4-to_rows}
 use Rattle.vector3.specs.declared.Vector3f.{Vector3f}

@@ -4,7 +4,7 @@ use mathlib.Core.Bool.{true, false, ◌||◌}
 use Prim.Native.Nat.{ℕ, zero, suc, ◌-◌}
 use native.Mathlib.Numerals.{sub-one}
 use lib.Ieee.{Float, eq}
-use Rattle.float32.specs.Operators.{◌⊖◌, ◌⊘◌, positive_zero}
+use Rattle.trig.specs.float32.Operators.{◌⊖◌, ◌⊘◌, positive_zero}
 use Rattle.motion_derivative.specs.declared.MotionDerivative.{MotionDerivative}
 use Rattle.newton_method.specs.means.NewtonOver.{value_over, slope_over, newton_over}
 

@@ -5,9 +5,9 @@ use mathlib.Core.Bool.{Bool, true, false, cond}
 use mathlib.Core.List.{List}
 use Prim.Native.Nat.{ℕ, zero, suc}
 use lib.Ieee.{Float, eq}
-use Rattle.float32.specs.Operators.{◌⊖◌, ◌⊗◌, ◌⊘◌, two}
-use Rattle.sine_table.specs.Table.{sine_table}
-use Rattle.sine_table.specs.QuarterSine.{entry}
+use Rattle.trig.specs.float32.Operators.{◌⊖◌, ◌⊗◌, ◌⊘◌, two}
+use Rattle.trig.specs.sine_table.Table.{sine_table}
+use Rattle.trig.specs.sine_table.QuarterSine.{entry}
 use Rattle.trig.specs.SinCos.{sin, cos, sin_over, cos_over}
 use Rattle.trig.proofs.OverTable.{sin-over-table, cos-over-table}
 use Rattle.motion_derivative.specs.declared.MotionDerivative.{MotionDerivative}

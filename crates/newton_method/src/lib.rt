@@ -2,7 +2,7 @@
 #![tactic(auto)]
 
 ghost use Rattle.std.specs.Prelude.{◌≡◌};
-ghost use Rattle.sine_table.specs.QuarterSine.{entry};
+ghost use Rattle.trig.specs.sine_table.QuarterSine.{entry};
 ghost use Rattle.newton_method.specs.means.NewtonOver.{SinCosOver, asked_angle, newton_over};
 
 use motion_derivative::MotionDerivative;

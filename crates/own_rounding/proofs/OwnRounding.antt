@@ -12,11 +12,11 @@ use lib.Ieee.Fits.{down_pos}
 use lib.Ieee.Exact.{HasValue, round_exact}
 use lib.Ieee.Scale.{finite}
 use lib.Ieee.Positive.{den, den_pos}
-use Rattle.rounding.specs.Order.{◌≼◌}
-use Rattle.rounding.proofs.Rational.{num_pos, num_neg, FractionLe}
-use Rattle.rounding.proofs.Order.{≼_trans, to-fraction, of-fraction}
-use Rattle.rounding.proofs.Monotone.{Rounds, rounds-mono}
-use Rattle.rounding.proofs.Arithmetic.{add_rounds, sub-rounds}
+use Rattle.float32.specs.rounding.Order.{◌≼◌}
+use Rattle.float32.proofs.rounding.Rational.{num_pos, num_neg, FractionLe}
+use Rattle.float32.proofs.rounding.Order.{≼_trans, to-fraction, of-fraction}
+use Rattle.float32.proofs.rounding.Monotone.{Rounds, rounds-mono}
+use Rattle.float32.proofs.rounding.Arithmetic.{add_rounds, sub-rounds}
 use Rattle.float32.specs.Operators.{◌⊕◌, ◌⊖◌, positive_zero}
 use Rattle.float32.proofs.Constants.{zero-refl}
 use Rattle.float_bits.specs.Decode.{integer_decode}

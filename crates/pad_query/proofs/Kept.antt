@@ -1,7 +1,7 @@
 -- The pad query of a kept move is the move's: `pad-kept`.
 use mathlib.Core.Path.{◌≡◌}
 use lib.Ieee.{Float}
-use Rattle.animated_transform.specs.declared.AnimatedTransform.{AnimatedTransform}
+use Rattle.motion_rows.specs.animated_transform.declared.AnimatedTransform.{AnimatedTransform}
 use Rattle.motion_rows.specs.Rows.{AnimatedTransform-to_rows}
 use Rattle.motion_rows.proofs.RoundTrip.{from-rows-inverse}
 use Rattle.pad_query.specs.PadQuery.{AnimatedTransform-pad, Rows-pad}

@@ -3,10 +3,10 @@
 use Rattle.std.specs.Prelude.{ℕ, cond, List, [], ◌∷◌, Float}
 use Rattle.std.specs.Float.Ieee.{is_nan}
 use Rattle.std.specs.Float.Ieee.Scale.{finite}
-use Rattle.matrix4x4.specs.Rows.{Rows, positive_zero}
-use Rattle.animated_transform.specs.declared.AnimatedTransform.{AnimatedTransform}
+use Rattle.motion_rows.specs.matrix4x4.Rows.{Rows, positive_zero}
+use Rattle.motion_rows.specs.animated_transform.declared.AnimatedTransform.{AnimatedTransform}
 use Rattle.motion_rows.specs.Rows.{AnimatedTransform-from_rows}
-use Rattle.motion_point.specs.PadAt.{AnimatedTransform-pad_at}
+use Rattle.motion_rows.specs.motion_point.PadAt.{AnimatedTransform-pad_at}
 use Rattle.pad_query.specs.declared.PadAnswer.{PadAnswer}
 use Rattle.pad_query.specs.declared.PadAnswer.TheVariants.{Pad, Refused}
 

@@ -4,7 +4,7 @@
 ghost use Rattle.std.specs.Prelude.{◌≡◌};
 ghost use Rattle.float32.specs.MinMax.{max_num};
 ghost use Rattle.motion_rows.specs.Rows.{AnimatedTransform-from_rows};
-ghost use Rattle.motion_point.specs.PadAt.{AnimatedTransform-pad_at};
+ghost use Rattle.motion_rows.specs.motion_point.PadAt.{AnimatedTransform-pad_at};
 ghost use Rattle.pad_query.specs.PadQuery.{PadAnswer-judged, Rows-pad, PadAnswer-refusal, PadAnswer-left};
 
 // A pad, or the number of a refusal.

@@ -1,1 +1,2 @@
 pub mod Same
+pub use Rattle.lent_arrays.proofs.rounding

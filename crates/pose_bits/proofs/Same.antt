@@ -10,7 +10,7 @@ use lib.Dec.{T, eqb}
 use lib.ListN.{get_or}
 use lib.Ieee.{Float, binary32, fits, nan, of_bits, to_bits}
 use lib.Ieee.Bits.{of_bits-to_bits}
-use Rattle.pose_pair.specs.declared.Pose.{Pose}
+use Rattle.lent_arrays.specs.pose_pair.declared.Pose.{Pose}
 use Rattle.lent_arrays.specs.Arrays.{Pose-of_list}
 use Rattle.pose_bits.specs.Bits.{Float-same_bits, Row-same_bits, Matrix4x4-same_bits, Pose-same_bits}
 

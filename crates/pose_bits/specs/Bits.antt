@@ -3,9 +3,9 @@
 use Rattle.std.specs.Prelude.{Bool, ◌&&◌, eqb, Float}
 use Rattle.std.specs.Float.{binary32}
 use Rattle.std.specs.Float.Ieee.{to_bits}
-use Rattle.matrix4x4.specs.declared.Matrix4x4.{Matrix4x4}
-use Rattle.matrix4x4.specs.Rows.{Row, col}
-use Rattle.pose_pair.specs.declared.Pose.{Pose}
+use Rattle.lent_arrays.specs.matrix4x4.declared.Matrix4x4.{Matrix4x4}
+use Rattle.lent_arrays.specs.matrix4x4.Rows.{Row, col}
+use Rattle.lent_arrays.specs.pose_pair.declared.Pose.{Pose}
 
 -- zeros of different signs have different bits
 abbrev pub Float-same_bits : Float → Float → Bool

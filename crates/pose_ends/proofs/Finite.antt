@@ -3,9 +3,9 @@ use mathlib.Core.List.{◌++◌}
 use lib.Dec.{T}
 use lib.Ieee.{Float}
 use lib.Ieee.Scale.{finite}
-use Rattle.float32.specs.Operators.{◌⊕◌}
-use Rattle.interval.specs.declared.Interval.{Interval}
-use Rattle.interval.specs.Contains.{Finite}
+use Rattle.interval_unjudged.specs.float32.Operators.{◌⊕◌}
+use Rattle.interval_unjudged.specs.interval.declared.Interval.{Interval}
+use Rattle.interval_unjudged.specs.interval.Contains.{Finite}
 use Rattle.interval_unjudged.specs.means.Ordered.{Interval-ends_sum}
 use Rattle.interval_unjudged.specs.means.Unjudged.{All}
 use Rattle.interval_unjudged.proofs.Finite.{add-finite, ends-finite}

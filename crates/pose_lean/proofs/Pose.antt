@@ -3,19 +3,19 @@
 use mathlib.Core.Path.{◌≡◌, subst}
 use Prim.Native.Nat.{ℕ}
 use mathlib.Core.Bool.{Bool, true, false}
-use Rattle.matrix4x4.specs.declared.Matrix4x4.{Matrix4x4}
-use Rattle.interval.specs.declared.Interval.{Interval}
-use Rattle.interval.specs.Contains.{Subset}
-use Rattle.unit_interval.specs.Unit.{unit_interval}
-use Rattle.alike.specs.means.Alike.{Interval-Proper}
-use Rattle.pose_steps.specs.declared.PoseConstants.{PoseConstants}
-use Rattle.pose_steps.specs.declared.IntervalVector.{IntervalVector}
-use Rattle.pose_steps.specs.declared.IntervalMatrix.{IntervalMatrix}
-use Rattle.pose_steps.specs.Promise.{PoseConstants-Valid, FiniteScale}
-use Rattle.pose_steps.specs.Enclose.{IntervalVector-point, IntervalMatrix-point, IntervalMatrix-translation, Pose-enclose_translation, Pose-enclose_slerp}
-use Rattle.pose_steps.specs.Enclose.{Pose-enclose_scale_row, Pose-enclose_scale, enclose_scale_by, Pose-enclose_rotation, Pose-enclose_mul}
-use Rattle.pose_steps.specs.Enclose.{Pose-enclose_matrix, Pose-enclose_point}
-use Rattle.pose_steps.proofs.Zero.{slerp-zero, scale-row-zero, scale-by-zero, rotation-zero, mul-zero, point-zero}
+use Rattle.pose_slerp.specs.matrix4x4.declared.Matrix4x4.{Matrix4x4}
+use Rattle.formula_lean.specs.interval.declared.Interval.{Interval}
+use Rattle.formula_lean.specs.interval.Contains.{Subset}
+use Rattle.pose_slerp.specs.unit_interval.Unit.{unit_interval}
+use Rattle.formula_lean.specs.alike.means.Alike.{Interval-Proper}
+use Rattle.pose_slerp.specs.pose_steps.declared.PoseConstants.{PoseConstants}
+use Rattle.pose_slerp.specs.pose_steps.declared.IntervalVector.{IntervalVector}
+use Rattle.pose_slerp.specs.pose_steps.declared.IntervalMatrix.{IntervalMatrix}
+use Rattle.pose_slerp.specs.pose_steps.Promise.{PoseConstants-Valid, FiniteScale}
+use Rattle.pose_slerp.specs.pose_steps.Enclose.{IntervalVector-point, IntervalMatrix-point, IntervalMatrix-translation, Pose-enclose_translation, Pose-enclose_slerp}
+use Rattle.pose_slerp.specs.pose_steps.Enclose.{Pose-enclose_scale_row, Pose-enclose_scale, enclose_scale_by, Pose-enclose_rotation, Pose-enclose_mul}
+use Rattle.pose_slerp.specs.pose_steps.Enclose.{Pose-enclose_matrix, Pose-enclose_point}
+use Rattle.pose_slerp.proofs.pose_steps.Zero.{slerp-zero, scale-row-zero, scale-by-zero, rotation-zero, mul-zero, point-zero}
 use Rattle.pose_lean.specs.means.Lean.{LinearPart, one_minus, Lean-slerp, rotation, shifted, scale, product, linear_by, moved_by}
 use Rattle.pose_lean.specs.means.Values.{ScaleValues, PoseValues}
 use Rattle.pose_lean.proofs.Stages.{unit-stands, nought-stands, StandsVector, LeanRows, StandsRows, linear, affine, translated, identity, LeanRows-times}

@@ -5,36 +5,36 @@ use Prim.Native.Nat.{ℕ}
 use mathlib.Core.Bool.{Bool, true, false}
 use mathlib.Core.List.{List, [], ◌∷◌, ◌++◌}
 use lib.Ieee.{Float, is_nan, le, lt, mul, round, of_bits, fits}
-use Rattle.rounding.specs.Order.{◌≼◌}
-use Rattle.rounding.proofs.Order.{≼_trans}
-use Rattle.float32.specs.Operators.{◌⊗◌, positive_zero}
-use Rattle.float32.specs.MinMax.{min_num, max_num}
-use Rattle.trig.specs.SinCos.{sin, cos}
-use Rattle.trig.specs.Range.{quarter_turn_float, full_turn_float}
-use Rattle.interval.specs.declared.Interval.{Interval}
-use Rattle.interval.specs.declared.Judged.{Judged}
-use Rattle.interval.specs.Interval.{Interval-point, Interval-new, Interval-hull, Interval-of_four}
-use Rattle.interval.specs.Contains.{Subset}
-use Rattle.interval.specs.Enclosure.{not_finite, Judged-judge, Interval-add_enclosure, Interval-mul_enclosure, Judged-mul_enclosure}
-use Rattle.interval.proofs.Isotone.{mul-isotone}
-use Rattle.interval_unjudged.specs.means.Unjudged.{All}
-use Rattle.unit_interval.specs.Unit.{unit_interval}
-use Rattle.formula.specs.Promise.{Pairwise}
-use Rattle.alike.specs.means.Alike.{Interval-Proper, Interval-new_ordered}
-use Rattle.alike.specs.means.Angles.{QuarterAngles}
-use Rattle.alike.proofs.Equivalence.{alike-≼}
-use Rattle.alike.proofs.Constant.{mul-rising, mul-ordered-left}
+use Rattle.formula_lean.specs.rounding.Order.{◌≼◌}
+use Rattle.formula_lean.proofs.rounding.Order.{≼_trans}
+use Rattle.formula_lean.specs.float32.Operators.{◌⊗◌, positive_zero}
+use Rattle.formula_lean.specs.float32.MinMax.{min_num, max_num}
+use Rattle.formula_lean.specs.trig.SinCos.{sin, cos}
+use Rattle.formula_lean.specs.trig.Range.{quarter_turn_float, full_turn_float}
+use Rattle.formula_lean.specs.interval.declared.Interval.{Interval}
+use Rattle.formula_lean.specs.interval.declared.Judged.{Judged}
+use Rattle.formula_lean.specs.interval.Interval.{Interval-point, Interval-new, Interval-hull, Interval-of_four}
+use Rattle.formula_lean.specs.interval.Contains.{Subset}
+use Rattle.formula_lean.specs.interval.Enclosure.{not_finite, Judged-judge, Interval-add_enclosure, Interval-mul_enclosure, Judged-mul_enclosure}
+use Rattle.formula_lean.proofs.interval.Isotone.{mul-isotone}
+use Rattle.formula_lean.specs.interval_unjudged.means.Unjudged.{All}
+use Rattle.pose_slerp.specs.unit_interval.Unit.{unit_interval}
+use Rattle.formula_lean.specs.formula.Promise.{Pairwise}
+use Rattle.formula_lean.specs.alike.means.Alike.{Interval-Proper, Interval-new_ordered}
+use Rattle.formula_lean.specs.alike.means.Angles.{QuarterAngles}
+use Rattle.formula_lean.proofs.alike.Equivalence.{alike-≼}
+use Rattle.formula_lean.proofs.alike.Constant.{mul-rising, mul-ordered-left}
 use Rattle.formula_lean.specs.means.Lean.{Lean, number, span, range, Lean-Angles, Lean-of, Expr-lean, Expr-lean_all, Program-lean}
 use Rattle.formula_lean.specs.means.Asked.{Program-turned}
 use Rattle.formula_lean.proofs.Operations.{Stands}
-use Rattle.pose_steps.specs.declared.PoseConstants.{PoseConstants}
-use Rattle.pose_steps.specs.declared.IntervalQuaternion.{IntervalQuaternion}
-use Rattle.pose_steps.specs.Stages.{slerp_near_stage, slerp_far_stage}
-use Rattle.pose_steps.specs.Pose.{Quaternion-list, is_near}
-use Rattle.pose_steps.specs.Promise.{PoseConstants-Valid, quarter_interval}
-use Rattle.pose_steps.specs.Enclose.{IntervalQuaternion-list, IntervalQuaternion-point, Pose-enclose_slerp_near}
-use Rattle.pose_steps.specs.Enclose.{Pose-enclose_slerp_far, enclose_slerp_by, Pose-enclose_slerp}
-use Rattle.pose_steps.proofs.Angle.{quarter-finite, unit-finite, theta-finite, theta-subset}
+use Rattle.pose_slerp.specs.pose_steps.declared.PoseConstants.{PoseConstants}
+use Rattle.pose_slerp.specs.pose_steps.declared.IntervalQuaternion.{IntervalQuaternion}
+use Rattle.pose_slerp.specs.pose_steps.Stages.{slerp_near_stage, slerp_far_stage}
+use Rattle.pose_slerp.specs.pose_steps.Pose.{Quaternion-list, is_near}
+use Rattle.pose_slerp.specs.pose_steps.Promise.{PoseConstants-Valid, quarter_interval}
+use Rattle.pose_slerp.specs.pose_steps.Enclose.{IntervalQuaternion-list, IntervalQuaternion-point, Pose-enclose_slerp_near}
+use Rattle.pose_slerp.specs.pose_steps.Enclose.{Pose-enclose_slerp_far, enclose_slerp_by, Pose-enclose_slerp}
+use Rattle.pose_slerp.proofs.pose_steps.Angle.{quarter-finite, unit-finite, theta-finite, theta-subset}
 use Rattle.pose_slerp.specs.means.Unjudged.{Perpendicular-of}
 use Rattle.pose_lean.specs.means.Lean.{mix, one_minus, turned, length, over, normalized, near, at_borders, slerp_by, second_by, Lean-slerp}
 use Rattle.pose_lean.specs.means.Values.{PoseConstants-Values}

@@ -7,39 +7,39 @@ use lib.Dec.{T}
 use lib.Ieee.{Float, binary32, le, of_bits, fits}
 use lib.Ieee.Bits.{of_bits-fits}
 use lib.Ieee.Scale.{finite}
-use Rattle.float32.specs.Operators.{positive_zero, one}
-use Rattle.float32.proofs.Constants.{zero-finite, one-finite}
-use Rattle.vector3.specs.declared.Vector3f.{Vector3f}
-use Rattle.matrix4x4.specs.Rows.{Row}
-use Rattle.interval.specs.declared.Interval.{Interval}
-use Rattle.interval.specs.Interval.{Interval-point}
-use Rattle.interval_unjudged.specs.means.Unjudged.{All}
-use Rattle.formula.specs.Program.{Program}
-use Rattle.formula.specs.Enclose.{Enclosure, enclosure, Program-enclose}
-use Rattle.formula.specs.Promise.{Pairwise}
-use Rattle.formula.specs.Stage.{Program-stage}
-use Rattle.formula.proofs.Pairwise.{pairwise_append}
-use Rattle.formula.proofs.Stage.{stage_is}
-use Rattle.alike.specs.means.Alike.{Interval-Proper}
-use Rattle.alike.proofs.Intervals.{interval-self, interval-sym}
-use Rattle.alike.proofs.Constant.{ordered-alike}
-use Rattle.alike.proofs.Proper.{point-proper}
-use Rattle.alike.proofs.Terms.{zero-interval, one-interval}
+use Rattle.formula_lean.specs.float32.Operators.{positive_zero, one}
+use Rattle.formula_lean.proofs.float32.Constants.{zero-finite, one-finite}
+use Rattle.pose_slerp.specs.vector3.declared.Vector3f.{Vector3f}
+use Rattle.pose_slerp.specs.matrix4x4.Rows.{Row}
+use Rattle.formula_lean.specs.interval.declared.Interval.{Interval}
+use Rattle.formula_lean.specs.interval.Interval.{Interval-point}
+use Rattle.formula_lean.specs.interval_unjudged.means.Unjudged.{All}
+use Rattle.formula_lean.specs.formula.Program.{Program}
+use Rattle.formula_lean.specs.formula.Enclose.{Enclosure, enclosure, Program-enclose}
+use Rattle.formula_lean.specs.formula.Promise.{Pairwise}
+use Rattle.formula_lean.specs.formula.Stage.{Program-stage}
+use Rattle.formula_lean.proofs.formula.Pairwise.{pairwise_append}
+use Rattle.formula_lean.proofs.formula.Stage.{stage_is}
+use Rattle.formula_lean.specs.alike.means.Alike.{Interval-Proper}
+use Rattle.formula_lean.proofs.alike.Intervals.{interval-self, interval-sym}
+use Rattle.formula_lean.proofs.alike.Constant.{ordered-alike}
+use Rattle.formula_lean.proofs.alike.Proper.{point-proper}
+use Rattle.formula_lean.proofs.alike.Terms.{zero-interval, one-interval}
 use Rattle.formula_lean.specs.means.Lean.{Lean, nought, unit, number, span, range, Lean-Angles, Lean-of, Expr-lean, Expr-lean_all, Program-lean}
 use Rattle.formula_lean.specs.means.Asked.{Program-bound, Program-turned}
 use Rattle.formula_lean.proofs.Operations.{Stands}
 use Rattle.formula_lean.proofs.Program.{program-lean}
-use Rattle.pose_steps.specs.declared.IntervalVector.{IntervalVector}
-use Rattle.pose_steps.specs.declared.IntervalQuaternion.{IntervalQuaternion}
-use Rattle.pose_steps.specs.declared.IntervalRow.{IntervalRow}
-use Rattle.pose_steps.specs.declared.IntervalMatrix.{IntervalMatrix}
-use Rattle.pose_steps.specs.Stages.{translation_stage, scale_row_stage, rotation_stage, mul_row_stage, transform_point_stage}
-use Rattle.pose_steps.specs.Pose.{Vector3f-list, three}
-use Rattle.pose_steps.specs.Promise.{AllFinite}
-use Rattle.pose_steps.specs.Enclose.{IntervalVector-list, IntervalQuaternion-list, IntervalRow-list, IntervalRow-three, IntervalMatrix-list}
-use Rattle.pose_steps.specs.Enclose.{IntervalVector-point, IntervalRow-point, Pose-enclose_translation, Pose-enclose_scale_row, Pose-enclose_rotation}
-use Rattle.pose_steps.specs.Enclose.{Pose-enclose_mul_row, Pose-enclose_mul, Pose-enclose_transform_point}
-use Rattle.pose_steps.proofs.Zero.{mul-row-zero}
+use Rattle.pose_slerp.specs.pose_steps.declared.IntervalVector.{IntervalVector}
+use Rattle.pose_slerp.specs.pose_steps.declared.IntervalQuaternion.{IntervalQuaternion}
+use Rattle.pose_slerp.specs.pose_steps.declared.IntervalRow.{IntervalRow}
+use Rattle.pose_slerp.specs.pose_steps.declared.IntervalMatrix.{IntervalMatrix}
+use Rattle.pose_slerp.specs.pose_steps.Stages.{translation_stage, scale_row_stage, rotation_stage, mul_row_stage, transform_point_stage}
+use Rattle.pose_slerp.specs.pose_steps.Pose.{Vector3f-list, three}
+use Rattle.pose_slerp.specs.pose_steps.Promise.{AllFinite}
+use Rattle.pose_slerp.specs.pose_steps.Enclose.{IntervalVector-list, IntervalQuaternion-list, IntervalRow-list, IntervalRow-three, IntervalMatrix-list}
+use Rattle.pose_slerp.specs.pose_steps.Enclose.{IntervalVector-point, IntervalRow-point, Pose-enclose_translation, Pose-enclose_scale_row, Pose-enclose_rotation}
+use Rattle.pose_slerp.specs.pose_steps.Enclose.{Pose-enclose_mul_row, Pose-enclose_mul, Pose-enclose_transform_point}
+use Rattle.pose_slerp.proofs.pose_steps.Zero.{mul-row-zero}
 use Rattle.pose_lean.specs.means.Lean.{LinearPart, mix, lerp, one_minus, diagonal, twice_sum, twice_difference, rotation}
 use Rattle.pose_lean.specs.means.Lean.{shifted, scale_row, dot, row_by, product, moved, moved_by}
 use Rattle.pose_lean.specs.means.Values.{AllValues}

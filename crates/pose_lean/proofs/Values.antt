@@ -10,11 +10,11 @@ use mir.Val.{Val}
 use denote.Array.{each}
 use denote.Floats.{FloatOf, passes}
 use denote.Shadow.{shadow}
-use Rattle.vector3.specs.declared.Vector3f.{Vector3f}
-use Rattle.quaternion.specs.declared.Quaternion.{Quaternion}
-use Rattle.bounds3.specs.declared.Bounds3f.{Bounds3f}
-use Rattle.matrix4x4.specs.Rows.{Row}
-use Rattle.pose_steps.specs.Pose.{Vector3f-list, Quaternion-list, three}
+use Rattle.pose_slerp.specs.vector3.declared.Vector3f.{Vector3f}
+use Rattle.pose_slerp.specs.quaternion.declared.Quaternion.{Quaternion}
+use Rattle.pose_slerp.specs.bounds3.declared.Bounds3f.{Bounds3f}
+use Rattle.pose_slerp.specs.matrix4x4.Rows.{Row}
+use Rattle.pose_slerp.specs.pose_steps.Pose.{Vector3f-list, Quaternion-list, three}
 use Rattle.pose_lean.specs.means.Values.{AllValues, Bounds3f-Values}
 
 pub vector-values : (v : Vector3f) → fits binary32 v.x ≡ true → fits binary32 v.y ≡ true → fits binary32 v.z ≡ true → AllValues (Vector3f-list v)

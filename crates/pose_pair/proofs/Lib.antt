@@ -1,1 +1,2 @@
 pub mod Kind
+pub use Rattle.rigid_pose.proofs.transform

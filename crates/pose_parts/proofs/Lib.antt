@@ -1,1 +1,2 @@
 pub mod Unjudged
+pub use Rattle.pose_steps.proofs as pose_steps

@@ -1,1 +1,2 @@
 pub mod means
+pub use Rattle.pose_steps.specs as pose_steps

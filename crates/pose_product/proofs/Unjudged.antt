@@ -10,7 +10,7 @@ use Rattle.float32.specs.Operators.{◌⊕◌}
 use Rattle.interval.specs.Contains.{Finite}
 use Rattle.interval.specs.Interval.{Interval-point}
 use Rattle.float32.specs.Operators as float
-use Rattle.matrix4x4.specs.Rows.{positive_zero}
+use Rattle.pose_steps.specs.matrix4x4.Rows.{positive_zero}
 use Rattle.interval_unjudged.specs.means.Unjudged.{Expr-unjudged, Expr-unjudged_all, Program-unjudged, All}
 use Rattle.interval_unjudged.proofs.Unjudged.{all_append, program-unjudged}
 use Rattle.pose_steps.specs.declared.IntervalRow.{IntervalRow}

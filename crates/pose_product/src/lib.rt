@@ -3,7 +3,7 @@
 #![tactic(auto)]
 
 ghost use Rattle.std.specs.Prelude.{◌≡◌};
-ghost use Rattle.matrix4x4.specs.Rows.{Matrix4x4-to_rows, Matrix4x4-from_rows};
+ghost use Rattle.pose_steps.specs.matrix4x4.Rows.{Matrix4x4-to_rows, Matrix4x4-from_rows};
 ghost use Rattle.pose_steps.specs.Pose.{Pose-mul_row, Pose-mul};
 ghost use Rattle.pose_steps.specs.Enclose.{Pose-enclose_mul, IntervalMatrix-translation};
 ghost use Rattle.pose_product.specs.means.Unjudged.{Pose-unjudged_mul_row, Pose-unjudged_mul, IntervalVector-times, Pose-translated_column};

@@ -7,15 +7,15 @@ use mathlib.Core.List.{[], ◌∷◌}
 use lib.Dec.{T}
 use lib.Ieee.{Float, nan, inf, fin, binary32, of_bits, is_nan, mul}
 use lib.Ieee.Scale.{finite}
-use Rattle.rounding.specs.Order.{Number}
-use Rattle.rounding.proofs.Order.{≼_refl, number-left, finite_number}
-use Rattle.rounding.proofs.Arithmetic.{add-mono, sub-mono}
+use Rattle.float32.specs.rounding.Order.{Number}
+use Rattle.float32.proofs.rounding.Order.{≼_refl, number-left, finite_number}
+use Rattle.float32.proofs.rounding.Arithmetic.{add-mono, sub-mono}
 use Rattle.float32.specs.Operators.{◌⊕◌, ◌⊖◌, ◌⊗◌, one, two}
 use Rattle.interval.specs.declared.Interval.{Interval}
 use Rattle.interval.specs.Contains.{Finite}
 use Rattle.interval.specs.Interval.{Interval-point}
 use Rattle.interval.specs.Enclosure.{Interval-add_enclosure, Interval-sub_enclosure}
-use Rattle.formula.specs.Enclose.{enclosure}
+use Rattle.interval_unjudged.specs.formula.Enclose.{enclosure}
 use Rattle.interval_unjudged.specs.means.Ordered.{Interval-mul_ordered, Interval-ends_sum}
 use Rattle.interval_unjudged.specs.means.Unjudged.{Expr-unjudged, Expr-unjudged_all, Program-unjudged, All}
 use Rattle.interval_unjudged.proofs.Ordered.{AllFour, corners-finite, mul-number}

@@ -8,15 +8,15 @@ use lib.Ieee.{Float, of_bits, is_nan, lt, le, neg, mul, round}
 use lib.Ieee.Fits.{and_i}
 use lib.Ieee.Bits.{is_true}
 use lib.Ieee.Scale.{finite}
-use Rattle.rounding.specs.Order.{◌≼◌}
-use Rattle.rounding.proofs.Order.{≼_refl, ≼_trans, number-right, between-finite, finite_number, lt-≼, not-lt-≼}
-use Rattle.rounding.proofs.Corners.{Bounds}
-use Rattle.float32.specs.Operators.{one}
-use Rattle.float32.specs.MinMax.{min_num, max_num}
-use Rattle.float32.specs.Clamp.{clamp}
-use Rattle.arc_cosine.specs.Acos.{acos, in_domain}
-use Rattle.trig.specs.Range.{quarter_turn_float, full_turn_float}
-use Rattle.arc_cosine.proofs.Range.{acos-range, acos-quarter}
+use Rattle.matrix4x4.specs.rounding.Order.{◌≼◌}
+use Rattle.matrix4x4.proofs.rounding.Order.{≼_refl, ≼_trans, number-right, between-finite, finite_number, lt-≼, not-lt-≼}
+use Rattle.matrix4x4.proofs.rounding.Corners.{Bounds}
+use Rattle.matrix4x4.specs.float32.Operators.{one}
+use Rattle.matrix4x4.specs.float32.MinMax.{min_num, max_num}
+use Rattle.matrix4x4.specs.float32.Clamp.{clamp}
+use Rattle.quaternion.specs.arc_cosine.Acos.{acos, in_domain}
+use Rattle.interval.specs.trig.Range.{quarter_turn_float, full_turn_float}
+use Rattle.quaternion.proofs.arc_cosine.Range.{acos-range, acos-quarter}
 use Rattle.matrix4x4.specs.Rows.{positive_zero}
 use Rattle.vector3.specs.declared.Vector3f.{Vector3f}
 use Rattle.quaternion.specs.declared.Quaternion.{Quaternion}

@@ -5,14 +5,14 @@
 use lib.Dec.{T}
 use lib.Ieee.{Float}
 use lib.Ieee.Scale.{finite}
-use Rattle.rounding.specs.Order.{◌≼◌}
-use Rattle.rounding.proofs.Order.{≼_refl, number-left, number-right}
-use Rattle.bounds3.specs.declared.Point3f.{Point3f}
-use Rattle.bounds3.specs.declared.Bounds3f.{Bounds3f}
-use Rattle.bounds3.specs.Finite.{Finite, Bounds3f-is_finite}
-use Rattle.bounds3.specs.Inside.{Inside, Subset}
-use Rattle.bounds3.specs.List.{Point3f-list}
-use Rattle.bounds3.proofs.Finite.{low-finite, high-finite, box-finite}
+use Rattle.matrix4x4.specs.rounding.Order.{◌≼◌}
+use Rattle.matrix4x4.proofs.rounding.Order.{≼_refl, number-left, number-right}
+use Rattle.rotation.specs.bounds3.declared.Point3f.{Point3f}
+use Rattle.rotation.specs.bounds3.declared.Bounds3f.{Bounds3f}
+use Rattle.rotation.specs.bounds3.Finite.{Finite, Bounds3f-is_finite}
+use Rattle.rotation.specs.bounds3.Inside.{Inside, Subset}
+use Rattle.rotation.specs.bounds3.List.{Point3f-list}
+use Rattle.rotation.proofs.bounds3.Finite.{low-finite, high-finite, box-finite}
 use Rattle.interval.specs.Contains as interval
 use Rattle.interval.specs.Contains.{Encloses, Refines}
 use Rattle.interval.proofs.Contains.{contains-finite, subset-finite}

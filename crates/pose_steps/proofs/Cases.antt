@@ -6,15 +6,15 @@ use mathlib.Core.Bool.{false}
 use mathlib.Core.List.{[], ◌∷◌}
 use Prim.Native.Nat.{ℕ}
 use lib.Ieee.{Float, binary32, of_bits}
-use Rattle.float32.specs.Operators.{one, half}
+use Rattle.matrix4x4.specs.float32.Operators.{one, half}
 use Rattle.vector3.specs.declared.Vector3f.{Vector3f}
 use Rattle.quaternion.specs.declared.Quaternion.{Quaternion}
 use Rattle.matrix4x4.specs.declared.Matrix4x4.{Matrix4x4}
 use Rattle.matrix4x4.specs.Rows.{positive_zero}
 use Rattle.matrix4x4.specs.IsAffine.{bottom_row}
-use Rattle.bounds3.specs.declared.Point3f.{Point3f}
-use Rattle.transform.specs.Transform.{translation}
-use Rattle.transform.specs.declared.PointAnswer.TheVariants.{Moved}
+use Rattle.rotation.specs.bounds3.declared.Point3f.{Point3f}
+use Rattle.rotation.specs.transform.Transform.{translation}
+use Rattle.rotation.specs.transform.declared.PointAnswer.TheVariants.{Moved}
 use Rattle.interval.specs.declared.Interval.{Interval}
 use Rattle.interval.specs.Interval.{Interval-point}
 use Rattle.unit_interval.specs.Unit.{unit_interval}

@@ -11,8 +11,8 @@ use lib.Dec.{T}
 use lib.Ieee.{Float, binary32, of_bits, down, up, round, sum, add, mul, eq, lt}
 use lib.Ieee.Fits.{down_pos, and_l, and_r}
 use lib.Ieee.Scale.{finite, round_same}
-use Rattle.float32.specs.Operators.{◌⊕◌, ◌⊗◌, one}
-use Rattle.float32.specs.Lerp.{lerp}
+use Rattle.matrix4x4.specs.float32.Operators.{◌⊕◌, ◌⊗◌, one}
+use Rattle.matrix4x4.specs.float32.Lerp.{lerp}
 use Rattle.vector3.specs.declared.Vector3f.{Vector3f}
 use Rattle.matrix4x4.specs.declared.Matrix4x4.{Matrix4x4}
 use Rattle.matrix4x4.specs.Rows.{Row, Rows, col, at, all, positive_zero, Matrix4x4-to_rows, Matrix4x4-from_rows}
@@ -26,12 +26,12 @@ use Rattle.quaternion.specs.Quaternion.{Quaternion-dot, Quaternion-normalize, Qu
 use Rattle.quaternion.specs.IsFinite.{Quaternion-is_finite}
 use Rattle.quaternion.specs.Slerp as leaf
 use Rattle.quaternion.specs.Slerp.{slerp_threshold, Quaternion-slerp}
-use Rattle.bounds3.specs.declared.Point3f.{Point3f}
-use Rattle.bounds3.specs.Finite.{Finite}
-use Rattle.transform.specs.declared.Transform.{Transform}
-use Rattle.transform.specs.Transform.{translation, Transform-mul}
-use Rattle.transform.specs.TransformPoint.{PointAnswer-judged, Transform-transform_point}
-use Rattle.transform.proofs.Wp.{moved-affine}
+use Rattle.rotation.specs.bounds3.declared.Point3f.{Point3f}
+use Rattle.rotation.specs.bounds3.Finite.{Finite}
+use Rattle.rotation.specs.transform.declared.Transform.{Transform}
+use Rattle.rotation.specs.transform.Transform.{translation, Transform-mul}
+use Rattle.rotation.specs.transform.TransformPoint.{PointAnswer-judged, Transform-transform_point}
+use Rattle.rotation.proofs.transform.Wp.{moved-affine}
 use Rattle.rotation.specs.FromQuaternion.{inverse_rotation, Transform-from_quaternion}
 use Rattle.pose_steps.specs.declared.PoseConstants.{PoseConstants}
 use Rattle.pose_steps.specs.Pose.{PoseConstants-new, Pose-translation, Pose-slerp_near, Pose-slerp_far, slerp_by, Pose-slerp}

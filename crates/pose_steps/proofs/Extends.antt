@@ -9,17 +9,17 @@ use lib.Ieee.{Float}
 use lib.Ieee.Fits.{and_i}
 use lib.Ieee.Bits.{is_true}
 use lib.Ieee.Scale.{finite}
-use Rattle.float32.specs.Operators.{one}
-use Rattle.float32.proofs.Constants.{zero-finite, one-finite}
+use Rattle.matrix4x4.specs.float32.Operators.{one}
+use Rattle.matrix4x4.proofs.float32.Constants.{zero-finite, one-finite}
 use Rattle.vector3.specs.declared.Vector3f.{Vector3f}
 use Rattle.quaternion.specs.declared.Quaternion.{Quaternion}
 use Rattle.quaternion.specs.IsFinite.{Quaternion-is_finite}
 use Rattle.matrix4x4.specs.declared.Matrix4x4.{Matrix4x4}
 use Rattle.matrix4x4.specs.Rows.{Row, positive_zero}
-use Rattle.bounds3.specs.declared.Point3f.{Point3f}
-use Rattle.bounds3.specs.Finite.{Point3f-is_finite}
-use Rattle.bounds3.specs.List.{Point3f-list}
-use Rattle.transform.specs.Transform.{translation}
+use Rattle.rotation.specs.bounds3.declared.Point3f.{Point3f}
+use Rattle.rotation.specs.bounds3.Finite.{Point3f-is_finite}
+use Rattle.rotation.specs.bounds3.List.{Point3f-list}
+use Rattle.rotation.specs.transform.Transform.{translation}
 use Rattle.interval.specs.declared.Interval.{Interval}
 use Rattle.unit_interval.specs.Unit.{unit_interval}
 use Rattle.interval.specs.Contains.{Contains, Subset, Encloses}

@@ -5,8 +5,8 @@ use Prim.Native.Nat.{ℕ}
 use mathlib.Core.Bool.{Bool, true, false}
 use mathlib.Core.List.{[], ◌∷◌, ◌++◌}
 use lib.Ieee.Scale.{finite}
-use Rattle.float32.specs.Operators.{one}
-use Rattle.float32.proofs.Constants.{zero-finite, one-finite}
+use Rattle.matrix4x4.specs.float32.Operators.{one}
+use Rattle.matrix4x4.proofs.float32.Constants.{zero-finite, one-finite}
 use Rattle.matrix4x4.specs.declared.Matrix4x4.{Matrix4x4}
 use Rattle.matrix4x4.specs.Rows.{positive_zero}
 use Rattle.interval.specs.declared.Interval.{Interval}

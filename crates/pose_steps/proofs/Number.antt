@@ -10,14 +10,14 @@ use lib.Dec.{T, eqb}
 use lib.Ieee.{Float, binary32, of_bits, le}
 use lib.Ieee.Fits.{and_r}
 use lib.Ieee.Scale.{finite}
-use Rattle.refusal.proofs.First.{first-keeps}
-use Rattle.refusal.specs.First.{first_refusal}
+use Rattle.interval.proofs.refusal.First.{first-keeps}
+use Rattle.interval.specs.refusal.First.{first_refusal}
 use Rattle.matrix4x4.specs.declared.Matrix4x4.{Matrix4x4}
-use Rattle.bounds3.specs.declared.Point3f.{Point3f}
-use Rattle.bounds3.specs.Finite.{Point3f-is_finite}
-use Rattle.transform.specs.declared.PointAnswer.TheVariants.{Moved, Refused}
-use Rattle.transform.specs.Answer.{PointAnswer-Judged}
-use Rattle.transform.proofs.Judged.{origin-finite}
+use Rattle.rotation.specs.bounds3.declared.Point3f.{Point3f}
+use Rattle.rotation.specs.bounds3.Finite.{Point3f-is_finite}
+use Rattle.rotation.specs.transform.declared.PointAnswer.TheVariants.{Moved, Refused}
+use Rattle.rotation.specs.transform.Answer.{PointAnswer-Judged}
+use Rattle.rotation.proofs.transform.Judged.{origin-finite}
 use Rattle.interval.specs.declared.Interval.{Interval}
 use Rattle.interval.specs.Interval.{Interval-point}
 use Rattle.interval.specs.Enclosure.{not_finite, not_positive, Judged-judge, Interval-div_enclosure, Interval-sqrt_enclosure}

@@ -11,8 +11,8 @@ use lib.Dec.{T}
 use lib.Ieee.{Float}
 use lib.Ieee.Fits.{and_i}
 use lib.Ieee.Scale.{finite}
-use Rattle.float32.specs.Operators.{one}
-use Rattle.float32.proofs.Constants.{zero-finite, one-finite}
+use Rattle.matrix4x4.specs.float32.Operators.{one}
+use Rattle.matrix4x4.proofs.float32.Constants.{zero-finite, one-finite}
 use Rattle.quaternion.specs.declared.Quaternion.{Quaternion}
 use Rattle.matrix4x4.specs.declared.Matrix4x4.{Matrix4x4}
 use Rattle.matrix4x4.specs.Rows.{Row, col, at, all, Matrix4x4-to_rows, positive_zero}

@@ -1,15 +1,15 @@
 -- The last line of pbrt's `interpolate`, Transform::translate(&trans) * rotate.into() * Transform::from_matrix(&scale), as the definitions of vectors,
 -- quaternions, matrices and transforms have it. The formulas give its bits (`matrix-composition`, `point-composition`). Definitions only.
 use Rattle.std.specs.Prelude.{Bool, true, false, ◌&&◌, cond, ltb, eqb, Float}
-use Rattle.float32.specs.Operators.{◌⊖◌, one}
-use Rattle.float32.specs.Lerp.{lerp}
+use Rattle.matrix4x4.specs.float32.Operators.{◌⊖◌, one}
+use Rattle.matrix4x4.specs.float32.Lerp.{lerp}
 use Rattle.vector3.specs.declared.Vector3f.{Vector3f}
 use Rattle.vector3.specs.Vector.{Vector3f-add, Vector3f-mul}
 use Rattle.matrix4x4.specs.Rows.{Rows, at, tabulate, positive_zero}
 use Rattle.quaternion.specs.declared.Quaternion.{Quaternion}
 use Rattle.quaternion.specs.Slerp.{Quaternion-slerp}
-use Rattle.transform.specs.declared.Transform.{Transform}
-use Rattle.transform.specs.Transform.{Transform-translate, Transform-mul}
+use Rattle.rotation.specs.transform.declared.Transform.{Transform}
+use Rattle.rotation.specs.transform.Transform.{Transform-translate, Transform-mul}
 use Rattle.rotation.specs.FromQuaternion.{Transform-from_quaternion}
 
 -- let trans = self.t[0] * (1.0 - dt) + self.t[1] * dt

@@ -2,12 +2,12 @@
 -- Definitions only. Every interval is judged as it is formed, and the first number met is carried along. A slice works translation, slerp,
 -- scale, rotation, product, product, moved point. The move's constants have equal ends (`IntervalVector-point` and its like).
 use Rattle.std.specs.Prelude.{ℕ, Bool, true, false, List, [], ◌∷◌, ◌++◌, get_or}
-use Rattle.float32.specs.Operators.{one}
+use Rattle.matrix4x4.specs.float32.Operators.{one}
 use Rattle.vector3.specs.declared.Vector3f.{Vector3f}
 use Rattle.quaternion.specs.declared.Quaternion.{Quaternion}
 use Rattle.matrix4x4.specs.declared.Matrix4x4.{Matrix4x4}
 use Rattle.matrix4x4.specs.Rows.{Row, col, positive_zero}
-use Rattle.bounds3.specs.declared.Bounds3f.{Bounds3f}
+use Rattle.rotation.specs.bounds3.declared.Bounds3f.{Bounds3f}
 use Rattle.interval.specs.declared.Interval.{Interval}
 use Rattle.interval.specs.Interval.{Interval-point}
 use Rattle.formula.specs.Enclose.{Enclosure, enclosure, unbound, Program-enclose}

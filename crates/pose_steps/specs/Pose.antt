@@ -3,9 +3,9 @@
 -- cos_theta, theta and the kind, rigid or not, are the move's constants, worked out once (`PoseConstants-new`).
 use Rattle.std.specs.Prelude.{Bool, true, false, ◌&&◌, cond, List, [], ◌∷◌, ◌++◌, eqb, Float}
 use Rattle.std.specs.Float.Ieee.{lt, neg}
-use Rattle.float32.specs.Operators.{one}
-use Rattle.float32.specs.Clamp.{clamp}
-use Rattle.arc_cosine.specs.Acos.{acos}
+use Rattle.matrix4x4.specs.float32.Operators.{one}
+use Rattle.matrix4x4.specs.float32.Clamp.{clamp}
+use Rattle.quaternion.specs.arc_cosine.Acos.{acos}
 use Rattle.vector3.specs.declared.Vector3f.{Vector3f}
 use Rattle.quaternion.specs.declared.Quaternion.{Quaternion}
 use Rattle.quaternion.specs.Quaternion.{Quaternion-dot}
@@ -15,12 +15,12 @@ use Rattle.matrix4x4.specs.declared.Matrix4x4.{Matrix4x4}
 use Rattle.matrix4x4.specs.Rows.{Row, col, tabulate, Matrix4x4-to_rows, positive_zero, Matrix4x4-zero}
 use Rattle.matrix4x4.specs.IsFinite.{Matrix4x4-is_finite}
 use Rattle.matrix4x4.specs.IsAffine.{bottom_row}
-use Rattle.bounds3.specs.declared.Point3f.{Point3f}
-use Rattle.bounds3.specs.List.{Point3f-list, Point3f-of_list}
-use Rattle.bounds3.specs.Finite.{Point3f-is_finite}
-use Rattle.transform.specs.Transform.{translation}
-use Rattle.transform.specs.declared.PointAnswer.{PointAnswer}
-use Rattle.transform.specs.declared.PointAnswer.TheVariants.{Moved, Refused}
+use Rattle.rotation.specs.bounds3.declared.Point3f.{Point3f}
+use Rattle.rotation.specs.bounds3.List.{Point3f-list, Point3f-of_list}
+use Rattle.rotation.specs.bounds3.Finite.{Point3f-is_finite}
+use Rattle.rotation.specs.transform.Transform.{translation}
+use Rattle.rotation.specs.transform.declared.PointAnswer.{PointAnswer}
+use Rattle.rotation.specs.transform.declared.PointAnswer.TheVariants.{Moved, Refused}
 use Rattle.formula.specs.Eval.{Program-eval}
 use Rattle.pose_steps.specs.declared.PoseConstants.{PoseConstants}
 use Rattle.pose_steps.specs.declared.PoseAnswer.{PoseAnswer}

@@ -2,15 +2,15 @@
 -- A built move's constants are finite, and the angle between its rotations is at most a quarter turn, since the second was turned to the first's side.
 use Rattle.std.specs.Prelude.{◌≡◌, ◌⊎◌, ℕ, zero, suc, List, [], ◌∷◌, get_or, T, Float}
 use Rattle.std.specs.Float.Ieee.Scale.{finite}
-use Rattle.rounding.specs.Order.{◌≼◌}
-use Rattle.trig.specs.Range.{quarter_turn_float}
+use Rattle.matrix4x4.specs.rounding.Order.{◌≼◌}
+use Rattle.interval.specs.trig.Range.{quarter_turn_float}
 use Rattle.matrix4x4.specs.declared.Matrix4x4.{Matrix4x4}
 use Rattle.matrix4x4.specs.Rows.{Row, Matrix4x4-to_rows, positive_zero}
-use Rattle.bounds3.specs.declared.Point3f.{Point3f}
-use Rattle.bounds3.specs.declared.Bounds3f.{Bounds3f}
-use Rattle.bounds3.specs.List.{Point3f-list}
-use Rattle.transform.specs.declared.PointAnswer.{PointAnswer}
-use Rattle.transform.specs.declared.PointAnswer.TheVariants.{Moved}
+use Rattle.rotation.specs.bounds3.declared.Point3f.{Point3f}
+use Rattle.rotation.specs.bounds3.declared.Bounds3f.{Bounds3f}
+use Rattle.rotation.specs.bounds3.List.{Point3f-list}
+use Rattle.rotation.specs.transform.declared.PointAnswer.{PointAnswer}
+use Rattle.rotation.specs.transform.declared.PointAnswer.TheVariants.{Moved}
 use Rattle.interval.specs.declared.Interval.{Interval}
 use Rattle.interval.specs.Contains.{Encloses, Refines}
 use Rattle.formula.specs.Enclose.{enclosure}

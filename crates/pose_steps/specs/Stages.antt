@@ -4,7 +4,7 @@
 use Rattle.std.specs.Prelude.{ℕ, ◌+◌, [], ◌∷◌}
 use Rattle.std.specs.Float.{binary32}
 use Rattle.std.specs.Float.Ieee.{of_bits}
-use Rattle.float32.specs.Operators as float
+use Rattle.matrix4x4.specs.float32.Operators as float
 use Rattle.formula.specs.Program.{Expr, var, con, Program, ◌>>=◌, give, ◌⊕◌, ◌⊖◌, ◌⊗◌, ◌⊘◌, sqrt, sin, cos}
 
 -- ---- names for inputs: i is the number of the first

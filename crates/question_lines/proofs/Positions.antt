@@ -12,8 +12,8 @@ use lib.Seq.{take_all, drop-drop}
 use borrow.Author.Tests.{le-leb, lt-leb, eq-eqb, eqb-true}
 use Rattle.hexadecimal.specs.Digit.{position}
 use Rattle.hexadecimal.proofs.Digits.{position-bound}
-use Rattle.motion_file.specs.Text.{space, split, equal}
-use Rattle.motion_file.proofs.Pieces.{split-cut, split-whole}
+use Rattle.motion_text.specs.motion_file.Text.{space, split, equal}
+use Rattle.motion_text.proofs.motion_file.Pieces.{split-cut, split-whole}
 use Rattle.question_lines.specs.Words.{position_in, Words-position}
 
 equal-refl : (a : List ℕ) → equal a a ≡ true

@@ -7,7 +7,7 @@ use Rattle.std.specs.Float.Ieee.{of_bits}
 use Rattle.hexadecimal.specs.Word.{Word-read}
 use Rattle.hexadecimal.specs.declared.Word.{Word}
 use Rattle.hexadecimal.specs.declared.Word.TheVariants.{Bits, Malformed as NoWord}
-use Rattle.motion_file.specs.Text.{space, split, equal}
+use Rattle.motion_text.specs.motion_file.Text.{space, split, equal}
 use Rattle.question_lines.specs.declared.Decimal.{Decimal}
 use Rattle.question_lines.specs.declared.Decimal.TheVariants.{Value, Malformed}
 

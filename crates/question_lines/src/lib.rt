@@ -4,7 +4,7 @@
 ghost use Rattle.std.specs.Prelude.{◌≡◌, cond, ◌+◌, ◌≤◌, ◌<◌, max, ltb, length, take, drop, slice_range, IfOk, OnErr};
 ghost use Rattle.std.specs.Io.KnownBytes.{Consumes, IsAtEnd, Keeps};
 ghost use Rattle.hexadecimal.specs.Digit.{position as bytes_before};
-ghost use Rattle.motion_file.specs.Text.{equal};
+ghost use Rattle.motion_text.specs.motion_file.Text.{equal};
 ghost use Rattle.motion_text.specs.Answer.{text_left};
 ghost use Rattle.question_lines.specs.Words.{part as Words-part, Words-position, Decimal-append, Decimal-read, Decimal-saturated};
 ghost use Rattle.question_lines.specs.Words.{Decimal-read_saturated, Float-read, Floats-read, Floats-stored};

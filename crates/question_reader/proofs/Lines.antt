@@ -7,7 +7,7 @@ use lib.Dec.{eqb}
 use lib.Ieee.{Float}
 use lib.ListN.{length, get_or}
 use borrow.Author.Tests.{le-leb, lt-leb, lt-ltb, le-ltb, eq-eqb, ne_eqb}
-use Rattle.motion_file.specs.Text.{ascii, split, equal}
+use Rattle.question_lines.specs.motion_file.Text.{ascii, split, equal}
 use Rattle.question_lines.specs.Words.{part, position_in, Words-position, Floats-read, Floats-stored}
 use Rattle.question_reader.specs.declared.Question.{Question}
 use Rattle.question_reader.specs.Question.{no_place, word_end, kind_place, Kind-read, Shape-fits, Question-none, floats_from, Question-rest, rest_stored}

@@ -7,8 +7,8 @@ use mathlib.Core.Path.{◌≡◌, refl, sym, ◌∙◌, ap}
 use mathlib.Core.List.{List, []}
 use lib.ListN.{length, drop, set}
 use borrow.Author.Tests.{le-leb, lt-leb}
-use Rattle.hexadecimal.specs.Digit.{position}
-use Rattle.motion_file.specs.Text.{space}
+use Rattle.question_lines.specs.hexadecimal.Digit.{position}
+use Rattle.question_lines.specs.motion_file.Text.{space}
 use Rattle.question_lines.specs.Words.{part, Decimal-read}
 use Rattle.question_lines.proofs.Decimals.{read_none}
 use Rattle.question_lines.specs.declared.Decimal.TheVariants.{Value, Malformed}

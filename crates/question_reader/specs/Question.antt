@@ -1,8 +1,8 @@
 -- A line as a question: `Question-read`, what it asks; `wholes_stored` and `values_stored`, the lent whole numbers and floats after that.
 -- Rests on the words of `question_lines`. The protocol of the test programs: a name, whole numbers, for some the word `plain` or `rigid`, floats.
 use Rattle.std.specs.Prelude.{ℕ, zero, suc, ◌+◌, ◌-◌, ◌/◌, ◌%◌, ◌^◌, Bool, false, cond, ◌&&◌, List, [], eqb, leb, ltb, Float, length, drop, get_or, set}
-use Rattle.hexadecimal.specs.Digit.{position}
-use Rattle.motion_file.specs.Text.{ascii, space}
+use Rattle.question_lines.specs.hexadecimal.Digit.{position}
+use Rattle.question_lines.specs.motion_file.Text.{ascii, space}
 use Rattle.question_lines.specs.Words.{part, Words-position, Decimal-read, Floats-read, Floats-stored}
 use Rattle.question_lines.specs.declared.Decimal.{Decimal}
 use Rattle.question_lines.specs.declared.Decimal.TheVariants.{Value, Malformed}

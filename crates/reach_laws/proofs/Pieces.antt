@@ -6,33 +6,33 @@ use mathlib.Core.Path.{◌≡◌, subst}
 use mathlib.Core.List.{Memᴰ}
 use lib.Dec.{T}
 use lib.Ieee.{Float}
-use Rattle.rounding.specs.Order.{◌≼◌}
-use Rattle.bounds3.specs.declared.Point3f.{Point3f}
-use Rattle.bounds3.specs.declared.Bounds3f.{Bounds3f}
-use Rattle.bounds3.specs.Bounds3f.{Bounds3f-default}
-use Rattle.bounds3.specs.Finite.{Bounds3f-is_finite}
-use Rattle.bounds3.specs.Inside.{Inside, Subset}
-use Rattle.bounds3.proofs.Union.{subset-inside, finite-self}
-use Rattle.transform.specs.declared.BoundsAnswer.{BoundsAnswer}
-use Rattle.transform.specs.declared.BoundsAnswer.TheVariants.{Bounds, Refused}
-use Rattle.transform.specs.Answer.{BoundsAnswer-refusal, BoundsAnswer-bounds}
-use Rattle.bounds_overlap.specs.Meets.{Bounds3f-meets}
-use Rattle.bounds_overlap.proofs.Overlap.{shared-meets}
-use Rattle.bounds_query.specs.Query.{max_depth}
-use Rattle.motion_cover.proofs.Contains.{cover-box}
-use Rattle.motion_cover.proofs.Proper.{BoxRefines, box-refines}
-use Rattle.cover_depth.proofs.Finer.{BoxWithin, within-subset}
-use Rattle.motion_chain.specs.Chain.{Chain, Chain-moves, Chain-transform_point, Chain-pad_at}
-use Rattle.motion_chain.specs.Built.{BuiltChain}
-use Rattle.window_times.specs.declared.Window.{Window}
-use Rattle.chain_window.specs.Cover.{window_boxes, Chain-enclose_window, Chain-window_cover}
-use Rattle.chain_window.specs.Theorem.{InWindow, BuiltMoves}
-use Rattle.chain_window.proofs.Parts.{default-valued, union-parts}
-use Rattle.chain_window.proofs.Boxes.{boxes-valued}
-use Rattle.chain_window.proofs.Contains.{window-accepted, window-box}
-use Rattle.chain_window.proofs.Numbers.{window-numbered}
-use Rattle.chain_window.proofs.Finer.{window-rises, WithinSome, boxes-finer}
-use Rattle.bounds_overlap.proofs.Wider.{meets-mono}
+use Rattle.reach_rows.specs.rounding.Order.{◌≼◌}
+use Rattle.reach_rows.specs.bounds3.declared.Point3f.{Point3f}
+use Rattle.reach_rows.specs.bounds3.declared.Bounds3f.{Bounds3f}
+use Rattle.reach_rows.specs.bounds3.Bounds3f.{Bounds3f-default}
+use Rattle.reach_rows.specs.bounds3.Finite.{Bounds3f-is_finite}
+use Rattle.reach_rows.specs.bounds3.Inside.{Inside, Subset}
+use Rattle.reach_rows.proofs.bounds3.Union.{subset-inside, finite-self}
+use Rattle.reach_rows.specs.transform.declared.BoundsAnswer.{BoundsAnswer}
+use Rattle.reach_rows.specs.transform.declared.BoundsAnswer.TheVariants.{Bounds, Refused}
+use Rattle.reach_rows.specs.transform.Answer.{BoundsAnswer-refusal, BoundsAnswer-bounds}
+use Rattle.reach_rows.specs.bounds_overlap.Meets.{Bounds3f-meets}
+use Rattle.reach_rows.proofs.bounds_overlap.Overlap.{shared-meets}
+use Rattle.window_meetings.specs.bounds_query.Query.{max_depth}
+use Rattle.window_meetings.proofs.motion_cover.Contains.{cover-box}
+use Rattle.window_meetings.proofs.motion_cover.Proper.{BoxRefines, box-refines}
+use Rattle.window_meetings.proofs.cover_depth.Finer.{BoxWithin, within-subset}
+use Rattle.window_meetings.specs.motion_chain.Chain.{Chain, Chain-moves, Chain-transform_point, Chain-pad_at}
+use Rattle.window_meetings.specs.motion_chain.Built.{BuiltChain}
+use Rattle.window_meetings.specs.window_times.declared.Window.{Window}
+use Rattle.window_meetings.specs.chain_window.Cover.{window_boxes, Chain-enclose_window, Chain-window_cover}
+use Rattle.window_meetings.specs.chain_window.Theorem.{InWindow, BuiltMoves}
+use Rattle.window_meetings.proofs.chain_window.Parts.{default-valued, union-parts}
+use Rattle.window_meetings.proofs.chain_window.Boxes.{boxes-valued}
+use Rattle.window_meetings.proofs.chain_window.Contains.{window-accepted, window-box}
+use Rattle.window_meetings.proofs.chain_window.Numbers.{window-numbered}
+use Rattle.window_meetings.proofs.chain_window.Finer.{window-rises, WithinSome, boxes-finer}
+use Rattle.reach_rows.proofs.bounds_overlap.Wider.{meets-mono}
 use Rattle.window_meetings.proofs.Apart.{moved-reached}
 use Rattle.reach_laws.specs.Reach.{meets_row}
 use Rattle.reach_laws.specs.Theorem.{Dry}

@@ -1,16 +1,16 @@
 -- Which rows a boom of 1 to 16 boxes reaches, and in which windows: one mask a row. Definitions only. Quotations are of docs/SPECIFICATION.md, "Added: reach".
 use Rattle.std.specs.Prelude.{ℕ, zero, suc, ◌+◌, ◌*◌, ◌/◌, ◌%◌, Bool, false, ◌||◌, cond, List, [], ◌∷◌, ◌++◌, map, eqb, ltb, length, drop, Float}
-use Rattle.refusal.specs.First.{first_refusal}
-use Rattle.bounds3.specs.declared.Bounds3f.{Bounds3f}
-use Rattle.transform.specs.declared.BoundsAnswer.{BoundsAnswer}
-use Rattle.transform.specs.declared.BoundsAnswer.TheVariants.{Bounds, Refused}
-use Rattle.transform.specs.Answer.{BoundsAnswer-refusal}
-use Rattle.bounds_overlap.specs.Meets.{Bounds3f-meets}
-use Rattle.bounds_query.specs.Query.{Bounds3f-refusal, max_depth}
-use Rattle.motion_chain.specs.Chain.{Chain, first_number, stage}
-use Rattle.tick_list.specs.Ticks.{Ticks-refusal}
-use Rattle.window_times.specs.declared.Window.{Window}
-use Rattle.chain_window.specs.Cover.{window_boxes, Chain-window_cover}
+use Rattle.window_meetings.specs.refusal.First.{first_refusal}
+use Rattle.reach_rows.specs.bounds3.declared.Bounds3f.{Bounds3f}
+use Rattle.reach_rows.specs.transform.declared.BoundsAnswer.{BoundsAnswer}
+use Rattle.reach_rows.specs.transform.declared.BoundsAnswer.TheVariants.{Bounds, Refused}
+use Rattle.reach_rows.specs.transform.Answer.{BoundsAnswer-refusal}
+use Rattle.reach_rows.specs.bounds_overlap.Meets.{Bounds3f-meets}
+use Rattle.window_meetings.specs.bounds_query.Query.{Bounds3f-refusal, max_depth}
+use Rattle.window_meetings.specs.motion_chain.Chain.{Chain, first_number, stage}
+use Rattle.window_meetings.specs.tick_list.Ticks.{Ticks-refusal}
+use Rattle.window_meetings.specs.window_times.declared.Window.{Window}
+use Rattle.window_meetings.specs.chain_window.Cover.{window_boxes, Chain-window_cover}
 use Rattle.window_meetings.specs.Windows.{windows_of}
 use Rattle.reach_rows.specs.Named.{some, max_rows}
 

@@ -11,16 +11,16 @@ use Rattle.std.specs.Prelude.{ℕ, suc, ◌+◌, ◌≤◌, ◌<◌, ◌≡◌, 
 use mathlib.Core.List.{List, [], ◌∷◌, Memᴰ}
 use Rattle.std.specs.Float.{nan, inf}
 use Rattle.std.specs.Float.Ieee.{is_nan}
-use Rattle.bounds3.specs.declared.Point3f.{Point3f}
-use Rattle.bounds3.specs.declared.Bounds3f.{Bounds3f}
-use Rattle.bounds3.specs.Inside.{Inside}
-use Rattle.transform.specs.Answer.{OneOf, PointAnswer-refusal, BoundsAnswer-bounds}
-use Rattle.bounds_overlap.specs.Meets.{Bounds3f-meets}
-use Rattle.bounds_query.specs.Query.{max_depth}
-use Rattle.motion_chain.specs.Chain.{Chain, Chain-transform_point}
-use Rattle.motion_chain.specs.Built.{BuiltChain}
-use Rattle.chain_window.specs.Cover.{Chain-window_cover}
-use Rattle.chain_window.specs.Theorem.{InWindow, BuiltMoves}
+use Rattle.reach_rows.specs.bounds3.declared.Point3f.{Point3f}
+use Rattle.reach_rows.specs.bounds3.declared.Bounds3f.{Bounds3f}
+use Rattle.reach_rows.specs.bounds3.Inside.{Inside}
+use Rattle.reach_rows.specs.transform.Answer.{OneOf, PointAnswer-refusal, BoundsAnswer-bounds}
+use Rattle.reach_rows.specs.bounds_overlap.Meets.{Bounds3f-meets}
+use Rattle.window_meetings.specs.bounds_query.Query.{max_depth}
+use Rattle.window_meetings.specs.motion_chain.Chain.{Chain, Chain-transform_point}
+use Rattle.window_meetings.specs.motion_chain.Built.{BuiltChain}
+use Rattle.window_meetings.specs.chain_window.Cover.{Chain-window_cover}
+use Rattle.window_meetings.specs.chain_window.Theorem.{InWindow, BuiltMoves}
 use Rattle.window_meetings.specs.Theorem.{reached, tick_window}
 use Rattle.reach_laws.specs.Reach.{bit, Chain-reach_refusal, row_mask}
 

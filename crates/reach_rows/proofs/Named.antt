@@ -12,7 +12,7 @@ use lib.Dec.{T}
 use lib.ListN.{length, get_or, take, drop, set, length-map, get_or-map, drop_of_length-le}
 use lib.Seq.{take-suc, take_all, drop-cons, length-take-le}
 use lib.Ieee.{Float}
-use Rattle.rounding.proofs.Order.{or_left, or_right}
+use Rattle.bounds3.proofs.rounding.Order.{or_left, or_right}
 use Rattle.bounds3.specs.declared.Bounds3f.{Bounds3f}
 use Rattle.bounds3.specs.Bounds3f.{Bounds3f-union_bounds}
 use Rattle.bounds3.specs.List.{Bounds3f-of_list}

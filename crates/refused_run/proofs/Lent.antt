@@ -9,10 +9,10 @@ use lib.Dec.{T, eqb, ltb, eqb_refl, eqb→eq, ltb→lt, lt→ltb, nltb→le, not
 use lib.ListN.{length, take, drop, get_or}
 use lib.Ieee.{Float}
 use lib.Ieee.Bits.{is_true, is_false}
-use Rattle.pose_pair.specs.declared.Pose.{Pose}
-use Rattle.lent_arrays.specs.Arrays.{Pose-of_list}
-use Rattle.chain_poses.specs.Poses.{Poses-of_lists}
-use Rattle.chain_poses.proofs.Loops.{poses-length}
+use Rattle.chain_number.specs.pose_pair.declared.Pose.{Pose}
+use Rattle.chain_number.specs.lent_arrays.Arrays.{Pose-of_list}
+use Rattle.chain_number.specs.chain_poses.Poses.{Poses-of_lists}
+use Rattle.chain_number.proofs.chain_poses.Loops.{poses-length}
 use Rattle.chain_number.specs.Number.{Move-number, Chain-number}
 use Rattle.refused_run.specs.declared.Run.{Run}
 use Rattle.refused_run.specs.Run.{run_at, run_number, run_places, leftmost_place, has_run, leftmost_run}

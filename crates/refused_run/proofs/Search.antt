@@ -10,9 +10,9 @@ use native.Mathlib.Omega.{arith}
 use borrow.Author.Tests.{eq-eqb, ne_eqb, eqb-false}
 use lib.Dec.{T, eqb, eqb_refl, eqb→eq, ltb→lt, lt→ltb, T_not, not_T}
 use lib.ListN.{length}
-use Rattle.transform.specs.Answer.{OneOf}
-use Rattle.pose_pair.specs.declared.Pose.{Pose}
-use Rattle.motion_chain.specs.Chain.{first_number, chain_refusal, Chain-new}
+use Rattle.chain_number.specs.transform.Answer.{OneOf}
+use Rattle.chain_number.specs.pose_pair.declared.Pose.{Pose}
+use Rattle.chain_number.specs.motion_chain.Chain.{first_number, chain_refusal, Chain-new}
 use Rattle.chain_number.specs.Number.{Chain-number}
 use Rattle.refused_run.specs.declared.Run.{Run}
 use Rattle.refused_run.specs.Run.{run_at, run_number, run_places, leftmost_place, has_run, shortest_length, leftmost_run, shortest_run}

@@ -12,19 +12,19 @@ use lib.ListN.{length, drop}
 use lib.Ieee.{lt}
 use lib.Ieee.Scale.{finite}
 use lib.Ieee.Fits.{and_l}
-use Rattle.refusal.proofs.First.{first-assoc}
-use Rattle.refusal.specs.First.{first_refusal}
-use Rattle.matrix4x4.specs.Rows.{Matrix4x4-to_rows}
-use Rattle.matrix4x4.specs.IsFinite.{Matrix4x4-is_finite}
-use Rattle.pose_pair.specs.declared.Pose.{Pose}
-use Rattle.pose_pair.specs.Pose.{Pose-is_finite, Pose-is_affine, Pose-is_padded, times_refusal, poses_refusal, Pose-kind_number}
-use Rattle.animated_transform.specs.declared.AnimatedTransformAnswer.{AnimatedTransformAnswer}
-use Rattle.animated_transform.specs.New.{AnimatedTransformAnswer-refused, AnimatedTransform-from_poses, AnimatedTransform-new}
-use Rattle.bounds_answers.proofs.UnionAll.{each_of, each-implies}
-use Rattle.motion_chain.specs.Chain.{min_poses, max_poses, neighbours, first_number, stage, Pose-number, Pair-number, kind_stage, chain_stages, chain_refusal}
-use Rattle.motion_chain.specs.Built.{Each}
-use Rattle.motion_chain.proofs.Built.{first-none, first-only, stage-each, checks-passed}
-use Rattle.motion_chain.proofs.TwoPoses.{same-time}
+use Rattle.chain_number.proofs.refusal.First.{first-assoc}
+use Rattle.chain_number.specs.refusal.First.{first_refusal}
+use Rattle.chain_number.specs.matrix4x4.Rows.{Matrix4x4-to_rows}
+use Rattle.chain_number.specs.matrix4x4.IsFinite.{Matrix4x4-is_finite}
+use Rattle.chain_number.specs.pose_pair.declared.Pose.{Pose}
+use Rattle.chain_number.specs.pose_pair.Pose.{Pose-is_finite, Pose-is_affine, Pose-is_padded, times_refusal, poses_refusal, Pose-kind_number}
+use Rattle.chain_number.specs.animated_transform.declared.AnimatedTransformAnswer.{AnimatedTransformAnswer}
+use Rattle.chain_number.specs.animated_transform.New.{AnimatedTransformAnswer-refused, AnimatedTransform-from_poses, AnimatedTransform-new}
+use Rattle.chain_number.proofs.bounds_answers.UnionAll.{each_of, each-implies}
+use Rattle.chain_number.specs.motion_chain.Chain.{min_poses, max_poses, neighbours, first_number, stage, Pose-number, Pair-number, kind_stage, chain_stages, chain_refusal}
+use Rattle.chain_number.specs.motion_chain.Built.{Each}
+use Rattle.chain_number.proofs.motion_chain.Built.{first-none, first-only, stage-each, checks-passed}
+use Rattle.chain_number.proofs.motion_chain.TwoPoses.{same-time}
 use Rattle.chain_number.specs.Number.{Move-number, Chain-number}
 use Rattle.chain_number.proofs.ChainNumber.{chain-number}
 use Rattle.refused_run.specs.Run.{run_at, run_number}

@@ -1,7 +1,7 @@
 -- The shortest run of neighbouring poses that is refused as its chain is: `shortest_run`. Document 02, "The shortest refused stretch", whose words are quoted.
 -- The definition judges runs of every length, "over a definition that builds each run". `rigid` is "the chain's kind". Definitions only.
 use Rattle.std.specs.Prelude.{ℕ, zero, suc, ◌-◌, Bool, cond, List, [], ◌∷◌, eqb, ltb, length, take, drop}
-use Rattle.pose_pair.specs.declared.Pose.{Pose}
+use Rattle.chain_number.specs.pose_pair.declared.Pose.{Pose}
 use Rattle.chain_number.specs.Number.{Move-number, Chain-number}
 use Rattle.refused_run.specs.declared.Run.{Run}
 

@@ -1,7 +1,7 @@
 -- What is promised of the run that a refused chain is answered: `ShortestRefused`. "No shorter run and no
 -- equal one further left has that refusal" (document 02, "The shortest refused stretch"). Definitions only.
 use Rattle.std.specs.Prelude.{ℕ, ◌+◌, ◌≤◌, ◌<◌, ◌≡◌, Bool, List, length}
-use Rattle.pose_pair.specs.declared.Pose.{Pose}
+use Rattle.chain_number.specs.pose_pair.declared.Pose.{Pose}
 use Rattle.chain_number.specs.Number.{Chain-number}
 use Rattle.refused_run.specs.declared.Run.{Run}
 use Rattle.refused_run.specs.Run.{run_at, run_number}

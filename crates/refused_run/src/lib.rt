@@ -3,7 +3,7 @@
 #![tactic(auto)]
 
 ghost use Rattle.std.specs.Prelude.{◌<◌, ◌≡◌, length};
-ghost use Rattle.chain_poses.specs.Poses.{Poses-of_lists};
+ghost use Rattle.chain_number.specs.chain_poses.Poses.{Poses-of_lists};
 ghost use Rattle.refused_run.specs.Run.{run_number, run_places, leftmost_place, shortest_run};
 ghost use Rattle.refused_run.specs.means.Tried.{first_of};
 ghost use Rattle.refused_run.specs.Theorem.{ShortestRefused};

@@ -1,6 +1,6 @@
 -- pbrt's `From<Quaternion> for Transform`: the matrix is worked out once; transposed it is the matrix half, as it stands the inverse half. Definitions only.
 use Rattle.std.specs.Prelude.{[], ◌∷◌}
-use Rattle.float32.specs.Operators.{◌⊕◌, ◌⊖◌, ◌⊗◌, one, two}
+use Rattle.matrix4x4.specs.float32.Operators.{◌⊕◌, ◌⊖◌, ◌⊗◌, one, two}
 use Rattle.matrix4x4.specs.Rows.{Rows, positive_zero}
 use Rattle.matrix4x4.specs.Transpose.{Matrix4x4-transpose}
 use Rattle.transform.specs.declared.Transform.{Transform}

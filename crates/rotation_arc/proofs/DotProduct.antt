@@ -7,8 +7,8 @@ use lib.Ieee.{Float, nan, inf, fin, of_bits, neg, lt, add}
 use lib.Ieee.Scale.{finite}
 use Rattle.float32.specs.Operators.{◌⊕◌, ◌⊗◌}
 use Rattle.float32.proofs.Constants.{zero-finite}
-use Rattle.rounding.specs.Order.{◌≼◌}
-use Rattle.rounding.proofs.Order.{≼_trans, lt-≼, not-lt-≼, neg-antitone, finite_number, zeros_equal}
+use Rattle.float32.specs.rounding.Order.{◌≼◌}
+use Rattle.float32.proofs.rounding.Order.{≼_trans, lt-≼, not-lt-≼, neg-antitone, finite_number, zeros_equal}
 use Rattle.quaternion.specs.declared.Quaternion.{Quaternion}
 use Rattle.quaternion.specs.Quaternion.{Quaternion-dot, Quaternion-neg}
 use Rattle.matrix4x4.specs.Rows.{positive_zero}

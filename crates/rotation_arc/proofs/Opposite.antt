@@ -10,11 +10,11 @@ use lib.Ieee.Scale.{finite}
 use lib.Ieee.Positive.{den, den_pos}
 use native.Mathlib.Nat.{mul-pos}
 use Rattle.float32.specs.Operators.{◌⊕◌, ◌⊗◌}
-use Rattle.rounding.specs.Order.{◌≼◌}
-use Rattle.rounding.proofs.Rational.{pos_part, neg_part, num_pos, num_neg}
-use Rattle.rounding.proofs.Order.{≼_refl, ≼_trans, neg-finite, finite_number, neg-neg}
-use Rattle.rounding.proofs.Monotone.{round-neg, Rounds, rounds-mono}
-use Rattle.rounding.proofs.Arithmetic.{add_rounds, add-mono}
+use Rattle.float32.specs.rounding.Order.{◌≼◌}
+use Rattle.float32.proofs.rounding.Rational.{pos_part, neg_part, num_pos, num_neg}
+use Rattle.float32.proofs.rounding.Order.{≼_refl, ≼_trans, neg-finite, finite_number, neg-neg}
+use Rattle.float32.proofs.rounding.Monotone.{round-neg, Rounds, rounds-mono}
+use Rattle.float32.proofs.rounding.Arithmetic.{add_rounds, add-mono}
 
 -- y is -x, a zero of either sign.
 pub record Opposite (x y : Float) : Type 0 where

@@ -8,11 +8,11 @@ use native.Mathlib.Omega.{arith}
 use borrow.Author.Tests.{eqb-false, ltb-false}
 use lib.Dec.{eqb, ltb}
 use lib.ListN.{length}
-use Rattle.control_flow.proofs.Choice.{cond-keeps}
-use Rattle.bounds3.specs.declared.Bounds3f.{Bounds3f}
+use Rattle.bounds_query.proofs.control_flow.Choice.{cond-keeps}
+use Rattle.bounds_overlap.specs.bounds3.declared.Bounds3f.{Bounds3f}
 use Rattle.bounds_query.specs.Query.{Bounds3f-refusal}
 use Rattle.bounds_query.proofs.Numbers.{box-keeps}
-use Rattle.transform.specs.Answer.{OneOf}
+use Rattle.bounds_query.specs.transform.Answer.{OneOf}
 use Rattle.run_schedule.specs.Day.{Boom, boom_at, Boom-bad_length, some_bad_length, max_booms, max_ticks, first_box_refusal, day_refusal}
 use Rattle.run_schedule.proofs.Places.{both_false, some-false}
 

@@ -7,7 +7,7 @@ use mathlib.Core.Bool.{false}
 use mathlib.Core.List.{List, [], ◌∷◌}
 use lib.ListN.{replicate}
 use lib.Ieee.{Float, nan, binary32, round, le, lt}
-use Rattle.bounds3.specs.means.Computing as bounds3
+use Rattle.bounds_overlap.specs.bounds3.means.Computing as bounds3
 use Rattle.bounds_overlap.specs.Meets.{Bounds3f-meets}
 use Rattle.bounds_query.specs.Query.{Bounds3f-is_ordered, Bounds3f-refusal}
 use Rattle.run_schedule.specs.Day.{Boom, some_below, sum_below, taken, taken_below, before, start_ticks, first_box_refusal, day_refusal}

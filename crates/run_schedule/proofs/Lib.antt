@@ -5,3 +5,6 @@ pub mod State
 pub mod Keeps
 pub mod Accepted
 pub mod Cases
+pub use Rattle.bounds_query.proofs as bounds_query
+pub use Rattle.bounds_query.proofs.control_flow
+pub use Rattle.bounds_query.proofs.transform

@@ -9,7 +9,7 @@ use native.Mathlib.Omega.{arith}
 use borrow.Author.Tests.{lt-ltb, ltb-true}
 use lib.Dec.{T, ltb}
 use lib.ListN.{length, get_or, set, length-set, get_or-map}
-use Rattle.bounds3.specs.List.{Bounds3f-of_list}
+use Rattle.bounds_overlap.specs.bounds3.List.{Bounds3f-of_list}
 use Rattle.bounds_overlap.specs.Meets.{Bounds3f-meets}
 use Rattle.bounds_overlap.proofs.Overlap.{meets-comm}
 use Rattle.run_schedule.specs.Day.{Boom, Run, waiting, started, Run-goes_on, sum_below, boom_at, runs_in, meets_running, taken_below, before, all_ticks}

@@ -1,8 +1,8 @@
 -- A day of booms, tick by tick, and the tick in which each of them starts. Definitions only. Quotations are of document 02, "A day of booms".
 -- Booms are told apart by their places in the list, which count from 0.
 use Rattle.std.specs.Prelude.{ℕ, zero, suc, ◌+◌, Bool, true, false, not, ◌&&◌, ◌||◌, cond, List, [], ◌∷◌, map, eqb, ltb, length, get_or, set}
-use Rattle.bounds3.specs.declared.Bounds3f.{Bounds3f}
-use Rattle.bounds3.specs.List.{Bounds3f-of_list}
+use Rattle.bounds_overlap.specs.bounds3.declared.Bounds3f.{Bounds3f}
+use Rattle.bounds_overlap.specs.bounds3.List.{Bounds3f-of_list}
 use Rattle.bounds_overlap.specs.Meets.{Bounds3f-meets}
 use Rattle.bounds_query.specs.Query.{Bounds3f-refusal}
 

@@ -9,8 +9,8 @@ use lib.Dec.{eqb, ltb}
 use lib.ListN.{length, get_or, drop}
 use lib.Seq.{get_or-drop, drop-drop}
 use lib.Ieee.{Float}
-use Rattle.bounds3.specs.declared.Bounds3f.{Bounds3f}
-use Rattle.bounds3.specs.List.{Bounds3f-of_list}
+use Rattle.bounds_overlap.specs.bounds3.declared.Bounds3f.{Bounds3f}
+use Rattle.bounds_overlap.specs.bounds3.List.{Bounds3f-of_list}
 use Rattle.bounds_query.specs.Query.{Bounds3f-refusal}
 use Rattle.run_schedule.specs.Day.{Boom, some_below, boom_at, Boom-bad_length, some_bad_length, max_booms, first_box_refusal, day_refusal}
 use Rattle.run_schedule.proofs.Places.{both_false, some_same}

@@ -1,6 +1,6 @@
 -- The booms of a day in lent arrays, a box of six floats and a run length each, and what is left in the lent starting ticks. Definitions only.
 use Rattle.std.specs.Prelude.{ℕ, zero, suc, ◌-◌, cond, List, [], ◌∷◌, ◌++◌, eqb, length, get_or, drop, replicate, Float}
-use Rattle.bounds3.specs.List.{Bounds3f-of_list}
+use Rattle.bounds_overlap.specs.bounds3.List.{Bounds3f-of_list}
 use Rattle.run_schedule.specs.Day.{Boom, day_refusal, start_ticks, max_booms}
 
 -- The first `count` booms. (Where there are fewer places, `count` is above 8, and the list is refused whatever they hold.)

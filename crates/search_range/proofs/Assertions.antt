@@ -4,23 +4,23 @@ use mathlib.Core.Path.{◌≡◌, refl, subst}
 use lib.Dec.{T}
 use lib.Ieee.{Float, of_bits, mul, round, le, lt, is_nan}
 use lib.Ieee.Fits.{and_i}
-use Rattle.rounding.specs.Order.{◌≼◌}
-use Rattle.rounding.proofs.Order.{≼_trans}
-use Rattle.float32.specs.MinMax.{min_num, max_num}
-use Rattle.float32.specs.Operators.{◌⊗◌, positive_zero, two}
-use Rattle.trig.specs.Range.{quarter_turn_float, half_turn_float}
-use Rattle.interval.specs.declared.Interval.{Interval}
-use Rattle.interval.specs.Contains.{Contains, Subset, Finite}
-use Rattle.interval.specs.Interval.{Interval-new, Interval-point, Interval-hull, Interval-of_four, Interval-mul}
-use Rattle.interval.specs.Enclosure.{Interval-mul_enclosure}
-use Rattle.interval.proofs.Contains.{subset-low, subset-high, point-encloses, new-subset}
-use Rattle.interval.proofs.Extends.{mul-contains}
-use Rattle.interval.proofs.Isotone.{of-four-subset}
-use Rattle.unit_interval.specs.Unit.{unit_interval}
-use Rattle.pose_steps.specs.Promise.{quarter_interval}
-use Rattle.pose_steps.proofs.Angle.{quarter-finite, unit-finite}
-use Rattle.motion_derivative.specs.declared.MotionDerivative.{MotionDerivative}
-use Rattle.motion_derivative.specs.Derivative.{MotionDerivative-angles}
+use Rattle.zero_search.specs.rounding.Order.{◌≼◌}
+use Rattle.zero_search.proofs.rounding.Order.{≼_trans}
+use Rattle.zero_search.specs.float32.MinMax.{min_num, max_num}
+use Rattle.zero_search.specs.float32.Operators.{◌⊗◌, positive_zero, two}
+use Rattle.zero_search.specs.trig.Range.{quarter_turn_float, half_turn_float}
+use Rattle.zero_search.specs.interval.declared.Interval.{Interval}
+use Rattle.zero_search.specs.interval.Contains.{Contains, Subset, Finite}
+use Rattle.zero_search.specs.interval.Interval.{Interval-new, Interval-point, Interval-hull, Interval-of_four, Interval-mul}
+use Rattle.zero_search.specs.interval.Enclosure.{Interval-mul_enclosure}
+use Rattle.zero_search.proofs.interval.Contains.{subset-low, subset-high, point-encloses, new-subset}
+use Rattle.zero_search.proofs.interval.Extends.{mul-contains}
+use Rattle.zero_search.proofs.interval.Isotone.{of-four-subset}
+use Rattle.motion_point.specs.unit_interval.Unit.{unit_interval}
+use Rattle.motion_point.specs.pose_steps.Promise.{quarter_interval}
+use Rattle.motion_point.proofs.pose_steps.Angle.{quarter-finite, unit-finite}
+use Rattle.zero_search.specs.motion_derivative.declared.MotionDerivative.{MotionDerivative}
+use Rattle.zero_search.specs.motion_derivative.Derivative.{MotionDerivative-angles}
 use Rattle.search_range.specs.Examined.{Examined}
 use Rattle.search_range.specs.Assertions.{range_limit, Interval-asserted}
 use Rattle.search_range.proofs.Examined.{examined-unit}

@@ -2,15 +2,15 @@
 -- so that their dot product is at least 0 and theta at most a quarter turn; the rest is `angles-in-range`.
 use mathlib.Core.Path.{sym, subst}
 use lib.Ieee.{Float}
-use Rattle.rounding.specs.Order.{◌≼◌}
-use Rattle.trig.specs.Range.{quarter_turn_float}
-use Rattle.quaternion.specs.Quaternion.{Quaternion-dot}
-use Rattle.float32.specs.Operators.{positive_zero}
-use Rattle.animated_transform.specs.declared.AnimatedTransform.{AnimatedTransform}
-use Rattle.animated_transform.specs.Built.{Built}
-use Rattle.animated_transform.proofs.Built.{built-judged}
-use Rattle.pose_steps.specs.Pose.{PoseConstants-new}
-use Rattle.pose_steps.proofs.Angle.{theta-quarter}
+use Rattle.zero_search.specs.rounding.Order.{◌≼◌}
+use Rattle.zero_search.specs.trig.Range.{quarter_turn_float}
+use Rattle.motion_point.specs.quaternion.Quaternion.{Quaternion-dot}
+use Rattle.zero_search.specs.float32.Operators.{positive_zero}
+use Rattle.motion_point.specs.animated_transform.declared.AnimatedTransform.{AnimatedTransform}
+use Rattle.motion_point.specs.animated_transform.Built.{Built}
+use Rattle.motion_point.proofs.animated_transform.Built.{built-judged}
+use Rattle.motion_point.specs.pose_steps.Pose.{PoseConstants-new}
+use Rattle.motion_point.proofs.pose_steps.Angle.{theta-quarter}
 use Rattle.search_range.specs.Assertions.{AssertionsHold}
 use Rattle.search_range.proofs.Assertions.{angles-in-range}
 

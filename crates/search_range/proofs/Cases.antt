@@ -4,13 +4,13 @@ use mathlib.Core.Path.{◌≡◌, refl}
 use mathlib.Core.Bool.{true, false}
 use mathlib.Core.List.{[], ◌∷◌}
 use lib.Ieee.{Float, binary32, of_bits, neg}
-use Rattle.float32.specs.Operators.{positive_zero, one, two, four, half}
-use Rattle.interval.specs.Interval.{Interval-new}
-use Rattle.motion_derivative.specs.declared.MotionDerivative.{MotionDerivative}
-use Rattle.trig.specs.SinCos.{near}
-use Rattle.motion_derivative.specs.Derivative.{MotionDerivative-angles, MotionDerivative-newton}
+use Rattle.zero_search.specs.float32.Operators.{positive_zero, one, two, four, half}
+use Rattle.zero_search.specs.interval.Interval.{Interval-new}
+use Rattle.zero_search.specs.motion_derivative.declared.MotionDerivative.{MotionDerivative}
+use Rattle.zero_search.specs.trig.SinCos.{near}
+use Rattle.zero_search.specs.motion_derivative.Derivative.{MotionDerivative-angles, MotionDerivative-newton}
 use Rattle.zero_search.specs.Search.{searched_interval}
-use Rattle.zero_list.specs.Zeros.{Zeros-empty}
+use Rattle.zero_search.specs.zero_list.Zeros.{Zeros-empty}
 use Rattle.zero_search.specs.means.Computing.{computing}
 use Rattle.search_range.specs.Examined.{search_intervals, examined_intervals}
 use Rattle.search_range.specs.Assertions.{range_limit, Interval-asserted}

@@ -13,10 +13,10 @@ use lib.Ieee.{Float, nan, inf, fin, binary32, up, down, unlike, round, mul, lt, 
 use lib.Ieee.Fits.{down_pos}
 use lib.Ieee.Exact.{HasValue, round_exact}
 use lib.Ieee.Scale.{round_same}
-use Rattle.float32.specs.Abs.{abs}
-use Rattle.float32.specs.Operators.{◌⊗◌, two}
-use Rattle.float_bits.specs.Decode.{integer_decode}
-use Rattle.float_bits.proofs.Decode.{decode-value, significand-lt}
+use Rattle.zero_search.specs.float32.Abs.{abs}
+use Rattle.zero_search.specs.float32.Operators.{◌⊗◌, two}
+use Rattle.zero_search.specs.float_bits.Decode.{integer_decode}
+use Rattle.zero_search.proofs.float_bits.Decode.{decode-value, significand-lt}
 use Rattle.search_range.specs.Far.{Doubles}
 
 -- N units of 1 / L are A / D, which is below M.

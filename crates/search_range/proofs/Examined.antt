@@ -11,23 +11,23 @@ use native.Mathlib.Omega.{arith}
 use lib.Dec.{eqb}
 use lib.ListN.{length, length-append}
 use lib.Ieee.{Float, of_bits, add, mul, round, lt, le, is_nan}
-use Rattle.float32.specs.MinMax.{min_num, max_num}
-use Rattle.float32.specs.Operators.{half}
-use Rattle.interval.specs.declared.Interval.{Interval}
-use Rattle.interval.specs.Contains.{Contains, Subset, Finite, Encloses}
-use Rattle.interval.specs.Interval.{Interval-new, Interval-point, Interval-hull, Interval-midpoint, Interval-of_four}
-use Rattle.interval.specs.Enclosure.{Interval-add_enclosure, Interval-mul_enclosure}
-use Rattle.interval.proofs.Contains.{subset-low, subset-high, point-encloses, new-subset}
-use Rattle.interval.proofs.Extends.{add-contains, mul-contains}
-use Rattle.unit_interval.specs.Unit.{unit_interval}
-use Rattle.pose_steps.proofs.Angle.{unit-finite}
-use Rattle.motion_derivative.specs.declared.MotionDerivative.{MotionDerivative}
-use Rattle.motion_derivative.specs.Derivative.{MotionDerivative-excludes_zero}
-use Rattle.zero_list.specs.declared.Zeros.{Zeros}
+use Rattle.zero_search.specs.float32.MinMax.{min_num, max_num}
+use Rattle.zero_search.specs.float32.Operators.{half}
+use Rattle.zero_search.specs.interval.declared.Interval.{Interval}
+use Rattle.zero_search.specs.interval.Contains.{Contains, Subset, Finite, Encloses}
+use Rattle.zero_search.specs.interval.Interval.{Interval-new, Interval-point, Interval-hull, Interval-midpoint, Interval-of_four}
+use Rattle.zero_search.specs.interval.Enclosure.{Interval-add_enclosure, Interval-mul_enclosure}
+use Rattle.zero_search.proofs.interval.Contains.{subset-low, subset-high, point-encloses, new-subset}
+use Rattle.zero_search.proofs.interval.Extends.{add-contains, mul-contains}
+use Rattle.motion_point.specs.unit_interval.Unit.{unit_interval}
+use Rattle.motion_point.proofs.pose_steps.Angle.{unit-finite}
+use Rattle.zero_search.specs.motion_derivative.declared.MotionDerivative.{MotionDerivative}
+use Rattle.zero_search.specs.motion_derivative.Derivative.{MotionDerivative-excludes_zero}
+use Rattle.zero_search.specs.zero_list.declared.Zeros.{Zeros}
 use Rattle.zero_search.specs.declared.Search.{Search}
 use Rattle.zero_search.specs.Search as search
 use Rattle.zero_search.specs.Search.{lower_half, upper_half, find_zeros, interval_find_zeros, search_depth}
-use Rattle.zero_list.specs.Zeros.{Zeros-empty}
+use Rattle.zero_search.specs.zero_list.Zeros.{Zeros-empty}
 use Rattle.search_range.specs.Examined.{search_intervals, examined_intervals, Examined}
 
 -- ---- the halves of an interval in 0 to 1

@@ -15,38 +15,38 @@ use lib.Dec.{T, eqb, lit≤, lit<}
 use lib.Ieee.{Float, nan, inf, fin, binary32, up, down, unlike, round, add, sub, mul, neg, lt, le, eq, is_nan, of_bits, fits}
 use lib.Ieee.Fits.{down_pos, and_l, and_r, cond-fits, nan-fits, round-fits, mul-fits}
 use lib.Ieee.Scale.{finite}
-use Rattle.rounding.specs.Order.{◌≼◌}
-use Rattle.rounding.proofs.Order.{≼_trans, to-fraction, lt-≼}
-use Rattle.rounding.proofs.Monotone.{round-neg, round_mono}
-use Rattle.float32.specs.Abs.{abs}
-use Rattle.float32.specs.MinMax.{min_num, max_num}
-use Rattle.float32.specs.Operators.{◌⊕◌, ◌⊖◌, ◌⊗◌, positive_zero, one, two}
-use Rattle.float32.specs.Clamp.{clamp}
-use Rattle.trig.specs.SinCos.{near}
-use Rattle.arc_cosine.specs.Acos.{in_domain, least_angle, floor_units, acos}
-use Rattle.trig.specs.Range.{quarter_turn_float, half_turn_float, full_turn_float}
-use Rattle.trig.proofs.Monotone.{angle-near}
-use Rattle.quaternion.specs.Quaternion.{Quaternion-dot}
-use Rattle.interval.specs.declared.Interval.{Interval}
-use Rattle.interval.specs.Contains.{Contains, Subset, Finite}
-use Rattle.interval.specs.Interval.{Interval-new, Interval-point, Interval-hull, Interval-midpoint, Interval-of_four}
-use Rattle.interval.specs.Enclosure.{Interval-add_enclosure, Interval-sub_enclosure, Interval-mul_enclosure}
-use Rattle.interval.proofs.Contains.{subset-low, subset-high, contains-finite, point-encloses}
-use Rattle.interval.proofs.Extends.{add-contains, sub-contains, mul-contains}
-use Rattle.interval.proofs.Isotone.{of-four-subset}
-use Rattle.unit_interval.specs.Unit.{unit_interval, slice_end}
-use Rattle.unit_interval.proofs.DtUnit.{dt-unit}
-use Rattle.pose_steps.specs.Pose.{PoseConstants-new}
-use Rattle.pose_steps.proofs.Angle.{unit-finite, theta-quarter}
-use Rattle.motion_derivative.specs.declared.MotionDerivative.{MotionDerivative}
-use Rattle.motion_derivative.specs.Derivative.{MotionDerivative-newton}
-use Rattle.zero_list.specs.declared.Zeros.{Zeros}
+use Rattle.zero_search.specs.rounding.Order.{◌≼◌}
+use Rattle.zero_search.proofs.rounding.Order.{≼_trans, to-fraction, lt-≼}
+use Rattle.zero_search.proofs.rounding.Monotone.{round-neg, round_mono}
+use Rattle.zero_search.specs.float32.Abs.{abs}
+use Rattle.zero_search.specs.float32.MinMax.{min_num, max_num}
+use Rattle.zero_search.specs.float32.Operators.{◌⊕◌, ◌⊖◌, ◌⊗◌, positive_zero, one, two}
+use Rattle.zero_search.specs.float32.Clamp.{clamp}
+use Rattle.zero_search.specs.trig.SinCos.{near}
+use Rattle.motion_point.specs.arc_cosine.Acos.{in_domain, least_angle, floor_units, acos}
+use Rattle.zero_search.specs.trig.Range.{quarter_turn_float, half_turn_float, full_turn_float}
+use Rattle.zero_search.proofs.trig.Monotone.{angle-near}
+use Rattle.motion_point.specs.quaternion.Quaternion.{Quaternion-dot}
+use Rattle.zero_search.specs.interval.declared.Interval.{Interval}
+use Rattle.zero_search.specs.interval.Contains.{Contains, Subset, Finite}
+use Rattle.zero_search.specs.interval.Interval.{Interval-new, Interval-point, Interval-hull, Interval-midpoint, Interval-of_four}
+use Rattle.zero_search.specs.interval.Enclosure.{Interval-add_enclosure, Interval-sub_enclosure, Interval-mul_enclosure}
+use Rattle.zero_search.proofs.interval.Contains.{subset-low, subset-high, contains-finite, point-encloses}
+use Rattle.zero_search.proofs.interval.Extends.{add-contains, sub-contains, mul-contains}
+use Rattle.zero_search.proofs.interval.Isotone.{of-four-subset}
+use Rattle.motion_point.specs.unit_interval.Unit.{unit_interval, slice_end}
+use Rattle.motion_point.proofs.unit_interval.DtUnit.{dt-unit}
+use Rattle.motion_point.specs.pose_steps.Pose.{PoseConstants-new}
+use Rattle.motion_point.proofs.pose_steps.Angle.{unit-finite, theta-quarter}
+use Rattle.zero_search.specs.motion_derivative.declared.MotionDerivative.{MotionDerivative}
+use Rattle.zero_search.specs.motion_derivative.Derivative.{MotionDerivative-newton}
+use Rattle.zero_search.specs.zero_list.declared.Zeros.{Zeros}
 use Rattle.zero_search.specs.Search.{newton_zero}
-use Rattle.zero_list.specs.Zeros.{tolerance, near_interval, Zeros-store, Zeros-accept}
+use Rattle.zero_search.specs.zero_list.Zeros.{tolerance, near_interval, Zeros-store, Zeros-accept}
 use Rattle.zero_search.proofs.Stored.{accept-nan}
-use Rattle.animated_transform.specs.declared.AnimatedTransform.{AnimatedTransform}
-use Rattle.animated_transform.specs.Built.{Built}
-use Rattle.animated_transform.proofs.Built.{built-judged}
+use Rattle.motion_point.specs.animated_transform.declared.AnimatedTransform.{AnimatedTransform}
+use Rattle.motion_point.specs.animated_transform.Built.{Built}
+use Rattle.motion_point.proofs.animated_transform.Built.{built-judged}
 use Rattle.motion_point.specs.TransformPoint.{AnimatedTransform-constants}
 use Rattle.search_range.specs.Far.{Far, MeetsFar, Doubles, EndsInNan, EndsInNanBelow, StoresNone, AnglesNear}
 use Rattle.search_range.proofs.Examined.{examined-unit}

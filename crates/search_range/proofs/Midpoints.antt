@@ -11,25 +11,25 @@ use lib.Dec.{T, eqb}
 use lib.Pow.{pow_pos, pow_mono}
 use lib.Ieee.{Float, of_bits, add, mul, round, lt, le, is_nan}
 use lib.Ieee.Scale.{finite}
-use Rattle.rounding.proofs.Order.{≼_trans, number-right}
-use Rattle.float32.specs.MinMax.{min_num, max_num}
-use Rattle.float32.specs.Operators.{◌⊕◌, positive_zero, one, half}
-use Rattle.float32.proofs.MinMax.{max-left, max-right}
-use Rattle.interval.specs.declared.Interval.{Interval}
-use Rattle.interval.specs.Contains.{Contains, Subset, Finite}
-use Rattle.interval.specs.Interval.{Interval-new, Interval-point, Interval-hull, Interval-midpoint, Interval-of_four}
-use Rattle.interval.specs.Enclosure.{Interval-add_enclosure, Interval-mul_enclosure}
-use Rattle.interval.proofs.Contains.{subset-low, subset-high, contains-finite}
-use Rattle.interval.proofs.Extends.{add-contains, mul-contains}
-use Rattle.unit_interval.specs.Unit.{unit_interval, slice_end, slice}
-use Rattle.unit_interval.proofs.Slices.{slice_end-mono, slice-unit}
-use Rattle.pose_steps.proofs.Angle.{unit-finite}
-use Rattle.motion_derivative.specs.declared.MotionDerivative.{MotionDerivative}
-use Rattle.motion_derivative.specs.Derivative.{MotionDerivative-excludes_zero}
-use Rattle.zero_list.specs.declared.Zeros.{Zeros}
+use Rattle.zero_search.proofs.rounding.Order.{≼_trans, number-right}
+use Rattle.zero_search.specs.float32.MinMax.{min_num, max_num}
+use Rattle.zero_search.specs.float32.Operators.{◌⊕◌, positive_zero, one, half}
+use Rattle.zero_search.proofs.float32.MinMax.{max-left, max-right}
+use Rattle.zero_search.specs.interval.declared.Interval.{Interval}
+use Rattle.zero_search.specs.interval.Contains.{Contains, Subset, Finite}
+use Rattle.zero_search.specs.interval.Interval.{Interval-new, Interval-point, Interval-hull, Interval-midpoint, Interval-of_four}
+use Rattle.zero_search.specs.interval.Enclosure.{Interval-add_enclosure, Interval-mul_enclosure}
+use Rattle.zero_search.proofs.interval.Contains.{subset-low, subset-high, contains-finite}
+use Rattle.zero_search.proofs.interval.Extends.{add-contains, mul-contains}
+use Rattle.motion_point.specs.unit_interval.Unit.{unit_interval, slice_end, slice}
+use Rattle.motion_point.proofs.unit_interval.Slices.{slice_end-mono, slice-unit}
+use Rattle.motion_point.proofs.pose_steps.Angle.{unit-finite}
+use Rattle.zero_search.specs.motion_derivative.declared.MotionDerivative.{MotionDerivative}
+use Rattle.zero_search.specs.motion_derivative.Derivative.{MotionDerivative-excludes_zero}
+use Rattle.zero_search.specs.zero_list.declared.Zeros.{Zeros}
 use Rattle.zero_search.specs.Search as search
 use Rattle.zero_search.specs.Search.{lower_half, upper_half, find_zeros, search_depth}
-use Rattle.zero_list.specs.Zeros.{Zeros-empty}
+use Rattle.zero_search.specs.zero_list.Zeros.{Zeros-empty}
 use Rattle.search_range.specs.Examined.{search_intervals, examined_intervals, Examined}
 use Rattle.search_range.proofs.Examined.{half-encloses, lower-unit, upper-unit, cond-member, whole-unit, examined-unit}
 

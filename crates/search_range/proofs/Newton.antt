@@ -7,13 +7,13 @@ use Prim.Native.Nat.{ℕ, zero, suc}
 use lib.Dec.{T}
 use lib.Ieee.{Float, nan, inf, fin, binary32, add, sub, mul, div, neg, eq, lt, fits}
 use lib.Ieee.Fits.{sub-fits}
-use Rattle.float32.specs.Abs.{abs}
-use Rattle.float32.specs.Operators.{◌⊕◌, ◌⊖◌, ◌⊗◌, ◌⊘◌, positive_zero, two}
-use Rattle.trig.specs.SinCos.{cos}
-use Rattle.trig.proofs.Monotone.{sin-far}
-use Rattle.motion_derivative.specs.declared.MotionDerivative.{MotionDerivative}
-use Rattle.motion_derivative.specs.Derivative.{MotionDerivative-value_at, MotionDerivative-value}
-use Rattle.motion_derivative.specs.Derivative.{MotionDerivative-slope_at, MotionDerivative-slope, MotionDerivative-newton}
+use Rattle.zero_search.specs.float32.Abs.{abs}
+use Rattle.zero_search.specs.float32.Operators.{◌⊕◌, ◌⊖◌, ◌⊗◌, ◌⊘◌, positive_zero, two}
+use Rattle.zero_search.specs.trig.SinCos.{cos}
+use Rattle.zero_search.proofs.trig.Monotone.{sin-far}
+use Rattle.zero_search.specs.motion_derivative.declared.MotionDerivative.{MotionDerivative}
+use Rattle.zero_search.specs.motion_derivative.Derivative.{MotionDerivative-value_at, MotionDerivative-value}
+use Rattle.zero_search.specs.motion_derivative.Derivative.{MotionDerivative-slope_at, MotionDerivative-slope, MotionDerivative-newton}
 use Rattle.search_range.specs.Far.{Far, value_angle, slope_angle, MeetsFar, Doubles, EndsInNanBelow}
 use Rattle.search_range.proofs.Double.{angles-same}
 

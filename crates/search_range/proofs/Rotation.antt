@@ -12,24 +12,24 @@ use lib.Pow.{pow_pos}
 use lib.Signed.{le_z, shr_z}
 use lib.Ieee.{Float, nan, inf, fin, binary32, up, down, round, neg, lt, le, eq, of_bits}
 use lib.Ieee.Fits.{down_pos}
-use Rattle.rounding.specs.Order.{◌≼◌}
-use Rattle.rounding.proofs.Order.{≼_trans, to-fraction, lt-≼}
-use Rattle.rounding.proofs.Monotone.{round_mono}
-use Rattle.float32.specs.Operators.{positive_zero, one}
-use Rattle.float32.specs.Clamp.{clamp}
-use Rattle.trig.specs.Units.{cos_units}
-use Rattle.trig.specs.Range.{quarter_turn_float}
-use Rattle.trig.specs.means.Computing.{computing}
-use Rattle.arc_cosine.specs.Acos.{in_domain, least_from, least_angle, floor_units, acos}
-use Rattle.quaternion.specs.Quaternion.{Quaternion-dot}
-use Rattle.quaternion.specs.Slerp.{slerp_threshold}
-use Rattle.interval.specs.declared.Interval.{Interval}
-use Rattle.interval.specs.Contains.{Contains}
-use Rattle.pose_steps.specs.Pose.{PoseConstants-new}
-use Rattle.pose_steps.proofs.Angle.{theta-quarter}
-use Rattle.animated_transform.specs.declared.AnimatedTransform.{AnimatedTransform}
-use Rattle.animated_transform.specs.Built.{Built}
-use Rattle.animated_transform.proofs.Built.{built-judged}
+use Rattle.zero_search.specs.rounding.Order.{◌≼◌}
+use Rattle.zero_search.proofs.rounding.Order.{≼_trans, to-fraction, lt-≼}
+use Rattle.zero_search.proofs.rounding.Monotone.{round_mono}
+use Rattle.zero_search.specs.float32.Operators.{positive_zero, one}
+use Rattle.zero_search.specs.float32.Clamp.{clamp}
+use Rattle.zero_search.specs.trig.Units.{cos_units}
+use Rattle.zero_search.specs.trig.Range.{quarter_turn_float}
+use Rattle.zero_search.specs.trig.means.Computing.{computing}
+use Rattle.motion_point.specs.arc_cosine.Acos.{in_domain, least_from, least_angle, floor_units, acos}
+use Rattle.motion_point.specs.quaternion.Quaternion.{Quaternion-dot}
+use Rattle.motion_point.specs.quaternion.Slerp.{slerp_threshold}
+use Rattle.zero_search.specs.interval.declared.Interval.{Interval}
+use Rattle.zero_search.specs.interval.Contains.{Contains}
+use Rattle.motion_point.specs.pose_steps.Pose.{PoseConstants-new}
+use Rattle.motion_point.proofs.pose_steps.Angle.{theta-quarter}
+use Rattle.motion_point.specs.animated_transform.declared.AnimatedTransform.{AnimatedTransform}
+use Rattle.motion_point.specs.animated_transform.Built.{Built}
+use Rattle.motion_point.proofs.animated_transform.Built.{built-judged}
 use Rattle.motion_point.specs.TransformPoint.{AnimatedTransform-constants}
 
 -- From 2^-28 to a quarter turn.

@@ -3,12 +3,12 @@
 -- where 000 takes the sine and the cosine of its angles. 000 panics where a ninth zero would be stored, so that it too examines none after that.
 use Rattle.std.specs.Prelude.{ℕ, zero, suc, Bool, true, false, cond, eqb}
 use mathlib.Core.List.{List, [], ◌∷◌, ◌++◌, Memᴰ}
-use Rattle.interval.specs.declared.Interval.{Interval}
-use Rattle.motion_derivative.specs.declared.MotionDerivative.{MotionDerivative}
-use Rattle.motion_derivative.specs.Derivative.{MotionDerivative-excludes_zero}
-use Rattle.zero_list.specs.declared.Zeros.{Zeros}
+use Rattle.zero_search.specs.interval.declared.Interval.{Interval}
+use Rattle.zero_search.specs.motion_derivative.declared.MotionDerivative.{MotionDerivative}
+use Rattle.zero_search.specs.motion_derivative.Derivative.{MotionDerivative-excludes_zero}
+use Rattle.zero_search.specs.zero_list.declared.Zeros.{Zeros}
 use Rattle.zero_search.specs.Search.{lower_half, upper_half, find_zeros, search_depth, searched_interval}
-use Rattle.zero_list.specs.Zeros.{Zeros-empty}
+use Rattle.zero_search.specs.zero_list.Zeros.{Zeros-empty}
 
 -- The search's own interval; then, unless the range test leaves it out or the depth is 0,
 -- those of its lower half, and those of its upper half unless 9 was met.

@@ -3,20 +3,20 @@
 use Rattle.std.specs.Prelude.{◌≡◌, ◌⊎◌, true, false, ◌||◌, ℕ, suc, T, Float}
 use Rattle.std.specs.Float.{nan, binary32}
 use Rattle.std.specs.Float.Ieee.{of_bits, fits, lt, eq}
-use Rattle.float32.specs.Abs.{abs}
-use Rattle.float32.specs.Operators.{◌⊖◌, ◌⊗◌, ◌⊘◌, positive_zero, two}
-use Rattle.trig.specs.SinCos.{near}
-use Rattle.interval.specs.declared.Interval.{Interval}
-use Rattle.interval.specs.Contains.{Subset}
-use Rattle.interval.specs.Interval.{Interval-point, Interval-midpoint}
-use Rattle.interval.specs.Enclosure.{Interval-mul_enclosure}
-use Rattle.unit_interval.specs.Unit.{unit_interval, dt}
-use Rattle.motion_derivative.specs.declared.MotionDerivative.{MotionDerivative}
-use Rattle.motion_derivative.specs.Derivative.{MotionDerivative-angles, MotionDerivative-value, MotionDerivative-slope, MotionDerivative-newton}
-use Rattle.zero_list.specs.declared.Zeros.{Zeros}
+use Rattle.zero_search.specs.float32.Abs.{abs}
+use Rattle.zero_search.specs.float32.Operators.{◌⊖◌, ◌⊗◌, ◌⊘◌, positive_zero, two}
+use Rattle.zero_search.specs.trig.SinCos.{near}
+use Rattle.zero_search.specs.interval.declared.Interval.{Interval}
+use Rattle.zero_search.specs.interval.Contains.{Subset}
+use Rattle.zero_search.specs.interval.Interval.{Interval-point, Interval-midpoint}
+use Rattle.zero_search.specs.interval.Enclosure.{Interval-mul_enclosure}
+use Rattle.motion_point.specs.unit_interval.Unit.{unit_interval, dt}
+use Rattle.zero_search.specs.motion_derivative.declared.MotionDerivative.{MotionDerivative}
+use Rattle.zero_search.specs.motion_derivative.Derivative.{MotionDerivative-angles, MotionDerivative-value, MotionDerivative-slope, MotionDerivative-newton}
+use Rattle.zero_search.specs.zero_list.declared.Zeros.{Zeros}
 use Rattle.zero_search.specs.Search.{newton_zero}
-use Rattle.zero_list.specs.Zeros.{Zeros-accept}
-use Rattle.animated_transform.specs.declared.AnimatedTransform.{AnimatedTransform}
+use Rattle.zero_search.specs.zero_list.Zeros.{Zeros-accept}
+use Rattle.motion_point.specs.animated_transform.declared.AnimatedTransform.{AnimatedTransform}
 use Rattle.motion_point.specs.TransformPoint.{AnimatedTransform-constants}
 use Rattle.search_range.specs.Examined.{Examined}
 

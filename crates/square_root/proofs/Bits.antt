@@ -15,7 +15,7 @@ use lib.Ieee.Fits.{round_is, round-fits}
 use lib.Ieee.Nearest.{closest, closest_same}
 use lib.Ieee.Order.{drop}
 use lib.Ieee.Bits.{of_bits-to_bits}
-use Rattle.rounding.proofs.Encoding.{pow_lt_cancel, size_exact, units-bits}
+use Rattle.float_bits.proofs.rounding.Encoding.{pow_lt_cancel, size_exact, units-bits}
 use Rattle.square_root.specs.SquareRoot.{sticky_sqrt}
 use Rattle.square_root.specs.Nearest.{SameSide}
 use Rattle.square_root.specs.means.Steps.{NearestWhole, Widened, SqrtBits}

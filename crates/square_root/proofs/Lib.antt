@@ -8,3 +8,4 @@ pub mod Nearest
 pub mod Bits
 pub mod Tests
 pub mod Cases
+pub use Rattle.float_bits.proofs as float_bits

@@ -12,8 +12,8 @@ use lib.Ieee.{Float, nan, inf, fin, Format, binary32, binary64, prec, low, emax,
 use lib.Ieee.Fits.{up_pos, down_pos, and_l, and_r}
 use lib.Ieee.Scale.{finite}
 use lib.Ieee.Positive.{positive, positive-finite, num, den, den_pos, le→cross}
-use Rattle.rounding.specs.Order.{◌≼◌, Number}
-use Rattle.rounding.proofs.Order.{≼_trans, zeros_equal, number-left, number-right, between-finite, above-positive, to-fraction, of-fraction, below-infinity}
+use Rattle.float_bits.specs.rounding.Order.{◌≼◌, Number}
+use Rattle.float_bits.proofs.rounding.Order.{≼_trans, zeros_equal, number-left, number-right, between-finite, above-positive, to-fraction, of-fraction, below-infinity}
 use Rattle.square_root.specs.SquareRoot.{isqrt_below, isqrt, sticky_sqrt, round_sqrt, sqrt}
 use Rattle.square_root.specs.Nearest.{+0}
 use Rattle.square_root.proofs.RoundSqrt.{round_sqrt-mono}

@@ -12,7 +12,7 @@ use lib.Ieee.Exact.{HasValue}
 use lib.Ieee.Order.{drop}
 use lib.Ieee.Scale.{finite, grid, round_val, round_under}
 use lib.Ieee.Positive.{positive, positive-finite, num, den, den_pos}
-use Rattle.rounding.proofs.Nearest.{Nearest, round-nearest}
+use Rattle.float_bits.proofs.rounding.Nearest.{Nearest, round-nearest}
 use Rattle.square_root.specs.SquareRoot.{isqrt, sticky_sqrt, round_sqrt, sqrt}
 use Rattle.square_root.specs.Nearest.{SameSide, NearestSqrt, CorrectlyRoundedSqrt}
 use Rattle.square_root.proofs.FloorSqrt.{isqrt-unique}

@@ -8,8 +8,8 @@ use mathlib.Core.Bool.{false}
 use lib.Pow.{pow-add, pow_pos}
 use lib.Ieee.{Format, prec, low, round}
 use lib.Ieee.Order.{drop}
-use Rattle.rounding.specs.Order.{◌≼◌}
-use Rattle.rounding.proofs.HalfUnits.{round-same-halves}
+use Rattle.float_bits.specs.rounding.Order.{◌≼◌}
+use Rattle.float_bits.proofs.rounding.HalfUnits.{round-same-halves}
 use Rattle.square_root.specs.SquareRoot.{sticky_sqrt, round_sqrt}
 use Rattle.square_root.specs.Nearest.{SameSide}
 use Rattle.square_root.proofs.Sticky.{sticky-side, sticky-mono}

@@ -2,3 +2,5 @@
 pub mod SquareRoot
 pub mod Nearest
 pub mod means
+pub use Rattle.float_bits.specs as float_bits
+pub use Rattle.float_bits.specs.rounding

@@ -5,14 +5,14 @@ use mathlib.Core.Bool.{false}
 use mathlib.Core.List.{[], ◌∷◌}
 use Prim.Native.Nat.{ℕ, ◌^◌}
 use lib.Ieee.{Float, binary32, round, neg}
-use Rattle.matrix4x4.specs.declared.Matrix4x4.{Matrix4x4}
-use Rattle.matrix4x4.specs.IsAffine.{Matrix4x4-is_affine}
-use Rattle.bounds3.specs.declared.Bounds3f.{Bounds3f}
-use Rattle.bounds3.specs.Inside.{Subset}
-use Rattle.transform.specs.declared.Transform.{Transform}
-use Rattle.transform.specs.declared.BoundsAnswer.TheVariants.{Refused}
-use Rattle.transform.specs.TransformBounds.{Transform-transform_bounds}
-use Rattle.transform.specs.means.Computing as transform
+use Rattle.bounds_query.specs.matrix4x4.declared.Matrix4x4.{Matrix4x4}
+use Rattle.bounds_query.specs.matrix4x4.IsAffine.{Matrix4x4-is_affine}
+use Rattle.bounds_query.specs.bounds3.declared.Bounds3f.{Bounds3f}
+use Rattle.bounds_query.specs.bounds3.Inside.{Subset}
+use Rattle.bounds_query.specs.transform.declared.Transform.{Transform}
+use Rattle.bounds_query.specs.transform.declared.BoundsAnswer.TheVariants.{Refused}
+use Rattle.bounds_query.specs.transform.TransformBounds.{Transform-transform_bounds}
+use Rattle.bounds_query.specs.transform.means.Computing as transform
 use Rattle.bounds_query.specs.means.Computing as query
 use Rattle.pose_steps.specs.Enclose.{IntervalVector-bounds}
 use Rattle.pose_steps.specs.means.Computing as pose

@@ -6,22 +6,22 @@ use mathlib.Core.List.{List, [], ◌∷◌}
 use lib.Dec.{T}
 use lib.Ieee.{Float}
 use lib.Ieee.Scale.{finite}
-use Rattle.matrix4x4.specs.Rows.{Matrix4x4-to_rows}
-use Rattle.matrix4x4.specs.IsAffine.{Matrix4x4-is_affine}
-use Rattle.bounds3.specs.declared.Point3f.{Point3f}
-use Rattle.bounds3.specs.declared.Bounds3f.{Bounds3f}
-use Rattle.bounds3.specs.Bounds3f.{Bounds3f-union_point}
-use Rattle.bounds3.specs.Finite.{Point3f-is_finite, Bounds3f-is_finite, Finite}
-use Rattle.bounds3.specs.Inside.{Inside, Subset}
-use Rattle.bounds3.proofs.Finite.{test-finite, finite-test, low-finite, high-finite}
-use Rattle.bounds3.proofs.Union.{from-point-inside, union-least, union-point-box, union-point-inside, union-point-keeps, inside-subset}
-use Rattle.transform.specs.declared.Transform.{Transform}
-use Rattle.transform.specs.declared.PointAnswer.{PointAnswer}
-use Rattle.transform.specs.declared.PointAnswer.TheVariants as point
-use Rattle.transform.specs.declared.BoundsAnswer.{BoundsAnswer}
-use Rattle.transform.specs.declared.BoundsAnswer.TheVariants as bounds
-use Rattle.transform.specs.TransformPoint.{PointAnswer-judged, Transform-transform_point}
-use Rattle.transform.specs.TransformBounds.{BoundsAnswer-from_moved, BoundsAnswer-union_moved, union_corner, Transform-transform_bounds}
+use Rattle.bounds_query.specs.matrix4x4.Rows.{Matrix4x4-to_rows}
+use Rattle.bounds_query.specs.matrix4x4.IsAffine.{Matrix4x4-is_affine}
+use Rattle.bounds_query.specs.bounds3.declared.Point3f.{Point3f}
+use Rattle.bounds_query.specs.bounds3.declared.Bounds3f.{Bounds3f}
+use Rattle.bounds_query.specs.bounds3.Bounds3f.{Bounds3f-union_point}
+use Rattle.bounds_query.specs.bounds3.Finite.{Point3f-is_finite, Bounds3f-is_finite, Finite}
+use Rattle.bounds_query.specs.bounds3.Inside.{Inside, Subset}
+use Rattle.bounds_query.proofs.bounds3.Finite.{test-finite, finite-test, low-finite, high-finite}
+use Rattle.bounds_query.proofs.bounds3.Union.{from-point-inside, union-least, union-point-box, union-point-inside, union-point-keeps, inside-subset}
+use Rattle.bounds_query.specs.transform.declared.Transform.{Transform}
+use Rattle.bounds_query.specs.transform.declared.PointAnswer.{PointAnswer}
+use Rattle.bounds_query.specs.transform.declared.PointAnswer.TheVariants as point
+use Rattle.bounds_query.specs.transform.declared.BoundsAnswer.{BoundsAnswer}
+use Rattle.bounds_query.specs.transform.declared.BoundsAnswer.TheVariants as bounds
+use Rattle.bounds_query.specs.transform.TransformPoint.{PointAnswer-judged, Transform-transform_point}
+use Rattle.bounds_query.specs.transform.TransformBounds.{BoundsAnswer-from_moved, BoundsAnswer-union_moved, union_corner, Transform-transform_bounds}
 use Rattle.pose_steps.specs.Pose.{Pose-transform_point}
 use Rattle.pose_steps.specs.Enclose.{Bounds3f-intervals}
 use Rattle.pose_steps.proofs.Composition.{point-affine}

@@ -10,25 +10,25 @@ use Prim.Native.Nat.{ℕ}
 use lib.Dec.{T}
 use lib.Ieee.{Float}
 use lib.Ieee.Scale.{finite}
-use Rattle.refusal.proofs.First.{zero-first, first-keeps}
-use Rattle.rounding.specs.Order.{◌≼◌}
-use Rattle.float32.specs.Operators.{◌⊕◌, ◌⊗◌}
-use Rattle.float32.proofs.MinMax.{min-picks, max-picks}
-use Rattle.matrix4x4.specs.Rows.{Row, col}
-use Rattle.matrix4x4.specs.declared.Matrix4x4.{Matrix4x4}
-use Rattle.bounds3.specs.declared.Point3f.{Point3f}
-use Rattle.bounds3.specs.declared.Bounds3f.{Bounds3f}
-use Rattle.bounds3.specs.Finite as point
-use Rattle.bounds3.specs.Inside.{Inside, Subset}
-use Rattle.transform.specs.TransformPoint.{mul_point}
-use Rattle.interval.specs.declared.Interval.{Interval}
-use Rattle.interval.specs.declared.Judged.{Judged}
-use Rattle.interval.specs.Contains.{Finite}
-use Rattle.interval.specs.Interval.{Interval-point, Interval-new, Interval-hull, Interval-of_four}
-use Rattle.interval.specs.Enclosure.{not_finite, Interval-add_enclosure, Interval-mul_enclosure, Judged-judge, Judged-add_enclosure, Judged-mul_enclosure}
-use Rattle.interval.proofs.Finite.{add-operands}
-use Rattle.interval.proofs.Refusal.{finite-accepted}
-use Rattle.formula.specs.Enclose.{Expr-enclose, Expr-enclose_all, Program-enclose}
+use Rattle.pose_steps.proofs.refusal.First.{zero-first, first-keeps}
+use Rattle.bounds_query.specs.rounding.Order.{◌≼◌}
+use Rattle.bounds_query.specs.float32.Operators.{◌⊕◌, ◌⊗◌}
+use Rattle.bounds_query.proofs.float32.MinMax.{min-picks, max-picks}
+use Rattle.bounds_query.specs.matrix4x4.Rows.{Row, col}
+use Rattle.bounds_query.specs.matrix4x4.declared.Matrix4x4.{Matrix4x4}
+use Rattle.bounds_query.specs.bounds3.declared.Point3f.{Point3f}
+use Rattle.bounds_query.specs.bounds3.declared.Bounds3f.{Bounds3f}
+use Rattle.bounds_query.specs.bounds3.Finite as point
+use Rattle.bounds_query.specs.bounds3.Inside.{Inside, Subset}
+use Rattle.bounds_query.specs.transform.TransformPoint.{mul_point}
+use Rattle.pose_steps.specs.interval.declared.Interval.{Interval}
+use Rattle.pose_steps.specs.interval.declared.Judged.{Judged}
+use Rattle.pose_steps.specs.interval.Contains.{Finite}
+use Rattle.pose_steps.specs.interval.Interval.{Interval-point, Interval-new, Interval-hull, Interval-of_four}
+use Rattle.pose_steps.specs.interval.Enclosure.{not_finite, Interval-add_enclosure, Interval-mul_enclosure, Judged-judge, Judged-add_enclosure, Judged-mul_enclosure}
+use Rattle.pose_steps.proofs.interval.Finite.{add-operands}
+use Rattle.pose_steps.proofs.interval.Refusal.{finite-accepted}
+use Rattle.pose_steps.specs.formula.Enclose.{Expr-enclose, Expr-enclose_all, Program-enclose}
 use Rattle.pose_steps.specs.declared.IntervalVector.{IntervalVector}
 use Rattle.pose_steps.specs.declared.JudgedVector.{JudgedVector}
 use Rattle.pose_steps.specs.Stages.{row, vector, moved}

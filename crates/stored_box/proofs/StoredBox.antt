@@ -8,27 +8,27 @@ use mathlib.Core.List.{List}
 use Prim.Native.Nat.{ℕ}
 use native.Mathlib.Omega.{arith}
 use lib.Dec.{T}
-use Rattle.rounding.specs.Order.{◌≼◌}
-use Rattle.rounding.proofs.Order.{≼_refl, number-left, number-right}
-use Rattle.matrix4x4.specs.Rows.{Matrix4x4-to_rows}
-use Rattle.matrix4x4.specs.IsFinite.{Matrix4x4-is_finite}
-use Rattle.matrix4x4.specs.IsAffine.{Matrix4x4-is_affine}
-use Rattle.bounds3.specs.declared.Point3f.{Point3f}
-use Rattle.bounds3.specs.declared.Bounds3f.{Bounds3f}
-use Rattle.bounds3.specs.Finite.{Finite}
-use Rattle.bounds3.specs.Inside.{Inside, Subset}
-use Rattle.bounds3.specs.List.{Point3f-list}
-use Rattle.transform.specs.declared.Transform.{Transform}
-use Rattle.transform.specs.declared.BoundsAnswer.{BoundsAnswer}
-use Rattle.transform.specs.declared.BoundsAnswer.TheVariants.{Bounds, Refused}
-use Rattle.transform.specs.Answer.{BoundsAnswer-refusal}
-use Rattle.transform.specs.TransformBounds.{Transform-transform_bounds}
-use Rattle.transform.proofs.Judged.{transform-bounds-judged}
+use Rattle.bounds_query.specs.rounding.Order.{◌≼◌}
+use Rattle.bounds_query.proofs.rounding.Order.{≼_refl, number-left, number-right}
+use Rattle.bounds_query.specs.matrix4x4.Rows.{Matrix4x4-to_rows}
+use Rattle.bounds_query.specs.matrix4x4.IsFinite.{Matrix4x4-is_finite}
+use Rattle.bounds_query.specs.matrix4x4.IsAffine.{Matrix4x4-is_affine}
+use Rattle.bounds_query.specs.bounds3.declared.Point3f.{Point3f}
+use Rattle.bounds_query.specs.bounds3.declared.Bounds3f.{Bounds3f}
+use Rattle.bounds_query.specs.bounds3.Finite.{Finite}
+use Rattle.bounds_query.specs.bounds3.Inside.{Inside, Subset}
+use Rattle.bounds_query.specs.bounds3.List.{Point3f-list}
+use Rattle.bounds_query.specs.transform.declared.Transform.{Transform}
+use Rattle.bounds_query.specs.transform.declared.BoundsAnswer.{BoundsAnswer}
+use Rattle.bounds_query.specs.transform.declared.BoundsAnswer.TheVariants.{Bounds, Refused}
+use Rattle.bounds_query.specs.transform.Answer.{BoundsAnswer-refusal}
+use Rattle.bounds_query.specs.transform.TransformBounds.{Transform-transform_bounds}
+use Rattle.bounds_query.proofs.transform.Judged.{transform-bounds-judged}
 use Rattle.bounds_query.specs.Query.{Bounds3f-refusal}
 use Rattle.bounds_query.proofs.Accepted.{refusal-accepted}
-use Rattle.interval.specs.declared.Interval.{Interval}
-use Rattle.interval.specs.Contains.{Encloses}
-use Rattle.formula.specs.Promise.{Pairwise}
+use Rattle.pose_steps.specs.interval.declared.Interval.{Interval}
+use Rattle.pose_steps.specs.interval.Contains.{Encloses}
+use Rattle.pose_steps.specs.formula.Promise.{Pairwise}
 use Rattle.pose_steps.specs.Enclose.{IntervalVector-list, IntervalVector-bounds, Bounds3f-intervals}
 use Rattle.pose_steps.proofs.Finite.{stored-encloses}
 use Rattle.pose_steps.proofs.Extends.{transform_point-extends}

@@ -1,7 +1,7 @@
 -- A stored transform over a box by interval steps. Definitions only.
 use Rattle.std.specs.Prelude.{◌≡◌, ◌⊎◌, ℕ}
-use Rattle.bounds3.specs.declared.Bounds3f.{Bounds3f}
-use Rattle.transform.specs.declared.Transform.{Transform}
+use Rattle.bounds_query.specs.bounds3.declared.Bounds3f.{Bounds3f}
+use Rattle.bounds_query.specs.transform.declared.Transform.{Transform}
 use Rattle.pose_steps.specs.declared.JudgedVector.{JudgedVector}
 use Rattle.pose_steps.specs.Enclose.{IntervalMatrix-point, Pose-enclose_transform_point, Bounds3f-intervals}
 

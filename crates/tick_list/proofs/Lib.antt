@@ -1,1 +1,2 @@
 pub mod Loops
+pub use Rattle.control_flow.proofs as control_flow

@@ -6,7 +6,7 @@ use mathlib.Core.List.{List, [], ◌∷◌}
 use native.Mathlib.Omega.{arith}
 use lib.ListN.{length, get_or, drop, drop_of_length-le}
 use lib.Ieee.{Float, nan, is_nan, le}
-use Rattle.control_flow.proofs.Neighbours.{EachNext}
+use Rattle.motion_chain.proofs.control_flow.Neighbours.{EachNext}
 use Rattle.motion_chain.specs.Chain.{every}
 use Rattle.motion_chain.specs.Times.{times_are_numbers, never_falls}
 

@@ -10,7 +10,7 @@ use lib.Dec.{T, eqb}
 use lib.Ieee.{Float, nan, inf, fin, of_bits, up, down, unlike, div, eq}
 use lib.Ieee.Fits.{down_pos, and_l, and_r}
 use lib.Ieee.Scale.{finite}
-use Rattle.float32.specs.Operators.{◌⊘◌, one}
+use Rattle.bounds3.specs.float32.Operators.{◌⊘◌, one}
 use Rattle.matrix4x4.specs.Rows.{Rows, row, at, positive_zero, Matrix4x4-to_rows}
 use Rattle.matrix4x4.specs.IsAffine.{Matrix4x4-is_affine}
 use Rattle.matrix4x4.proofs.Zero.{Zero, signed, mul-zero, zero-add-zero, zero-add-one, eq-zero, eq-one}

@@ -3,7 +3,7 @@
 use Rattle.std.specs.Prelude.{Bool, ◌||◌, Float}
 use Rattle.std.specs.Float.{binary32}
 use Rattle.std.specs.Float.Ieee.{of_bits, lt}
-use Rattle.float32.specs.Operators.{one}
+use Rattle.bounds3.specs.float32.Operators.{one}
 use Rattle.matrix4x4.specs.Rows.{Rows, positive_zero, Matrix4x4-to_rows}
 use Rattle.vector3.specs.Vector.{Vector3f-dot}
 use Rattle.transform.specs.declared.Transform.{Transform}

@@ -2,7 +2,7 @@
 -- Each half is worked for itself: m_inv is whatever the operation's own line gives, and nothing asks that it is the inverse of m.
 use Rattle.std.specs.Prelude.{ℕ, Bool, ◌&&◌, cond, [], ◌∷◌, eqb, Float}
 use Rattle.std.specs.Float.Ieee.{neg}
-use Rattle.float32.specs.Operators.{one}
+use Rattle.bounds3.specs.float32.Operators.{one}
 use Rattle.vector3.specs.declared.Vector3f.{Vector3f}
 use Rattle.matrix4x4.specs.declared.Matrix4x4.{Matrix4x4}
 use Rattle.matrix4x4.specs.Rows.{Rows, positive_zero, Matrix4x4-to_rows, Matrix4x4-from_rows, Matrix4x4-zero}

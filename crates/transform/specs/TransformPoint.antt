@@ -1,7 +1,7 @@
 -- pbrt's `transform_point`: the matrix half of a transform times (x, y, z, 1), divided by the fourth coordinate. Definitions only.
 use Rattle.std.specs.Prelude.{cond, Float}
 use Rattle.std.specs.Float.Ieee.{eq}
-use Rattle.float32.specs.Operators.{◌⊕◌, ◌⊗◌, one}
+use Rattle.bounds3.specs.float32.Operators.{◌⊕◌, ◌⊗◌, one}
 use Rattle.matrix4x4.specs.Rows.{Row, Rows, row, col, Matrix4x4-to_rows}
 use Rattle.bounds3.specs.declared.Point3f.{Point3f}
 use Rattle.bounds3.specs.Point3f.{Point3f-div}

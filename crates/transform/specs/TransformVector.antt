@@ -1,6 +1,6 @@
 -- pbrt's `transform_vector`: a matrix times (x, y, z, 0), of a transform its matrix half. Definitions only.
 use Rattle.std.specs.Prelude.{Float}
-use Rattle.float32.specs.Operators.{◌⊕◌, ◌⊗◌}
+use Rattle.bounds3.specs.float32.Operators.{◌⊕◌, ◌⊗◌}
 use Rattle.vector3.specs.declared.Vector3f.{Vector3f}
 use Rattle.matrix4x4.specs.Rows.{Row, Rows, row, col, Matrix4x4-to_rows}
 use Rattle.transform.specs.declared.Transform.{Transform}

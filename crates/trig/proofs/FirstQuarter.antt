@@ -12,7 +12,7 @@ use lib.IntN.{pos}
 use lib.Pow.{pow-add, pow_pos, pow_mono}
 use lib.Ieee.{Float, nan, inf, fin, binary32, is_nan, lt, ne, fits, to_bits}
 use lib.Ieee.Nearest.{div_same}
-use Rattle.rounding.proofs.Order.{differs-nan}
+use Rattle.float32.proofs.rounding.Order.{differs-nan}
 use Rattle.float32.specs.Abs.{abs}
 use Rattle.float_bits.specs.declared.Decoded.{Decoded}
 use Rattle.float_bits.specs.Decode.{integer_decode}

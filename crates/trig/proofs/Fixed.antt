@@ -17,7 +17,7 @@ use lib.Ieee.{Float, nan, inf, fin, binary32, up, down, lt, neg, round, of_bits,
 use lib.Ieee.Fits.{down_pos}
 use lib.Ieee.Nearest.{div_same}
 use lib.Ieee.Exact.{HasValue}
-use Rattle.rounding.proofs.Monotone.{round-neg}
+use Rattle.float32.proofs.rounding.Monotone.{round-neg}
 use Rattle.float32.specs.Abs.{abs}
 use Rattle.float_bits.specs.declared.Decoded.{Decoded}
 use Rattle.float_bits.specs.Decode.{magnitude, exponent, integer_decode}

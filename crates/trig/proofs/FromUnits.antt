@@ -13,7 +13,7 @@ use lib.Ieee.Fits.{down_pos}
 use lib.Ieee.Exact.{HasValue, round_exact}
 use lib.Ieee.Scale.{round_same}
 use lib.Ieee.Back.{round_whole}
-use Rattle.rounding.proofs.Arithmetic.{add_at}
+use Rattle.float32.proofs.rounding.Arithmetic.{add_at}
 
 pub half-casts : (a : ℕ) → a < 2 ^ 16 → T (in_float binary32 (pos a))
 unfolding in_float

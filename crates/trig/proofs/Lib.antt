@@ -8,3 +8,6 @@ pub mod FirstQuarter
 pub mod Values
 pub mod Monotone
 pub mod Range
+pub use Rattle.float32.proofs as float32
+pub use Rattle.float_bits.proofs as float_bits
+pub use Rattle.float32.proofs.rounding

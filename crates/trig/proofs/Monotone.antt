@@ -18,11 +18,11 @@ use lib.Ieee.Fits.{down_pos}
 use lib.Ieee.Nearest.{div_mono}
 use lib.Ieee.Positive.{den, den_pos}
 use lib.Ieee.Scale.{finite}
-use Rattle.rounding.specs.Order.{◌≼◌}
-use Rattle.rounding.proofs.Rational.{num_pos, num_neg, FractionLe}
-use Rattle.rounding.proofs.Order.{≼_trans, between-finite, to-fraction, num_neg-none}
-use Rattle.rounding.proofs.Monotone.{round_mono}
-use Rattle.rounding.proofs.Corners.{Bounds}
+use Rattle.float32.specs.rounding.Order.{◌≼◌}
+use Rattle.float32.proofs.rounding.Rational.{num_pos, num_neg, FractionLe}
+use Rattle.float32.proofs.rounding.Order.{≼_trans, between-finite, to-fraction, num_neg-none}
+use Rattle.float32.proofs.rounding.Monotone.{round_mono}
+use Rattle.float32.proofs.rounding.Corners.{Bounds}
 use Rattle.float32.specs.Abs.{abs}
 use Rattle.float32.specs.Operators.{one}
 use Rattle.float32.proofs.Constants.{zero-finite}

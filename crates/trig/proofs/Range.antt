@@ -11,9 +11,9 @@ use native.Mathlib.Omega.{arith}
 use borrow.Author.Tests.{leb-true, le-leb}
 use lib.Dec.{leb}
 use lib.Ieee.{Float, neg}
-use Rattle.rounding.specs.Order.{◌≼◌}
-use Rattle.rounding.proofs.Order.{≼_trans, ≼_refl, number-left, number-right}
-use Rattle.rounding.proofs.Corners.{Bounds}
+use Rattle.float32.specs.rounding.Order.{◌≼◌}
+use Rattle.float32.proofs.rounding.Order.{≼_trans, ≼_refl, number-left, number-right}
+use Rattle.float32.proofs.rounding.Corners.{Bounds}
 use Rattle.float32.specs.Operators.{one}
 use Rattle.float32.proofs.MinMax.{min-left, min-right, max-left, max-right, min-picks, max-picks}
 use Rattle.sine_table.specs.Table.{quarter_turn}

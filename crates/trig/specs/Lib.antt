@@ -3,3 +3,7 @@ pub mod SinCos
 pub mod Biased
 pub mod Range
 pub mod means
+pub use Rattle.float32.specs as float32
+pub use Rattle.float_bits.specs as float_bits
+pub use Rattle.float32.specs.rounding
+pub use Rattle.sine_table.specs as sine_table

@@ -3,7 +3,7 @@
 use Rattle.std.specs.Prelude.{Bool, cond, ◌&&◌, ◌||◌, ℕ, ◌*◌, min, max, leb, Float}
 use Rattle.std.specs.Float.{binary32}
 use Rattle.std.specs.Float.Ieee.{neg, of_bits}
-use Rattle.rounding.specs.Order.{◌≼◌}
+use Rattle.float32.specs.rounding.Order.{◌≼◌}
 use Rattle.float32.specs.MinMax.{min_num, max_num}
 use Rattle.float32.specs.Operators.{one}
 use Rattle.sine_table.specs.Table.{quarter_turn}

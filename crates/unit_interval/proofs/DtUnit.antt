@@ -11,15 +11,15 @@ use lib.Ieee.{Float, nan, inf, fin, binary32, up, down, round, lt, of_bits, fits
 use lib.Ieee.Exact.{HasValue}
 use lib.Ieee.Scale.{finite}
 use lib.Ieee.Positive.{positive, positive-finite, den, den_pos}
-use Rattle.rounding.specs.Order.{◌≼◌}
-use Rattle.rounding.proofs.Rational.{num_pos, num_neg, num_pos-pos, FractionLe}
-use Rattle.rounding.proofs.Order.{≼_refl, ≼_trans, finite_number, to-fraction, num_neg-none, between-finite, above-positive, lt-≼, not-lt-≼}
-use Rattle.rounding.proofs.Monotone.{Rounds, rounds-mono}
-use Rattle.rounding.proofs.Arithmetic.{sub-rounds, sub-mono, div-rounds, div_mono}
-use Rattle.float32.specs.Operators.{◌⊖◌, ◌⊘◌}
-use Rattle.float32.proofs.Constants.{zero-finite, zero-rounds, one-rounds}
-use Rattle.float_bits.specs.Decode.{integer_decode}
-use Rattle.float_bits.proofs.Decode.{decode-value}
+use Rattle.interval.specs.rounding.Order.{◌≼◌}
+use Rattle.interval.proofs.rounding.Rational.{num_pos, num_neg, num_pos-pos, FractionLe}
+use Rattle.interval.proofs.rounding.Order.{≼_refl, ≼_trans, finite_number, to-fraction, num_neg-none, between-finite, above-positive, lt-≼, not-lt-≼}
+use Rattle.interval.proofs.rounding.Monotone.{Rounds, rounds-mono}
+use Rattle.interval.proofs.rounding.Arithmetic.{sub-rounds, sub-mono, div-rounds, div_mono}
+use Rattle.interval.specs.float32.Operators.{◌⊖◌, ◌⊘◌}
+use Rattle.interval.proofs.float32.Constants.{zero-finite, zero-rounds, one-rounds}
+use Rattle.interval.specs.float_bits.Decode.{integer_decode}
+use Rattle.interval.proofs.float_bits.Decode.{decode-value}
 use Rattle.interval.specs.Contains.{Contains}
 use Rattle.unit_interval.specs.Unit.{unit_interval, dt}
 

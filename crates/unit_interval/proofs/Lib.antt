@@ -1,3 +1,4 @@
 pub mod Slices
 pub mod DtUnit
 mod Cases
+pub use Rattle.interval.proofs as interval

@@ -14,11 +14,11 @@ use lib.Pow.{pow_pos, pow-add, pow_mono}
 use lib.Ieee.{Float, binary32, round, of_bits}
 use lib.Ieee.Exact.{HasValue, round_exact}
 use lib.Ieee.Scale.{round_same}
-use Rattle.rounding.specs.Order.{◌≼◌}
-use Rattle.rounding.proofs.Order.{≼-total, number-left}
-use Rattle.rounding.proofs.Monotone.{round_mono}
-use Rattle.rounding.proofs.Arithmetic.{add_at}
-use Rattle.float32.specs.Operators.{◌⊕◌, one}
+use Rattle.interval.specs.rounding.Order.{◌≼◌}
+use Rattle.interval.proofs.rounding.Order.{≼-total, number-left}
+use Rattle.interval.proofs.rounding.Monotone.{round_mono}
+use Rattle.interval.proofs.rounding.Arithmetic.{add_at}
+use Rattle.interval.specs.float32.Operators.{◌⊕◌, one}
 use Rattle.interval.specs.Contains.{Contains, Subset}
 use Rattle.unit_interval.specs.Unit.{unit_interval, slice_end, slice}
 

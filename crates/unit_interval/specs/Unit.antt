@@ -3,7 +3,7 @@
 use Rattle.std.specs.Prelude.{ℕ, ◌+◌, ◌^◌, false, Float}
 use Rattle.std.specs.Float.{binary32}
 use Rattle.std.specs.Float.Ieee.{of_bits, round}
-use Rattle.float32.specs.Operators.{◌⊖◌, ◌⊘◌, one}
+use Rattle.interval.specs.float32.Operators.{◌⊖◌, ◌⊘◌, one}
 use Rattle.interval.specs.declared.Interval.{Interval}
 
 abbrev pub unit_interval : Interval

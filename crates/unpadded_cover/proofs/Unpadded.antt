@@ -9,51 +9,51 @@ use borrow.Author.Tests.{eqb-true}
 use lib.Ieee.{binary32, of_bits}
 use lib.Ieee.Fits.{add-fits}
 use lib.Ieee.Scale
-use Rattle.rounding.proofs.Order.{between-finite}
-use Rattle.float32.specs.Operators.{positive_zero, one}
-use Rattle.float32.specs.MinMax.{max_num}
-use Rattle.float32.proofs.Constants.{zero-finite, zero-refl}
-use Rattle.interval.specs.declared.Interval.{Interval}
-use Rattle.interval.specs.declared.Judged.{Judged}
-use Rattle.interval.specs.Contains as interval
-use Rattle.interval.specs.Contains.{Refines}
-use Rattle.interval.specs.Enclosure.{Interval-add_enclosure, Judged-judge, Judged-add_enclosure}
-use Rattle.bounds3.specs.declared.Bounds3f.{Bounds3f}
-use Rattle.bounds3.specs.Finite.{Bounds3f-is_finite}
-use Rattle.bounds3.specs.Inside.{Subset}
-use Rattle.bounds3.proofs.Finite.{low-finite, high-finite, box-finite}
-use Rattle.bounds3.proofs.Union.{subset-trans, finite-self}
-use Rattle.transform.specs.declared.Transform.{Transform}
-use Rattle.transform.specs.declared.BoundsAnswer.{BoundsAnswer}
-use Rattle.transform.specs.declared.BoundsAnswer.TheVariants.{Bounds, Refused}
-use Rattle.bounds_query.specs.Query.{BoundsAnswer-union_bounds, cover_refusal}
-use Rattle.bounds_query.specs.Same.{BoundsAnswer-Same, same-box, same-refusal}
-use Rattle.bounds_query.specs.Zeros.{BoundsAnswer-positive_zeros}
-use Rattle.bounds_query.proofs.Union.{union-same}
-use Rattle.unit_interval.specs.Unit.{unit_interval, slice}
-use Rattle.unit_interval.proofs.Slices.{slice-unit}
-use Rattle.formula.specs.Enclose.{Expr-enclose, Expr-enclose_all, Program-enclose}
-use Rattle.formula.specs.Promise.{Pairwise}
-use Rattle.pose_steps.specs.declared.PoseConstants.{PoseConstants}
-use Rattle.pose_steps.specs.declared.IntervalVector.{IntervalVector}
-use Rattle.pose_steps.specs.declared.IntervalMatrix.{IntervalMatrix}
-use Rattle.pose_steps.specs.declared.JudgedVector.{JudgedVector}
-use Rattle.pose_steps.specs.Enclose.{IntervalVector-list, IntervalMatrix-point, Pose-enclose_transform_point}
-use Rattle.pose_steps.specs.Enclose.{Pose-enclose_matrix, Pose-enclose_point, Bounds3f-intervals, IntervalVector-bounds}
-use Rattle.pose_steps.proofs.Finite.{stored-refines}
-use Rattle.pose_steps.proofs.Isotone.{transform_point-isotone, point-isotone}
-use Rattle.pose_steps.proofs.Box.{refines-finite}
-use Rattle.animated_transform.specs.declared.AnimatedTransform.{AnimatedTransform}
-use Rattle.animated_transform.specs.Built.{StoredPose, Built}
-use Rattle.animated_transform.proofs.Built.{built-judged}
-use Rattle.motion_point.specs.TransformPoint.{AnimatedTransform-constants}
-use Rattle.motion_point.proofs.Built.{built-valid, built-scales}
-use Rattle.motion_pad.specs.Pad.{Pad-enclose, Pad-stored}
-use Rattle.motion_pad.specs.Grow.{Bounds3f-grow, BoundsAnswer-grow}
-use Rattle.motion_pad.specs.means.Computing as pad
-use Rattle.motion_pad.proofs.Pad.{pad-high-within}
-use Rattle.motion_pad.proofs.Box.{PadWithin, pad-within-finite, grow-subset, grow-box, grow-refused, grow-zero}
-use Rattle.motion_pad.proofs.Zeros.{answers-zeros}
+use Rattle.motion_cover.proofs.rounding.Order.{between-finite}
+use Rattle.motion_cover.specs.float32.Operators.{positive_zero, one}
+use Rattle.motion_cover.specs.float32.MinMax.{max_num}
+use Rattle.motion_cover.proofs.float32.Constants.{zero-finite, zero-refl}
+use Rattle.motion_cover.specs.interval.declared.Interval.{Interval}
+use Rattle.motion_cover.specs.interval.declared.Judged.{Judged}
+use Rattle.motion_cover.specs.interval.Contains as interval
+use Rattle.motion_cover.specs.interval.Contains.{Refines}
+use Rattle.motion_cover.specs.interval.Enclosure.{Interval-add_enclosure, Judged-judge, Judged-add_enclosure}
+use Rattle.motion_cover.specs.bounds3.declared.Bounds3f.{Bounds3f}
+use Rattle.motion_cover.specs.bounds3.Finite.{Bounds3f-is_finite}
+use Rattle.motion_cover.specs.bounds3.Inside.{Subset}
+use Rattle.motion_cover.proofs.bounds3.Finite.{low-finite, high-finite, box-finite}
+use Rattle.motion_cover.proofs.bounds3.Union.{subset-trans, finite-self}
+use Rattle.motion_cover.specs.transform.declared.Transform.{Transform}
+use Rattle.motion_cover.specs.transform.declared.BoundsAnswer.{BoundsAnswer}
+use Rattle.motion_cover.specs.transform.declared.BoundsAnswer.TheVariants.{Bounds, Refused}
+use Rattle.motion_cover.specs.bounds_query.Query.{BoundsAnswer-union_bounds, cover_refusal}
+use Rattle.motion_cover.specs.bounds_query.Same.{BoundsAnswer-Same, same-box, same-refusal}
+use Rattle.motion_cover.specs.bounds_query.Zeros.{BoundsAnswer-positive_zeros}
+use Rattle.motion_cover.proofs.bounds_query.Union.{union-same}
+use Rattle.motion_cover.specs.unit_interval.Unit.{unit_interval, slice}
+use Rattle.motion_cover.proofs.unit_interval.Slices.{slice-unit}
+use Rattle.motion_cover.specs.formula.Enclose.{Expr-enclose, Expr-enclose_all, Program-enclose}
+use Rattle.motion_cover.specs.formula.Promise.{Pairwise}
+use Rattle.motion_cover.specs.pose_steps.declared.PoseConstants.{PoseConstants}
+use Rattle.motion_cover.specs.pose_steps.declared.IntervalVector.{IntervalVector}
+use Rattle.motion_cover.specs.pose_steps.declared.IntervalMatrix.{IntervalMatrix}
+use Rattle.motion_cover.specs.pose_steps.declared.JudgedVector.{JudgedVector}
+use Rattle.motion_cover.specs.pose_steps.Enclose.{IntervalVector-list, IntervalMatrix-point, Pose-enclose_transform_point}
+use Rattle.motion_cover.specs.pose_steps.Enclose.{Pose-enclose_matrix, Pose-enclose_point, Bounds3f-intervals, IntervalVector-bounds}
+use Rattle.motion_cover.proofs.pose_steps.Finite.{stored-refines}
+use Rattle.motion_cover.proofs.pose_steps.Isotone.{transform_point-isotone, point-isotone}
+use Rattle.motion_cover.proofs.pose_steps.Box.{refines-finite}
+use Rattle.motion_cover.specs.animated_transform.declared.AnimatedTransform.{AnimatedTransform}
+use Rattle.motion_cover.specs.animated_transform.Built.{StoredPose, Built}
+use Rattle.motion_cover.proofs.animated_transform.Built.{built-judged}
+use Rattle.motion_cover.specs.motion_point.TransformPoint.{AnimatedTransform-constants}
+use Rattle.motion_cover.proofs.motion_point.Built.{built-valid, built-scales}
+use Rattle.motion_cover.specs.motion_pad.Pad.{Pad-enclose, Pad-stored}
+use Rattle.motion_cover.specs.motion_pad.Grow.{Bounds3f-grow, BoundsAnswer-grow}
+use Rattle.motion_cover.specs.motion_pad.means.Computing as pad
+use Rattle.motion_cover.proofs.motion_pad.Pad.{pad-high-within}
+use Rattle.motion_cover.proofs.motion_pad.Box.{PadWithin, pad-within-finite, grow-subset, grow-box, grow-refused, grow-zero}
+use Rattle.motion_cover.proofs.motion_pad.Zeros.{answers-zeros}
 use Rattle.motion_cover.specs.Cover.{BoundsAnswer-from_enclosure, Transform-enclose_bounds, Transform-enclose_padded, AnimatedTransform-enclose_bounds}
 use Rattle.motion_cover.specs.Cover.{AnimatedTransform-enclose_ends, union_slices, AnimatedTransform-enclose_motion, AnimatedTransform-cover}
 use Rattle.motion_cover.proofs.Contains.{from-enclosure-accepted, motion-stored, motion-slices, cover-box}

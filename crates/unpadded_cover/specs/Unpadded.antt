@@ -1,18 +1,18 @@
 -- Document 01's cover as it was without pads, its zeros +0, `AnimatedTransform-cover_unpadded`, and that a cover with pads of +0 is equal to it:
 -- `CoverUnpadded`, the statement of `cover-unpadded`.
 use Rattle.std.specs.Prelude.{ℕ, zero, suc, ◌^◌, ◌≡◌, cond, eqb}
-use Rattle.float32.specs.Operators.{positive_zero}
-use Rattle.bounds3.specs.declared.Bounds3f.{Bounds3f}
-use Rattle.transform.specs.declared.BoundsAnswer.{BoundsAnswer}
-use Rattle.transform.specs.declared.BoundsAnswer.TheVariants.{Refused}
-use Rattle.bounds_query.specs.Query.{BoundsAnswer-union_bounds, cover_refusal}
-use Rattle.bounds_query.specs.Zeros.{BoundsAnswer-positive_zeros}
-use Rattle.unit_interval.specs.Unit.{slice}
-use Rattle.pose_steps.specs.declared.PoseConstants.{PoseConstants}
-use Rattle.pose_steps.specs.Enclose.{Pose-enclose_point, Bounds3f-intervals}
-use Rattle.animated_transform.specs.declared.AnimatedTransform.{AnimatedTransform}
-use Rattle.animated_transform.specs.Built.{Built}
-use Rattle.motion_point.specs.TransformPoint.{AnimatedTransform-constants}
+use Rattle.motion_cover.specs.float32.Operators.{positive_zero}
+use Rattle.motion_cover.specs.bounds3.declared.Bounds3f.{Bounds3f}
+use Rattle.motion_cover.specs.transform.declared.BoundsAnswer.{BoundsAnswer}
+use Rattle.motion_cover.specs.transform.declared.BoundsAnswer.TheVariants.{Refused}
+use Rattle.motion_cover.specs.bounds_query.Query.{BoundsAnswer-union_bounds, cover_refusal}
+use Rattle.motion_cover.specs.bounds_query.Zeros.{BoundsAnswer-positive_zeros}
+use Rattle.motion_cover.specs.unit_interval.Unit.{slice}
+use Rattle.motion_cover.specs.pose_steps.declared.PoseConstants.{PoseConstants}
+use Rattle.motion_cover.specs.pose_steps.Enclose.{Pose-enclose_point, Bounds3f-intervals}
+use Rattle.motion_cover.specs.animated_transform.declared.AnimatedTransform.{AnimatedTransform}
+use Rattle.motion_cover.specs.animated_transform.Built.{Built}
+use Rattle.motion_cover.specs.motion_point.TransformPoint.{AnimatedTransform-constants}
 use Rattle.motion_cover.specs.Cover.{BoundsAnswer-from_enclosure, Transform-enclose_bounds, AnimatedTransform-cover}
 
 -- r and the first k slices, in rising order.

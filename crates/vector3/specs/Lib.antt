@@ -1,1 +1,2 @@
 pub mod Vector
+pub use Rattle.float32.specs as float32

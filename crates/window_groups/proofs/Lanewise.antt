@@ -12,11 +12,11 @@ use Rattle.pose_steps.specs.declared.PoseConstants.{PoseConstants}
 use Rattle.pose_steps.specs.declared.IntervalVector.{IntervalVector}
 use Rattle.pose_steps.specs.Pose.{is_near}
 use Rattle.pose_steps.specs.Enclose.{Bounds3f-intervals}
-use Rattle.pose_lean.specs.means.Lean.{second_by}
-use Rattle.lanes.specs.means.Lanes.{Lane, Lanes-of}
+use Rattle.lanes_rotation.specs.pose_lean.means.Lean.{second_by}
+use Rattle.lanes_rotation.specs.lanes.means.Lanes.{Lane, Lanes-of}
 use Rattle.lanes_rotation.specs.declared.LanesVector.{LanesVector}
 use Rattle.lanes_rotation.specs.means.Matrices.{LanesVector-of}
-use Rattle.lanes_pose.specs.means.Poses.{lanewise}
+use Rattle.lanes_box.specs.lanes_pose.means.Poses.{lanewise}
 use Rattle.lanes_box.specs.means.Boxes.{IntervalVector-join}
 use Rattle.cover_groups.specs.declared.Border.{Border}
 use Rattle.cover_groups.specs.means.Groups.{Lanes-ends, Border-at, LanesBorders-from, LanesBorders-of, LanesVector-pieces}

@@ -8,17 +8,17 @@ use borrow.Author.Tests.{eqb-true, eqb-false}
 use native.Mathlib.Omega.{arith}
 use lib.Dec.{eqb}
 use lib.Ieee.{Float}
-use Rattle.bounds3.specs.declared.Point3f.{Point3f}
-use Rattle.bounds3.specs.declared.Bounds3f.{Bounds3f}
-use Rattle.bounds3.specs.Inside.{Subset}
-use Rattle.bounds3.proofs.Union.{subset-inside}
-use Rattle.transform.specs.declared.PointAnswer.{PointAnswer}
-use Rattle.transform.specs.Answer.{OneOf, PointAnswer-point, BoundsAnswer-bounds}
-use Rattle.bounds_overlap.specs.Meets.{Bounds3f-meets}
-use Rattle.bounds_overlap.proofs.Overlap.{apart-inside}
-use Rattle.motion_pad.specs.Grow.{PaddedInside}
-use Rattle.motion_cover.specs.Theorem.{MovedInside}
-use Rattle.motion_chain.specs.Chain.{Chain, Chain-transform_point, Chain-pad_at}
+use Rattle.bounds_meeting.specs.bounds3.declared.Point3f.{Point3f}
+use Rattle.bounds_meeting.specs.bounds3.declared.Bounds3f.{Bounds3f}
+use Rattle.bounds_meeting.specs.bounds3.Inside.{Subset}
+use Rattle.bounds_meeting.proofs.bounds3.Union.{subset-inside}
+use Rattle.bounds_meeting.specs.transform.declared.PointAnswer.{PointAnswer}
+use Rattle.bounds_meeting.specs.transform.Answer.{OneOf, PointAnswer-point, BoundsAnswer-bounds}
+use Rattle.bounds_meeting.specs.bounds_overlap.Meets.{Bounds3f-meets}
+use Rattle.bounds_meeting.proofs.bounds_overlap.Overlap.{apart-inside}
+use Rattle.chain_window.specs.motion_pad.Grow.{PaddedInside}
+use Rattle.chain_window.specs.motion_cover.Theorem.{MovedInside}
+use Rattle.chain_window.specs.motion_chain.Chain.{Chain, Chain-transform_point, Chain-pad_at}
 use Rattle.chain_window.specs.Cover.{Chain-window_cover}
 use Rattle.chain_window.proofs.Contains.{window-contains}
 use Rattle.window_meetings.specs.Windows.{windows_of, windows_refusal, WindowsAnswer, listed, refused}

@@ -8,22 +8,22 @@ use mathlib.Core.Bool.{false}
 use mathlib.Core.List.{List, [], ◌∷◌}
 use native.Mathlib.Omega.{arith}
 use lib.Ieee.{Float, binary32, round, fits}
-use Rattle.rounding.specs.Order.{◌≼◌}
-use Rattle.float32.specs.Clamp.{clamp}
-use Rattle.matrix4x4.specs.declared.Matrix4x4.{Matrix4x4}
-use Rattle.bounds3.specs.declared.Point3f.{Point3f}
-use Rattle.bounds3.specs.declared.Bounds3f.{Bounds3f}
-use Rattle.bounds3.specs.Inside.{Inside}
-use Rattle.transform.specs.Answer.{OneOf}
-use Rattle.bounds_overlap.specs.Meets.{Bounds3f-meets}
+use Rattle.bounds_meeting.specs.rounding.Order.{◌≼◌}
+use Rattle.bounds_meeting.specs.float32.Clamp.{clamp}
+use Rattle.bounds_meeting.specs.matrix4x4.declared.Matrix4x4.{Matrix4x4}
+use Rattle.bounds_meeting.specs.bounds3.declared.Point3f.{Point3f}
+use Rattle.bounds_meeting.specs.bounds3.declared.Bounds3f.{Bounds3f}
+use Rattle.bounds_meeting.specs.bounds3.Inside.{Inside}
+use Rattle.bounds_meeting.specs.transform.Answer.{OneOf}
+use Rattle.bounds_meeting.specs.bounds_overlap.Meets.{Bounds3f-meets}
 use Rattle.bounds_meeting.specs.Meeting.{Meeting-of}
-use Rattle.pose_pair.specs.declared.Pose.{Pose}
-use Rattle.animated_transform.specs.New.{AnimatedTransform-new}
-use Rattle.motion_chain.specs.Chain.{Chain}
-use Rattle.motion_chain.specs.Built.{BuiltChain}
-use Rattle.motion_chain.specs.means.Computing as chain
+use Rattle.chain_window.specs.pose_pair.declared.Pose.{Pose}
+use Rattle.chain_window.specs.animated_transform.New.{AnimatedTransform-new}
+use Rattle.chain_window.specs.motion_chain.Chain.{Chain}
+use Rattle.chain_window.specs.motion_chain.Built.{BuiltChain}
+use Rattle.chain_window.specs.motion_chain.means.Computing as chain
 use Rattle.tick_list.specs.Ticks.{Ticks-rise, Ticks-refusal}
-use Rattle.dt_share.specs.Share.{limited, share, pieces}
+use Rattle.chain_window.specs.dt_share.Share.{limited, share, pieces}
 use Rattle.chain_window.specs.Cover.{slice_boxes, first_pose_boxes, end_pose_boxes, equal_pose_boxes, boxes_from, window_boxes, Chain-enclose_window, Chain-window_cover}
 use Rattle.chain_window.specs.Theorem.{InWindow}
 use Rattle.window_meetings.specs.Windows.{windows_of, windows_refusal, listed, WindowsAnswer-refusal, WindowsAnswer-windows, WindowsAnswer-cons}

@@ -9,23 +9,23 @@ use borrow.Author.Tests.{le-ltb}
 use lib.Dec.{ltb}
 use lib.Ieee.{Float}
 use lib.Ieee.Bits.{is_true}
-use Rattle.bounds3.specs.declared.Bounds3f.{Bounds3f}
-use Rattle.transform.specs.declared.BoundsAnswer.{BoundsAnswer}
-use Rattle.transform.specs.Answer.{OneOf, BoundsAnswer-refusal, BoundsAnswer-bounds}
-use Rattle.bounds_query.specs.Query.{Bounds3f-refusal, max_depth}
-use Rattle.bounds_overlap.specs.Meets.{Bounds3f-meets}
+use Rattle.bounds_meeting.specs.bounds3.declared.Bounds3f.{Bounds3f}
+use Rattle.bounds_meeting.specs.transform.declared.BoundsAnswer.{BoundsAnswer}
+use Rattle.bounds_meeting.specs.transform.Answer.{OneOf, BoundsAnswer-refusal, BoundsAnswer-bounds}
+use Rattle.chain_window.specs.bounds_query.Query.{Bounds3f-refusal, max_depth}
+use Rattle.bounds_meeting.specs.bounds_overlap.Meets.{Bounds3f-meets}
 use Rattle.bounds_meeting.specs.Meeting.{Meeting-of}
-use Rattle.cover_depth.specs.Finer.{Within}
-use Rattle.motion_chain.specs.Chain.{first_number, Chain}
-use Rattle.motion_chain.proofs.Built.{first-none}
+use Rattle.chain_window.specs.cover_depth.Finer.{Within}
+use Rattle.chain_window.specs.motion_chain.Chain.{first_number, Chain}
+use Rattle.chain_window.proofs.motion_chain.Built.{first-none}
 use Rattle.tick_list.specs.Ticks.{Ticks-refusal}
-use Rattle.window_times.specs.declared.Window.{Window}
+use Rattle.chain_window.specs.window_times.declared.Window.{Window}
 use Rattle.chain_window.specs.Cover.{Chain-window_cover}
 use Rattle.chain_window.proofs.Finer.{window-finer}
 use Rattle.window_meetings.specs.Windows.{windows_of, windows_refusal, WindowsAnswer, listed, WindowsAnswer-refusal}
 use Rattle.window_meetings.specs.Windows.{WindowsAnswer-windows, windows_from, Chain-windows}
 use Rattle.window_meetings.specs.Theorem.{NoneAdded, WindowsFiner}
-use Rattle.bounds_overlap.proofs.Wider.{meets-mono}
+use Rattle.bounds_meeting.proofs.bounds_overlap.Wider.{meets-mono}
 use Rattle.window_meetings.proofs.Listed.{cons-listed, first_taken}
 use Rattle.window_meetings.proofs.Apart.{windows-accepted}
 

@@ -9,14 +9,14 @@ use borrow.Author.Tests.{eqb-true}
 use lib.Dec.{eqb}
 use lib.ListN.{length}
 use lib.Ieee.{Float}
-use Rattle.refusal.proofs.First.{first-zero}
-use Rattle.refusal.specs.First.{first_refusal}
-use Rattle.transform.specs.declared.BoundsAnswer.{BoundsAnswer}
-use Rattle.transform.specs.Answer.{OneOf, BoundsAnswer-refusal, BoundsAnswer-bounds}
-use Rattle.transform.proofs.Answer.{one-of-cond}
-use Rattle.bounds_overlap.specs.Meets.{Bounds3f-meets}
+use Rattle.bounds_meeting.proofs.refusal.First.{first-zero}
+use Rattle.bounds_meeting.specs.refusal.First.{first_refusal}
+use Rattle.bounds_meeting.specs.transform.declared.BoundsAnswer.{BoundsAnswer}
+use Rattle.bounds_meeting.specs.transform.Answer.{OneOf, BoundsAnswer-refusal, BoundsAnswer-bounds}
+use Rattle.bounds_meeting.proofs.transform.Answer.{one-of-cond}
+use Rattle.bounds_meeting.specs.bounds_overlap.Meets.{Bounds3f-meets}
 use Rattle.bounds_meeting.specs.Meeting.{Meeting-of}
-use Rattle.window_times.specs.declared.Window.{Window}
+use Rattle.chain_window.specs.window_times.declared.Window.{Window}
 use Rattle.window_meetings.specs.Windows.{windows_of, WindowsAnswer, listed, refused, WindowsAnswer-windows, WindowsAnswer-cons, windows_from}
 use Rattle.window_meetings.specs.Theorem.{tick_window}
 

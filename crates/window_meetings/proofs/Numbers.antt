@@ -8,18 +8,18 @@ use borrow.Author.Tests.{eqb-false}
 use lib.Dec.{eqb, ltb}
 use lib.ListN.{length}
 use lib.Ieee.{Float}
-use Rattle.refusal.proofs.First.{first-keeps}
-use Rattle.refusal.specs.First.{first_refusal}
-use Rattle.bounds3.specs.declared.Bounds3f.{Bounds3f}
-use Rattle.transform.specs.declared.BoundsAnswer.{BoundsAnswer}
-use Rattle.transform.specs.Answer.{OneOf, BoundsAnswer-refusal, BoundsAnswer-bounds}
-use Rattle.bounds_query.specs.Query.{Bounds3f-refusal, max_depth}
-use Rattle.bounds_query.proofs.Numbers.{box-keeps}
-use Rattle.bounds_overlap.specs.Meets.{Bounds3f-meets}
+use Rattle.bounds_meeting.proofs.refusal.First.{first-keeps}
+use Rattle.bounds_meeting.specs.refusal.First.{first_refusal}
+use Rattle.bounds_meeting.specs.bounds3.declared.Bounds3f.{Bounds3f}
+use Rattle.bounds_meeting.specs.transform.declared.BoundsAnswer.{BoundsAnswer}
+use Rattle.bounds_meeting.specs.transform.Answer.{OneOf, BoundsAnswer-refusal, BoundsAnswer-bounds}
+use Rattle.chain_window.specs.bounds_query.Query.{Bounds3f-refusal, max_depth}
+use Rattle.chain_window.proofs.bounds_query.Numbers.{box-keeps}
+use Rattle.bounds_meeting.specs.bounds_overlap.Meets.{Bounds3f-meets}
 use Rattle.bounds_meeting.specs.Meeting.{Meeting-of}
-use Rattle.motion_chain.specs.Chain.{first_number, Chain}
+use Rattle.chain_window.specs.motion_chain.Chain.{first_number, Chain}
 use Rattle.tick_list.specs.Ticks.{min_ticks, max_ticks, Ticks-rise, Ticks-refusal}
-use Rattle.window_times.specs.declared.Window.{Window}
+use Rattle.chain_window.specs.window_times.declared.Window.{Window}
 use Rattle.chain_window.specs.Cover.{Chain-window_cover}
 use Rattle.chain_window.proofs.Numbers.{window-numbered}
 use Rattle.window_meetings.specs.Windows.{windows_of, windows_refusal, WindowsAnswer, listed, refused, WindowsAnswer-cons, windows_from, Chain-windows}

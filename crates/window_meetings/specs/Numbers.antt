@@ -1,6 +1,6 @@
 -- What is promised of every answer about windows: `WindowsAnswer-Numbered`.
 use Rattle.std.specs.Prelude.{ℕ, ◌≡◌, List}
-use Rattle.transform.specs.Answer.{OneOf}
+use Rattle.bounds_meeting.specs.transform.Answer.{OneOf}
 use Rattle.window_meetings.specs.Windows.{WindowsAnswer, listed, WindowsAnswer-refusal, WindowsAnswer-windows}
 
 -- The number is one of those listed, and an answer whose number is 0 is a list of windows.

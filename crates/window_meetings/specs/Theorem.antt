@@ -7,16 +7,16 @@
 --   reached c time p        where the padded point p of the box may be at a time                               below
 use Rattle.std.specs.Prelude.{ℕ, suc, ◌+◌, ◌≤◌, ◌<◌, ◌≡◌, List, length, get_or, Float}
 use Rattle.std.specs.Float.{nan}
-use Rattle.bounds3.specs.declared.Point3f.{Point3f}
-use Rattle.bounds3.specs.declared.Bounds3f.{Bounds3f}
-use Rattle.bounds3.specs.Inside.{Inside}
-use Rattle.transform.specs.declared.PointAnswer.{PointAnswer}
-use Rattle.transform.specs.Answer.{OneOf, PointAnswer-refusal, PointAnswer-point}
-use Rattle.motion_pad.specs.Grow.{Point3f-less, Point3f-plus}
-use Rattle.bounds_query.specs.Query.{max_depth}
-use Rattle.motion_chain.specs.Chain.{Chain, Chain-transform_point, Chain-pad_at}
-use Rattle.motion_chain.specs.Built.{BuiltChain}
-use Rattle.window_times.specs.declared.Window.{Window}
+use Rattle.bounds_meeting.specs.bounds3.declared.Point3f.{Point3f}
+use Rattle.bounds_meeting.specs.bounds3.declared.Bounds3f.{Bounds3f}
+use Rattle.bounds_meeting.specs.bounds3.Inside.{Inside}
+use Rattle.bounds_meeting.specs.transform.declared.PointAnswer.{PointAnswer}
+use Rattle.bounds_meeting.specs.transform.Answer.{OneOf, PointAnswer-refusal, PointAnswer-point}
+use Rattle.chain_window.specs.motion_pad.Grow.{Point3f-less, Point3f-plus}
+use Rattle.chain_window.specs.bounds_query.Query.{max_depth}
+use Rattle.chain_window.specs.motion_chain.Chain.{Chain, Chain-transform_point, Chain-pad_at}
+use Rattle.chain_window.specs.motion_chain.Built.{BuiltChain}
+use Rattle.chain_window.specs.window_times.declared.Window.{Window}
 use Rattle.chain_window.specs.Theorem.{InWindow}
 use Rattle.window_meetings.specs.Windows.{WindowsAnswer, WindowsAnswer-refusal, WindowsAnswer-windows, Chain-windows}
 

@@ -2,13 +2,13 @@
 -- 21 of the ticks, then 6 and 7 of the first box, 6 and 7 of the second, 8 of the depth, are judged before any work;
 -- then the first refusal met stands, "the earlier window first, then the first chain". Windows count from 0.
 use Rattle.std.specs.Prelude.{ℕ, suc, ◌-◌, Bool, cond, List, [], ◌∷◌, ◌++◌, eqb, ltb, length, replicate, Float}
-use Rattle.bounds3.specs.declared.Bounds3f.{Bounds3f}
-use Rattle.transform.specs.declared.BoundsAnswer.{BoundsAnswer}
-use Rattle.bounds_query.specs.Query.{Bounds3f-refusal, max_depth}
+use Rattle.bounds_meeting.specs.bounds3.declared.Bounds3f.{Bounds3f}
+use Rattle.bounds_meeting.specs.transform.declared.BoundsAnswer.{BoundsAnswer}
+use Rattle.chain_window.specs.bounds_query.Query.{Bounds3f-refusal, max_depth}
 use Rattle.bounds_meeting.specs.Meeting.{Meeting-of}
-use Rattle.motion_chain.specs.Chain.{first_number, Chain}
+use Rattle.chain_window.specs.motion_chain.Chain.{first_number, Chain}
 use Rattle.tick_list.specs.Ticks.{Ticks-refusal}
-use Rattle.window_times.specs.declared.Window.{Window}
+use Rattle.chain_window.specs.window_times.declared.Window.{Window}
 use Rattle.chain_window.specs.Cover.{Chain-window_cover}
 
 -- ---- the arguments

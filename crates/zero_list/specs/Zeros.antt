@@ -3,7 +3,7 @@
 use Rattle.std.specs.Prelude.{ℕ, ◌+◌, Bool, cond, ◌&&◌, List, [], ◌∷◌, ltb, set, Float}
 use Rattle.std.specs.Float.{binary32}
 use Rattle.std.specs.Float.Ieee.{of_bits, lt, le}
-use Rattle.float32.specs.Operators.{◌⊕◌, ◌⊖◌, positive_zero}
+use Rattle.interval.specs.float32.Operators.{◌⊕◌, ◌⊖◌, positive_zero}
 use Rattle.interval.specs.declared.Interval.{Interval}
 use Rattle.zero_list.specs.declared.Zeros.{Zeros}
 

@@ -3,7 +3,7 @@
 use mathlib.Core.Path.{◌≡◌, refl}
 use mathlib.Core.List.{[], ◌∷◌}
 use lib.Ieee.{neg}
-use Rattle.float32.specs.Operators.{positive_zero, one, half}
+use Rattle.trig.specs.float32.Operators.{positive_zero, one, half}
 use Rattle.zero_search.specs.Search.{interval_find_zeros}
 use Rattle.zero_list.specs.Zeros.{Zeros-empty}
 use Rattle.zero_search.specs.means.Computing.{computing}

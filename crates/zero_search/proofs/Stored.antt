@@ -15,7 +15,7 @@ use lib.Ieee.{Float, nan, inf, fin, lt, le, eq, is_nan, of_bits}
 use lib.Ieee.Fits.{and_r}
 use Rattle.interval.specs.declared.Interval.{Interval}
 use Rattle.motion_derivative.specs.declared.MotionDerivative.{MotionDerivative}
-use Rattle.float32.specs.Operators.{◌⊕◌, ◌⊖◌, positive_zero}
+use Rattle.trig.specs.float32.Operators.{◌⊕◌, ◌⊖◌, positive_zero}
 use Rattle.motion_derivative.specs.Derivative.{MotionDerivative-excludes_zero}
 use Rattle.zero_list.specs.declared.Zeros.{Zeros}
 use Rattle.zero_search.specs.Search.{newton_zero, lower_half, upper_half}

@@ -2,7 +2,7 @@
 -- the search ends; with them how many intervals it examined. `interval_find_zeros` is the search from 0 to 1 at depth 8; after 9 it answers nothing else.
 -- Definitions only.
 use Rattle.std.specs.Prelude.{ℕ, zero, suc, ◌+◌, Bool, true, false, cond, eqb, Float}
-use Rattle.float32.specs.Operators.{positive_zero, one}
+use Rattle.trig.specs.float32.Operators.{positive_zero, one}
 use Rattle.interval.specs.declared.Interval.{Interval}
 use Rattle.interval.specs.Interval.{Interval-new, Interval-midpoint}
 use Rattle.motion_derivative.specs.declared.MotionDerivative.{MotionDerivative}

@@ -2,7 +2,7 @@
 use Rattle.std.specs.Prelude.{◌≡◌, ◌⊎◌, not, ℕ, ◌≤◌, ◌<◌, length, get_or, T}
 use Rattle.std.specs.Float.{nan}
 use Rattle.std.specs.Float.Ieee.{is_nan}
-use Rattle.float32.specs.Operators.{positive_zero}
+use Rattle.trig.specs.float32.Operators.{positive_zero}
 use Rattle.zero_list.specs.declared.Zeros.{Zeros}
 
 -- At most eight are stored, every place after them is +0, no place holds a NaN, and there is no refusal but 9, which leaves none.

@@ -3,10 +3,10 @@
 use Rattle.std.specs.Prelude.{T, Float}
 use Rattle.std.specs.Float.{binary32}
 use Rattle.std.specs.Float.Ieee.{fits}
-use Rattle.rounding.specs.Order.{◌≼◌}
+use Rattle.own_rounding.specs.rounding.Order.{◌≼◌}
 use Rattle.own_rounding.specs.means.Alike.{Alike}
-use Rattle.interval.specs.declared.Interval.{Interval}
-use Rattle.interval.specs.Contains.{Finite}
+use Rattle.interval_unjudged.specs.interval.declared.Interval.{Interval}
+use Rattle.interval_unjudged.specs.interval.Contains.{Finite}
 use Rattle.interval_unjudged.specs.means.Ordered.{lesser, greater}
 
 pub record Interval-Alike (X Y : Interval) : Type 0 where

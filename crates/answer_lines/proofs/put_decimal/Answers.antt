@@ -1,7 +1,7 @@
 -- `put_decimal` puts a space and the digits.
 use mathlib.Core.List.{[], ◌∷◌}
 use Rattle.answer_lines.proofs.Pieces.{PutsAll, all_none, all_cons}
-use Rattle.motion_file.specs.Text.{space}
+use Rattle.motion_text.specs.motion_file.Text.{space}
 use Rattle.answer_lines.specs.Pieces.{decimal, whole_pieces}
 use Rattle.answer_lines.proofs.put_decimal.Goals as goal
 

@@ -1,7 +1,7 @@
 -- `put_refused` puts the word, the number and a line feed.
 use mathlib.Core.List.{[], ◌∷◌}
 use Rattle.answer_lines.proofs.Pieces.{all_none, all_cons, all_append}
-use Rattle.motion_file.specs.Text.{ascii, line_feed}
+use Rattle.motion_text.specs.motion_file.Text.{ascii, line_feed}
 use Rattle.answer_lines.specs.Pieces.{whole_pieces}
 use Rattle.answer_lines.proofs.put_refused.Goals as goal
 

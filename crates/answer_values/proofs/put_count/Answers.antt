@@ -1,5 +1,5 @@
 -- `put_count` puts a refusal, or `ok`, a whole number and a line feed.
-use Rattle.motion_file.specs.Text.{ascii}
+use Rattle.answer_lines.specs.motion_file.Text.{ascii}
 use Rattle.answer_lines.specs.Pieces.{whole_pieces}
 use Rattle.answer_values.proofs.Lines.{answer-refused, answer_ok}
 use Rattle.answer_values.proofs.put_count.Goals as goal

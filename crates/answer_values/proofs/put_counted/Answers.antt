@@ -1,5 +1,5 @@
 -- `put_counted` puts a refusal, or `ok`, floats and whole numbers and a line feed.
-use Rattle.motion_file.specs.Text.{ascii}
+use Rattle.answer_lines.specs.motion_file.Text.{ascii}
 use Rattle.answer_lines.proofs.Pieces.{all_cons}
 use Rattle.answer_values.specs.Lines.{counted_pieces}
 use Rattle.answer_values.proofs.Lines.{answer-refused, answer_ok}

@@ -1,5 +1,5 @@
 -- `put_error` puts the word and a line feed.
-use Rattle.motion_file.specs.Text.{ascii}
+use Rattle.answer_lines.specs.motion_file.Text.{ascii}
 use Rattle.answer_values.specs.Lines.{error_text}
 use Rattle.answer_values.proofs.put_error.Goals as goal
 

@@ -1,5 +1,5 @@
 -- `put_places` puts a refusal, or `ok`, how many places there are, and the places and a line feed.
-use Rattle.motion_file.specs.Text.{ascii}
+use Rattle.answer_lines.specs.motion_file.Text.{ascii}
 use Rattle.answer_lines.specs.Pieces.{whole_pieces}
 use Rattle.answer_lines.proofs.Pieces.{all_append}
 use Rattle.answer_values.specs.Lines.{places_pieces}

@@ -1,5 +1,5 @@
 -- `put_transform` puts a refusal, or `ok`, the rows and a line feed.
-use Rattle.motion_file.specs.Text.{ascii}
+use Rattle.answer_lines.specs.motion_file.Text.{ascii}
 use Rattle.answer_values.specs.Lines.{rows_pieces}
 use Rattle.answer_values.proofs.Lines.{answer-refused, answer_ok}
 use Rattle.answer_values.proofs.put_transform.Goals as goal

@@ -1,6 +1,6 @@
 -- `put_values` puts a refusal, or `ok`, floats and a line feed.
 use mathlib.Core.List.{[], ◌∷◌}
-use Rattle.motion_file.specs.Text.{ascii}
+use Rattle.answer_lines.specs.motion_file.Text.{ascii}
 use Rattle.answer_lines.specs.Pieces.{floats_text}
 use Rattle.answer_lines.proofs.Pieces.{all_cons, all_none}
 use Rattle.answer_values.proofs.Lines.{answer-refused, answer_ok}

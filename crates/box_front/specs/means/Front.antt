@@ -1,8 +1,8 @@
 -- What the code of a set keeps while it works: the boxes at the front that are not refused so far, and a place for each.
 -- Document 02 knows no such thing, and no promise cites it. `PaddedPose-front` and `PaddedPose-places` say what one pose makes of them. Definitions only.
 use Rattle.std.specs.Prelude.{ℕ, suc, Bool, cond, List, [], ◌∷◌, map, eqb, ltb, length, get_or, take, Float}
-use Rattle.bounds3.specs.declared.Bounds3f.{Bounds3f}
-use Rattle.bounds3.specs.List.{Bounds3f-of_list}
+use Rattle.transform.specs.bounds3.declared.Bounds3f.{Bounds3f}
+use Rattle.transform.specs.bounds3.List.{Bounds3f-of_list}
 use Rattle.transform.specs.declared.BoundsAnswer.{BoundsAnswer}
 use Rattle.transform.specs.declared.BoundsAnswer.TheVariants.{Bounds, Refused}
 use Rattle.bounds_query.specs.Query.{cover_refusal, BoundsAnswer-union_bounds}

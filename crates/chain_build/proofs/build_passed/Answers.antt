@@ -3,9 +3,9 @@ use mathlib.Core.Path.{sym, ap, ◌∙◌}
 use mathlib.Core.List.{List, map}
 use native.Mathlib.Omega.{arith}
 use lib.ListN.{length}
-use Rattle.matrix4x4.specs.Rows.{Rows}
-use Rattle.motion_chain.specs.Chain.{neighbours}
-use Rattle.motion_chain.proofs.Built.{checks-passed}
+use Rattle.lent_arrays.specs.matrix4x4.Rows.{Rows}
+use Rattle.chain_poses.specs.motion_chain.Chain.{neighbours}
+use Rattle.chain_poses.proofs.motion_chain.Built.{checks-passed}
 use Rattle.chain_poses.specs.Poses.{Poses-of_lists}
 use Rattle.chain_poses.proofs.Loops.{poses-length}
 use Rattle.chain_build.specs.Build.{blocks_left}

@@ -4,7 +4,7 @@ use mathlib.Core.Path.{ap}
 use mathlib.Core.List.{[]}
 use borrow.Author.Rules.{rules}
 use lib.ListN.{get_or, set}
-use Rattle.matrix4x4.specs.Rows.{Rows}
+use Rattle.lent_arrays.specs.matrix4x4.Rows.{Rows}
 use Rattle.lent_arrays.specs.Arrays.{Pose-of_list}
 use Rattle.chain_build.proofs.Answer.{pair-clauses}
 use Rattle.chain_build.proofs.put_pair.Goals as goal

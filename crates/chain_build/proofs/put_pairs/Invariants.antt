@@ -7,8 +7,8 @@ use borrow.Author.Rules.{rules}
 use borrow.Author.Tests.{eq-eqb, ne_eqb}
 use lib.ListN.{length}
 use Rattle.chain_number.specs.Number.{Move-number}
-use Rattle.motion_chain.specs.Chain.{first_number, stage}
-use Rattle.motion_chain.specs.Built.{Each}
+use Rattle.chain_poses.specs.motion_chain.Chain.{first_number, stage}
+use Rattle.chain_poses.specs.motion_chain.Built.{Each}
 use Rattle.chain_poses.specs.Poses.{Poses-of_lists, Poses-pair_at}
 use Rattle.chain_poses.proofs.Loops.{poses-length, pairs_from, pairs_next, pairs_end, pairs-count}
 use Rattle.chain_build.specs.means.Pairs.{Pair-Built}

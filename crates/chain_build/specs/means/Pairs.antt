@@ -1,7 +1,7 @@
 -- What comes of a neighbouring pair of poses, as the code that builds one after the other says it. Definitions only.
 use Rattle.std.specs.Prelude.{Bool}
-use Rattle.matrix4x4.specs.Rows.{Rows}
-use Rattle.pose_pair.specs.declared.Pose.{Pose}
+use Rattle.lent_arrays.specs.matrix4x4.Rows.{Rows}
+use Rattle.lent_arrays.specs.pose_pair.declared.Pose.{Pose}
 use Rattle.animated_transform.specs.New.{AnimatedTransform-new}
 use Rattle.animated_transform.specs.Built.{Built}
 use Rattle.motion_rows.specs.Rows.{AnimatedTransform-to_rows}

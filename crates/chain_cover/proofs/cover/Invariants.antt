@@ -5,7 +5,7 @@ use native.Mathlib.Omega.{arith}
 use borrow.Author.Rules.{rules}
 use borrow.Author.Tests.{eq-eqb, ne_eqb}
 use lib.ListN.{length}
-use Rattle.motion_chain.specs.Chain.{Chain-cover}
+use Rattle.chain_rows.specs.motion_chain.Chain.{Chain-cover}
 use Rattle.chain_rows.specs.Kept.{Moves-chain, Moves-cover}
 use Rattle.chain_rows.proofs.Contains.{cover-clauses}
 use Rattle.chain_cover.proofs.Union.{covers_from, covers-next, covers-end}

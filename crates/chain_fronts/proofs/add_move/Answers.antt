@@ -4,9 +4,9 @@ use native.Mathlib.Omega.{arith}
 use borrow.Author.Rules.{rules}
 use lib.ListN.{take}
 use lib.Seq.{length-take-le}
-use Rattle.bounds3.specs.declared.Bounds3f.{Bounds3f}
-use Rattle.transform.specs.declared.BoundsAnswer.{BoundsAnswer}
-use Rattle.motion_cover.specs.Cover.{AnimatedTransform-cover}
+use Rattle.lent_arrays.specs.bounds3.declared.Bounds3f.{Bounds3f}
+use Rattle.lent_arrays.specs.transform.declared.BoundsAnswer.{BoundsAnswer}
+use Rattle.box_front.specs.motion_cover.Cover.{AnimatedTransform-cover}
 use Rattle.motion_rows.specs.Rows.{AnimatedTransform-from_rows}
 use Rattle.box_front.specs.means.Front.{Boxes-answers, Front-of}
 use Rattle.motion_fronts.specs.means.Covered.{Boxes-asked, Places-answered}

@@ -1,7 +1,7 @@
 -- A box joined to what stands in its place, `joined_box`; the first n boxes of a list, each in its place, `Places-joined`. Definitions only.
 use Rattle.std.specs.Prelude.{ℕ, List, take, Float}
-use Rattle.bounds3.specs.Bounds3f.{Bounds3f-union_bounds}
-use Rattle.bounds3.specs.List.{Bounds3f-list, Bounds3f-of_list}
+use Rattle.lent_arrays.specs.bounds3.Bounds3f.{Bounds3f-union_bounds}
+use Rattle.lent_arrays.specs.bounds3.List.{Bounds3f-list, Bounds3f-of_list}
 use Rattle.box_front.specs.means.Front.{Places-put}
 
 abbrev pub joined_box : List Float → List Float → List Float

@@ -5,7 +5,7 @@ use native.Mathlib.Omega.{arith}
 use borrow.Author.Rules.{rules}
 use borrow.Author.Tests.{eq-eqb, ne_eqb}
 use lib.ListN.{length}
-use Rattle.motion_chain.specs.Chain.{first_number, stage}
+use Rattle.chain_poses.specs.motion_chain.Chain.{first_number, stage}
 use Rattle.chain_poses.proofs.Loops.{pairs_from, pairs_next, pairs_end}
 use Rattle.chain_number.specs.Number.{Move-number}
 use Rattle.chain_number.proofs.ChainNumber.{moves_next}

@@ -6,8 +6,8 @@ use native.Mathlib.Omega.{arith}
 use borrow.Author.Rules.{rules}
 use lib.Dec.{T}
 use lib.ListN.{length, take, drop}
-use Rattle.motion_chain.proofs.Stretches.{rises-drop}
-use Rattle.motion_chain.specs.Times.{places_per_time}
+use Rattle.time_list.proofs.motion_chain.Stretches.{rises-drop}
+use Rattle.time_list.specs.motion_chain.Times.{places_per_time}
 use Rattle.stretch_points.specs.Points.{floats_at}
 use Rattle.chain_times.proofs.Stretches.{asked_from, floats-next, floats-last}
 use Rattle.chain_times.proofs.fill_all.Goals as goal

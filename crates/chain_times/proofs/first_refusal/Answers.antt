@@ -5,8 +5,8 @@ use native.Mathlib.Omega.{arith}
 use borrow.Author.Rules.{rules}
 use lib.Dec.{T}
 use lib.ListN.{length, drop}
-use Rattle.motion_chain.specs.Times.{PointsAnswer-refusal, points_at}
-use Rattle.motion_chain.proofs.Stretches.{rises-drop}
+use Rattle.time_list.specs.motion_chain.Times.{PointsAnswer-refusal, points_at}
+use Rattle.time_list.proofs.motion_chain.Stretches.{rises-drop}
 use Rattle.chain_times.proofs.Stretches.{asked_from}
 use Rattle.chain_times.proofs.Numbers.{number-here, number-next, number-last}
 use Rattle.chain_times.proofs.first_refusal.Goals as goal

@@ -6,7 +6,7 @@ use borrow.Author.Rules.{rules}
 use borrow.Author.Tests.{not-true, not-false}
 use lib.ListN.{length, drop, get_or}
 use lib.Ieee.{nan, le}
-use Rattle.motion_chain.specs.Stretches.{count_up_to}
+use Rattle.time_list.specs.motion_chain.Stretches.{count_up_to}
 use Rattle.chain_times.proofs.Ends.{count-here, count_next, count-end}
 use Rattle.chain_times.proofs.stretch_end.Goals as goal
 

@@ -2,8 +2,8 @@
 use mathlib.Core.Path.{sym, ◌∙◌}
 use lib.Ieee.Bits.{is_true}
 use lib.ListN.{length}
-use Rattle.motion_chain.specs.Times.{never_falls}
-use Rattle.motion_chain.proofs.Times.{list-passed}
+use Rattle.time_list.specs.motion_chain.Times.{never_falls}
+use Rattle.time_list.proofs.motion_chain.Times.{list-passed}
 use Rattle.chain_times.proofs.Points.{positive, none_kept, list-refused, time-refused, all-answered}
 use borrow.Author.Rules.{rules}
 use Rattle.chain_times.proofs.transform_points.Goals as goal

@@ -1,8 +1,8 @@
 -- What has to unfold for the coefficients of given parts to compute, as one group: a case says `unfolding computing`.
 use Rattle.std.specs.Float.Ieee.{add, sub, mul, neg, of_bits}
-use Rattle.derivative_x.specs.Terms.{c1x, c2x, c3x, c4x, c5x}
-use Rattle.derivative_y.specs.Terms.{c1y, c2y, c3y, c4y, c5y}
-use Rattle.derivative_z.specs.Terms.{c1z, c2z, c3z, c4z, c5z}
+use Rattle.axis_derivative.specs.derivative_x.Terms.{c1x, c2x, c3x, c4x, c5x}
+use Rattle.axis_derivative.specs.derivative_y.Terms.{c1y, c2y, c3y, c4y, c5y}
+use Rattle.axis_derivative.specs.derivative_z.Terms.{c1z, c2z, c3z, c4z, c5z}
 use Rattle.axis_derivative.specs.AxisDerivative.{column_terms, derivative}
 use Rattle.axis_derivative.specs.IsFinite.{DerivativeTerm-is_finite, Derivative-is_finite}
 use Rattle.coefficients.specs.Coefficients.{Coefficients-new}

@@ -1,16 +1,16 @@
 -- The box of a piece of dt by the parts of a move, `Pose-enclose_bounds`, and what its laws ask of them, `Enclosable`: a built move's parts are so,
 -- and code can test it of any others. Definitions only.
 use Rattle.std.specs.Prelude.{Float}
-use Rattle.bounds3.specs.declared.Bounds3f.{Bounds3f}
-use Rattle.matrix4x4.specs.declared.Matrix4x4.{Matrix4x4}
-use Rattle.transform.specs.declared.BoundsAnswer.{BoundsAnswer}
-use Rattle.interval.specs.declared.Interval.{Interval}
-use Rattle.pose_steps.specs.declared.PoseConstants.{PoseConstants}
-use Rattle.pose_steps.specs.Promise.{PoseConstants-Valid, FiniteScale}
-use Rattle.pose_steps.specs.Enclose.{Pose-enclose_point, Bounds3f-intervals}
-use Rattle.animated_transform.specs.Built.{Pad-Judged}
-use Rattle.motion_pad.specs.Pad.{Pad-enclose}
-use Rattle.motion_pad.specs.Grow.{BoundsAnswer-grow}
+use Rattle.motion_cover.specs.bounds3.declared.Bounds3f.{Bounds3f}
+use Rattle.motion_cover.specs.matrix4x4.declared.Matrix4x4.{Matrix4x4}
+use Rattle.motion_cover.specs.transform.declared.BoundsAnswer.{BoundsAnswer}
+use Rattle.motion_cover.specs.interval.declared.Interval.{Interval}
+use Rattle.motion_cover.specs.pose_steps.declared.PoseConstants.{PoseConstants}
+use Rattle.motion_cover.specs.pose_steps.Promise.{PoseConstants-Valid, FiniteScale}
+use Rattle.motion_cover.specs.pose_steps.Enclose.{Pose-enclose_point, Bounds3f-intervals}
+use Rattle.motion_cover.specs.animated_transform.Built.{Pad-Judged}
+use Rattle.motion_cover.specs.motion_pad.Pad.{Pad-enclose}
+use Rattle.motion_cover.specs.motion_pad.Grow.{BoundsAnswer-grow}
 use Rattle.motion_cover.specs.Cover.{BoundsAnswer-from_enclosure}
 
 -- `AnimatedTransform-enclose_bounds` of a move with these parts.

@@ -1,6 +1,6 @@
 -- `border_at` meets its contract: near slerp asks for no angle; otherwise the table that is lent gives the angle's own sine and cosine (`sin-lent`, `cos-lent`).
 use mathlib.Core.Path.{sym, ◌∙◌}
-use Rattle.float32.specs.Operators.{◌⊗◌}
+use Rattle.bounds3.specs.float32.Operators.{◌⊗◌}
 use Rattle.trig.proofs.OverTable.{sin-lent, cos-lent}
 use Rattle.cover_groups.specs.means.Groups.{Border-from, Border-at}
 use Rattle.cover_groups.proofs.border_at.Goals as goal

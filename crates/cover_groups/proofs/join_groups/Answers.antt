@@ -3,9 +3,9 @@ use Prim.Native.Nat.{◌+◌, ◌-◌, ◌*◌, ◌^◌, ◌≤◌}
 use mathlib.Core.Path.{◌≡◌, ◌∙◌}
 use native.Mathlib.Omega.{arith}
 use borrow.Author.Rules.{rules}
-use Rattle.control_flow.specs.Loop.{loop}
-use Rattle.control_flow.proofs.Loop.{loop-start, loop-next, loop-end}
-use Rattle.unit_interval.specs.Unit.{slice_end}
+use Rattle.pose_steps.specs.control_flow.Loop.{loop}
+use Rattle.pose_steps.proofs.control_flow.Loop.{loop-start, loop-next, loop-end}
+use Rattle.pose_steps.specs.unit_interval.Unit.{slice_end}
 use Rattle.motion_cover.proofs.Slices.{slice-end}
 use Rattle.pose_steps.specs.Pose.{is_near}
 use Rattle.cover_groups.specs.means.Groups.{Border-at, Border-last, LanesVector-pieces, LanesVector-group}

@@ -1,5 +1,5 @@
 -- `second_quaternion` meets its contract: cos_theta chooses the case.
-use Rattle.pose_lean.specs.means.Lean.{second_by}
+use Rattle.lanes_rotation.specs.pose_lean.means.Lean.{second_by}
 use Rattle.cover_groups.proofs.second_quaternion.Goals as goal
 
 pub returns-then-a : goal.returns-then-a

@@ -3,9 +3,9 @@ use Prim.Native.Nat.{ℕ, ◌*◌, ◌/◌, ◌%◌, ◌^◌, ◌≤◌}
 use mathlib.Core.Path.{◌≡◌, sym, ap, ◌∙◌}
 use native.Mathlib.Omega.{arith}
 use borrow.Author.Rules.{rules}
-use Rattle.control_flow.specs.Loop.{loop}
-use Rattle.bounds_query.specs.Query.{max_depth}
-use Rattle.unit_interval.proofs.Slices.{slice_end-first}
+use Rattle.pose_steps.specs.control_flow.Loop.{loop}
+use Rattle.motion_cover.specs.bounds_query.Query.{max_depth}
+use Rattle.pose_steps.proofs.unit_interval.Slices.{slice_end-first}
 use Rattle.pose_steps.specs.Pose.{is_near}
 use Rattle.pose_steps.specs.Enclose.{Bounds3f-intervals}
 use Rattle.motion_cover.proofs.Slices.{slice-count}

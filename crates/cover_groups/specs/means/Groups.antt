@@ -1,17 +1,17 @@
 -- The borders of four slices, the boxes of four slices joined lane by lane, and the union of all groups, `Groups-union`. Definitions only.
 use Rattle.std.specs.Prelude.{ℕ, ◌+◌, ◌*◌, Bool, cond, [], ◌∷◌, Float}
-use Rattle.control_flow.specs.Loop.{loop}
-use Rattle.float32.specs.Operators.{◌⊕◌, ◌⊗◌, positive_zero, one}
+use Rattle.pose_steps.specs.control_flow.Loop.{loop}
+use Rattle.bounds3.specs.float32.Operators.{◌⊕◌, ◌⊗◌, positive_zero, one}
 use Rattle.trig.specs.SinCos.{sin, cos}
 use Rattle.quaternion.specs.declared.Quaternion.{Quaternion}
 use Rattle.matrix4x4.specs.declared.Matrix4x4.{Matrix4x4}
 use Rattle.bounds3.specs.declared.Bounds3f.{Bounds3f}
-use Rattle.unit_interval.specs.Unit.{slice_end, slice}
+use Rattle.pose_steps.specs.unit_interval.Unit.{slice_end, slice}
 use Rattle.pose_steps.specs.declared.PoseConstants.{PoseConstants}
 use Rattle.pose_steps.specs.declared.IntervalVector.{IntervalVector}
 use Rattle.pose_steps.specs.Pose.{is_near}
 use Rattle.pose_steps.specs.Enclose.{Bounds3f-intervals}
-use Rattle.pose_lean.specs.means.Lean.{LeanPose-over, LeanPose-vector}
+use Rattle.lanes_rotation.specs.pose_lean.means.Lean.{LeanPose-over, LeanPose-vector}
 use Rattle.lanes.specs.declared.Lanes.{Lanes}
 use Rattle.lanes.specs.means.Lanes.{Lane, place, at, fourth, Lanes-lane}
 use Rattle.lanes_rotation.specs.declared.LanesVector.{LanesVector}

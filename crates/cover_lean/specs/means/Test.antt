@@ -3,13 +3,13 @@
 use Rattle.std.specs.Prelude.{Bool, ◌&&◌, Float}
 use Rattle.std.specs.Float.Ieee.{le}
 use Rattle.std.specs.Float.Ieee.Scale.{finite}
-use Rattle.float32.specs.Operators.{positive_zero}
-use Rattle.trig.specs.Range.{quarter_turn_float}
-use Rattle.vector3.specs.declared.Vector3f.{Vector3f}
-use Rattle.quaternion.specs.IsFinite.{Quaternion-is_finite}
-use Rattle.matrix4x4.specs.declared.Matrix4x4.{Matrix4x4}
-use Rattle.matrix4x4.specs.Rows.{Row, col}
-use Rattle.pose_steps.specs.declared.PoseConstants.{PoseConstants}
+use Rattle.dt_share.specs.float32.Operators.{positive_zero}
+use Rattle.dt_share.specs.trig.Range.{quarter_turn_float}
+use Rattle.pose_lean.specs.vector3.declared.Vector3f.{Vector3f}
+use Rattle.pose_lean.specs.quaternion.IsFinite.{Quaternion-is_finite}
+use Rattle.pose_lean.specs.matrix4x4.declared.Matrix4x4.{Matrix4x4}
+use Rattle.pose_lean.specs.matrix4x4.Rows.{Row, col}
+use Rattle.pose_lean.specs.pose_steps.declared.PoseConstants.{PoseConstants}
 
 unfoldable pub Vector3f-is_finite : Vector3f → Bool
 Vector3f-is_finite v = finite v.x && finite v.y && finite v.z

@@ -1,12 +1,12 @@
 -- The union of boxes in rising order, `union_of`; and in four lanes, by comparisons: lane l takes the boxes l, l + 4, .., and the four are joined in
 -- pairs. Definitions only.
 use Rattle.std.specs.Prelude.{ℕ, zero, suc, ◌+◌, ◌*◌}
-use Rattle.control_flow.specs.Loop.{loop}
-use Rattle.bounds3.specs.declared.Bounds3f.{Bounds3f}
-use Rattle.bounds3.specs.Bounds3f.{Bounds3f-union_bounds}
-use Rattle.interval.specs.declared.Interval.{Interval}
-use Rattle.interval_unjudged.specs.means.Ordered.{lesser, greater}
-use Rattle.pose_steps.specs.declared.IntervalVector.{IntervalVector}
+use Rattle.pose_lean.specs.control_flow.Loop.{loop}
+use Rattle.pose_lean.specs.bounds3.declared.Bounds3f.{Bounds3f}
+use Rattle.pose_lean.specs.bounds3.Bounds3f.{Bounds3f-union_bounds}
+use Rattle.dt_share.specs.interval.declared.Interval.{Interval}
+use Rattle.pose_lean.specs.interval_unjudged.means.Ordered.{lesser, greater}
+use Rattle.pose_lean.specs.pose_steps.declared.IntervalVector.{IntervalVector}
 
 unfoldable pub union_of : (ℕ → Bounds3f) → ℕ → Bounds3f → Bounds3f
 union_of f zero u = u

@@ -2,8 +2,8 @@
 -- The work asks that the depth is at most 12, which a query that is not refused meets (`cover-depth`).
 use borrow.Author.Rules.{rules}
 use borrow.Author.Tests.{eq-eqb, ne_eqb}
-use Rattle.motion_cover.specs.Cover.{AnimatedTransform-cover}
-use Rattle.motion_cover.proofs.Contains.{cover-depth, cover-clauses}
+use Rattle.motion_piece.specs.motion_cover.Cover.{AnimatedTransform-cover}
+use Rattle.motion_piece.proofs.motion_cover.Contains.{cover-depth, cover-clauses}
 use Rattle.cover_query.proofs.cover.Goals as goal
 
 pub returns-then-n-ne0 : goal.returns-then-n-ne0

@@ -1,5 +1,5 @@
 -- `ends_enclosure` meets its contract: a chain of calls.
-use Rattle.motion_cover.specs.Cover.{AnimatedTransform-enclose_ends}
+use Rattle.motion_piece.specs.motion_cover.Cover.{AnimatedTransform-enclose_ends}
 use Rattle.motion_piece.proofs.Piece.{stored-composition}
 use Rattle.cover_query.proofs.ends_enclosure.Goals as goal
 

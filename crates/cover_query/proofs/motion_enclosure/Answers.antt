@@ -4,8 +4,8 @@ use native.Mathlib.Nat.{min-eq_left}
 use borrow.Author.Rules.{rules}
 use borrow.Author.Tests.{not-true, not-false}
 use Rattle.bounds_query.specs.Zeros.{BoundsAnswer-positive_zeros}
-use Rattle.motion_cover.specs.Cover.{AnimatedTransform-enclose_motion}
-use Rattle.motion_cover.proofs.Slices.{refused-first}
+use Rattle.motion_piece.specs.motion_cover.Cover.{AnimatedTransform-enclose_motion}
+use Rattle.motion_piece.proofs.motion_cover.Slices.{refused-first}
 use Rattle.motion_piece.proofs.Piece.{stored-composition}
 use Rattle.cover_query.proofs.motion_enclosure.Goals as goal
 

@@ -6,7 +6,7 @@ use lib.Dec.{T}
 use lib.Ieee.Fits.{and_l, and_r}
 use native.Mathlib.Omega.{arith}
 use Rattle.transform.specs.declared.BoundsAnswer.TheVariants.{Bounds}
-use Rattle.motion_cover.specs.Cover.{union_slices}
+use Rattle.motion_piece.specs.motion_cover.Cover.{union_slices}
 use Rattle.cover_slices.specs.means.Lean.{BoundsAnswer-is_box}
 use Rattle.cover_slices.proofs.Groups.{coarse-small}
 use Rattle.cover_slices.proofs.is_lean.Goals as goal

@@ -1,9 +1,9 @@
 -- `slice_enclosure` meets its contract: the poses between two borders with their pad, over the box.
 use mathlib.Core.Path.{sym, ◌∙◌}
 use borrow.Author.Rules.{rules}
-use Rattle.unit_interval.specs.Unit.{slice}
-use Rattle.motion_cover.specs.Cover.{AnimatedTransform-enclose_bounds}
-use Rattle.motion_cover.proofs.Slices.{slice-end}
+use Rattle.pose_steps.specs.unit_interval.Unit.{slice}
+use Rattle.motion_piece.specs.motion_cover.Cover.{AnimatedTransform-enclose_bounds}
+use Rattle.motion_piece.proofs.motion_cover.Slices.{slice-end}
 use Rattle.motion_piece.specs.means.Piece.{PaddedPose-enclose_bounds}
 use Rattle.motion_piece.proofs.Piece.{piece-composition}
 use Prim.Native.Nat.{◌+◌}

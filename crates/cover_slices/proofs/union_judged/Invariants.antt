@@ -5,8 +5,8 @@ use native.Mathlib.Omega.{arith}
 use lib.Pow.{pow-lt}
 use borrow.Author.Rules.{rules}
 use Rattle.transform.specs.declared.BoundsAnswer.TheVariants.{Bounds}
-use Rattle.motion_cover.specs.Cover.{union_slices}
-use Rattle.motion_cover.proofs.Slices.{slice-count}
+use Rattle.motion_piece.specs.motion_cover.Cover.{union_slices}
+use Rattle.motion_piece.proofs.motion_cover.Slices.{slice-count}
 use Rattle.cover_slices.proofs.Reached.{joined-next, slice-refused}
 use Rattle.cover_slices.proofs.union_judged.Given as goal
 

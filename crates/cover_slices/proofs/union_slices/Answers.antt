@@ -7,7 +7,7 @@ use lib.Ieee.Fits.{and_l, and_r}
 use native.Mathlib.Omega.{arith}
 use Rattle.transform.specs.declared.BoundsAnswer.TheVariants.{Bounds}
 use Rattle.bounds_query.specs.Zeros.{BoundsAnswer-positive_zeros}
-use Rattle.motion_cover.specs.Cover.{union_slices}
+use Rattle.motion_piece.specs.motion_cover.Cover.{union_slices}
 use Rattle.cover_slices.proofs.union_slices.Goals as goal
 
 pub union_finer-requires : goal.union_finer-requires

@@ -7,10 +7,10 @@ use Rattle.transform.specs.declared.BoundsAnswer.TheVariants.{Bounds, Refused}
 use Rattle.bounds_query.specs.Query.{Bounds3f-refusal}
 use Rattle.pose_steps.specs.declared.PoseConstants.{PoseConstants}
 use Rattle.pose_steps.specs.Pose.{is_near}
-use Rattle.pose_lean.specs.means.Values.{Bounds3f-Values}
+use Rattle.cover_groups.specs.pose_lean.means.Values.{Bounds3f-Values}
 use Rattle.animated_transform.specs.declared.AnimatedTransform.{AnimatedTransform}
-use Rattle.motion_cover.specs.Cover.{union_slices}
-use Rattle.cover_lean.specs.means.Test.{Pose-is_enclosable}
+use Rattle.motion_piece.specs.motion_cover.Cover.{union_slices}
+use Rattle.cover_test.specs.cover_lean.means.Test.{Pose-is_enclosable}
 use Rattle.cover_test.specs.means.Values.{Parts-Values}
 
 -- The depth of the coarse slices.

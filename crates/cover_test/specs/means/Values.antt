@@ -4,7 +4,7 @@ use Rattle.std.specs.Float.{binary32}
 use Rattle.std.specs.Float.Ieee.{fits}
 use Rattle.matrix4x4.specs.declared.Matrix4x4.{Matrix4x4}
 use Rattle.pose_steps.specs.declared.PoseConstants.{PoseConstants}
-use Rattle.pose_lean.specs.means.Values.{PoseConstants-Values, ScaleValues}
+use Rattle.cover_lean.specs.pose_lean.means.Values.{PoseConstants-Values, ScaleValues}
 
 pub record Parts-Values (a : PoseConstants) (s0 s1 : Matrix4x4) (pad0 pad1 : Float) : Type 0 where
   pub constants : PoseConstants-Values a

@@ -1,7 +1,7 @@
 -- `decompose` meets its contract. The invariant: after `counter` rounds the definition stands at `r`, unsettled.
 use mathlib.Core.Path.{sym, ◌∙◌}
 use Prim.Native.Nat.{◌-◌}
-use Rattle.control_flow.specs.Loop.{loop}
+use Rattle.matrix_inverse.specs.control_flow.Loop.{loop}
 use borrow.Author.Rules.{rules}
 use Rattle.decomposition.proofs.Rounds.{inverse-refuses, matrix-refuses, turn_last, turn-next}
 use Rattle.decomposition.proofs.decompose.Goals as goal

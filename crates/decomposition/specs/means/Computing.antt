@@ -1,6 +1,6 @@
 -- What has to unfold for a given matrix to be decomposed by computing, as one group: a case says `unfolding computing`.
 use Rattle.std.specs.Float.Ieee.{is_nan, le}
-use Rattle.float32.specs.MinMax.{max_num}
+use Rattle.matrix4x4.specs.float32.MinMax.{max_num}
 use Rattle.matrix_inverse.specs.means.Computing as inverse
 use Rattle.matrix_quaternion.specs.means.Computing as quaternion
 use Rattle.polar_round.specs.PolarRound.{linear_part, mean, row_distance, distance}

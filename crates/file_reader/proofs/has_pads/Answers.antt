@@ -4,8 +4,8 @@ use native.Mathlib.Omega.{arith}
 use mathlib.Core.Path.{◌≡◌, ap, ◌∙◌}
 use mathlib.Core.List.{List}
 use borrow.Author.Rules.{rules}
-use Rattle.hexadecimal.specs.Digit.{position}
-use Rattle.hexadecimal.proofs.Digits.{position-bound}
+use Rattle.motion_file.specs.hexadecimal.Digit.{position}
+use Rattle.motion_file.proofs.hexadecimal.Digits.{position-bound}
 use Rattle.motion_file.specs.Text.{ascii, line_feed}
 use Rattle.motion_file.specs.Layout.{names, padded_names, fits, has_pads}
 use Rattle.motion_file.proofs.Pieces.{split-first}

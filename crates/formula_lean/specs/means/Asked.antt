@@ -4,9 +4,9 @@ use Rattle.std.specs.Prelude.{Bool, true, ◌&&◌, List, [], ◌∷◌, ◌++�
 use Rattle.std.specs.Float.{binary32}
 use Rattle.std.specs.Float.Ieee.{fits}
 use Rattle.std.specs.Float.Ieee.Scale.{finite}
-use Rattle.formula.specs.Program.{Unary, root, sine, cosine, Expr, var, con, binary, unary, Program, ◌>>=◌, give}
-use Rattle.formula.specs.Enclose.{Enclosure, extend, Expr-enclose}
-use Rattle.interval.specs.declared.Interval.{Interval}
+use Rattle.alike.specs.formula.Program.{Unary, root, sine, cosine, Expr, var, con, binary, unary, Program, ◌>>=◌, give}
+use Rattle.alike.specs.formula.Enclose.{Enclosure, extend, Expr-enclose}
+use Rattle.alike.specs.interval.declared.Interval.{Interval}
 use Rattle.formula_lean.specs.means.Lean.{Lean, Expr-lean}
 
 abbrev pub Expr-bound : List Interval → Expr → Bool

@@ -6,16 +6,16 @@ use Rattle.std.specs.Prelude.{cond, ◌&&◌, List, [], ◌∷◌, ◌++◌, len
 use Rattle.std.specs.Float.{nan, binary32}
 use Rattle.std.specs.Float.Ieee.{le}
 use Rattle.std.specs.Float.Ieee.Scale.{finite}
-use Rattle.float32.specs.Operators.{◌⊕◌, ◌⊖◌, ◌⊗◌, ◌⊘◌, positive_zero, one}
-use Rattle.square_root.specs.SquareRoot.{sqrt}
-use Rattle.interval.specs.declared.Interval.{Interval}
-use Rattle.interval.specs.Contains.{Finite}
-use Rattle.interval.specs.Interval.{Interval-point}
-use Rattle.interval.specs.Enclosure.{Interval-add_enclosure, Interval-sub_enclosure, Interval-sqrt_enclosure, Interval-sin_enclosure, Interval-cos_enclosure}
-use Rattle.interval.specs.Extension.{Angles}
-use Rattle.trig.specs.SinCos.{sin, cos}
-use Rattle.formula.specs.Program.{Binary, sum, difference, product, quotient, Unary, root, sine, cosine, Expr, var, con, binary, unary, Program, ◌>>=◌, give}
-use Rattle.interval_unjudged.specs.means.Ordered.{Interval-mul_ordered, Interval-div_ordered}
+use Rattle.alike.specs.float32.Operators.{◌⊕◌, ◌⊖◌, ◌⊗◌, ◌⊘◌, positive_zero, one}
+use Rattle.alike.specs.square_root.SquareRoot.{sqrt}
+use Rattle.alike.specs.interval.declared.Interval.{Interval}
+use Rattle.alike.specs.interval.Contains.{Finite}
+use Rattle.alike.specs.interval.Interval.{Interval-point}
+use Rattle.alike.specs.interval.Enclosure.{Interval-add_enclosure, Interval-sub_enclosure, Interval-sqrt_enclosure, Interval-sin_enclosure, Interval-cos_enclosure}
+use Rattle.alike.specs.interval.Extension.{Angles}
+use Rattle.alike.specs.trig.SinCos.{sin, cos}
+use Rattle.alike.specs.formula.Program.{Binary, sum, difference, product, quotient, Unary, root, sine, cosine, Expr, var, con, binary, unary, Program, ◌>>=◌, give}
+use Rattle.alike.specs.interval_unjudged.means.Ordered.{Interval-mul_ordered, Interval-div_ordered}
 use Rattle.alike.specs.means.Alike.{Interval-new_ordered}
 use Rattle.alike.specs.means.Angles.{QuarterAngles}
 

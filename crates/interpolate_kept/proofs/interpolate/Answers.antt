@@ -2,10 +2,10 @@
 -- for NaN (`differs-nan`).
 use mathlib.Core.Path.{sym, ◌∙◌}
 use lib.Ieee.{Float, div}
-use Rattle.rounding.proofs.Order.{differs-nan}
-use Rattle.matrix4x4.specs.Rows.{Rows}
+use Rattle.transform.proofs.rounding.Order.{differs-nan}
+use Rattle.transform.specs.matrix4x4.Rows.{Rows}
 use Rattle.transform.specs.declared.TransformAnswer.{TransformAnswer}
-use Rattle.unit_interval.specs.Unit.{dt}
+use Rattle.pose_slerp.specs.unit_interval.Unit.{dt}
 use Rattle.interpolation.specs.Interpolate.{Pose-transform, AnimatedTransform-interpolate_by}
 use Rattle.motion_rows.specs.Rows.{AnimatedTransform-from_rows, PoseConstants-from_rows}
 use Rattle.interpolate_kept.specs.Kept.{Rows-interpolate}

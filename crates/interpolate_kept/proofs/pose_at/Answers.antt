@@ -1,5 +1,5 @@
 -- `pose_at` meets its contract: translation and scale are the stages' (`translation-same`, `scale-by-same`).
-use Rattle.pose_steps.proofs.Composition.{translation-same, scale-by-same}
+use Rattle.pose_slerp.proofs.pose_steps.Composition.{translation-same, scale-by-same}
 use Rattle.interpolation.specs.Interpolate.{Pose-transform}
 use Rattle.motion_rows.specs.Rows.{AnimatedTransform-from_rows, PoseConstants-from_rows}
 use borrow.Author.Rules.{rules}

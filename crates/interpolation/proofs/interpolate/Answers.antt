@@ -2,7 +2,7 @@
 use mathlib.Core.Path.{sym, ap, ◌∙◌}
 use mathlib.Core.Bool.{Bool, cond}
 use lib.Ieee.{Float}
-use Rattle.rounding.proofs.Order.{differs-nan}
+use Rattle.matrix4x4.proofs.rounding.Order.{differs-nan}
 use Rattle.transform.specs.declared.TransformAnswer.{TransformAnswer}
 use Rattle.unit_interval.specs.Unit.{dt}
 use Rattle.animated_transform.specs.declared.AnimatedTransform.{AnimatedTransform}

@@ -1,5 +1,5 @@
 -- `pose_at` meets its contract: translation and scale are the stages' (`translation-same`, `scale-by-same`).
-use Rattle.pose_steps.proofs.Composition.{translation-same, scale-by-same}
+use Rattle.pose_parts.proofs.pose_steps.Composition.{translation-same, scale-by-same}
 use Rattle.interpolation.specs.Interpolate.{AnimatedTransform-pose_at}
 use borrow.Author.Rules.{rules}
 use Rattle.interpolation.proofs.pose_at.Goals as goal

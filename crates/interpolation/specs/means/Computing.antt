@@ -1,6 +1,6 @@
 -- What has to unfold for a given move to be interpolated by computing, as one group: a case says `unfolding computing`. The arc cosine's search is not in it.
-use Rattle.float32.specs.Lerp.{lerp}
-use Rattle.pose_steps.specs.Composition.{lerp_scale_by}
+use Rattle.matrix4x4.specs.float32.Lerp.{lerp}
+use Rattle.pose_parts.specs.pose_steps.Composition.{lerp_scale_by}
 use Rattle.unit_interval.specs.means.Computing as unit
 use Rattle.rotation.specs.means.Computing as rotation
 use Rattle.animated_transform.specs.means.Computing as animated

@@ -1,7 +1,7 @@
 -- Sine and cosine of an interval of angles, from what is kept of its two ends: u, sine and cosine. Document 01 knows no such thing, and no promise cites it:
 -- `sin-range` and `cos-range` say that these are `Interval-sin_enclosure` and `Interval-cos_enclosure`. Definitions only.
 use Rattle.std.specs.Prelude.{◌*◌, ◌^◌, min, ◌||◌, Float}
-use Rattle.sine_table.specs.Table.{quarter_turn}
+use Rattle.trig.specs.sine_table.Table.{quarter_turn}
 use Rattle.trig.specs.declared.SinCos.{SinCos}
 use Rattle.trig.specs.Units.{angle_units}
 use Rattle.trig.specs.SinCos.{sin, cos}

@@ -3,7 +3,7 @@
 -- `mul-ordered` and `div-ordered` say where they are the cover's.
 use Rattle.std.specs.Prelude.{cond, Float}
 use Rattle.std.specs.Float.Ieee.{lt}
-use Rattle.float32.specs.Operators.{◌⊕◌, ◌⊗◌, ◌⊘◌}
+use Rattle.interval.specs.float32.Operators.{◌⊕◌, ◌⊗◌, ◌⊘◌}
 use Rattle.interval.specs.declared.Interval.{Interval}
 
 -- The first unless the other is strictly below it, or above it.

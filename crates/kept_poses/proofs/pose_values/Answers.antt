@@ -2,7 +2,7 @@
 use mathlib.Core.Path.{◌≡◌}
 use lib.ListN.{length}
 use borrow.Author.Rules.{rules}
-use Rattle.matrix4x4.specs.Rows.{Row}
+use Rattle.motion_rows.specs.matrix4x4.Rows.{Row}
 use Rattle.kept_poses.specs.means.Poses.{pose}
 use Rattle.kept_poses.proofs.Row.{row-entries}
 use Rattle.kept_poses.proofs.pose_values.Goals as goal

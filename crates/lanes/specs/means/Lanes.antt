@@ -2,7 +2,7 @@
 -- `Lanes-of` writes four lanes out, so that a lane of it computes: a nest of operations is `Lanes-of` of the nested operation on intervals.
 use Rattle.std.specs.Prelude.{ℕ, Bool, cond, List, [], ◌∷◌, get_or, Float}
 use Rattle.std.specs.Float.{nan}
-use Rattle.float32.specs.Operators.{◌⊕◌, ◌⊖◌, ◌⊗◌, two}
+use Rattle.interval.specs.float32.Operators.{◌⊕◌, ◌⊖◌, ◌⊗◌, two}
 use Rattle.interval.specs.declared.Interval.{Interval}
 use Rattle.interval.specs.Interval.{Interval-point}
 use Rattle.interval_unjudged.specs.means.Ordered.{lesser, greater, Interval-mul_ordered}

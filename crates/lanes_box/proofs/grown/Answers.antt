@@ -1,7 +1,7 @@
 -- `grown` meets its contract: three axes, side by side.
 use Rattle.lanes.specs.means.Lanes.{Interval-widened}
 use Rattle.lanes_rotation.specs.means.Matrices.{LanesVector-of, LanesVector-lane}
-use Rattle.pose_lean.specs.means.Lean.{Interval-grown, IntervalVector-grown}
+use Rattle.lanes_rotation.specs.pose_lean.means.Lean.{Interval-grown, IntervalVector-grown}
 use Rattle.lanes_box.proofs.grown.Goals as goal
 
 pub returns : goal.returns

@@ -1,7 +1,7 @@
 -- `moved` meets its contract: its calls in turn.
 use Rattle.lanes.specs.means.Lanes.{Lanes-lane, Lanes-of, Lanes-zip}
 use Rattle.lanes_rotation.specs.means.Matrices.{LanesVector-lane}
-use Rattle.pose_lean.specs.means.Lean.{moved}
+use Rattle.lanes_rotation.specs.pose_lean.means.Lean.{moved}
 use Rattle.lanes_box.proofs.moved.Goals as goal
 
 pub returns : goal.returns

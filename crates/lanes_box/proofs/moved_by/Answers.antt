@@ -1,6 +1,6 @@
 -- `moved_by` meets its contract: three axes, side by side.
 use Rattle.lanes_rotation.specs.means.Matrices.{LanesVector-of, LanesVector-lane, LanesMatrix-lane}
-use Rattle.pose_lean.specs.means.Lean.{moved_by}
+use Rattle.lanes_rotation.specs.pose_lean.means.Lean.{moved_by}
 use Rattle.lanes_box.proofs.moved_by.Goals as goal
 
 pub returns : goal.returns

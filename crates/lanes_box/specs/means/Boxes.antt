@@ -1,7 +1,7 @@
 -- The union of boxes by comparisons alone, and that of four boxes side by side. Definitions only.
 use Rattle.bounds3.specs.declared.Bounds3f.{Bounds3f}
-use Rattle.pose_steps.specs.declared.IntervalVector.{IntervalVector}
-use Rattle.pose_steps.specs.Enclose.{IntervalVector-bounds}
+use Rattle.lanes_rotation.specs.pose_steps.declared.IntervalVector.{IntervalVector}
+use Rattle.lanes_rotation.specs.pose_steps.Enclose.{IntervalVector-bounds}
 use Rattle.lanes.specs.means.Lanes.{Interval-join, Lanes-joined}
 use Rattle.lanes_rotation.specs.declared.LanesVector.{LanesVector}
 

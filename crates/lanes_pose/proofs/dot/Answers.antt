@@ -1,7 +1,7 @@
 -- `dot` meets its contract: its calls in turn.
 use Rattle.lanes.specs.means.Lanes.{Lanes-lane, Lanes-of, Lanes-zip}
 use Rattle.lanes_rotation.specs.means.Matrices.{LanesVector-lane}
-use Rattle.pose_lean.specs.means.Lean.{dot}
+use Rattle.lanes_slerp.specs.pose_lean.means.Lean.{dot}
 use Rattle.lanes_pose.proofs.dot.Goals as goal
 
 pub returns : goal.returns

@@ -1,6 +1,6 @@
 -- `lerp` meets its contract: its calls in turn.
 use Rattle.lanes.specs.means.Lanes.{Lanes-lane, Lanes-of, Lanes-map, Lanes-zip}
-use Rattle.pose_lean.specs.means.Lean.{lerp}
+use Rattle.lanes_slerp.specs.pose_lean.means.Lean.{lerp}
 use Rattle.lanes_pose.proofs.lerp.Goals as goal
 
 pub returns : goal.returns

@@ -1,6 +1,6 @@
 -- `product` meets its contract: three rows, side by side.
 use Rattle.lanes_rotation.specs.means.Matrices.{LanesMatrix-of, LanesMatrix-lane}
-use Rattle.pose_lean.specs.means.Lean.{product}
+use Rattle.lanes_slerp.specs.pose_lean.means.Lean.{product}
 use Rattle.lanes_pose.proofs.product.Goals as goal
 
 pub returns : goal.returns

@@ -1,6 +1,6 @@
 -- `row_by` meets its contract: three columns, side by side.
 use Rattle.lanes_rotation.specs.means.Matrices.{LanesVector-of, LanesVector-lane, LanesMatrix-lane}
-use Rattle.pose_lean.specs.means.Lean.{row_by}
+use Rattle.lanes_slerp.specs.pose_lean.means.Lean.{row_by}
 use Rattle.lanes_pose.proofs.row_by.Goals as goal
 
 pub returns : goal.returns

@@ -1,6 +1,6 @@
 -- `scale` meets its contract: three rows, side by side.
 use Rattle.lanes_rotation.specs.means.Matrices.{LanesMatrix-of}
-use Rattle.pose_lean.specs.means.Lean.{scale}
+use Rattle.lanes_slerp.specs.pose_lean.means.Lean.{scale}
 use Rattle.lanes_pose.proofs.scale.Goals as goal
 
 pub returns : goal.returns

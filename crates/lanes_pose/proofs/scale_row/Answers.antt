@@ -2,7 +2,7 @@
 use borrow.Author.Rules.{rules}
 use Rattle.lanes.specs.means.Lanes.{Lanes-zip}
 use Rattle.lanes_rotation.specs.means.Matrices.{LanesVector-of}
-use Rattle.pose_lean.specs.means.Lean.{scale_row}
+use Rattle.lanes_slerp.specs.pose_lean.means.Lean.{scale_row}
 use Rattle.lanes_pose.proofs.scale_row.Goals as goal
 
 pub returns : goal.returns

@@ -1,7 +1,7 @@
 -- `shifted` meets its contract: three components, side by side.
 use Rattle.lanes.specs.means.Lanes.{Lanes-zip}
 use Rattle.lanes_rotation.specs.means.Matrices.{LanesVector-of}
-use Rattle.pose_lean.specs.means.Lean.{shifted}
+use Rattle.lanes_slerp.specs.pose_lean.means.Lean.{shifted}
 use Rattle.lanes_pose.proofs.shifted.Goals as goal
 
 pub returns : goal.returns

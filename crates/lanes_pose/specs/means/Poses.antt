@@ -2,10 +2,10 @@
 use Rattle.std.specs.Prelude.{Bool, true, false, Float}
 use Rattle.quaternion.specs.declared.Quaternion.{Quaternion}
 use Rattle.matrix4x4.specs.declared.Matrix4x4.{Matrix4x4}
-use Rattle.interval.specs.declared.Interval.{Interval}
+use Rattle.lanes.specs.interval.declared.Interval.{Interval}
 use Rattle.pose_steps.specs.declared.PoseConstants.{PoseConstants}
 use Rattle.pose_steps.specs.Pose.{is_near}
-use Rattle.pose_lean.specs.means.Lean.{LeanPose, one_minus, slerp_by, rotation, scale, product, linear_by, shifted, pad_high}
+use Rattle.lanes_slerp.specs.pose_lean.means.Lean.{LeanPose, one_minus, slerp_by, rotation, scale, product, linear_by, shifted, pad_high}
 use Rattle.lanes.specs.declared.Lanes.{Lanes}
 use Rattle.lanes.specs.means.Lanes.{Lane, four, at, Lanes-lane, Lanes-of, Lanes-map, Lanes-zip}
 use Rattle.lanes_slerp.specs.means.Quaternions.{LanesQuaternion-lane, LanesQuaternion-of}

@@ -1,6 +1,6 @@
 -- `diagonal` meets its contract: its calls in turn.
 use Rattle.lanes.specs.means.Lanes.{Lanes-lane, Lanes-of, Lanes-map, Lanes-zip}
-use Rattle.pose_lean.specs.means.Lean.{diagonal}
+use Rattle.lanes_slerp.specs.pose_lean.means.Lean.{diagonal}
 use Rattle.lanes_rotation.proofs.diagonal.Goals as goal
 
 pub returns : goal.returns

@@ -1,6 +1,6 @@
 -- `twice_difference` meets its contract: its calls in turn.
 use Rattle.lanes.specs.means.Lanes.{Lanes-lane, Lanes-of, Lanes-map, Lanes-zip}
-use Rattle.pose_lean.specs.means.Lean.{twice_difference}
+use Rattle.lanes_slerp.specs.pose_lean.means.Lean.{twice_difference}
 use Rattle.lanes_rotation.proofs.twice_difference.Goals as goal
 
 pub returns : goal.returns

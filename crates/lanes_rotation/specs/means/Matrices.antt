@@ -1,7 +1,7 @@
 -- Four vectors and four matrices side by side, a lane of each, and the matrices of four quaternions entry by entry. Definitions only.
-use Rattle.interval_unjudged.specs.means.Ordered.{Interval-mul_ordered}
-use Rattle.pose_steps.specs.declared.IntervalVector.{IntervalVector}
-use Rattle.pose_lean.specs.means.Lean.{LinearPart, diagonal, twice_sum, twice_difference}
+use Rattle.lanes.specs.interval_unjudged.means.Ordered.{Interval-mul_ordered}
+use Rattle.lanes_slerp.specs.pose_steps.declared.IntervalVector.{IntervalVector}
+use Rattle.lanes_slerp.specs.pose_lean.means.Lean.{LinearPart, diagonal, twice_sum, twice_difference}
 use Rattle.lanes.specs.declared.Lanes.{Lanes}
 use Rattle.lanes.specs.means.Lanes.{Lane, Lanes-lane, Lanes-of, Lanes-zip}
 use Rattle.lanes_slerp.specs.declared.LanesQuaternion.{LanesQuaternion}

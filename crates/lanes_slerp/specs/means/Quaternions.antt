@@ -1,5 +1,5 @@
 -- Four quaternions side by side, and a lane of them. Definitions only.
-use Rattle.pose_steps.specs.declared.IntervalQuaternion.{IntervalQuaternion}
+use Rattle.pose_lean.specs.pose_steps.declared.IntervalQuaternion.{IntervalQuaternion}
 use Rattle.lanes.specs.means.Lanes.{Lane, Lanes-lane, Lanes-of}
 use Rattle.lanes_slerp.specs.declared.LanesQuaternion.{LanesQuaternion}
 

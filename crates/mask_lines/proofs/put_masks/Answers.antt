@@ -1,6 +1,6 @@
 -- `put_masks` puts a refusal, or `ok`, the masks and a line feed.
 use mathlib.Core.List.{map}
-use Rattle.motion_file.specs.Text.{ascii}
+use Rattle.answer_lines.specs.motion_file.Text.{ascii}
 use Rattle.answer_values.proofs.Lines.{answer-refused, answer_ok}
 use Rattle.mask_lines.specs.Masks.{mask_text}
 use Rattle.mask_lines.proofs.put_masks.Goals as goal

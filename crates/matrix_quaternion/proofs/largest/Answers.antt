@@ -3,7 +3,7 @@ use Prim.Native.Nat.{ℕ}
 use mathlib.Core.Path.{sym, ap, ◌∙◌}
 use mathlib.Core.Bool.{Bool, cond}
 use lib.Ieee.{lt}
-use Rattle.matrix4x4.specs.Rows.{Rows, at}
+use Rattle.transform.specs.matrix4x4.Rows.{Rows, at}
 use Rattle.matrix_quaternion.specs.FromMatrix.{largest}
 use borrow.Author.Rules.{rules}
 use Rattle.matrix_quaternion.proofs.largest.Goals as goal

@@ -5,8 +5,8 @@ use native.Mathlib.Omega.{arith}
 use lib.ListN.{get_or}
 use lib.Ieee.{nan}
 use borrow.Author.Rules.{rules}
-use Rattle.control_flow.specs.Loop.{loop}
-use Rattle.control_flow.proofs.Loop.{loop-start, loop-next, loop-end}
+use Rattle.transform.specs.control_flow.Loop.{loop}
+use Rattle.transform.proofs.control_flow.Loop.{loop-start, loop-next, loop-end}
 use Rattle.float32.specs.Operators.{positive_zero}
 use Rattle.motion_bounds.specs.MotionBounds.{union_zero, union_zeros}
 use Rattle.motion_bounds.proofs.Unused.{unused-once}

@@ -1,7 +1,7 @@
 -- What has to unfold for the motion box of a given move to be worked out by computing, as one group:
 -- a case says `unfolding computing`. The arc cosine's search is not in it.
 use Rattle.float32.specs.Lerp.{lerp}
-use Rattle.control_flow.specs.Loop.{loop}
+use Rattle.transform.specs.control_flow.Loop.{loop}
 use Rattle.bounds_query.specs.means.Computing as query
 use Rattle.zero_search.specs.means.Computing as zeros
 use Rattle.motion_point.specs.means.Computing as motion

@@ -1,7 +1,7 @@
 -- What has to unfold for a chain of given poses to be built and asked by computing, as one group: a case says `unfolding computing`.
-use Rattle.animated_transform.specs.means.Computing as building
-use Rattle.motion_point.specs.means.Computing as point
-use Rattle.motion_cover.specs.means.Computing as cover
+use Rattle.bounds_answers.specs.animated_transform.means.Computing as building
+use Rattle.bounds_answers.specs.motion_point.means.Computing as point
+use Rattle.bounds_answers.specs.motion_cover.means.Computing as cover
 use Rattle.motion_chain.specs.Chain.{neighbours, every, first_number, Pose-number, Pair-number, kind_stage, chain_refusal, ChainAnswer-from_moves}
 use Rattle.motion_chain.specs.Chain.{Chain-new, move_from, Chain-move_at, Chain-transform_point, union_covers, Chain-cover}
 use Rattle.motion_chain.specs.Times.{times_are_numbers, never_falls, list_refusal, PointsAnswer-cons}

@@ -1,6 +1,6 @@
 -- `covers` meets its contract: each way out is a law of Places.antt, by what stands in the places.
 use borrow.Author.Rules.{rules}
-use Rattle.motion_cover.specs.Cover.{AnimatedTransform-cover}
+use Rattle.motion_piece.specs.motion_cover.Cover.{AnimatedTransform-cover}
 use Rattle.motion_fronts.proofs.Places.{left-none, left-refused, left-accepted}
 use Rattle.motion_fronts.proofs.covers.Goals as goal
 

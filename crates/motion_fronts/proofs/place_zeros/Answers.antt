@@ -1,7 +1,7 @@
 -- `place_zeros` meets its contract: six sums, by computing.
 use mathlib.Core.Path.{refl}
 use borrow.Author.Rules.{rules}
-use Rattle.bounds_query.specs.Zeros.{Bounds3f-positive_zeros}
+use Rattle.motion_pad.specs.bounds_query.Zeros.{Bounds3f-positive_zeros}
 use Rattle.motion_fronts.proofs.place_zeros.Goals as goal
 
 pub returns : goal.returns

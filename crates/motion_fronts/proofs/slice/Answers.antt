@@ -2,9 +2,9 @@
 use Prim.Native.Nat.{◌+◌, ◌≤◌}
 use native.Mathlib.Omega.{arith}
 use lib.Pow.{pow-lt}
-use Rattle.bounds_query.specs.Query.{max_depth}
-use Rattle.unit_interval.specs.Unit.{slice}
-use Rattle.motion_cover.proofs.Slices.{slice-end}
+use Rattle.motion_pad.specs.bounds_query.Query.{max_depth}
+use Rattle.motion_pad.specs.unit_interval.Unit.{slice}
+use Rattle.motion_piece.proofs.motion_cover.Slices.{slice-end}
 use borrow.Author.Rules.{rules}
 use Rattle.motion_fronts.proofs.slice.Goals as goal
 

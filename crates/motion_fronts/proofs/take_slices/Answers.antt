@@ -4,9 +4,9 @@ use mathlib.Core.Path.{ap, ◌∙◌}
 use native.Mathlib.Omega.{arith}
 use lib.Pow.{pow-lt}
 use borrow.Author.Rules.{rules}
-use Rattle.bounds_query.specs.Query.{max_depth}
+use Rattle.motion_pad.specs.bounds_query.Query.{max_depth}
 use Rattle.motion_piece.specs.means.Piece.{PaddedPose-over}
-use Rattle.motion_cover.proofs.Slices.{slice-count}
+use Rattle.motion_piece.proofs.motion_cover.Slices.{slice-count}
 use Rattle.motion_fronts.proofs.Sliced.{Sliced, sliced-first, sliced-next, sliced-last}
 use Rattle.motion_fronts.proofs.take_slices.Goals as goal
 

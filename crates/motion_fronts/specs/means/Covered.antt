@@ -1,11 +1,11 @@
 -- What the code of a set leaves in the places: the answers of the boxes, `Places-answered`; and what it has worked out so far, `Covered`.
 -- Document 02 knows no such thing: the promises of a set cite neither. Definitions only.
 use Rattle.std.specs.Prelude.{◌-◌, ◌≡◌, cond, List, [], ◌++◌, map, eqb, ltb, length, replicate, Float}
-use Rattle.matrix4x4.specs.Rows.{positive_zero}
-use Rattle.bounds3.specs.declared.Bounds3f.{Bounds3f}
-use Rattle.bounds3.specs.List.{Bounds3f-list}
-use Rattle.transform.specs.declared.BoundsAnswer.{BoundsAnswer}
-use Rattle.transform.specs.Answer.{BoundsAnswer-bounds}
+use Rattle.motion_pad.specs.matrix4x4.Rows.{positive_zero}
+use Rattle.motion_pad.specs.bounds3.declared.Bounds3f.{Bounds3f}
+use Rattle.motion_pad.specs.bounds3.List.{Bounds3f-list}
+use Rattle.motion_pad.specs.transform.declared.BoundsAnswer.{BoundsAnswer}
+use Rattle.motion_pad.specs.transform.Answer.{BoundsAnswer-bounds}
 use Rattle.box_front.specs.declared.Front.{Front}
 use Rattle.box_front.specs.means.Front.{place_count, Boxes-answers, Front-of, Places-put}
 

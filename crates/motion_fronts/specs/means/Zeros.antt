@@ -1,13 +1,13 @@
 -- A cover before its zeros are +0, `AnimatedTransform-enclose_tested`; and the zeros of boxes in their places made +0, `Places-positive_zeros`. Definitions only.
 use Rattle.std.specs.Prelude.{ℕ, cond, List, eqb, Float}
-use Rattle.bounds3.specs.declared.Bounds3f.{Bounds3f}
-use Rattle.bounds3.specs.List.{Bounds3f-list, Bounds3f-of_list}
-use Rattle.transform.specs.declared.BoundsAnswer.{BoundsAnswer}
-use Rattle.transform.specs.declared.BoundsAnswer.TheVariants.{Refused}
-use Rattle.bounds_query.specs.Query.{cover_refusal}
-use Rattle.bounds_query.specs.Zeros.{Bounds3f-positive_zeros}
+use Rattle.motion_pad.specs.bounds3.declared.Bounds3f.{Bounds3f}
+use Rattle.motion_pad.specs.bounds3.List.{Bounds3f-list, Bounds3f-of_list}
+use Rattle.motion_pad.specs.transform.declared.BoundsAnswer.{BoundsAnswer}
+use Rattle.motion_pad.specs.transform.declared.BoundsAnswer.TheVariants.{Refused}
+use Rattle.motion_pad.specs.bounds_query.Query.{cover_refusal}
+use Rattle.motion_pad.specs.bounds_query.Zeros.{Bounds3f-positive_zeros}
 use Rattle.animated_transform.specs.declared.AnimatedTransform.{AnimatedTransform}
-use Rattle.motion_cover.specs.Cover.{AnimatedTransform-enclose_motion}
+use Rattle.motion_piece.specs.motion_cover.Cover.{AnimatedTransform-enclose_motion}
 use Rattle.box_front.specs.means.Front.{Places-put}
 
 -- The motion enclosed, behind the tests of the box and the depth.

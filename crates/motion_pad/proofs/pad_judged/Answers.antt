@@ -1,7 +1,7 @@
 -- `pad_judged` meets its contract: its calls are the formula's operations in working order.
 use mathlib.Core.Path.{ap}
-use Rattle.formula.specs.Enclose.{enclosure}
-use Rattle.formula.proofs.Trace.{traced}
+use Rattle.interval_unjudged.specs.formula.Enclose.{enclosure}
+use Rattle.interval_unjudged.proofs.formula.Trace.{traced}
 use Rattle.motion_pad.specs.Pad.{pad_stage, Pad-inputs, Judged-of, Pad-enclose}
 use Rattle.motion_pad.proofs.pad_judged.Goals as goal
 

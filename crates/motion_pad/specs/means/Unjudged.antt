@@ -1,7 +1,7 @@
 -- The pad over an interval of dt with no interval judged, as code works it out where every end is finite. Definitions only.
 use Rattle.std.specs.Prelude.{Float}
 use Rattle.interval.specs.declared.Interval.{Interval}
-use Rattle.formula.specs.Enclose.{enclosure}
+use Rattle.interval_unjudged.specs.formula.Enclose.{enclosure}
 use Rattle.interval_unjudged.specs.means.Unjudged.{Program-unjudged}
 use Rattle.motion_pad.specs.Pad.{pad_stage, Pad-inputs, Judged-of}
 

@@ -7,7 +7,7 @@ use Rattle.transform.specs.declared.PointAnswer.{PointAnswer}
 use Rattle.transform.specs.declared.PointAnswer.TheVariants.{Refused}
 use Rattle.animated_transform.specs.declared.AnimatedTransform.{AnimatedTransform}
 use Rattle.motion_point.specs.TransformPoint.{AnimatedTransform-constants, AnimatedTransform-moved_point, AnimatedTransform-transform_point}
-use Rattle.rounding.proofs.Order.{differs-nan}
+use Rattle.bounds3.proofs.rounding.Order.{differs-nan}
 use borrow.Author.Rules.{rules}
 use Rattle.motion_point.proofs.transform_point.Goals as goal
 

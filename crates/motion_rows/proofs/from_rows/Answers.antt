@@ -1,6 +1,6 @@
 -- `from_rows` meets its contract, field by field.
 use lib.Ieee.{eq}
-use Rattle.float32.specs.Operators.{one}
+use Rattle.bounds3.specs.float32.Operators.{one}
 use Rattle.matrix4x4.specs.Rows.{at}
 use Rattle.motion_rows.specs.Rows.{AnimatedTransform-from_rows}
 use borrow.Author.Rules.{rules}

@@ -2,7 +2,7 @@
 -- `moved-point-end`, `moved-point-between`).
 use mathlib.Core.Path.{sym}
 use lib.Ieee.{div}
-use Rattle.unit_interval.specs.Unit.{dt}
+use Rattle.pose_steps.specs.unit_interval.Unit.{dt}
 use Rattle.motion_point.proofs.Query.{moved-point-start, moved-point-end, moved-point-between}
 use Rattle.motion_rows.specs.Rows.{AnimatedTransform-from_rows, PoseConstants-from_rows}
 use borrow.Author.Rules.{rules}

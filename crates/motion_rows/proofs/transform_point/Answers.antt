@@ -1,5 +1,5 @@
 -- `transform_point` meets its contract: one test of the time and of the point; `time != time` is the test for NaN (`differs-nan`).
-use Rattle.rounding.proofs.Order.{differs-nan}
+use Rattle.bounds3.proofs.rounding.Order.{differs-nan}
 use Rattle.motion_rows.specs.TransformPoint.{Rows-transform_point}
 use borrow.Author.Rules.{rules}
 use Rattle.motion_rows.proofs.transform_point.Goals as goal

@@ -4,7 +4,7 @@ use mathlib.Core.Path.{◌≡◌, refl, sym, ◌∙◌}
 use Prim.Native.Nat.{ℕ, ◌+◌, ◌-◌}
 use native.Mathlib.Omega.{arith}
 use lib.Ieee.{Float}
-use Rattle.float32.specs.Operators.{◌⊗◌, two}
+use Rattle.trig.specs.float32.Operators.{◌⊗◌, two}
 use Rattle.trig.specs.declared.SinCos.{SinCos}
 use Rattle.motion_derivative.specs.declared.MotionDerivative.{MotionDerivative}
 use Rattle.motion_derivative.specs.Derivative.{MotionDerivative-value_at, MotionDerivative-slope_at}

@@ -2,7 +2,7 @@
 -- The loop's invariant: the steps that are left, from t, lead to where all four do from the start.
 use mathlib.Core.Path.{◌≡◌}
 use Prim.Native.Nat.{◌-◌, ◌≤◌}
-use Rattle.sine_table.specs.QuarterSine.{entry}
+use Rattle.trig.specs.sine_table.QuarterSine.{entry}
 use Rattle.newton_method.specs.means.NewtonOver.{newton_over}
 use Rattle.newton_method.proofs.newton.Given as goal
 

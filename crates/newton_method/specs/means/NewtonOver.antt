@@ -2,7 +2,7 @@
 -- `MotionDerivative-newton` (`newton-over-table`).
 use Rattle.std.specs.Prelude.{ℕ, zero, suc, ◌≡◌, cond, ◌||◌, Float}
 use Rattle.std.specs.Float.Ieee.{eq}
-use Rattle.float32.specs.Operators.{◌⊖◌, ◌⊗◌, ◌⊘◌, positive_zero, two}
+use Rattle.trig.specs.float32.Operators.{◌⊖◌, ◌⊗◌, ◌⊘◌, positive_zero, two}
 use Rattle.trig.specs.declared.SinCos.{SinCos}
 use Rattle.trig.specs.SinCos.{sin_over, cos_over}
 use Rattle.motion_derivative.specs.declared.MotionDerivative.{MotionDerivative}

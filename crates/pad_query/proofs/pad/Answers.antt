@@ -1,5 +1,5 @@
 -- `pad` meets its contract: `time != time` is the test for NaN (`differs-nan`).
-use Rattle.rounding.proofs.Order.{differs-nan}
+use Rattle.float32.proofs.rounding.Order.{differs-nan}
 use Rattle.pad_query.specs.PadQuery.{AnimatedTransform-pad, Rows-pad}
 use borrow.Author.Rules.{rules}
 use Rattle.pad_query.proofs.pad.Goals as goal

@@ -1,6 +1,6 @@
 -- `pad_at` meets its contract: the tests are the definition's, of the move that the rows hold.
 use Rattle.motion_rows.specs.Rows.{AnimatedTransform-from_rows}
-use Rattle.motion_point.specs.PadAt.{AnimatedTransform-pad_at}
+use Rattle.motion_rows.specs.motion_point.PadAt.{AnimatedTransform-pad_at}
 use borrow.Author.Rules.{rules}
 use Rattle.pad_query.proofs.pad_at.Goals as goal
 

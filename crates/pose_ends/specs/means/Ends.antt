@@ -1,6 +1,6 @@
 -- Sums of all ends of intervals, pair by pair. Definitions only.
 use Rattle.std.specs.Prelude.{Float}
-use Rattle.float32.specs.Operators.{◌⊕◌}
+use Rattle.interval_unjudged.specs.float32.Operators.{◌⊕◌}
 use Rattle.interval_unjudged.specs.means.Ordered.{Interval-ends_sum}
 use Rattle.pose_steps.specs.declared.IntervalVector.{IntervalVector}
 use Rattle.pose_steps.specs.declared.IntervalQuaternion.{IntervalQuaternion}

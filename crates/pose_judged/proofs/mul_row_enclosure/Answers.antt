@@ -1,8 +1,8 @@
 -- `mul_row_enclosure` meets its contract: its calls are the formula's operations in working order.
 use mathlib.Core.Path.{ap}
 use mathlib.Core.List.{◌++◌}
-use Rattle.formula.specs.Enclose.{enclosure}
-use Rattle.formula.proofs.Trace.{traced}
+use Rattle.pose_steps.specs.formula.Enclose.{enclosure}
+use Rattle.pose_steps.proofs.formula.Trace.{traced}
 use Rattle.pose_steps.specs.Stages.{mul_row_stage}
 use Rattle.pose_steps.specs.Enclose.{IntervalMatrix-list, IntervalRow-list, JudgedRow-of, Pose-enclose_mul_row}
 use Rattle.pose_judged.proofs.mul_row_enclosure.Goals as goal

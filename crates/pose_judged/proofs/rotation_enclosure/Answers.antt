@@ -1,7 +1,7 @@
 -- `rotation_enclosure` meets its contract: its calls are the formula's operations in working order.
 use mathlib.Core.Path.{ap}
-use Rattle.formula.specs.Enclose.{enclosure}
-use Rattle.formula.proofs.Trace.{traced}
+use Rattle.pose_steps.specs.formula.Enclose.{enclosure}
+use Rattle.pose_steps.proofs.formula.Trace.{traced}
 use Rattle.pose_steps.specs.Stages.{rotation_stage}
 use Rattle.pose_steps.specs.Enclose.{IntervalQuaternion-list, JudgedMatrix-of, Pose-enclose_rotation}
 use Rattle.pose_judged.proofs.rotation_enclosure.Goals as goal

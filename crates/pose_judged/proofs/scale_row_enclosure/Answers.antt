@@ -1,8 +1,8 @@
 -- `scale_row_enclosure` meets its contract: its calls are the formula's operations in working order.
 use mathlib.Core.Path.{ap}
 use mathlib.Core.List.{[], ◌∷◌, ◌++◌}
-use Rattle.formula.specs.Enclose.{enclosure}
-use Rattle.formula.proofs.Trace.{traced}
+use Rattle.pose_steps.specs.formula.Enclose.{enclosure}
+use Rattle.pose_steps.proofs.formula.Trace.{traced}
 use Rattle.pose_steps.specs.Stages.{scale_row_stage}
 use Rattle.pose_steps.specs.Enclose.{IntervalRow-three, JudgedRow-of, Pose-enclose_scale_row}
 use Rattle.pose_judged.proofs.scale_row_enclosure.Goals as goal

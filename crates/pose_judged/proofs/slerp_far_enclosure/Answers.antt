@@ -1,8 +1,8 @@
 -- `slerp_far_enclosure` meets its contract: its calls are the formula's operations in working order.
 use mathlib.Core.Path.{ap}
 use mathlib.Core.List.{[], ◌∷◌, ◌++◌}
-use Rattle.formula.specs.Enclose.{enclosure}
-use Rattle.formula.proofs.Trace.{traced}
+use Rattle.pose_steps.specs.formula.Enclose.{enclosure}
+use Rattle.pose_steps.proofs.formula.Trace.{traced}
 use Rattle.pose_steps.specs.Stages.{slerp_far_stage}
 use Rattle.pose_steps.specs.Enclose.{IntervalQuaternion-list, JudgedQuaternion-of, Pose-enclose_slerp_far}
 use Rattle.pose_judged.proofs.slerp_far_enclosure.Goals as goal

@@ -1,8 +1,8 @@
 -- `slerp_near_enclosure` meets its contract: its calls are the formula's operations in working order.
 use mathlib.Core.Path.{ap}
 use mathlib.Core.List.{[], ◌∷◌, ◌++◌}
-use Rattle.formula.specs.Enclose.{enclosure}
-use Rattle.formula.proofs.Trace.{traced}
+use Rattle.pose_steps.specs.formula.Enclose.{enclosure}
+use Rattle.pose_steps.proofs.formula.Trace.{traced}
 use Rattle.pose_steps.specs.Stages.{slerp_near_stage}
 use Rattle.pose_steps.specs.Enclose.{IntervalQuaternion-list, JudgedQuaternion-of, Pose-enclose_slerp_near}
 use Rattle.pose_judged.proofs.slerp_near_enclosure.Goals as goal

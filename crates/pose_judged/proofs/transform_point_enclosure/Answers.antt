@@ -1,8 +1,8 @@
 -- `transform_point_enclosure` meets its contract: its calls are the formula's operations in working order.
 use mathlib.Core.Path.{ap}
 use mathlib.Core.List.{◌++◌}
-use Rattle.formula.specs.Enclose.{enclosure}
-use Rattle.formula.proofs.Trace.{traced}
+use Rattle.pose_steps.specs.formula.Enclose.{enclosure}
+use Rattle.pose_steps.proofs.formula.Trace.{traced}
 use Rattle.pose_steps.specs.Stages.{transform_point_stage}
 use Rattle.pose_steps.specs.Enclose.{IntervalMatrix-list, IntervalVector-list, JudgedVector-of, Pose-enclose_transform_point}
 use Rattle.pose_judged.proofs.transform_point_enclosure.Goals as goal

@@ -1,8 +1,8 @@
 -- `translation_enclosure` meets its contract: its calls are the formula's operations in working order.
 use mathlib.Core.Path.{ap}
 use mathlib.Core.List.{[], ◌∷◌, ◌++◌}
-use Rattle.formula.specs.Enclose.{enclosure}
-use Rattle.formula.proofs.Trace.{traced}
+use Rattle.pose_steps.specs.formula.Enclose.{enclosure}
+use Rattle.pose_steps.proofs.formula.Trace.{traced}
 use Rattle.pose_steps.specs.Stages.{translation_stage}
 use Rattle.pose_steps.specs.Enclose.{IntervalVector-list, JudgedVector-of, Pose-enclose_translation}
 use Rattle.pose_judged.proofs.translation_enclosure.Goals as goal

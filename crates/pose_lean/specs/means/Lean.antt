@@ -2,22 +2,22 @@
 -- dt, `LeanPose-vector` a box that it moves, and `Lean-box` both. Definitions only: `piece-lean` says where they are the cover's. Terms stand in the
 -- order of the stages of `pose_steps`, so that code in lanes is these lane by lane.
 use Rattle.std.specs.Prelude.{Bool, true, false, Float}
-use Rattle.float32.specs.Operators.{◌⊕◌, ◌⊖◌, ◌⊗◌, one, two}
-use Rattle.trig.specs.SinCos.{sin, cos}
-use Rattle.vector3.specs.declared.Vector3f.{Vector3f}
-use Rattle.quaternion.specs.declared.Quaternion.{Quaternion}
-use Rattle.matrix4x4.specs.declared.Matrix4x4.{Matrix4x4}
-use Rattle.matrix4x4.specs.Rows.{Row, col}
-use Rattle.bounds3.specs.declared.Bounds3f.{Bounds3f}
-use Rattle.interval.specs.declared.Interval.{Interval}
-use Rattle.interval.specs.Interval.{Interval-point}
-use Rattle.interval.specs.Enclosure.{Interval-add_enclosure, Interval-sub_enclosure, Interval-sqrt_enclosure}
-use Rattle.interval_unjudged.specs.means.Ordered.{Interval-mul_ordered, Interval-div_ordered}
-use Rattle.pose_steps.specs.declared.PoseConstants.{PoseConstants}
-use Rattle.pose_steps.specs.declared.IntervalVector.{IntervalVector}
-use Rattle.pose_steps.specs.declared.IntervalQuaternion.{IntervalQuaternion}
-use Rattle.pose_steps.specs.Pose.{is_near}
-use Rattle.pose_steps.specs.Enclose.{Bounds3f-intervals, IntervalVector-bounds}
+use Rattle.formula_lean.specs.float32.Operators.{◌⊕◌, ◌⊖◌, ◌⊗◌, one, two}
+use Rattle.formula_lean.specs.trig.SinCos.{sin, cos}
+use Rattle.pose_slerp.specs.vector3.declared.Vector3f.{Vector3f}
+use Rattle.pose_slerp.specs.quaternion.declared.Quaternion.{Quaternion}
+use Rattle.pose_slerp.specs.matrix4x4.declared.Matrix4x4.{Matrix4x4}
+use Rattle.pose_slerp.specs.matrix4x4.Rows.{Row, col}
+use Rattle.pose_slerp.specs.bounds3.declared.Bounds3f.{Bounds3f}
+use Rattle.formula_lean.specs.interval.declared.Interval.{Interval}
+use Rattle.formula_lean.specs.interval.Interval.{Interval-point}
+use Rattle.formula_lean.specs.interval.Enclosure.{Interval-add_enclosure, Interval-sub_enclosure, Interval-sqrt_enclosure}
+use Rattle.formula_lean.specs.interval_unjudged.means.Ordered.{Interval-mul_ordered, Interval-div_ordered}
+use Rattle.pose_slerp.specs.pose_steps.declared.PoseConstants.{PoseConstants}
+use Rattle.pose_slerp.specs.pose_steps.declared.IntervalVector.{IntervalVector}
+use Rattle.pose_slerp.specs.pose_steps.declared.IntervalQuaternion.{IntervalQuaternion}
+use Rattle.pose_slerp.specs.pose_steps.Pose.{is_near}
+use Rattle.pose_slerp.specs.pose_steps.Enclose.{Bounds3f-intervals, IntervalVector-bounds}
 use Rattle.pose_slerp.specs.means.Unjudged.{Perpendicular-of}
 
 infixl 75 ◌⊞◌

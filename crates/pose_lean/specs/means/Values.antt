@@ -2,11 +2,11 @@
 use Rattle.std.specs.Prelude.{List, [], ◌∷◌, T, Float}
 use Rattle.std.specs.Float.{binary32}
 use Rattle.std.specs.Float.Ieee.{fits}
-use Rattle.matrix4x4.specs.declared.Matrix4x4.{Matrix4x4}
-use Rattle.bounds3.specs.declared.Bounds3f.{Bounds3f}
-use Rattle.bounds3.specs.List.{Point3f-list}
-use Rattle.pose_steps.specs.declared.PoseConstants.{PoseConstants}
-use Rattle.pose_steps.specs.Pose.{Vector3f-list, Quaternion-list, three}
+use Rattle.pose_slerp.specs.matrix4x4.declared.Matrix4x4.{Matrix4x4}
+use Rattle.pose_slerp.specs.bounds3.declared.Bounds3f.{Bounds3f}
+use Rattle.pose_slerp.specs.bounds3.List.{Point3f-list}
+use Rattle.pose_slerp.specs.pose_steps.declared.PoseConstants.{PoseConstants}
+use Rattle.pose_slerp.specs.pose_steps.Pose.{Vector3f-list, Quaternion-list, three}
 
 abbrev pub AllValues : List Float → Type 0
 AllValues [] = Unit {0}

@@ -2,7 +2,7 @@
 use mathlib.Core.Path.{ap, ap₂, ◌∙◌}
 use mathlib.Core.List.{List, [], ◌∷◌, ◌++◌}
 use Rattle.interval.specs.declared.Interval.{Interval}
-use Rattle.formula.specs.Enclose.{enclosure}
+use Rattle.interval_unjudged.specs.formula.Enclose.{enclosure}
 use Rattle.interval_unjudged.proofs.Trace.{traced-unjudged}
 use Rattle.pose_steps.specs.declared.IntervalRow.{IntervalRow}
 use Rattle.pose_steps.specs.Stages.{scale_row_stage}

@@ -1,7 +1,7 @@
 -- Translation and scale with no interval judged. Definitions only.
 use Rattle.std.specs.Prelude.{[], ◌∷◌, ◌++◌}
 use Rattle.interval.specs.declared.Interval.{Interval}
-use Rattle.formula.specs.Enclose.{enclosure}
+use Rattle.interval_unjudged.specs.formula.Enclose.{enclosure}
 use Rattle.interval_unjudged.specs.means.Unjudged.{Program-unjudged}
 use Rattle.pose_steps.specs.declared.IntervalVector.{IntervalVector}
 use Rattle.pose_steps.specs.declared.IntervalRow.{IntervalRow}

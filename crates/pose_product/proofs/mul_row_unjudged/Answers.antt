@@ -2,7 +2,7 @@
 use mathlib.Core.Path.{ap}
 use mathlib.Core.List.{List, ◌++◌}
 use Rattle.interval.specs.declared.Interval.{Interval}
-use Rattle.formula.specs.Enclose.{enclosure}
+use Rattle.interval_unjudged.specs.formula.Enclose.{enclosure}
 use Rattle.interval_unjudged.proofs.Trace.{traced-unjudged}
 use Rattle.pose_steps.specs.Stages.{mul_row_stage}
 use Rattle.pose_steps.specs.Enclose.{IntervalMatrix-list, IntervalRow-list, JudgedRow-of}

@@ -1,12 +1,12 @@
 -- The product's rows with no interval judged. Definitions only.
 use Rattle.std.specs.Prelude.{◌++◌}
 use Rattle.float32.specs.Operators.{one}
-use Rattle.matrix4x4.specs.Rows.{positive_zero}
+use Rattle.pose_steps.specs.matrix4x4.Rows.{positive_zero}
 use Rattle.interval.specs.declared.Interval.{Interval}
 use Rattle.interval.specs.Interval.{Interval-point}
 use Rattle.interval.specs.Enclosure.{Interval-add_enclosure}
 use Rattle.interval_unjudged.specs.means.Ordered.{Interval-mul_ordered}
-use Rattle.formula.specs.Enclose.{enclosure}
+use Rattle.interval_unjudged.specs.formula.Enclose.{enclosure}
 use Rattle.interval_unjudged.specs.means.Unjudged.{Program-unjudged}
 use Rattle.pose_steps.specs.declared.IntervalRow.{IntervalRow}
 use Rattle.pose_steps.specs.declared.IntervalMatrix.{IntervalMatrix}

@@ -2,7 +2,7 @@
 use mathlib.Core.Path.{ap}
 use mathlib.Core.List.{List, ◌∷◌}
 use Rattle.interval.specs.declared.Interval.{Interval}
-use Rattle.formula.specs.Enclose.{unbound, enclosure}
+use Rattle.interval_unjudged.specs.formula.Enclose.{unbound, enclosure}
 use Rattle.interval_unjudged.specs.means.After.{Program-after}
 use Rattle.interval_unjudged.proofs.Trace.{traced-unjudged}
 use Rattle.pose_steps.specs.Stages.{rotation_stage}

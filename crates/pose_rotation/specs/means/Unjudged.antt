@@ -2,7 +2,7 @@
 use Rattle.std.specs.Prelude.{List, [], ◌∷◌, Float}
 use Rattle.float32.specs.Operators.{◌⊕◌}
 use Rattle.interval.specs.declared.Interval.{Interval}
-use Rattle.formula.specs.Enclose.{unbound, enclosure}
+use Rattle.interval_unjudged.specs.formula.Enclose.{unbound, enclosure}
 use Rattle.interval_unjudged.specs.means.Ordered.{Interval-mul_ordered, Interval-ends_sum}
 use Rattle.interval_unjudged.specs.means.Unjudged.{Program-unjudged}
 use Rattle.interval_unjudged.specs.means.After.{Program-after}

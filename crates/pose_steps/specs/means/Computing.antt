@@ -3,7 +3,7 @@
 use Rattle.formula.specs.means.Computing as formula
 use Rattle.quaternion.specs.IsFinite.{Quaternion-is_finite}
 use Rattle.matrix4x4.specs.IsFinite.{Matrix4x4-is_finite}
-use Rattle.bounds3.specs.Finite.{Point3f-is_finite}
+use Rattle.rotation.specs.bounds3.Finite.{Point3f-is_finite}
 use Rattle.pose_steps.specs.Pose.{Pose-translation, Pose-slerp_near, Pose-slerp_far, slerp_by, Pose-slerp, Pose-scale_row, Pose-scale, Pose-scale_by}
 use Rattle.pose_steps.specs.Pose.{Pose-rotation, Pose-mul_row, Pose-mul, Pose-transform_point, PoseAnswer-judged, Pose-matrix, Pose-moved_point}
 use Rattle.pose_steps.specs.Enclose.{Pose-enclose_translation, Pose-enclose_slerp_near, Pose-enclose_slerp_far, enclose_slerp_by}

@@ -1,7 +1,7 @@
 -- `read_kind` is by its tests.
 use native.Mathlib.Omega.{arith}
 use mathlib.Core.Path.{◌≡◌}
-use Rattle.motion_file.specs.Text.{ascii}
+use Rattle.question_lines.specs.motion_file.Text.{ascii}
 use Rattle.question_reader.specs.Question.{kind_place}
 use Rattle.question_reader.proofs.Lines.{kind-unasked, kind-other, kind-word, kind-past}
 use Rattle.question_reader.proofs.read_kind.Goals as goal

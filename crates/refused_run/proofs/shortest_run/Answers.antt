@@ -1,6 +1,6 @@
 -- `shortest_run` meets its contract, in the three ways that it ends (proofs/Search.antt).
 use borrow.Author.Rules.{rules}
-use Rattle.chain_poses.specs.Poses.{Poses-of_lists}
+use Rattle.chain_number.specs.chain_poses.Poses.{Poses-of_lists}
 use Rattle.refused_run.proofs.Search.{accepted-clauses, twelve-clauses, found-clauses}
 use Rattle.refused_run.proofs.shortest_run.Goals as goal
 

@@ -1,6 +1,6 @@
 -- What the code tries, and nothing that the promise rests on: runs of one length, then of another, `first_of`.
 use Rattle.std.specs.Prelude.{ℕ, Bool, cond, List}
-use Rattle.pose_pair.specs.declared.Pose.{Pose}
+use Rattle.chain_number.specs.pose_pair.declared.Pose.{Pose}
 use Rattle.refused_run.specs.declared.Run.{Run}
 use Rattle.refused_run.specs.Run.{has_run, leftmost_run}
 

@@ -1,8 +1,8 @@
 -- What the code of a day keeps while it works: of each boom the tick in which its run is over, and 0 while it waits. Document 02 knows no such
 -- thing, and no promise cites it. `EndsOf` says how it tells a boom's run; the others what the code's steps give. Definitions only.
 use Rattle.std.specs.Prelude.{ℕ, ◌+◌, ◌-◌, ◌≤◌, ◌<◌, ◌≡◌, Bool, ◌&&◌, ◌||◌, cond, List, [], eqb, ltb, length, get_or, Float}
-use Rattle.bounds3.specs.declared.Bounds3f.{Bounds3f}
-use Rattle.bounds3.specs.List.{Bounds3f-of_list}
+use Rattle.bounds_overlap.specs.bounds3.declared.Bounds3f.{Bounds3f}
+use Rattle.bounds_overlap.specs.bounds3.List.{Bounds3f-of_list}
 use Rattle.bounds_overlap.specs.Meets.{Bounds3f-meets}
 use Rattle.run_schedule.specs.Day.{Boom, Run, waiting, started, some_below, boom_at, taken_below, before, all_ticks, max_ticks}
 

@@ -1,5 +1,5 @@
 -- A float that equals itself has bits.
-use Rattle.rounding.proofs.Order.{differs-nan}
+use Rattle.float_bits.proofs.rounding.Order.{differs-nan}
 use Rattle.square_root.proofs.estimate_bits.Goals as goal
 
 pub float_to_bits-result : goal.float_to_bits-result

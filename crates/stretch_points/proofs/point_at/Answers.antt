@@ -2,7 +2,7 @@
 -- between them the pose is composed with slerp's rotation (`between-query`).
 use mathlib.Core.Path.{◌≡◌, refl}
 use lib.Ieee.{div}
-use Rattle.unit_interval.specs.Unit.{dt}
+use Rattle.pose_steps.specs.unit_interval.Unit.{dt}
 use Rattle.motion_rows.specs.Rows.{AnimatedTransform-from_rows}
 use borrow.Author.Rules.{rules}
 use Rattle.stretch_points.specs.means.Stretch.{Stretch-of}

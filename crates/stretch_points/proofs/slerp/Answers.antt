@@ -1,5 +1,5 @@
 -- `slerp` meets its contract: cos_theta chooses the case, and the table that is lent gives the angle's own sine and cosine (`sin-lent`, `cos-lent`).
-use Rattle.float32.specs.Operators.{◌⊗◌}
+use Rattle.bounds3.specs.float32.Operators.{◌⊗◌}
 use Rattle.trig.proofs.OverTable.{sin-lent, cos-lent}
 use Rattle.pose_steps.specs.Pose.{Pose-slerp, slerp_by}
 use Rattle.pose_slerp.proofs.Arc.{slerp_far-turned}

@@ -5,7 +5,7 @@ use native.Mathlib.Omega.{arith}
 use borrow.Author.Rules.{rules}
 use lib.ListN.{length, drop, get_or}
 use lib.Ieee.{nan}
-use Rattle.rounding.proofs.Order.{differs-nan}
+use Rattle.bounds3.proofs.rounding.Order.{differs-nan}
 use Rattle.motion_chain.specs.Times.{times_are_numbers}
 use Rattle.time_list.proofs.Loops.{number-fails, number-next, number-end}
 use Rattle.time_list.proofs.are_numbers.Goals as goal

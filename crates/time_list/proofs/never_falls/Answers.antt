@@ -6,7 +6,7 @@ use borrow.Author.Rules.{rules}
 use borrow.Author.Tests.{not-true, not-false}
 use lib.ListN.{length, drop}
 use lib.Ieee.{nan}
-use Rattle.control_flow.proofs.Neighbours.{fails-here, holds-next, holds-end}
+use Rattle.motion_chain.proofs.control_flow.Neighbours.{fails-here, holds-next, holds-end}
 use Rattle.motion_chain.specs.Times.{never_falls}
 use Rattle.time_list.proofs.Loops.{never-falls}
 use Rattle.time_list.proofs.never_falls.Goals as goal

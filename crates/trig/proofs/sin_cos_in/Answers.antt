@@ -1,7 +1,7 @@
 -- Near, the calls in turn: in the first quarter by the angle's bits (`sin-first-value`, `cos-first-value`), elsewhere by its parts (`sin-value`, `cos-value`).
 -- Far, 0 / 0 for both (`sin-far`, `cos-far`).
 use mathlib.Core.Bool.{true, false}
-use Rattle.rounding.proofs.Order.{differs-nan}
+use Rattle.float32.proofs.rounding.Order.{differs-nan}
 use Rattle.sine_table.specs.QuarterSine.{entry}
 use Rattle.trig.proofs.Values.{near-test, sin-value, cos-value, sin-far, cos-far}
 use Rattle.trig.proofs.FirstQuarter.{first_range, near-number, first_below, sin-first-value, cos-first-value}

@@ -3,7 +3,7 @@ use mathlib.Core.Path.{ap, ◌∙◌}
 use borrow.Author.Rules.{rules}
 use Rattle.pose_steps.specs.Pose.{is_near}
 use Rattle.pose_steps.specs.Enclose.{Bounds3f-intervals}
-use Rattle.lanes.specs.means.Lanes.{Lane}
+use Rattle.lanes_rotation.specs.lanes.means.Lanes.{Lane}
 use Rattle.lanes_box.specs.means.Boxes.{LanesVector-joined}
 use Rattle.window_groups.specs.means.Halves.{fold_halves, LanesVector-quarters, lane_halves, Halves-union}
 use Rattle.window_groups.proofs.Lanewise.{border-dt, border-own, halves-lanes}

@@ -11,8 +11,8 @@ use Rattle.pose_steps.specs.declared.PoseConstants.{PoseConstants}
 use Rattle.pose_steps.specs.declared.IntervalVector.{IntervalVector}
 use Rattle.pose_steps.specs.Pose.{is_near}
 use Rattle.pose_steps.specs.Enclose.{Bounds3f-intervals}
-use Rattle.pose_lean.specs.means.Lean.{LeanPose-over, LeanPose-vector}
-use Rattle.lanes.specs.means.Lanes.{Lane, first, second, third, fourth}
+use Rattle.lanes_rotation.specs.pose_lean.means.Lean.{LeanPose-over, LeanPose-vector}
+use Rattle.lanes_rotation.specs.lanes.means.Lanes.{Lane, first, second, third, fourth}
 use Rattle.lanes_rotation.specs.declared.LanesVector.{LanesVector}
 use Rattle.lanes_rotation.specs.means.Matrices.{LanesVector-of}
 use Rattle.lanes_box.specs.means.Boxes.{IntervalVector-join, LanesVector-joined}

@@ -1,5 +1,5 @@
 -- `end_at` meets its contract: over the sine table, by `sin-lent` and `cos-lent`.
-use Rattle.float32.specs.Operators.{◌⊗◌, two}
+use Rattle.trig.specs.float32.Operators.{◌⊗◌, two}
 use Rattle.trig.proofs.OverTable.{sin-lent, cos-lent}
 use Rattle.zero_search.proofs.end_at.Goals as goal
 

@@ -1,7 +1,7 @@
 -- What the search keeps at the ends of an interval: that a sine and a cosine are those of the angle at an end, `AngleAt`, and so at both, `AnglesAt`.
 -- No definition of the search cites them.
 use Rattle.std.specs.Prelude.{◌≡◌, Float}
-use Rattle.float32.specs.Operators.{◌⊗◌, two}
+use Rattle.trig.specs.float32.Operators.{◌⊗◌, two}
 use Rattle.trig.specs.declared.SinCos.{SinCos}
 use Rattle.trig.specs.SinCos.{sin, cos}
 use Rattle.interval.specs.declared.Interval.{Interval}

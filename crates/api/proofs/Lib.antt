@@ -1,0 +1,4 @@
+pub mod Kept
+pub mod Files
+pub mod Interpolate
+pub mod Asked

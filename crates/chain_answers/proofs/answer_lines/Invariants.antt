@@ -1,0 +1,9 @@
+-- `answer_lines` is safe and ends.
+use Rattle.std.proofs.Common.{◌-◌, ◌≤◌, length}
+use Rattle.chain_answers.proofs.answer_lines.Given as goal
+
+abbrev pub invariant-loop-at : goal.invariant-loop-at
+invariant-loop-at g l = l.at ≤ length l.text
+
+abbrev pub decreases-loop-at : goal.decreases-loop-at
+decreases-loop-at g l = length l.text - l.at

@@ -1,0 +1,5 @@
+pub mod Kept
+pub mod Theorem
+pub mod Finer
+pub mod means
+pub use Rattle.box_set.specs as box_set

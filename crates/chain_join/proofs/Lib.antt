@@ -1,0 +1,5 @@
+pub mod Same
+pub mod Blocks
+pub mod Rise
+pub mod Clauses
+pub mod Numbers

@@ -1,0 +1,4 @@
+pub mod Beside
+pub mod Blocks
+pub mod Try
+pub mod Kept

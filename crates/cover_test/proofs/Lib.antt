@@ -1,0 +1,1 @@
+pub use Rattle.cover_lean.proofs as cover_lean

@@ -1,0 +1,1 @@
+pub use Rattle.cut_laws.specs as cut_laws

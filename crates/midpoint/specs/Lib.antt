@@ -1,0 +1,1 @@
+pub use Rattle.own_rounding.specs as own_rounding

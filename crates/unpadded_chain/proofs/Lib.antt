@@ -1,0 +1,2 @@
+pub mod Unpadded
+pub mod Thirteen

@@ -1,0 +1,2 @@
+pub mod means
+pub use Rattle.dt_pieces.specs as dt_pieces

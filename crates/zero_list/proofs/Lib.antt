@@ -1,0 +1,1 @@
+pub use Rattle.interval.proofs.float_bits
