@@ -28,21 +28,40 @@ pub fn read<R: Read>(input: &mut R, buf: &mut [u8]) -> io::Result<usize>
     Ok(count)
 }
 
-// Writes a text; where that fails, says so on standard error, `errors`, and gives the error.
+// Writes a text; where that fails, says so on standard error, `errors`, and gives the error: a front of the text is written.
 pub fn write<W: Write, E: Write>(output: &mut W, errors: &mut E, text: &[u8]) -> io::Result<()>
     ensures bytes { OnOk result (Appends (W.contents output.old) (W.contents output.new) text.now) }
     ensures quiet { OnOk result (E.contents errors.new ≡ E.contents errors.old) }
+    ensures err { OnErr result ((n : ℕ) × Appends (W.contents output.old) (W.contents output.new) (take n text.now)) }
+    ensures said { OnErr result ((n : ℕ) × Appends (E.contents errors.old) (E.contents errors.new) (take n (codes "standard output can't be written\n"))) }
 {
-    let written = output.write_all(text);
+    let written = put(output, text);
     if written.is_err() {
-        let _ = errors.write_all(b"standard output can't be written\n");
+        let _ = put(errors, b"standard output can't be written\n");
     }
     written
 }
 
-// Says on standard error, `errors`, that standard input can't be read.
+// Says on standard error, `errors`, that standard input can't be read; where that fails, a front of it is said.
 pub fn say_unread<E: Write>(errors: &mut E) -> io::Result<()>
     ensures bytes { OnOk result (Appends (E.contents errors.old) (E.contents errors.new) (codes "standard input can't be read\n")) }
+    ensures err { OnErr result ((n : ℕ) × Appends (E.contents errors.old) (E.contents errors.new) (take n (codes "standard input can't be read\n"))) }
 {
-    errors.write_all(b"standard input can't be read\n")
+    put(errors, b"standard input can't be read\n")
+}
+
+// Writes a text, and gives the error of a write that fails before its end. The standard library's `write_all` doesn't say what that leaves.
+fn put<W: Write>(output: &mut W, text: &[u8]) -> io::Result<()>
+    ensures bytes { OnOk result (Appends (W.contents output.old) (W.contents output.new) text.now) }
+    ensures err { OnErr result ((n : ℕ) × Appends (W.contents output.old) (W.contents output.new) (take n text.now)) }
+{
+    let mut at = 0;
+    while at < text.len() {
+        let taken = output.write(&text[at..])?;
+        if taken == 0 {
+            return Err(io::Error::from(io::ErrorKind::WriteZero));
+        }
+        at += taken;
+    }
+    Ok(())
 }
