@@ -3,7 +3,7 @@
 
 Reads the coefficients c1 to c5 of the three axes out of AnimatedTransform::new (pbrt-rust's transform.rs).
 - Says whether the three columns of each term have one and the same form (they must, or the port's one formula over the column is wrong).
-- With --write, writes for each axis the crate derivative_AXIS: its definitions and its code, in the Rust's own layout and order of operations.
+- With --write, writes for each axis the crate derivative_AXIS: its definitions, its code and its proofs, in the Rust's own order of operations; `rt fmt` lays them out.
 - Without it, compares what the committed crates hold with the Rust, formula by formula.
 Exit status 1 where a column differs or a formula departs from the Rust."""
 import os, re, sys
@@ -121,8 +121,9 @@ def specs(axis, formulas):
     out = [f"""-- The coefficients of the derivative of the motion along {a}: c1 to c5, each over one column of the two scale matrices. From 000, AnimatedTransform::new,
 -- `res.c1[{axis}]` to `res.c5[{axis}]`, line by line; the Rust writes each three times, once for every column. s00, s01, s02 are the column's entries in the start's S,
 -- s10, s11, s12 those in the end's. tools/derivative_terms.py holds these lines against the Rust's.
-use lib.Ieee.{{Float, neg}}
-use Rattle·float32.specs.Operators.{{_⊕_, _⊖_, _⊗_{literals}}}
+use Rattle.std.specs.Prelude.{{Float}}
+use Rattle.std.specs.Float.Ieee.{{neg}}
+use Rattle.float32.specs.Operators.{{◌⊕◌, ◌⊖◌, ◌⊗◌{literals}}}
 """]
     for term in range(1, 6):
         n = f'c{term}{a}'
@@ -134,13 +135,15 @@ def code(axis, formulas):
     a = AXES[axis]
     names = ', '.join(f'c{t}{a}' for t in range(1, 6))
     out = [f"""// The coefficients of the derivative of the motion along {a}, over one column of the two scale matrices: 000's c1 to c5, in its order of operations.
-ghost use mathlib.Core.Path.{{_≡_}};
-ghost use Rattle·derivative_{a}·specs.specs.Terms.{{{names}}};
+#![tactic(auto)]
+
+ghost use Rattle.std.specs.Prelude.{{◌≡◌}};
+ghost use Rattle.derivative_{a}.specs.Terms.{{{names}}};
 """]
     for term in range(1, 6):
         n = f'c{term}{a}'
         args = ''.join(f'    {x}: f32,\n' for x in ARGUMENTS)
-        out.append(f"pub fn {n}(\n{args}) -> f32\n    ensures value {{ λ r. ⌜ r ≡ {n} {' '.join(ARGUMENTS)} ⌝ }}\n{{\n    {lay_out(re.sub(NUMBER, lambda m: repr(float(m[0])), formulas[term, axis]), 4)}\n}}\n")
+        out.append(f"pub fn {n}(\n{args}) -> f32\n    ensures value {{ result ≡ {n} {' '.join(ARGUMENTS)} }}\n{{\n    {lay_out(re.sub(NUMBER, lambda m: repr(float(m[0])), formulas[term, axis]), 4)}\n}}\n")
     return '\n'.join(out)
 
 
@@ -149,16 +152,12 @@ def proof(axis, term):
     n = f'c{term}{a}'
     return f"""-- `{n}` meets its contract: its operations are the definition's.
 use mathlib.Core.Path.{{refl}}
-use Rattle·derivative_{a}·specs.specs.Terms.{{{n}}}
-use Rattle·derivative_{a}·proofs.proofs.{n}.Statement.{{statement}}
-use Rattle·derivative_{a}·proofs.proofs.{n}.Tie as tie
+use Rattle.derivative_{a}.specs.Terms.{{{n}}}
+use Rattle.derivative_{a}.proofs.{n}.Goals as goal
 
-returns : tie.Need-returns
+pub returns : goal.returns
 unfolding {n}
-returns c = refl
-
-pub {n}-spec : {{M : Type 1}} → statement M
-{n}-spec = tie.close (tie.spec returns)
+returns c = record {{ value = refl }}
 """
 
 
@@ -192,7 +191,7 @@ def main():
             write(os.path.join(crate, 'specs', 'Terms.antt'), specs(axis, formulas))
             write(os.path.join(crate, 'src', 'lib.rt'), code(axis, formulas))
             for term in range(1, 6):
-                write(os.path.join(crate, 'proofs', f'c{term}{a}', 'Proof.antt'), proof(axis, term))
+                write(os.path.join(crate, 'proofs', f'c{term}{a}', 'Answers.antt'), proof(axis, term))
     for (term, axis), text in sorted(formulas.items()):
         for what, ours in zip(('definition', 'code'), committed(axis, term)):
             if parse(ours) != parse(text):

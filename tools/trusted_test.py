@@ -31,6 +31,12 @@ TRIALS = {
     "a name of a definition redirected": (
         "crates/motion_cover/specs/Theorem.antt", "use Rattle.std.specs.Prelude.{◌≡◌, not, T, Float}", "use Rattle.std.specs.Prelude.{◌≡◌, T as not, T, Float}",
         "crates/motion_cover/specs/Theorem.antt: `not` is now lib.Dec as T's and was mathlib.Core.Bool's"),
+    "a library redirected where it is handed on": (
+        "crates/stored_box/specs/Lib.antt", "pub use Rattle.bounds_query.specs.bounds3\n", "pub use Rattle.bounds_query.specs.transform as bounds3\n", "crates/transform/specs/Inside.antt: No such file"),
+    "a library's proofs handed on with definitions": (
+        "crates/stored_box/specs/Lib.antt", "pub use Rattle.bounds_query.specs.bounds3\n", "pub use Rattle.bounds_query.proofs as bounds3\n", "the toolchain has no such module"),
+    "a function called by a name of a list forgotten": (
+        "crates/day/src/main.rt", "use question_lines::{Decimal, find, part, same};", "use question_lines::{Decimal, find, part};", "question_lines::same: the clause `signature` of its contract is gone"),
     "a name brought from a crate's proofs": (
         "crates/chain_cover/src/lib.rt", "ghost use Rattle.chain_rows.specs.Finer.{KeptChainFiner};", "ghost use Rattle.chain_rows.specs.Finer.{KeptChainFiner};\nghost use Rattle.chain_rows.proofs.Kept.{kept-cover};",
         "crates/chain_cover/src/lib.rt uses Rattle.chain_rows.proofs.Kept.{kept-cover}, which no promise may rest on"),
