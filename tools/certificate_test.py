@@ -212,7 +212,8 @@ class Certificates(unittest.TestCase):
             self.assertEqual((status, reason), (0, ""))
             self.assertIn("asked for this file it answers this cover, in every bit", said)
             # a program of the other kind
-            write(self.path("crates/cover/out/cover" + "_rigid" * (kind == "rigid")), "#!/bin/sh\ncat %s.%s\n" % (example, "rigid" if kind == "plain" else "expected"), True)
+            name = "cover" + "_rigid" * (kind == "rigid")
+            write(self.path("crates/%s/out/%s" % (name, name)), "#!/bin/sh\ncat %s.%s\n" % (example, "rigid" if kind == "plain" else "expected"), True)
             self.refused("answers another box than the program", self.log(), "--library", built, kind=kind)
 
 

@@ -1,4 +1,4 @@
-//! The functions of the archive libjellyplain.a, as crates/api_c/src/lib.rt exports them and c/jellyplain.h declares them. A reference to an array crosses as a thin pointer, so that
+//! The functions of the archive libjellyplain.a, as `crates/api_c/src/lib.rt` exports them and c/jellyplain.h declares them. A reference to an array crosses as a thin pointer, so that
 //! no length can be wrong, and a slice as a pointer and its length; references to be written are borrowed apart from all others.
 
 use crate::{Pose, Transform};

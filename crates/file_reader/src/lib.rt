@@ -69,7 +69,7 @@ fn read_columns(bytes: &[u8], text: &[u8], columns: usize, poses: &mut [[f32; 18
         return motion_file::departs();
     }
     // Only now is anything put into the lent array.
-    *poses = with_poses(bytes, first, count, columns, *poses);
+    put_poses(bytes, first, count, columns, poses);
     MoveFile {
         count,
         bounds,
@@ -92,32 +92,24 @@ fn after_values(s: &[u8], at: usize, count: usize, scratch: &mut [f32]) -> usize
     place
 }
 
-// The array with the `count` poses whose lines begin at `at` in its front.
-fn with_poses(
-    s: &[u8],
-    at: usize,
-    count: usize,
-    columns: usize,
-    poses: [[f32; 18]; 559],
-) -> [[f32; 18]; 559]
+// Puts the `count` poses whose lines begin at `at` into the front of the array.
+fn put_poses(s: &[u8], at: usize, count: usize, columns: usize, poses: &mut [[f32; 18]; 559])
     requires s_len_bound { length s.now ≤ max_bytes }
     requires count_le_max_pose_lines { count ≤ max_pose_lines }
     requires le_columns { 13 ≤ columns }
     requires columns_bound { columns ≤ 14 }
     requires at_in_bounds { through (replicate count (values columns)) s.now at ≤ length s.now }
-    ensures { result ≡ front (map pose_of (lines_through (replicate count (values columns)) s.now at)) poses }
+    ensures { poses.new ≡ front (map pose_of (lines_through (replicate count (values columns)) s.now at)) poses.old }
 {
-    let mut filled = poses;
     let mut place = at;
     let mut i = 0;
     while i < count {
         let mut line = [0.0f32; 14];
         let next = values_line(s, place, &mut line[..columns]);
-        filled[i] = motion_file::pose_of(line);
+        poses[i] = motion_file::pose_of(line);
         place = next;
         i += 1;
     }
-    filled
 }
 
 // Where the next line begins if the names `text` stand at `at`, and past the end otherwise.

@@ -39,9 +39,9 @@ returns-then-end-bytes c =
     c.args.poses.now c.if-end-bytes.true in
     record { value = rw c.departs-then-end-bytes.ensures all.0; left = all.1.0; count = rw c.departs-then-end-bytes.ensures all.1.1 }
 
-pub with_poses-requires : goal.with_poses-requires
+pub put_poses-requires : goal.put_poses-requires
 unfolding ascii
-with_poses-requires c =
+put_poses-requires c =
     let s = c.args.bytes.now in
     let least = c.requires.le_columns in
     let most = c.requires.columns_bound in
@@ -75,5 +75,5 @@ returns c =
     let all =
     file-contents c.args.text.now c.args.columns least s size _ _ _ _ _ c.pose_lines-count.ensures c.names_line-first.ensures led
     c.names_line-values.ensures c.values_line-end.ensures.value c.if-end-bytes.false
-    c.args.poses.now _ _ c.with_poses.ensures c.values_line-end.ensures.out_after in
+    c.args.poses.now _ _ c.put_poses.ensures c.values_line-end.ensures.out_after in
     record { value = all.0; left = all.1.0; count = all.1.1 }

@@ -1,5 +1,4 @@
--- `with_poses` puts a pose at each place in turn. The invariant: once those of the lines from the i-th on are put from place i on, all are. That there are
--- 559 places is known of an array by value.
+-- `put_poses` puts a pose at each place in turn. The invariant: once those of the lines from the i-th on are put from place i on, all are.
 use Prim.Native.Nat.{ℕ, ◌+◌, ◌-◌, ◌≤◌, ◌<◌}
 use native.Mathlib.Nat.{sub-zero}
 use native.Mathlib.Omega.{arith}
@@ -13,7 +12,7 @@ use Rattle.motion_file.specs.Layout.{values, max_bytes, pose_of}
 use Rattle.motion_file.specs.means.Place.{after_line, lines_through}
 use Rattle.motion_file.proofs.Lines.{place_from, lines_from, place-next, lines-from-end, through-begins}
 use Rattle.motion_file.proofs.Files.{line-length, read-pose, pose-put, poses-put}
-use Rattle.file_reader.proofs.with_poses.Goals as goal
+use Rattle.file_reader.proofs.put_poses.Goals as goal
 
 pub loop-i-init : goal.loop-i-init
 loop-i-init c =
@@ -43,12 +42,11 @@ loop-i-preserved c =
     let count = line-length a.columns s l.place size (rw (← next) begins) in
     let pose = c.pose_of.ensures ∙ read-pose a.columns least most read count in
     let more : l.i < a.count = omega arith in
-    (omega arith, (led, pose-put a.columns least most s a.count l.i l.place line.result l.filled more next pose ∙ l.invariant.1.1))
+    (omega arith, (led, pose-put a.columns least most s a.count l.i l.place line.result l.poses more next pose ∙ l.invariant.1.1))
 
 pub returns : goal.returns
 returns c =
     let l = c.loop-i in
     let a = c.args in
-    let places = c.well_formed.1.1.1.1.0.1.0.1 in
     rw (lines-from-end (values a.columns) a.s.now a.count l.i l.place (omega arith)) at l.invariant.1.1
-    ∙ poses-put a.columns a.s.now a.count a.at a.poses (omega (arith, places))
+    ∙ poses-put a.columns a.s.now a.count a.at a.poses.now (omega (arith, c.told-poses))
