@@ -20,11 +20,10 @@ pub enum Decimal {
     Malformed,
 }
 
-// The place of the first byte b of a text from a place on, and the text's end where none follows. Accuracy: exact.
+// The place of the first byte b of a text from a place on, the text's end where none follows, and the place itself beyond that. Accuracy: exact.
 pub fn find(text: &[u8], from: usize, b: u8) -> usize
-    requires { from ≤ length text.now }
     ensures value { result ≡ from + bytes_before b (drop from text.now) }
-    ensures upper_bound { result ≤ length text.now }
+    ensures upper_bound { result ≤ max from (length text.now) }
 {
     let mut at = from;
     while at < text.len() {
