@@ -28,9 +28,9 @@
  * GCC 13 also a shared library), set both bits for zeros at its start, and a thread takes over the bits of the one that
  * started it. The x87 control word plays no part. Calls leave the control bits as they are, and may set MXCSR's flags.
  *
- * The stack that a call takes is at most JELLYPLAIN_STACK bytes. By what is asked, in kB: points, pads and lists of
- * times 10; building a move, its transform, a refused run 12; rows by windows 18; covers and motion boxes 27; windows,
- * building a chain, joining two 34; reading a file 41; trying a pose 79; the others 2. tools/stack prints it from the
+ * The stack that a call takes is at most JELLYPLAIN_STACK bytes. By what is asked, in kB: points and pads 10; building
+ * a move, its transform, a refused run 12; rows by windows 18; lists of times 19; covers and motion boxes 28; windows,
+ * a window's cover, building a chain, joining two 34; trying a pose 77; the others 2. tools/stack prints it from the
  * library's code, and c/tests/stack.c sees it on a painted stack.
  *
  * With -pedantic, in C before C23, an array of boxes that isn't const is handed over as (const float (*)[6])boxes.

@@ -7,7 +7,7 @@
 # with either library (c/tests/calls.c); decimals that are rounded outward (c/tests/decimals.c); what is asked of the thread (c/tests/thread.c); the stack (c/tests/stack.c, tools/stack); any numbers, lengths and bytes for every function (c/tests/fuzz.c); an installed library, found by pkg-config, and taken away again,
 # with the program of docs/for-engineers.md;
 # the Rust package's tests, optimized and not, its documentation and clippy, and a program without std. What needs a command that isn't here is skipped, and said to be.
-# Exit status 1 where something is otherwise than it has to be, 2 where the library isn't there or isn't built. Nothing is written but below target/ and to a temporary folder.
+# Exit status 1 where something is otherwise than it has to be, 2 where the library isn't there or isn't built. Nothing is written but below target/, to crates/api_c/out and to a temporary folder.
 set -u
 cd "$(dirname "$0")/.." || exit 2
 case "$*" in

@@ -15,7 +15,7 @@ cd "$(dirname "$0")/.." || exit 2
 unfit='has no field|can be named|has no `|no .mod. line|exports no|does not cover|no clause covers|not in scope|is no name|[Pp]arse error|error\[|has-holes|unsolved|goal \?'
 unfit="$unfit"'|was not determined|too (many|few) arguments|is not a function|is applied to|could not tell|was not admitted|was not checked'
 unfit="$unfit"'|: error: .*(this pattern|is not a record|there is no |takes (no|only)|projects from|components? but its type|type has [0-9]+ components|tuple or record literal needs|cannot be read)'
-unfit="$unfit"'|: error: `Inv[-.][^`]*`:'
+unfit="$unfit"'|Invariants\.antt:[0-9:]+ error: '
 shown='the two (types|sides|values) |give a proof of that|does not follow|expected type|`(search|grind|omega|simp|cc)`[^:]*did not prove|no proof of|counterexample|is not proved|not proved: |fails (for|at|where)|is false'
 fact=': error: `[^`]*`: |^note: |: error: '
 # The start of a line, with no character cut in two.

@@ -30,15 +30,14 @@
 //!
 //! | kB of stack | optimized | not optimized |
 //! |---|---|---|
-//! | [`MoveFile::read`] | 124 | 165 |
+//! | [`MoveFile::read`] | 84 | 125 |
 //! | [`Chain::new`], [`Chain::rigid`], [`Chain::join`] | 81 | 104 |
 //! | [`Chain::try_pose`] | 81 | 81 |
-//! | [`MoveFile::read_from`] | 44 | 44 |
 //! | [`Chain::build`], [`Chain::build_rigid`], [`Chain::build_joined`] | 37 | 37 |
 //! | `Box::new(MoveFile::EMPTY)` | 2 | 43 |
 //! | `Box::new(Chain::EMPTY)` | 2 | 25 |
-//! | [`Chain::empty_in`], [`MoveFile::empty_in`] | 2 | 2 |
-//! | others | 30 | 30 |
+//! | [`Chain::empty_in`], [`MoveFile::empty_in`], [`MoveFile::read_from`] | 2 | 2 |
+//! | others | 36 | 36 |
 //!
 //! c/jellyplain.h also says what the guarantee asks of the thread's floating-point environment: that it is the one which a program starts with, as Rust asks too.
 
