@@ -30,7 +30,7 @@
  *
  * The stack that a call takes is at most JELLYPLAIN_STACK bytes. By what is asked, in kB: points and pads 10; building
  * a move, its transform, a refused run 12; rows by windows 18; lists of times 19; covers and motion boxes 28; windows,
- * a window's cover, building a chain, joining two 34; trying a pose 77; the others 2. tools/stack prints it from the
+ * a window's cover, building a chain, joining two 34; trying a pose 78; the others 2. tools/stack prints it from the
  * library's code, and c/tests/stack.c sees it on a painted stack.
  *
  * With -pedantic, in C before C23, an array of boxes that isn't const is handed over as (const float (*)[6])boxes.
