@@ -1,11 +1,9 @@
 #!/usr/bin/env python3
-"""trace.py CRATE FUNCTION: brings the proof of an interval function in line with its code.
+"""trace.py CRATE FUNCTION: brings the proof of an interval function that judges nothing in line with its code.
 
-An interval function works one operation per statement, judged, `let d = Judged::add_enclosure(c.refusal, a.interval, b.interval);`, or not,
-`let c = interval_unjudged::add_enclosure(a, b);`, in the order in which its formula has them. It may copy fields, `let x = d.interval;`, end with an operation, and call
-other functions, whose contracts the proof names itself. Its proof is one application of `traced` (crates/formula/proofs/Trace.antt), or of `traced-unjudged`
-(crates/interval_unjudged/proofs/Trace.antt), to the contracts of its operations, each by its step's name: `_ c.add_enclosure-d.ensures.value`; `sin_cos_enclosure` has two,
-`.ensures.value.0` of its cosine and `.ensures.value.1` of its sine.
+The function works one operation per statement, `let c = interval_unjudged::add_enclosure(a, b);`, in the order in which its formula has them. It may copy fields,
+`let x = d.low;`, end with an operation, and call other functions, whose contracts the proof names itself. Its proof is one application of `traced-unjudged`
+(crates/interval_unjudged/proofs/Trace.antt) to the contracts of its operations, each by its step's name: `_ c.add_enclosure-d.ensures.value`.
 In crates/CRATE/proofs/FUNCTION/Answers.antt this writes the contracts anew, in working order, whether the file still has the word CALLS or what an earlier run wrote in its place.
 """
 import re
@@ -23,12 +21,12 @@ if not found:
 contracts = []
 *statements, last = re.sub(r"//.*", "", found.group(1)).split(";")
 for statement in statements + [last]:
-    call = re.match(r"\s*(?:let (\w+) = )?(?:Judged|interval_unjudged)::(\w+)\s*\(", statement)
+    call = re.match(r"\s*(?:let (\w+) = )?interval_unjudged::(\w+)\s*\(", statement)
     if call:
         step = call.group(2) + ("-" + call.group(1) if call.group(1) else "")
-        contracts += [f"_ c.{step}.ensures.{clause}" for clause in (["value.0", "value.1"] if call.group(2) == "sin_cos_enclosure" else ["value"])]
+        contracts.append(f"_ c.{step}.ensures.value")
 proof = open(path).read()
-line = r"_ c\.\w+(?:-\w+)?\.ensures\.\w+(?:\.\d)?"
+line = r"_ c\.\w+(?:-\w+)?\.ensures\.\w+"
 places = re.findall(r"^( *)(?:CALLS|%s(?:\s+%s)*)" % (line, line), proof, flags=re.M)
 if len(places) != 1:
     sys.exit(f"{path} has not one place for the contracts")

@@ -36,7 +36,7 @@ TRIALS = {
     "a library's proofs handed on with definitions": (
         "crates/stored_box/specs/Lib.antt", "pub use Rattle.bounds_query.specs.bounds3\n", "pub use Rattle.bounds_query.proofs as bounds3\n", "the toolchain has no such module"),
     "a function called by a name of a list forgotten": (
-        "crates/day/src/main.rt", "use question_lines::{Decimal, find, part, same};", "use question_lines::{Decimal, find, part};", "question_lines::same: the clause `signature` of its contract is gone"),
+        "crates/day/src/main.rt", "use question_lines::{find, part, same};", "use question_lines::{find, part};", "question_lines::same: the clause `signature` of its contract is gone"),
     "a name brought from a crate's proofs": (
         "crates/chain_cover/src/lib.rt", "ghost use Rattle.chain_rows.specs.Finer.{KeptChainFiner};", "ghost use Rattle.chain_rows.specs.Finer.{KeptChainFiner};\nghost use Rattle.chain_rows.proofs.Kept.{kept-cover};",
         "crates/chain_cover/src/lib.rt uses Rattle.chain_rows.proofs.Kept.{kept-cover}, which no promise may rest on"),

@@ -9,7 +9,10 @@ use lib.Dec.{T, eqb}
 use lib.Ieee.{Float, nan, inf, fin, binary32, fits, of_bits, neg, lt}
 use lib.Ieee.Fits.{and_l, and_r}
 use lib.Ieee.Scale.{finite}
+use Rattle.std.specs.Prelude.{Result, Ok, Err, IfOk}
+use Rattle.refusal.specs.declared.Refusal.{Refusal}
 use Rattle.refusal.proofs.First.{first-zero}
+use Rattle.refusal.proofs.Number.{number-nonzero}
 use Rattle.refusal.specs.First.{first_refusal}
 use Rattle.matrix4x4.specs.float32.Operators.{◌⊖◌}
 use Rattle.vector3.specs.declared.Vector3f.{Vector3f}
@@ -25,7 +28,7 @@ use Rattle.quaternion.specs.declared.Quaternion.{Quaternion}
 use Rattle.quaternion.specs.Quaternion.{Quaternion-dot, Quaternion-neg}
 use Rattle.quaternion.specs.Slerp.{slerp_threshold}
 use Rattle.quaternion.specs.IsFinite.{Quaternion-is_finite}
-use Rattle.decomposition.specs.declared.Decomposition.{Decomposition}
+use Rattle.decomposition.specs.Decompose.{DecompositionAnswer}
 use Rattle.decomposition.specs.Decompose.{Matrix4x4-decompose}
 use Rattle.decomposition.proofs.Refusal.{Accepted, decompose-accepted}
 use Rattle.coefficients.specs.declared.Coefficients.{Coefficients}
@@ -34,8 +37,8 @@ use Rattle.coefficients.specs.axis_derivative.IsFinite.{DerivativeTerm-is_finite
 use Rattle.coefficients.specs.IsFinite.{Coefficients-is_finite}
 use Rattle.pose_pair.specs.declared.Pose.{Pose}
 use Rattle.animated_transform.specs.declared.AnimatedTransform.{AnimatedTransform}
-use Rattle.animated_transform.specs.declared.AnimatedTransformAnswer.{AnimatedTransformAnswer}
-use Rattle.rotation_arc.specs.declared.CoefficientsAnswer.{CoefficientsAnswer}
+use Rattle.animated_transform.specs.New.{AnimatedTransformAnswer, AnimatedTransformAnswer-of_result}
+use Rattle.rotation_arc.specs.ArcCoefficients.{CoefficientsAnswer}
 use Rattle.pose_pair.specs.Pose.{Pose-is_finite, Pose-is_binary32, Pose-is_affine, Pose-is_padded, times_refusal, poses_refusal, Pose-kind_number}
 use Rattle.rotation_arc.specs.ShorterArc.{flip, dots_refusal}
 use Rattle.rotation_arc.specs.ArcCoefficients.{CoefficientsAnswer-judged, rotation_coefficients, pair_coefficients}
@@ -180,7 +183,7 @@ coefficients-passed false t0 t1 r0 r1 s0 s1 c h = tt
 
 -- ---- the move
 module _ (rigid : Bool) (start end : Pose) (poses : PosesPassed start end) (a b : Transform) (sa : Stored start a) (sb : Stored end b)
-    (p q : Decomposition) (dp : Accepted (Matrix4x4-to_rows start.m) p) (dq : Accepted (Matrix4x4-to_rows end.m) q) where
+    (p q : DecompositionAnswer) (dp : Accepted (Matrix4x4-to_rows start.m) p) (dq : Accepted (Matrix4x4-to_rows end.m) q) where
   from-parts-judged : (m : AnimatedTransform)
       → AnimatedTransform-from_parts rigid start end a b p q ≡ record { value = m; refusal = 0 } → AnimatedTransform-Judged m
   unfolding AnimatedTransform-from_parts
@@ -246,21 +249,25 @@ built-judged {m} b =
     let n = first-zero (poses_refusal b.start b.end) k g.0 in
     from-poses-judged b.rigid b.start b.end (poses-passed b.start b.end b.start-binary32 b.end-binary32 n.0) m g.1
 
--- Both clauses of building's contract, from the first: what isn't refused is a built move, since f32 times and pads are binary32.
-pub new-clauses : {r : AnimatedTransformAnswer} (rigid : Bool) (start end : Pose)
+-- What isn't refused is a built move, since f32 times and pads are binary32.
+pub new-built : (a : Result AnimatedTransform Refusal) (rigid : Bool) (start end : Pose)
     → fits binary32 start.time ≡ true → fits binary32 start.pad ≡ true → fits binary32 end.time ≡ true → fits binary32 end.pad ≡ true
-    → r ≡ AnimatedTransform-new rigid start end → (r ≡ AnimatedTransform-new rigid start end) × (r.refusal ≡ 0 → Built r.value)
-new-clauses {r} rigid start end f f' g g' e = (e, built)
+    → AnimatedTransformAnswer-of_result a ≡ AnimatedTransform-new rigid start end → IfOk a Built
+new-built (Err r) rigid start end f f' g g' e = tt
+new-built (Ok m) rigid start end f f' g g' e = record {
+  rigid = rigid;
+  start = start;
+  end = end;
+  start-binary32 = fitting f f';
+  end-binary32 = fitting g g';
+  accepted = sym e;
+}
   where
     fitting : {x y : Bool} → x ≡ true → y ≡ true → T (x && y)
     fitting {x} {y} h k = rw (h, k) tt
 
-    built : r.refusal ≡ 0 → Built r.value
-    built none = record {
-      rigid = rigid;
-      start = start;
-      end = end;
-      start-binary32 = fitting f f';
-      end-binary32 = fitting g g';
-      accepted = sym e ∙ ap (λ (n : ℕ). record { value = r.value; refusal = n }) none;
-    }
+-- The same of the answer's record.
+pub answered-built : (a : Result AnimatedTransform Refusal) → IfOk a Built
+    → (AnimatedTransformAnswer-of_result a).refusal ≡ 0 → Built (AnimatedTransformAnswer-of_result a).value
+answered-built (Ok m) b z = b
+answered-built (Err r) b z = absurd (number-nonzero r z)

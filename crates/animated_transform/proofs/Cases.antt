@@ -7,7 +7,7 @@ use lib.Ieee.{Float, binary32, of_bits}
 use Rattle.matrix4x4.specs.declared.Matrix4x4.{Matrix4x4}
 use Rattle.quaternion.specs.declared.Quaternion.{Quaternion}
 use Rattle.coefficients.specs.Coefficients.{Coefficients-zero}
-use Rattle.animated_transform.specs.declared.AnimatedTransformAnswer.{AnimatedTransformAnswer}
+use Rattle.animated_transform.specs.New.{AnimatedTransformAnswer}
 use Rattle.animated_transform.specs.New.{AnimatedTransformAnswer-refused, AnimatedTransform-new}
 use Rattle.animated_transform.specs.means.Computing.{computing}
 

@@ -11,13 +11,13 @@ use Rattle.transform.specs.declared.Transform.{Transform}
 use Rattle.transform.specs.Transform.{Transform-from_matrix}
 use Rattle.quaternion.specs.Quaternion.{Quaternion-dot}
 use Rattle.quaternion.specs.Slerp.{slerp_threshold}
-use Rattle.decomposition.specs.declared.Decomposition.{Decomposition}
+use Rattle.decomposition.specs.Decompose.{DecompositionAnswer}
 use Rattle.decomposition.specs.Decompose.{Matrix4x4-decompose}
 use Rattle.rotation_arc.specs.ShorterArc.{flip, dots_refusal}
 use Rattle.rotation_arc.specs.ArcCoefficients.{pair_coefficients}
 use Rattle.pose_pair.specs.declared.Pose.{Pose}
 use Rattle.animated_transform.specs.declared.AnimatedTransform.{AnimatedTransform}
-use Rattle.animated_transform.specs.declared.AnimatedTransformAnswer.{AnimatedTransformAnswer}
+use Rattle.animated_transform.specs.New.{AnimatedTransformAnswer}
 use Rattle.animated_transform.specs.New.{AnimatedTransformAnswer-refused, AnimatedTransform-of_fields, AnimatedTransform-from_parts}
 use Rattle.animated_transform.specs.New.{AnimatedTransform-from_poses, build_refusal, AnimatedTransform-new}
 use Rattle.animated_transform.specs.Built.{Built}
@@ -41,7 +41,7 @@ tested-kept rigid start end n a h = go (eqb n 0) (eqb-false n 0)
     go true f e = h e
     go false f e = absurd (f refl e)
 
-from-parts-kept : (rigid : Bool) (start end : Pose) (a b : Transform) (p q : Decomposition)
+from-parts-kept : (rigid : Bool) (start end : Pose) (a b : Transform) (p q : DecompositionAnswer)
     → AnswerKept rigid start end (AnimatedTransform-from_parts rigid start end a b p q)
 unfolding AnimatedTransform-from_parts
 from-parts-kept rigid start end a b p q =

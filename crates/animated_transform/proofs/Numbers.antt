@@ -3,7 +3,6 @@
 use mathlib.Core.Path.{◌≡◌, refl}
 use mathlib.Core.Bool.{Bool, true, false, not, ◌&&◌, ◌||◌, cond}
 use mathlib.Core.Logic.{◌⊎◌, inl, inr}
-use mathlib.Core.List.{[], ◌∷◌}
 use Prim.Native.Nat.{ℕ}
 use native.Mathlib.Omega.{arith}
 use lib.Dec.{T, eqb}
@@ -23,7 +22,7 @@ use Rattle.transform.specs.declared.Transform.{Transform}
 use Rattle.transform.specs.Answer.{OneOf}
 use Rattle.transform.specs.Transform.{Transform-from_matrix}
 use Rattle.transform.proofs.FromMatrix.{from-matrix-numbers}
-use Rattle.decomposition.specs.declared.Decomposition.{Decomposition}
+use Rattle.decomposition.specs.Decompose.{DecompositionAnswer}
 use Rattle.decomposition.specs.Decompose.{Matrix4x4-decompose}
 use Rattle.decomposition.proofs.Refusal.{decompose-refusal}
 use Rattle.coefficients.specs.declared.Coefficients.{Coefficients}
@@ -31,8 +30,8 @@ use Rattle.coefficients.specs.Coefficients.{Coefficients-zero}
 use Rattle.coefficients.specs.IsFinite.{Coefficients-is_finite}
 use Rattle.pose_pair.specs.declared.Pose.{Pose}
 use Rattle.pose_pair.proofs.Kind.{kind-each}
-use Rattle.animated_transform.specs.declared.AnimatedTransformAnswer.{AnimatedTransformAnswer}
-use Rattle.rotation_arc.specs.declared.CoefficientsAnswer.{CoefficientsAnswer}
+use Rattle.animated_transform.specs.New.{AnimatedTransformAnswer}
+use Rattle.rotation_arc.specs.ArcCoefficients.{CoefficientsAnswer}
 use Rattle.pose_pair.specs.Pose.{Pose-is_finite, Pose-is_affine, Pose-is_padded, times_refusal, poses_refusal, Pose-kind_number}
 use Rattle.rotation_arc.specs.ShorterArc.{flip, dots_refusal}
 use Rattle.rotation_arc.specs.ArcCoefficients.{CoefficientsAnswer-judged, rotation_coefficients, pair_coefficients}
@@ -138,7 +137,7 @@ after P n a h k = go (eqb n 0)
     go true = k
     go false = record { number = h; zero = λ _. refl }
 
-from-parts-answered : (rigid : Bool) (start end : Pose) (a b : Transform) (p q : Decomposition)
+from-parts-answered : (rigid : Bool) (start end : Pose) (a b : Transform) (p q : DecompositionAnswer)
     → Answered Worked (AnimatedTransform-from_parts rigid start end a b p q)
 unfolding AnimatedTransform-from_parts
 from-parts-answered rigid start end a b p q =

@@ -1,7 +1,7 @@
 -- pbrt's `AnimatedTransform::new`, of a move of either kind, rigid or not, judged: 1, 2, 16 and 3 before anything is worked, of a rigid move also 17 and 18,
 -- then 4 or 5, whichever is met first, in this order: both inverses, start parts, end parts, the dot products of the two quaternions, the coefficients.
 -- After a refusal every number is +0 and every yes or no is no. Definitions only.
-use Rattle.std.specs.Prelude.{ℕ, Bool, true, false, not, cond, eqb}
+use Rattle.std.specs.Prelude.{ℕ, Bool, false, not, cond, eqb, Result, Ok, Err}
 use Rattle.std.specs.Float.Ieee.{lt}
 use Rattle.refusal.specs.First.{first_refusal}
 use Rattle.vector3.specs.declared.Vector3f.{Vector3f}
@@ -12,13 +12,14 @@ use Rattle.matrix4x4.specs.declared.Matrix4x4.{Matrix4x4}
 use Rattle.matrix4x4.specs.Rows.{positive_zero, Matrix4x4-to_rows, Matrix4x4-zero}
 use Rattle.transform.specs.declared.Transform.{Transform}
 use Rattle.transform.specs.Transform.{Transform-from_matrix, Transform-eq}
-use Rattle.decomposition.specs.declared.Decomposition.{Decomposition}
+use Rattle.decomposition.specs.Decompose.{DecompositionAnswer}
 use Rattle.decomposition.specs.Decompose.{Matrix4x4-decompose}
 use Rattle.coefficients.specs.declared.Coefficients.{Coefficients}
 use Rattle.coefficients.specs.Coefficients.{Coefficients-zero}
 use Rattle.pose_pair.specs.declared.Pose.{Pose}
 use Rattle.animated_transform.specs.declared.AnimatedTransform.{AnimatedTransform}
-use Rattle.animated_transform.specs.declared.AnimatedTransformAnswer.{AnimatedTransformAnswer}
+use Rattle.refusal.specs.declared.Refusal.{Refusal}
+use Rattle.refusal.specs.Number.{Refusal-number}
 use Rattle.pose_pair.specs.Pose.{poses_refusal, Pose-kind_number}
 use Rattle.rotation_arc.specs.ShorterArc.{flip, dots_refusal}
 use Rattle.rotation_arc.specs.ArcCoefficients.{pair_coefficients}
@@ -48,11 +49,20 @@ AnimatedTransform-zero =
       rigid = false;
     }
 
+-- A move beside a refusal's number, 0 for none.
+pub record AnimatedTransformAnswer : Type 0 where
+  pub value : AnimatedTransform
+  pub refusal : ℕ
+
 abbrev pub AnimatedTransformAnswer-refused : ℕ → AnimatedTransformAnswer
 AnimatedTransformAnswer-refused n = record { value = AnimatedTransform-zero; refusal = n }
 
+abbrev pub AnimatedTransformAnswer-of_result : Result AnimatedTransform Refusal → AnimatedTransformAnswer
+AnimatedTransformAnswer-of_result (Ok m) = record { value = m; refusal = 0 }
+AnimatedTransformAnswer-of_result (Err r) = AnimatedTransformAnswer-refused (Refusal-number r)
+
 -- The fields of a move: transforms a and b, parts p and q, the end's quaternion after the flip, and coefficients; its pads are the poses' own.
-abbrev pub AnimatedTransform-of_fields : Bool → Pose → Pose → Transform → Transform → Decomposition → Decomposition → Quaternion → Coefficients
+abbrev pub AnimatedTransform-of_fields : Bool → Pose → Pose → Transform → Transform → DecompositionAnswer → DecompositionAnswer → Quaternion → Coefficients
     → AnimatedTransform
 AnimatedTransform-of_fields rigid start end a b p q r1 c =
     record {
@@ -75,7 +85,7 @@ AnimatedTransform-of_fields rigid start end a b p q r1 c =
     }
 
 -- what is computed per pair: the dot products, then the coefficients
-unfoldable pub AnimatedTransform-from_parts : Bool → Pose → Pose → Transform → Transform → Decomposition → Decomposition → AnimatedTransformAnswer
+unfoldable pub AnimatedTransform-from_parts : Bool → Pose → Pose → Transform → Transform → DecompositionAnswer → DecompositionAnswer → AnimatedTransformAnswer
 AnimatedTransform-from_parts rigid start end a b p q =
     let r1 = flip p.r q.r in
     let cosθ = Quaternion-dot p.r r1 in

@@ -1,9 +1,10 @@
 // pbrt's AnimatedTransform, built from two poses: a move by translation, rotation and scale.
 #![tactic(auto)]
 
-ghost use Rattle.std.specs.Prelude.{◌≡◌};
+ghost use Rattle.std.specs.Prelude.{◌≡◌, IfOk};
+ghost use Rattle.decomposition.specs.Decompose.{Decomposition-accepted};
 ghost use Rattle.animated_transform.specs.Built.{Built};
-ghost use Rattle.animated_transform.specs.New.{AnimatedTransformAnswer-refused, AnimatedTransform-from_parts};
+ghost use Rattle.animated_transform.specs.New.{AnimatedTransformAnswer-of_result, AnimatedTransform-from_parts};
 ghost use Rattle.animated_transform.specs.New.{AnimatedTransform-from_poses, AnimatedTransform-new};
 
 use coefficients::Coefficients;
@@ -11,7 +12,7 @@ use decomposition::Decomposition;
 use matrix4x4::Matrix4x4;
 use pose_pair::Pose;
 use quaternion::{Quaternion, SLERP_THRESHOLD};
-use refusal::first_refusal;
+use refusal::Refusal;
 use transform::Transform;
 use vector3::Vector3f;
 
@@ -37,51 +38,6 @@ pub struct AnimatedTransform {
     pub rigid: bool,
 }
 
-// A move beside a refusal (error code, 0 for none), after which every number is +0 and every yes or no is no.
-#[derive(Clone, Copy)]
-pub struct AnimatedTransformAnswer {
-    pub value: AnimatedTransform,
-    pub refusal: u8,
-}
-
-fn refused(refusal: u8) -> AnimatedTransformAnswer
-    ensures value { result ≡ AnimatedTransformAnswer-refused refusal }
-{
-    let t = Vector3f {
-        x: 0.0,
-        y: 0.0,
-        z: 0.0,
-    };
-    let r = Quaternion { v: t, w: 0.0 };
-    let m = Matrix4x4 {
-        r0: [0.0; 4],
-        r1: [0.0; 4],
-        r2: [0.0; 4],
-        r3: [0.0; 4],
-    };
-    let transform = Transform { m, m_inv: m };
-    let coefficients = Coefficients::zero();
-    let value = AnimatedTransform {
-        start_transform: transform,
-        end_transform: transform,
-        start_time: 0.0,
-        end_time: 0.0,
-        actually_animated: false,
-        has_rotation: false,
-        t0: t,
-        t1: t,
-        r0: r,
-        r1: r,
-        s0: m,
-        s1: m,
-        coefficients,
-        pad0: 0.0,
-        pad1: 0.0,
-        rigid: false,
-    };
-    AnimatedTransformAnswer { value, refusal }
-}
-
 // The move between two poses, from their transforms a and b and their parts p and q.
 fn from_parts(
     rigid: bool,
@@ -91,8 +47,9 @@ fn from_parts(
     b: Transform,
     p: Decomposition,
     q: Decomposition,
-) -> AnimatedTransformAnswer
-    ensures value { result ≡ AnimatedTransform-from_parts rigid start end a b p q }
+) -> Result<AnimatedTransform, Refusal>
+    ensures value { AnimatedTransformAnswer-of_result result
+        ≡ AnimatedTransform-from_parts rigid start end a b (Decomposition-accepted p) (Decomposition-accepted q) }
 {
     let t0 = p.t;
     let t1 = q.t;
@@ -103,19 +60,23 @@ fn from_parts(
     let cos_theta = r0.dot(r1);
     // slerp is linear above 0.9995 and has_rotation asks for less: at 0.9995 itself neither holds.
     let has_rotation = cos_theta < SLERP_THRESHOLD;
-    let c = rotation_arc::pair_coefficients(has_rotation, t0, t1, r0, r1, s0, s1, cos_theta);
-    let dots = rotation_arc::dots_refusal(r0.dot(q.r), cos_theta);
-    let n = first_refusal(dots, c.refusal);
-    if n != 0 {
-        return refused(n);
-    }
-    let coefficients = c.value;
-    let value = AnimatedTransform {
+    rotation_arc::judge_dots(r0.dot(q.r), cos_theta)?;
+    let coefficients = rotation_arc::pair_coefficients(
+        has_rotation,
+        t0,
+        t1,
+        r0,
+        r1,
+        s0,
+        s1,
+        cos_theta,
+    )?;
+    Ok(AnimatedTransform {
         start_transform: a,
         end_transform: b,
         start_time: start.time,
         end_time: end.time,
-        actually_animated: !a.eq(b),
+        actually_animated: a != b,
         has_rotation,
         t0,
         t1,
@@ -127,43 +88,33 @@ fn from_parts(
         pad0: start.pad,
         pad1: end.pad,
         rigid,
-    };
-    AnimatedTransformAnswer { value, refusal: 0 }
+    })
 }
 
 // The move of two poses that are finite, affine and in order: both inverses are met before the parts.
-fn from_poses(rigid: bool, start: Pose, end: Pose) -> AnimatedTransformAnswer
-    ensures value { result ≡ AnimatedTransform-from_poses rigid start end }
+fn from_poses(rigid: bool, start: Pose, end: Pose) -> Result<AnimatedTransform, Refusal>
+    ensures value { AnimatedTransformAnswer-of_result result ≡ AnimatedTransform-from_poses rigid start end }
 {
     let m0 = start.m.to_rows();
     let m1 = end.m.to_rows();
-    let a = Transform::from_matrix(m0);
-    let b = Transform::from_matrix(m1);
-    let p = decomposition::decompose(rigid, m0);
-    let q = decomposition::decompose(rigid, m1);
-    let inverses = first_refusal(a.refusal, b.refusal);
-    let parts = first_refusal(p.refusal, q.refusal);
-    let n = first_refusal(inverses, parts);
-    if n != 0 {
-        return refused(n);
-    }
-    from_parts(rigid, start, end, a.transform, b.transform, p, q)
+    let a = Transform::from_matrix(m0)?;
+    let b = Transform::from_matrix(m1)?;
+    let p = decomposition::decompose(rigid, m0)?;
+    let q = decomposition::decompose(rigid, m1)?;
+    from_parts(rigid, start, end, a, b, p, q)
 }
 
 impl AnimatedTransform {
     // pbrt's `AnimatedTransform::new`: a move from two poses; refused with 1 to 5 or 16, whichever is met first, where pbrt goes on. A rigid move is
     // refused with 17 or 18 too, and pbrt knows none. What isn't refused is a built move.
     // Accuracy: each operation but the arc cosine is correctly rounded.
-    pub fn new(rigid: bool, start: Pose, end: Pose) -> AnimatedTransformAnswer
-        ensures value { result ≡ AnimatedTransform-new rigid start end }
-        ensures built { result.refusal ≡ 0 → Built result.value }
+    pub fn new(rigid: bool, start: Pose, end: Pose) -> Result<AnimatedTransform, Refusal>
+        ensures value { AnimatedTransformAnswer-of_result result ≡ AnimatedTransform-new rigid start end }
+        ensures built { IfOk result Built }
     {
-        let poses = pose_pair::poses_refusal(start, end);
-        let kind = first_refusal(start.kind_number(rigid), end.kind_number(rigid));
-        let n = first_refusal(poses, kind);
-        if n != 0 {
-            return refused(n);
-        }
+        pose_pair::judge_poses(start, end)?;
+        start.judge_kind(rigid)?;
+        end.judge_kind(rigid)?;
         from_poses(rigid, start, end)
     }
 }

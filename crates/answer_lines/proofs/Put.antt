@@ -1,4 +1,5 @@
--- A text put into a buffer: `put-fits` and `put-short`, with the place behind it; `put-empty`; `put-float`, a space and a float; `floats-turn`, one float more.
+-- A text put into a buffer: `put-fits` and `put-short`, with the place behind it; `put-empty`; `put-float`, a space and a float; `floats-fit` and `floats-short`,
+-- so many floats; `floats-turn`, one float more.
 -- Rests on `paste-paste`.
 use Prim.Native.Nat.{ℕ, zero, suc, ◌+◌, ◌*◌, ◌≤◌, ◌<◌}
 use native.Mathlib.Nat.{add-zero, not-suc-le-zero}
@@ -10,7 +11,7 @@ use mathlib.Core.List.{List, [], ◌∷◌, ◌++◌}
 use lib.Dec.{leb}
 use lib.Ieee.{Float, nan, binary32, to_bits}
 use lib.ListN.{length, take, drop, get_or, set, length-append, length-set}
-use lib.Seq.{paste, paste-zero, take-length, drop-cons, drop-drop, set_split, append_snoc}
+use lib.Seq.{paste, paste-zero, take-length, length-take-le, drop-cons, drop-drop, set_split, append_snoc}
 use borrow.Author.Tests.{le-leb, lt-leb}
 use Rattle.hexadecimal.specs.Word.{digits, Word-write}
 use Rattle.hexadecimal.proofs.Words.{length_digits, write-fits}
@@ -53,6 +54,17 @@ pub length-floats : (xs : List Float) → length (spaced_floats xs) ≡ 9 * leng
 unfolding spaced_floats
 length-floats [] = refl
 length-floats (x ∷ xs) = ap suc (length-append (word_of x) (spaced_floats xs)) ∙ rw (length_digits 8 (to_bits binary32 x), length-floats xs) (omega arith)
+
+-- the first so many of floats that are enough
+module _ (xs : List Float) (n : ℕ) (h : n ≤ length xs) where
+  length-enough : length (spaced_floats (take n xs)) ≡ 9 * n
+  length-enough = length-floats (take n xs) ∙ rw (length-take-le n xs h)
+
+  pub floats-fit : (o : List ℕ) (at : ℕ) → at + 9 * n ≤ length o → Puts (floats_text xs n) o at (paste o at (spaced_floats (take n xs)) (9 * n)) (at + 9 * n)
+  floats-fit o at room = rw (floats-enough xs n h, ← length-enough) (put-fits (spaced_floats (take n xs)) o at (omega (arith, length-enough)))
+
+  pub floats-short : (o : List ℕ) (at : ℕ) → length o < at + 9 * n → Puts (floats_text xs n) o at o at
+  floats-short o at short = rw (floats-enough xs n h) (put-short (spaced_floats (take n xs)) o at (omega (arith, length-enough)))
 
 nine-on : (x : Float) (xs : List Float) → drop 9 (spaced_floats (x ∷ xs)) ≡ spaced_floats xs
 unfolding spaced_floats digits

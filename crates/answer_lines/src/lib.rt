@@ -17,12 +17,9 @@ pub fn put_text(text: &[u8], out: &mut [u8], at: usize) -> usize
     if out.len() - at < text.len() {
         return at;
     }
-    let mut i = 0;
-    while i < text.len() {
-        out[at + i] = text[i];
-        i += 1;
-    }
-    at + text.len()
+    let end = at + text.len();
+    out[at..end].copy_from_slice(text);
+    end
 }
 
 // Puts the first `count` floats, a space before each, where there are so many. Accuracy: exact.
@@ -39,10 +36,8 @@ pub fn put_floats(values: &[f32], count: usize, out: &mut [u8], at: usize) -> us
     if (out.len() - at) / 9 < count {
         return at;
     }
-    let mut k = 0;
-    while k < count {
-        put_float(values[k], out, at + 9 * k);
-        k += 1;
+    for (k, x) in values[..count].iter().enumerate() {
+        put_float(*x, out, at + 9 * k);
     }
     at + 9 * count
 }

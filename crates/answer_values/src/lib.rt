@@ -25,10 +25,8 @@ pub fn put_decimals(values: &[u32], count: usize, out: &mut [u8], at: usize) -> 
         return at;
     }
     let mut end = at;
-    let mut k = 0;
-    while k < count {
-        end = put_decimal(wide(values[k]), out, end);
-        k += 1;
+    for n in &values[..count] {
+        end = put_decimal(wide(*n), out, end);
     }
     end
 }
@@ -39,30 +37,14 @@ fn wide(n: u32) -> u64
     n as u64
 }
 
-// Puts rows of four floats. Accuracy: exact.
-pub fn put_rows(rows: &[[f32; 4]], out: &mut [u8], at: usize) -> usize
-    ensures value { result ≡ behind_all (rows_pieces 4 rows.now) out.old at }
-    ensures left { out.new ≡ put_all (rows_pieces 4 rows.now) out.old at }
+// Puts rows of floats. Accuracy: exact.
+pub fn put_rows<const N: usize>(rows: &[[f32; N]], out: &mut [u8], at: usize) -> usize
+    ensures value { result ≡ behind_all (rows_pieces N rows.now) out.old at }
+    ensures left { out.new ≡ put_all (rows_pieces N rows.now) out.old at }
 {
     let mut end = at;
-    let mut k = 0;
-    while k < rows.len() {
-        end = put_floats(&rows[k], 4, out, end);
-        k += 1;
-    }
-    end
-}
-
-// Puts boxes. Accuracy: exact.
-pub fn put_boxes(boxes: &[[f32; 6]], out: &mut [u8], at: usize) -> usize
-    ensures value { result ≡ behind_all (rows_pieces 6 boxes.now) out.old at }
-    ensures left { out.new ≡ put_all (rows_pieces 6 boxes.now) out.old at }
-{
-    let mut end = at;
-    let mut k = 0;
-    while k < boxes.len() {
-        end = put_floats(&boxes[k], 6, out, end);
-        k += 1;
+    for row in rows {
+        end = put_floats(row, N, out, end);
     }
     end
 }

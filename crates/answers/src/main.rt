@@ -18,14 +18,12 @@ fn main(rt: HostRuntime) -> io::Result<()> {
     let mut out = [0u8; 16384];
     let mut motion = [[moves::NONE; 4]; 45];
     let mut held = 0;
-    let mut turns = u64::MAX;
-    while turns > 0 {
+    for _ in 0..u64::MAX {
         let n = question_lines::read_more(&mut source, &mut input, held)?;
         if n == held {
             break;
         }
         held = answer_block(&mut sink, &mut input, n, &mut out, &mut motion)?;
-        turns -= 1;
     }
     answer_rest(&mut sink, &input, held, &mut out, &mut motion)
 }

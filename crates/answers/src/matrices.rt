@@ -3,7 +3,7 @@
 // A matrix is 16 floats by rows, a quaternion x y z w, a box x0 y0 z0 x1 y1 z1; `bounds` is what `transform_bounds` makes of the box.
 use answer_lines::{put_floats, put_refused, put_text};
 use quaternion::Quaternion;
-use question_values::row_at;
+use question_values::values_at;
 use transform::Transform;
 use vector3::Vector3f;
 
@@ -12,15 +12,10 @@ pub(crate) fn put_answer(kind: usize, x: &[f32; 34], out: &mut [u8; 16384], at: 
     match kind {
         11 => {
             let t = rotation::transform_from_quaternion(quaternion_at(x, 0));
-            put_matrix(0, t.m.to_rows(), out, at)
+            put_matrix(t.m.to_rows(), out, at)
         }
         15 => inverse(x, out, at),
-        16 => put_matrix(
-            0,
-            matrix4x4::mul(matrix_at(x, 0), matrix_at(x, 16)),
-            out,
-            at,
-        ),
+        16 => put_matrix(matrix4x4::mul(matrix_at(x, 0), matrix_at(x, 16)), out, at),
         17 => bounds(x, out, at),
         18 => decompose(x, out, at),
         19 => zeros(x, out, at),
@@ -37,13 +32,15 @@ fn quaternion_value(kind: usize, x: &[f32; 34]) -> Quaternion {
 }
 
 fn inverse(x: &[f32; 34], out: &mut [u8; 16384], at: usize) -> usize {
-    let r = matrix_inverse::inverse(matrix_at(x, 0));
-    put_matrix(r.refusal, r.matrix(), out, at)
+    match matrix_inverse::inverse(matrix_at(x, 0)) {
+        Ok(m) => put_matrix(m, out, at),
+        Err(refusal) => put_refused(refusal.number(), out, at),
+    }
 }
 
 fn bounds(x: &[f32; 34], out: &mut [u8; 16384], at: usize) -> usize {
     let m = matrix_at(x, 0);
-    let b = question_values::bounds_at(x, 16);
+    let b = values_at::<6>(x, 16);
     let moved = Transform::from_matrices(m, m).transform_bounds(lent_arrays::bounds(&b));
     let mut values = [0.0f32; 6];
     let refusal = lent_arrays::put_bounds(moved, &mut values);
@@ -51,10 +48,10 @@ fn bounds(x: &[f32; 34], out: &mut [u8; 16384], at: usize) -> usize {
 }
 
 fn decompose(x: &[f32; 34], out: &mut [u8; 16384], at: usize) -> usize {
-    let d = decomposition::decompose(false, matrix_at(x, 0));
-    if d.refusal != 0 {
-        return put_refused(d.refusal, out, at);
-    }
+    let d = match decomposition::decompose(false, matrix_at(x, 0)) {
+        Ok(d) => d,
+        Err(refusal) => return put_refused(refusal.number(), out, at),
+    };
     let t = d.t;
     let ok = put_text(b"ok", out, at);
     let translation = put_floats(&[t.x, t.y, t.z], 3, out, ok);
@@ -87,10 +84,7 @@ fn put_parts(q: Quaternion, out: &mut [u8; 16384], at: usize) -> usize {
     put_floats(&[v.x, v.y, v.z, q.w], 4, out, at)
 }
 
-fn put_matrix(refusal: u8, m: [[f32; 4]; 4], out: &mut [u8; 16384], at: usize) -> usize {
-    if refusal != 0 {
-        return put_refused(refusal, out, at);
-    }
+fn put_matrix(m: [[f32; 4]; 4], out: &mut [u8; 16384], at: usize) -> usize {
     let ok = put_text(b"ok", out, at);
     let end = put_rows(m, out, ok);
     put_text(b"\n", out, end)
@@ -104,10 +98,10 @@ fn put_rows(m: [[f32; 4]; 4], out: &mut [u8; 16384], at: usize) -> usize {
 fn matrix_at(x: &[f32; 34], i: usize) -> [[f32; 4]; 4] {
     if i < 19 {
         return [
-            row_at(x, i),
-            row_at(x, i + 4),
-            row_at(x, i + 8),
-            row_at(x, i + 12),
+            values_at::<4>(x, i),
+            values_at::<4>(x, i + 4),
+            values_at::<4>(x, i + 8),
+            values_at::<4>(x, i + 12),
         ];
     }
     [[0.0; 4]; 4]
@@ -115,7 +109,7 @@ fn matrix_at(x: &[f32; 34], i: usize) -> [[f32; 4]; 4] {
 
 // The quaternion in the four floats from place i on.
 pub(crate) fn quaternion_at(x: &[f32; 34], i: usize) -> Quaternion {
-    let r = row_at(x, i);
+    let r = values_at::<4>(x, i);
     let v = Vector3f {
         x: r[0],
         y: r[1],

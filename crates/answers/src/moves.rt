@@ -5,7 +5,7 @@
 // A move is kept as the library's callers keep it, in 45 rows (`motion_rows`).
 use answer_lines::put_text;
 use answer_values::put_error;
-use question_values::{bounds_at, point_at};
+use question_values::values_at;
 
 // What stands first in the row of constants where no move is kept: a kept move has 0 or 1 there.
 pub(crate) const NONE: f32 = 2.0;
@@ -71,7 +71,7 @@ fn put_parts(motion: &[[f32; 4]; 45], out: &mut [u8; 16384], at: usize) -> usize
 }
 
 fn point(x: &[f32; 34], motion: &[[f32; 4]; 45], out: &mut [u8; 16384], at: usize) -> usize {
-    let p = point_at(x, 1);
+    let p = values_at::<3>(x, 1);
     let mut moved = [0.0f32; 3];
     let refusal = api::jellyplain_point(motion, x[0], &p, &mut moved);
     answer_values::put_point(refusal, &moved, out, at)
@@ -89,7 +89,7 @@ fn motion_bounds(
     out: &mut [u8; 16384],
     at: usize,
 ) -> usize {
-    let asked = bounds_at(x, 0);
+    let asked = values_at::<6>(x, 0);
     let mut b = [0.0f32; 6];
     let mut examined = [0u32; 3];
     let refusal = api::jellyplain_motion_bounds(motion, &asked, &mut b, &mut examined);
@@ -102,7 +102,7 @@ fn bound_point_motion(
     out: &mut [u8; 16384],
     at: usize,
 ) -> usize {
-    let p = point_at(x, 0);
+    let p = values_at::<3>(x, 0);
     let mut b = [0.0f32; 6];
     let mut examined = [0u32; 3];
     let refusal = api::jellyplain_bound_point_motion(motion, &p, &mut b, &mut examined);
@@ -116,7 +116,7 @@ fn cover(
     out: &mut [u8; 16384],
     at: usize,
 ) -> usize {
-    let asked = bounds_at(x, 0);
+    let asked = values_at::<6>(x, 0);
     let mut b = [0.0f32; 6];
     let refusal = api::jellyplain_cover(motion, &asked, depth, &mut b);
     answer_values::put_bounds(refusal, &b, out, at)

@@ -5,7 +5,10 @@ use mathlib.Core.List.{List}
 use lib.Ieee.{Float}
 use Rattle.file_reader.specs.matrix4x4.Rows.{Rows}
 use Rattle.lent_arrays.specs.transform.declared.Transform.{Transform}
-use Rattle.lent_arrays.specs.transform.declared.TransformAnswer.{TransformAnswer}
+use Rattle.std.specs.Prelude.{Result, Ok, Err, IfOk}
+use Rattle.animated_transform.specs.refusal.declared.Refusal.{Refusal}
+use Rattle.animated_transform.proofs.refusal.Number.{number-nonzero}
+use Rattle.lent_arrays.specs.transform.Transform.{TransformAnswer, TransformAnswer-of_result}
 use Rattle.animated_transform.specs.declared.AnimatedTransform.{AnimatedTransform}
 use Rattle.interpolate_kept.specs.interpolation.Interpolate.{AnimatedTransform-interpolate}
 use Rattle.lent_arrays.specs.Arrays.{TransformAnswer-left}
@@ -22,9 +25,9 @@ left-transform : (a : TransformAnswer) (old : Rows) → a.refusal ≡ 0 → tran
 unfolding transform_at TransformAnswer-left
 left-transform a old z = rw z
 
-pub left-moves : (rows : List Rows) (time : Float) (a : TransformAnswer) (old : Rows) {new : Rows} {r : ℕ}
-    → (a.refusal ≡ 0 → MovesPoints rows time a.transform) → r ≡ a.refusal → new ≡ TransformAnswer-left a old
+pub left-moves : (rows : List Rows) (time : Float) (a : Result Transform Refusal) (old : Rows) {new : Rows} {r : ℕ}
+    → IfOk a (MovesPoints rows time) → r ≡ (TransformAnswer-of_result a).refusal → new ≡ TransformAnswer-left (TransformAnswer-of_result a) old
     → r ≡ 0 → MovesPoints rows time (transform_at new 0)
-left-moves rows time a old {new} {r} moves number left z =
-    let none : a.refusal ≡ 0 = sym number ∙ z in
-    subst (MovesPoints rows time) (sym (ap (λ (l : Rows). transform_at l 0) left ∙ left-transform a old none)) (moves none)
+left-moves rows time (Ok t) old {new} {r} moves number left z =
+    subst (MovesPoints rows time) (sym (ap (λ (l : Rows). transform_at l 0) left ∙ left-transform (record { transform = t; refusal = 0 }) old refl)) moves
+left-moves rows time (Err n) old {new} {r} moves number left z = absurd (number-nonzero n (sym number ∙ z))

@@ -13,7 +13,7 @@ use Rattle.lent_arrays.specs.transform.declared.BoundsAnswer.{BoundsAnswer}
 use Rattle.lent_arrays.specs.transform.Answer.{BoundsAnswer-refusal, BoundsAnswer-bounds}
 use Rattle.lent_arrays.specs.pose_pair.declared.Pose.{Pose}
 use Rattle.animated_transform.specs.declared.AnimatedTransform.{AnimatedTransform}
-use Rattle.animated_transform.specs.declared.AnimatedTransformAnswer.{AnimatedTransformAnswer}
+use Rattle.animated_transform.specs.New.{AnimatedTransformAnswer}
 use Rattle.animated_transform.specs.Built.{Built}
 use Rattle.animated_transform.specs.New.{AnimatedTransform-new}
 use Rattle.motion_rows.specs.motion_point.TransformPoint.{AnimatedTransform-transform_point}

@@ -4,9 +4,9 @@
 use Rattle.std.specs.Prelude.{ℕ, Bool, List, Float}
 use Rattle.file_reader.specs.matrix4x4.Rows.{Rows}
 use Rattle.file_reader.specs.bounds3.List.{Point3f-of_list, Bounds3f-of_list}
-use Rattle.lent_arrays.specs.transform.declared.PointAnswer.{PointAnswer}
+use Rattle.lent_arrays.specs.transform.Answer.{PointAnswer}
 use Rattle.lent_arrays.specs.transform.declared.BoundsAnswer.{BoundsAnswer}
-use Rattle.animated_transform.specs.declared.AnimatedTransformAnswer.{AnimatedTransformAnswer}
+use Rattle.animated_transform.specs.New.{AnimatedTransformAnswer}
 use Rattle.animated_transform.specs.New.{AnimatedTransform-new}
 use Rattle.motion_bounds.specs.declared.MotionBoundsAnswer.{MotionBoundsAnswer}
 use Rattle.motion_bounds.specs.Answer.{AnimatedTransform-bound_point_motion, AnimatedTransform-motion_bounds}

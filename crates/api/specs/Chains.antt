@@ -3,7 +3,7 @@
 use Rattle.std.specs.Prelude.{ℕ, List, Float}
 use Rattle.file_reader.specs.matrix4x4.Rows.{Rows}
 use Rattle.file_reader.specs.bounds3.List.{Point3f-of_list, Bounds3f-of_list}
-use Rattle.lent_arrays.specs.transform.declared.PointAnswer.{PointAnswer}
+use Rattle.lent_arrays.specs.transform.Answer.{PointAnswer}
 use Rattle.lent_arrays.specs.transform.declared.BoundsAnswer.{BoundsAnswer}
 use Rattle.lent_arrays.specs.Arrays.{Pose-of_list}
 use Rattle.chain_rows.specs.motion_chain.Times.{PointsAnswer}

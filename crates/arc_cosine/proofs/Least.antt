@@ -1,14 +1,14 @@
 -- The least angle: what passes a test while nothing before it does is what `least_from` finds (`least-unique`), so an angle whose cosine is at most n, and
 -- whose predecessor's is above n, is `least_angle` of n (`least_angle-unique`), since the cosine falls from 0 to 2 Q; n is biased.
 -- The least angle is at most 2 Q (`least_angle-le`), and at most any whose cosine passes (`least_angle-below`).
-use mathlib.Core.Path.{◌≡◌, refl, sym, ap, subst, ◌∙◌}
+use mathlib.Core.Path.{◌≡◌, refl, ap, subst, ◌∙◌}
 use mathlib.Core.Logic.{inl, inr}
 use mathlib.Core.Bool.{Bool, true, false, cond}
-use Prim.Native.Nat.{ℕ, zero, suc, ◌+◌, ◌-◌, ◌*◌, ◌/◌, ◌^◌, ◌≤◌, ◌<◌}
+use Prim.Native.Nat.{ℕ, zero, suc, ◌+◌, ◌-◌, ◌*◌, ◌^◌, ◌≤◌, ◌<◌}
 use native.Mathlib.Nat.{lt_of_lt_of_le, eq-or-lt_of_le}
 use native.Mathlib.Decide.{dec_le}
 use native.Mathlib.Omega.{arith}
-use borrow.Author.Tests.{le-leb, lt-leb}
+use borrow.Author.Tests.{lt-leb}
 use lib.IntN.{ℤ}
 use lib.Signed.{le_z}
 use lib.Ieee.{minus}

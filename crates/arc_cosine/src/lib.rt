@@ -4,11 +4,13 @@
 
 ghost use Rattle.std.specs.Prelude.{◌≡◌, true, ◌+◌, ◌*◌, ◌/◌, ◌^◌, ◌≤◌, ◌<◌};
 ghost use Rattle.std.specs.Float.Ieee.{minus};
-ghost use Rattle.sine_table.specs.Table.{quarter_turn, sine_table};
+ghost use Rattle.sine_table.specs.Table.{quarter_turn};
 ghost use Rattle.trig.specs.Units.{cos_units};
 ghost use Rattle.arc_cosine.specs.Acos.{in_domain, least_angle, floor_units, acos};
 ghost use Rattle.trig.specs.Biased.{biased};
 ghost use Rattle.arc_cosine.specs.Search.{Bracket-Inside, Bracket-Carries, Bracket-halve, search_cosines, acos_cosines};
+
+use trig::Sines;
 
 const QUARTER_TURN: u64 = 421657428;
 
@@ -41,32 +43,30 @@ struct Bracket {
 }
 
 // The cosine of u, biased. Cosines are worked out here alone, and each raises the count that is lent for them.
-fn counted_cos(table: &[u32; 2049], u: u64, cosines: &mut u32) -> u64
-    requires fact_1 { table.now ≡ sine_table }
-    requires fact_2 { u ≤ 2 * quarter_turn }
-    requires fact_3 { cosines.old < 31 }
+fn counted_cos(sines: &Sines, u: u64, cosines: &mut u32) -> u64
+    requires u_bound { u ≤ 2 * quarter_turn }
+    requires cosines_bound { cosines.old < 31 }
     ensures value { result ≡ biased (cos_units u) }
     ensures counted { cosines.new ≡ cosines.old + 1 }
 {
     *cosines = *cosines + 1;
     if u < QUARTER_TURN {
-        return ONE + sine_table::quarter_sine_in(table, QUARTER_TURN - u);
+        return ONE + sine_table::quarter_sine_in(sines.entries(), QUARTER_TURN - u);
     }
-    ONE - sine_table::quarter_sine_in(table, u - QUARTER_TURN)
+    ONE - sine_table::quarter_sine_in(sines.entries(), u - QUARTER_TURN)
 }
 
 // The half of a bracket in which the least angle lies, by the cosine in the middle.
-fn halve(table: &[u32; 2049], w: u64, b: Bracket, cosines: &mut u32) -> Bracket
-    requires fact_1 { table.now ≡ sine_table }
-    requires fact_2 { Bracket-Inside b }
-    requires fact_3 { Bracket-Carries b }
-    requires fact_4 { cosines.old < 31 }
+fn halve(sines: &Sines, w: u64, b: Bracket, cosines: &mut u32) -> Bracket
+    requires inside { Bracket-Inside b }
+    requires carried { Bracket-Carries b }
+    requires cosines_bound { cosines.old < 31 }
     ensures value { result ≡ Bracket-halve w b }
     ensures carried { Bracket-Carries result }
     ensures counted { cosines.new ≡ cosines.old + 1 }
 {
     let middle = (b.low + b.high) / 2;
-    let cosine = counted_cos(table, middle, cosines);
+    let cosine = counted_cos(sines, middle, cosines);
     if cosine > w {
         return Bracket {
             low: middle,
@@ -82,8 +82,7 @@ fn halve(table: &[u32; 2049], w: u64, b: Bracket, cosines: &mut u32) -> Bracket
 }
 
 // The least angle in 0 to a half turn whose cosine is at most w, both biased.
-fn least_angle(table: &[u32; 2049], w: u64) -> LeastAngle
-    requires { table.now ≡ sine_table }
+fn least_angle(sines: &Sines, w: u64) -> LeastAngle
     ensures angle { result.angle ≡ least_angle (minus w (2 ^ 30)) }
     ensures cosines { result.cosines ≡ search_cosines w }
 {
@@ -92,10 +91,10 @@ fn least_angle(table: &[u32; 2049], w: u64) -> LeastAngle
     let mut b = Bracket {
         low: 0,
         high: HALF_TURN,
-        cos_low: counted_cos(table, 0, &mut cosines),
+        cos_low: counted_cos(sines, 0, &mut cosines),
     };
     while (b.cos_low > w) & (b.high - b.low > 1) {
-        let half = halve(table, w, b, &mut cosines);
+        let half = halve(sines, w, b, &mut cosines);
         b = half;
     }
     if b.cos_low > w {
@@ -142,8 +141,8 @@ pub fn acos_counted(c: f32) -> ArcCosine
     ensures most { result.cosines ≤ 31 }
 {
     if (-1.0 <= c) & (c <= 1.0) {
-        let table = sine_table::table();
-        let least = least_angle(&table, biased_floor(c));
+        let sines = Sines::new();
+        let least = least_angle(&sines, biased_floor(c));
         return ArcCosine {
             angle: float_bits::from_fixed(least.angle, 28),
             cosines: least.cosines,

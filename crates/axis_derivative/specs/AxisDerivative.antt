@@ -4,7 +4,6 @@ use Rattle.std.specs.Prelude.{ℕ, Float}
 use Rattle.quaternion.specs.declared.Quaternion.{Quaternion}
 use Rattle.matrix4x4.specs.Rows.{Row, col, positive_zero}
 use Rattle.axis_derivative.specs.declared.ColumnTerms.{ColumnTerms}
-use Rattle.axis_derivative.specs.declared.DerivativeTerm.{DerivativeTerm}
 use Rattle.axis_derivative.specs.declared.Derivative.{Derivative}
 
 -- a formula over two quaternions, an angle and a column of each scale matrix
@@ -27,10 +26,20 @@ from_columns kc x y z = record {
   c5 = record { kc = positive_zero; kx = x.c5; ky = y.c5; kz = z.c5 };
 }
 
-module _ (c1 c2 c3 c4 c5 : Formula) (q0 qperp : Quaternion) (θ : Float) where
+-- an axis's formulas at two quaternions, an angle and a column of each scale matrix
+abbrev pub AxisTerms : Type 0
+AxisTerms = Quaternion → Quaternion → Float → Row → Row → ColumnTerms
+
+-- the derivative along that axis; a and b give the columns of the scale matrices, kc is the constant of c1
+unfoldable pub derivative_over : AxisTerms → Quaternion → Quaternion → Float → (ℕ → Row) → (ℕ → Row) → Float → Derivative
+derivative_over terms q0 qperp θ a b kc =
+    let k : ℕ → ColumnTerms = λ j. terms q0 qperp θ (a j) (b j) in
+    from_columns kc (k 0) (k 1) (k 2)
+
+module _ (c1 c2 c3 c4 c5 : Formula) where
   -- the five formulas of an axis at columns a and b
-  unfoldable pub column_terms : Row → Row → ColumnTerms
-  column_terms a b = record {
+  unfoldable pub column_terms : AxisTerms
+  column_terms q0 qperp θ a b = record {
     c1 = at_columns c1 q0 qperp θ a b;
     c2 = at_columns c2 q0 qperp θ a b;
     c3 = at_columns c3 q0 qperp θ a b;
@@ -38,8 +47,6 @@ module _ (c1 c2 c3 c4 c5 : Formula) (q0 qperp : Quaternion) (θ : Float) where
     c5 = at_columns c5 q0 qperp θ a b;
   }
 
-  -- the derivative along that axis; a and b give the columns of the scale matrices, kc is the constant of c1
-  unfoldable pub derivative : (ℕ → Row) → (ℕ → Row) → Float → Derivative
-  derivative a b kc =
-      let k : ℕ → ColumnTerms = λ j. column_terms (a j) (b j) in
-      from_columns kc (k 0) (k 1) (k 2)
+  -- the derivative along the axis of five formulas
+  abbrev pub derivative : Quaternion → Quaternion → Float → (ℕ → Row) → (ℕ → Row) → Float → Derivative
+  derivative = derivative_over column_terms

@@ -7,7 +7,7 @@ ghost use Rattle.matrix4x4.specs.Rows.{row};
 ghost use Rattle.derivative_x.specs.Terms.{c1x, c2x, c3x, c4x, c5x};
 ghost use Rattle.derivative_y.specs.Terms.{c1y, c2y, c3y, c4y, c5y};
 ghost use Rattle.derivative_z.specs.Terms.{c1z, c2z, c3z, c4z, c5z};
-ghost use Rattle.axis_derivative.specs.AxisDerivative.{column_terms, from_columns, derivative};
+ghost use Rattle.axis_derivative.specs.AxisDerivative.{AxisTerms, column_terms, from_columns, derivative_over};
 ghost use Rattle.axis_derivative.specs.IsFinite.{DerivativeTerm-is_finite, Derivative-is_finite};
 
 use derivative_x::{c1x, c2x, c3x, c4x, c5x};
@@ -17,12 +17,12 @@ use quaternion::Quaternion;
 
 // The five coefficients of an axis at one column of the scale matrices.
 #[derive(Clone, Copy)]
-struct ColumnTerms {
-    c1: f32,
-    c2: f32,
-    c3: f32,
-    c4: f32,
-    c5: f32,
+pub struct ColumnTerms {
+    pub c1: f32,
+    pub c2: f32,
+    pub c3: f32,
+    pub c4: f32,
+    pub c5: f32,
 }
 
 // kc + kx * x + ky * y + kz * z at a point (x, y, z).
@@ -44,81 +44,114 @@ pub struct Derivative {
     pub c5: DerivativeTerm,
 }
 
-fn column_x(q0: Quaternion, qperp: Quaternion, theta: f32, a: [f32; 4], b: [f32; 4]) -> ColumnTerms
-    ensures value { result ≡ column_terms c1x c2x c3x c4x c5x q0 qperp theta a b }
-{
-    let x = q0.v.x;
-    let y = q0.v.y;
-    let z = q0.v.z;
-    let w = q0.w;
-    let px = qperp.v.x;
-    let py = qperp.v.y;
-    let pz = qperp.v.z;
-    let pw = qperp.w;
-    let a0 = a[0];
-    let a1 = a[1];
-    let a2 = a[2];
-    let b0 = b[0];
-    let b1 = b[1];
-    let b2 = b[2];
-    ColumnTerms {
-        c1: c1x(x, y, z, w, px, py, pz, pw, theta, a0, a1, a2, b0, b1, b2),
-        c2: c2x(x, y, z, w, px, py, pz, pw, theta, a0, a1, a2, b0, b1, b2),
-        c3: c3x(x, y, z, w, px, py, pz, pw, theta, a0, a1, a2, b0, b1, b2),
-        c4: c4x(x, y, z, w, px, py, pz, pw, theta, a0, a1, a2, b0, b1, b2),
-        c5: c5x(x, y, z, w, px, py, pz, pw, theta, a0, a1, a2, b0, b1, b2),
+// An axis, by pbrt's five formulas along it.
+pub trait Axis {
+    ghost terms: { AxisTerms };
+
+    // The formulas at one column of the scale matrices. Accuracy: each operation is correctly rounded.
+    fn column(
+        q0: Quaternion,
+        qperp: Quaternion,
+        theta: f32,
+        a: [f32; 4],
+        b: [f32; 4],
+    ) -> ColumnTerms
+        ensures value { result ≡ terms q0 qperp theta a b };
+}
+
+pub struct X;
+
+pub struct Y;
+
+pub struct Z;
+
+impl Axis for X {
+    ghost terms = { column_terms c1x c2x c3x c4x c5x };
+
+    fn column(
+        q0: Quaternion,
+        qperp: Quaternion,
+        theta: f32,
+        a: [f32; 4],
+        b: [f32; 4],
+    ) -> ColumnTerms {
+        let x = q0.v.x;
+        let y = q0.v.y;
+        let z = q0.v.z;
+        let w = q0.w;
+        let px = qperp.v.x;
+        let py = qperp.v.y;
+        let pz = qperp.v.z;
+        let pw = qperp.w;
+        let [a0, a1, a2, _] = a;
+        let [b0, b1, b2, _] = b;
+        ColumnTerms {
+            c1: c1x(x, y, z, w, px, py, pz, pw, theta, a0, a1, a2, b0, b1, b2),
+            c2: c2x(x, y, z, w, px, py, pz, pw, theta, a0, a1, a2, b0, b1, b2),
+            c3: c3x(x, y, z, w, px, py, pz, pw, theta, a0, a1, a2, b0, b1, b2),
+            c4: c4x(x, y, z, w, px, py, pz, pw, theta, a0, a1, a2, b0, b1, b2),
+            c5: c5x(x, y, z, w, px, py, pz, pw, theta, a0, a1, a2, b0, b1, b2),
+        }
     }
 }
 
-fn column_y(q0: Quaternion, qperp: Quaternion, theta: f32, a: [f32; 4], b: [f32; 4]) -> ColumnTerms
-    ensures value { result ≡ column_terms c1y c2y c3y c4y c5y q0 qperp theta a b }
-{
-    let x = q0.v.x;
-    let y = q0.v.y;
-    let z = q0.v.z;
-    let w = q0.w;
-    let px = qperp.v.x;
-    let py = qperp.v.y;
-    let pz = qperp.v.z;
-    let pw = qperp.w;
-    let a0 = a[0];
-    let a1 = a[1];
-    let a2 = a[2];
-    let b0 = b[0];
-    let b1 = b[1];
-    let b2 = b[2];
-    ColumnTerms {
-        c1: c1y(x, y, z, w, px, py, pz, pw, theta, a0, a1, a2, b0, b1, b2),
-        c2: c2y(x, y, z, w, px, py, pz, pw, theta, a0, a1, a2, b0, b1, b2),
-        c3: c3y(x, y, z, w, px, py, pz, pw, theta, a0, a1, a2, b0, b1, b2),
-        c4: c4y(x, y, z, w, px, py, pz, pw, theta, a0, a1, a2, b0, b1, b2),
-        c5: c5y(x, y, z, w, px, py, pz, pw, theta, a0, a1, a2, b0, b1, b2),
+impl Axis for Y {
+    ghost terms = { column_terms c1y c2y c3y c4y c5y };
+
+    fn column(
+        q0: Quaternion,
+        qperp: Quaternion,
+        theta: f32,
+        a: [f32; 4],
+        b: [f32; 4],
+    ) -> ColumnTerms {
+        let x = q0.v.x;
+        let y = q0.v.y;
+        let z = q0.v.z;
+        let w = q0.w;
+        let px = qperp.v.x;
+        let py = qperp.v.y;
+        let pz = qperp.v.z;
+        let pw = qperp.w;
+        let [a0, a1, a2, _] = a;
+        let [b0, b1, b2, _] = b;
+        ColumnTerms {
+            c1: c1y(x, y, z, w, px, py, pz, pw, theta, a0, a1, a2, b0, b1, b2),
+            c2: c2y(x, y, z, w, px, py, pz, pw, theta, a0, a1, a2, b0, b1, b2),
+            c3: c3y(x, y, z, w, px, py, pz, pw, theta, a0, a1, a2, b0, b1, b2),
+            c4: c4y(x, y, z, w, px, py, pz, pw, theta, a0, a1, a2, b0, b1, b2),
+            c5: c5y(x, y, z, w, px, py, pz, pw, theta, a0, a1, a2, b0, b1, b2),
+        }
     }
 }
 
-fn column_z(q0: Quaternion, qperp: Quaternion, theta: f32, a: [f32; 4], b: [f32; 4]) -> ColumnTerms
-    ensures value { result ≡ column_terms c1z c2z c3z c4z c5z q0 qperp theta a b }
-{
-    let x = q0.v.x;
-    let y = q0.v.y;
-    let z = q0.v.z;
-    let w = q0.w;
-    let px = qperp.v.x;
-    let py = qperp.v.y;
-    let pz = qperp.v.z;
-    let pw = qperp.w;
-    let a0 = a[0];
-    let a1 = a[1];
-    let a2 = a[2];
-    let b0 = b[0];
-    let b1 = b[1];
-    let b2 = b[2];
-    ColumnTerms {
-        c1: c1z(x, y, z, w, px, py, pz, pw, theta, a0, a1, a2, b0, b1, b2),
-        c2: c2z(x, y, z, w, px, py, pz, pw, theta, a0, a1, a2, b0, b1, b2),
-        c3: c3z(x, y, z, w, px, py, pz, pw, theta, a0, a1, a2, b0, b1, b2),
-        c4: c4z(x, y, z, w, px, py, pz, pw, theta, a0, a1, a2, b0, b1, b2),
-        c5: c5z(x, y, z, w, px, py, pz, pw, theta, a0, a1, a2, b0, b1, b2),
+impl Axis for Z {
+    ghost terms = { column_terms c1z c2z c3z c4z c5z };
+
+    fn column(
+        q0: Quaternion,
+        qperp: Quaternion,
+        theta: f32,
+        a: [f32; 4],
+        b: [f32; 4],
+    ) -> ColumnTerms {
+        let x = q0.v.x;
+        let y = q0.v.y;
+        let z = q0.v.z;
+        let w = q0.w;
+        let px = qperp.v.x;
+        let py = qperp.v.y;
+        let pz = qperp.v.z;
+        let pw = qperp.w;
+        let [a0, a1, a2, _] = a;
+        let [b0, b1, b2, _] = b;
+        ColumnTerms {
+            c1: c1z(x, y, z, w, px, py, pz, pw, theta, a0, a1, a2, b0, b1, b2),
+            c2: c2z(x, y, z, w, px, py, pz, pw, theta, a0, a1, a2, b0, b1, b2),
+            c3: c3z(x, y, z, w, px, py, pz, pw, theta, a0, a1, a2, b0, b1, b2),
+            c4: c4z(x, y, z, w, px, py, pz, pw, theta, a0, a1, a2, b0, b1, b2),
+            c5: c5z(x, y, z, w, px, py, pz, pw, theta, a0, a1, a2, b0, b1, b2),
+        }
     }
 }
 
@@ -158,9 +191,9 @@ fn from_columns(kc: f32, x: ColumnTerms, y: ColumnTerms, z: ColumnTerms) -> Deri
     Derivative { c1, c2, c3, c4, c5 }
 }
 
-// The derivative along x, pbrt's c1[0] to c5[0]: kc is the constant of c1, and the scale matrices are given transposed, so that their columns are rows.
+// The derivative along an axis, pbrt's c1[i] to c5[i]: kc is the constant of c1, and the scale matrices are given transposed, so that their columns are rows.
 // Accuracy: each operation is correctly rounded.
-pub fn along_x(
+pub fn along<A: Axis>(
     kc: f32,
     q0: Quaternion,
     qperp: Quaternion,
@@ -168,63 +201,13 @@ pub fn along_x(
     a: [[f32; 4]; 4],
     b: [[f32; 4]; 4],
 ) -> Derivative
-    ensures value { result ≡ derivative c1x c2x c3x c4x c5x q0 qperp theta (row a) (row b) kc }
+    ensures value { result ≡ derivative_over A.terms q0 qperp theta (row a) (row b) kc }
 {
-    let a0 = a[0];
-    let a1 = a[1];
-    let a2 = a[2];
-    let b0 = b[0];
-    let b1 = b[1];
-    let b2 = b[2];
-    let x = column_x(q0, qperp, theta, a0, b0);
-    let y = column_x(q0, qperp, theta, a1, b1);
-    let z = column_x(q0, qperp, theta, a2, b2);
-    from_columns(kc, x, y, z)
-}
-
-// The derivative along y, pbrt's c1[1] to c5[1], likewise. Accuracy: each operation is correctly rounded.
-pub fn along_y(
-    kc: f32,
-    q0: Quaternion,
-    qperp: Quaternion,
-    theta: f32,
-    a: [[f32; 4]; 4],
-    b: [[f32; 4]; 4],
-) -> Derivative
-    ensures value { result ≡ derivative c1y c2y c3y c4y c5y q0 qperp theta (row a) (row b) kc }
-{
-    let a0 = a[0];
-    let a1 = a[1];
-    let a2 = a[2];
-    let b0 = b[0];
-    let b1 = b[1];
-    let b2 = b[2];
-    let x = column_y(q0, qperp, theta, a0, b0);
-    let y = column_y(q0, qperp, theta, a1, b1);
-    let z = column_y(q0, qperp, theta, a2, b2);
-    from_columns(kc, x, y, z)
-}
-
-// The derivative along z, pbrt's c1[2] to c5[2], likewise. Accuracy: each operation is correctly rounded.
-pub fn along_z(
-    kc: f32,
-    q0: Quaternion,
-    qperp: Quaternion,
-    theta: f32,
-    a: [[f32; 4]; 4],
-    b: [[f32; 4]; 4],
-) -> Derivative
-    ensures value { result ≡ derivative c1z c2z c3z c4z c5z q0 qperp theta (row a) (row b) kc }
-{
-    let a0 = a[0];
-    let a1 = a[1];
-    let a2 = a[2];
-    let b0 = b[0];
-    let b1 = b[1];
-    let b2 = b[2];
-    let x = column_z(q0, qperp, theta, a0, b0);
-    let y = column_z(q0, qperp, theta, a1, b1);
-    let z = column_z(q0, qperp, theta, a2, b2);
+    let [a0, a1, a2, _] = a;
+    let [b0, b1, b2, _] = b;
+    let x = A::column(q0, qperp, theta, a0, b0);
+    let y = A::column(q0, qperp, theta, a1, b1);
+    let z = A::column(q0, qperp, theta, a2, b2);
     from_columns(kc, x, y, z)
 }
 

@@ -8,6 +8,8 @@ ghost use Rattle.bounds3.specs.Bounds3f.{Bounds3f-from_point, Bounds3f-from_poin
 ghost use Rattle.bounds3.specs.Bounds3f.{Bounds3f-corner, Bounds3f-union_point, Bounds3f-union_bounds};
 ghost use Rattle.bounds3.specs.Finite.{Point3f-is_finite, Bounds3f-is_finite};
 
+use std::ops::{Div, Index};
+
 #[derive(Clone, Copy)]
 pub struct Point3f {
     pub x: f32,
@@ -44,22 +46,26 @@ impl Point3f {
         }
     }
 
-    // Each coordinate over f. Accuracy: correctly rounded.
-    pub fn div(self, f: f32) -> Point3f
-        ensures value { result ≡ Point3f-div self f }
-    {
-        Point3f {
-            x: self.x / f,
-            y: self.y / f,
-            z: self.z / f,
-        }
-    }
-
     // Whether no coordinate is a NaN or an infinity. Accuracy: exact.
     pub fn is_finite(self) -> bool
         ensures value { result ≡ Point3f-is_finite self }
     {
         float32::is_finite(self.x) & float32::is_finite(self.y) & float32::is_finite(self.z)
+    }
+}
+
+// Each coordinate over f. Accuracy: correctly rounded.
+impl Div<f32> for Point3f {
+    type Output = Point3f;
+
+    ghost div_gives = { λ p f r. r ≡ Point3f-div p f };
+
+    fn div(self, f: f32) -> Point3f {
+        Point3f {
+            x: self.x / f,
+            y: self.y / f,
+            z: self.z / f,
+        }
     }
 }
 
@@ -99,25 +105,15 @@ impl Bounds3f {
         Bounds3f { p_min, p_max }
     }
 
-    // One of the two corners that a box is given by: the greatest where i is true.
-    fn index(self, i: bool) -> Point3f
-        ensures value { result ≡ Bounds3f-index self i }
-    {
-        if i { self.p_max } else { self.p_min }
-    }
-
     // pbrt's `corner`: bits 0, 1 and 2 of c choose between the least and the greatest x, y and z; pbrt asserts that c is below 8, and here its other bits are
     // not read. Accuracy: exact.
     pub fn corner(self, c: usize) -> Point3f
         ensures value { result ≡ Bounds3f-corner self c }
     {
-        let px = self.index(c & 1 != 0);
-        let py = self.index(c & 2 != 0);
-        let pz = self.index(c & 4 != 0);
         Point3f {
-            x: px.x,
-            y: py.y,
-            z: pz.z,
+            x: self[c & 1 != 0].x,
+            y: self[c & 2 != 0].y,
+            z: self[c & 4 != 0].z,
         }
     }
 
@@ -144,5 +140,16 @@ impl Bounds3f {
         ensures value { result ≡ Bounds3f-is_finite self }
     {
         self.p_min.is_finite() & self.p_max.is_finite()
+    }
+}
+
+// One of the two corners that a box is given by: the greatest where i is true. Accuracy: exact.
+impl Index<bool> for Bounds3f {
+    type Output = Point3f;
+
+    ghost index_gives = { λ b i p. p ≡ Bounds3f-index b i };
+
+    fn index(&self, i: bool) -> &Point3f {
+        if i { &self.p_max } else { &self.p_min }
     }
 }

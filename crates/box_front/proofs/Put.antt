@@ -16,7 +16,7 @@ use Rattle.transform.specs.Answer.{BoundsAnswer-refusal}
 use Rattle.transform.proofs.Answer.{refused-number}
 use Rattle.bounds_query.specs.Query.{BoundsAnswer-union_bounds}
 use Rattle.lent_arrays.specs.Arrays.{BoundsAnswer-left}
-use Rattle.motion_piece.specs.declared.PaddedPose.{PaddedPose}
+use Rattle.motion_piece.specs.means.Piece.{PaddedPose}
 use Rattle.motion_piece.specs.pose_steps.Enclose.{Pose-enclose_transform_point, Bounds3f-intervals, IntervalVector-bounds}
 use Rattle.motion_piece.specs.motion_cover.Cover.{BoundsAnswer-from_enclosure}
 use Rattle.motion_piece.proofs.motion_cover.NonZero.{BoundsAnswer-NonZero, tested-nonzero, grow-nonzero}

@@ -4,7 +4,7 @@
 
 ghost use Rattle.std.specs.Prelude.{◌<◌, ◌≡◌, length};
 ghost use Rattle.transform.specs.Answer.{BoundsAnswer-refusal};
-ghost use Rattle.motion_piece.specs.means.Piece.{PaddedPose-enclose_bounds};
+ghost use Rattle.motion_piece.specs.means.Piece.{PaddedPose-judged, PaddedPose-enclose_bounds};
 ghost use Rattle.box_front.specs.means.Front.{box_at, Boxes-answers, Bounds3f-tested, Front-of, BoundsAnswer-put, PaddedPose-front, PaddedPose-places};
 
 use motion_piece::PaddedPose;
@@ -23,20 +23,17 @@ pub struct Front {
 pub fn judged(boxes: &[[f32; 6]], depth: u32) -> Front
     ensures value { result ≡ Front-of (Boxes-answers (Bounds3f-tested depth) boxes.now) }
 {
-    let n = boxes.len();
-    let mut k = 0;
-    while k < n {
-        let number = bounds_query::cover_refusal(lent_arrays::bounds(&boxes[k]), depth);
+    for (k, b) in boxes.iter().enumerate() {
+        let number = bounds_query::cover_refusal(lent_arrays::bounds(b), depth);
         if number != 0 {
             return Front {
                 count: k,
                 refusal: number,
             };
         }
-        k = k + 1;
     }
     Front {
-        count: n,
+        count: boxes.len(),
         refusal: 0,
     }
 }
@@ -45,8 +42,8 @@ pub fn judged(boxes: &[[f32; 6]], depth: u32) -> Front
 // Gives the number of a refusal, which leaves the place as it was. Accuracy: encloses.
 fn take_box(first: bool, pose: PaddedPose, boxes: &[[f32; 6]], i: usize, place: &mut [f32; 6]) -> u8
     requires { i < length boxes.now }
-    ensures refusal { result ≡ BoundsAnswer-refusal (PaddedPose-enclose_bounds pose (box_at boxes.now i)) }
-    ensures left { place.new ≡ BoundsAnswer-put first (PaddedPose-enclose_bounds pose (box_at boxes.now i)) place.old }
+    ensures refusal { result ≡ BoundsAnswer-refusal (PaddedPose-enclose_bounds (PaddedPose-judged pose) (box_at boxes.now i)) }
+    ensures left { place.new ≡ BoundsAnswer-put first (PaddedPose-enclose_bounds (PaddedPose-judged pose) (box_at boxes.now i)) place.old }
 {
     let moved = motion_piece::box_enclosure(pose, lent_arrays::bounds(&boxes[i]));
     if first {
@@ -65,8 +62,8 @@ pub fn take_pose(
     front: Front,
     places: &mut [[f32; 6]; 16],
 ) -> Front
-    ensures front { result ≡ PaddedPose-front pose boxes.now front }
-    ensures places { places.new ≡ PaddedPose-places first pose boxes.now front places.old }
+    ensures front { result ≡ PaddedPose-front (PaddedPose-judged pose) boxes.now front }
+    ensures places { places.new ≡ PaddedPose-places first (PaddedPose-judged pose) boxes.now front places.old }
 {
     let n = front.count;
     if n > boxes.len() {
@@ -75,13 +72,11 @@ pub fn take_pose(
     if n > PLACE_COUNT {
         return front;
     }
-    let mut i = 0;
-    while i < n {
+    for i in 0..n {
         let refusal = take_box(first, pose, boxes, i, &mut places[i]);
         if refusal != 0 {
             return Front { count: i, refusal };
         }
-        i = i + 1;
     }
     front
 }

@@ -12,10 +12,9 @@ use Rattle.motion_chain.specs.formula.Promise.{Pairwise}
 use Rattle.motion_chain.specs.bounds3.declared.Point3f.{Point3f}
 use Rattle.motion_chain.specs.bounds3.declared.Bounds3f.{Bounds3f}
 use Rattle.motion_chain.specs.bounds3.Inside.{Inside, Subset}
-use Rattle.motion_chain.specs.transform.declared.PointAnswer.{PointAnswer}
 use Rattle.motion_chain.specs.transform.declared.BoundsAnswer.{BoundsAnswer}
 use Rattle.motion_chain.specs.transform.declared.BoundsAnswer.TheVariants.{Refused}
-use Rattle.motion_chain.specs.transform.Answer.{OneOf, BoundsAnswer-refusal}
+use Rattle.motion_chain.specs.transform.Answer.{PointAnswer, OneOf, BoundsAnswer-refusal}
 use Rattle.motion_chain.specs.bounds_query.Query.{max_depth}
 use Rattle.motion_chain.specs.bounds_answers.UnionAll.{Each}
 use Rattle.motion_chain.specs.animated_transform.declared.AnimatedTransform.{AnimatedTransform}

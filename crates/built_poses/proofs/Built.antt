@@ -12,18 +12,18 @@ use Rattle.chain_poses.specs.refusal_below.First.{first_refusal}
 use Rattle.chain_poses.specs.matrix4x4.declared.Matrix4x4.{Matrix4x4}
 use Rattle.chain_poses.specs.matrix4x4.Rows.{Matrix4x4-to_rows}
 use Rattle.chain_poses.specs.transform.declared.Transform.{Transform}
-use Rattle.chain_poses.specs.transform.declared.TransformAnswer.{TransformAnswer}
+use Rattle.chain_poses.specs.transform.Transform.{TransformAnswer}
 use Rattle.chain_poses.specs.transform.Transform.{Transform-from_matrix}
 use Rattle.chain_poses.proofs.transform.FromMatrix.{from-matrix-refusal, from-matrix-accepted}
 use Rattle.chain_poses.specs.quaternion.Quaternion.{Quaternion-dot}
 use Rattle.chain_poses.specs.quaternion.Slerp.{slerp_threshold}
-use Rattle.chain_poses.specs.decomposition.declared.Decomposition.{Decomposition}
+use Rattle.chain_poses.specs.decomposition.Decompose.{DecompositionAnswer}
 use Rattle.chain_poses.specs.decomposition.Decompose.{Matrix4x4-decompose}
 use Rattle.chain_poses.specs.rotation_arc.ShorterArc.{flip, dots_refusal}
 use Rattle.chain_poses.specs.rotation_arc.ArcCoefficients.{pair_coefficients}
 use Rattle.chain_poses.specs.pose_pair.declared.Pose.{Pose}
 use Rattle.chain_poses.specs.animated_transform.declared.AnimatedTransform.{AnimatedTransform}
-use Rattle.chain_poses.specs.animated_transform.declared.AnimatedTransformAnswer.{AnimatedTransformAnswer}
+use Rattle.chain_poses.specs.animated_transform.New.{AnimatedTransformAnswer}
 use Rattle.chain_poses.specs.animated_transform.New.{AnimatedTransformAnswer-refused, AnimatedTransform-of_fields, AnimatedTransform-from_parts}
 use Rattle.chain_poses.specs.animated_transform.New.{AnimatedTransform-from_poses, build_refusal, AnimatedTransform-new}
 use Rattle.chain_poses.proofs.animated_transform.Kept.{new-kept}
@@ -49,7 +49,7 @@ tested-poses {p} {q} n a h = go (eqb n 0) (eqb-true n 0) (eqb-false n 0)
 matrix-kept : (m : Matrix4x4) → (Transform-from_matrix (Matrix4x4-to_rows m)).refusal ≡ 0 → (Transform-from_matrix (Matrix4x4-to_rows m)).transform.m ≡ m
 matrix-kept m e = ap (λ (a : TransformAnswer). a.transform.m) (from-matrix-accepted (Matrix4x4-to_rows m) (sym (from-matrix-refusal (Matrix4x4-to_rows m)) ∙ e))
 
-from-parts-poses : (rigid : Bool) (p q : Pose) (a b : Transform) (d e : Decomposition) → a.m ≡ p.m → b.m ≡ q.m
+from-parts-poses : (rigid : Bool) (p q : Pose) (a b : Transform) (d e : DecompositionAnswer) → a.m ≡ p.m → b.m ≡ q.m
     → NewPoses p q (AnimatedTransform-from_parts rigid p q a b d e)
 unfolding AnimatedTransform-from_parts
 from-parts-poses rigid p q a b d e ea eb =

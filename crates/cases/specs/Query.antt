@@ -5,12 +5,11 @@ use Rattle.motion_cover.specs.trig.SinCos.{sin}
 use Rattle.motion_cover.specs.arc_cosine.Acos.{acos}
 use Rattle.motion_cover.specs.bounds3.declared.Point3f.{Point3f}
 use Rattle.motion_cover.specs.bounds3.declared.Bounds3f.{Bounds3f}
-use Rattle.motion_cover.specs.transform.declared.PointAnswer.{PointAnswer}
 use Rattle.motion_cover.specs.transform.declared.BoundsAnswer.{BoundsAnswer}
-use Rattle.motion_cover.specs.transform.Answer.{PointAnswer-refusal, PointAnswer-point, BoundsAnswer-refusal, BoundsAnswer-bounds}
+use Rattle.motion_cover.specs.transform.Answer.{PointAnswer, PointAnswer-refusal, PointAnswer-point, BoundsAnswer-refusal, BoundsAnswer-bounds}
 use Rattle.motion_cover.specs.pose_pair.declared.Pose.{Pose}
 use Rattle.motion_cover.specs.animated_transform.declared.AnimatedTransform.{AnimatedTransform}
-use Rattle.motion_cover.specs.animated_transform.declared.AnimatedTransformAnswer.{AnimatedTransformAnswer}
+use Rattle.motion_cover.specs.animated_transform.New.{AnimatedTransformAnswer}
 use Rattle.motion_cover.specs.animated_transform.New.{AnimatedTransform-new}
 use Rattle.motion_cover.specs.motion_point.TransformPoint.{AnimatedTransform-transform_point}
 use Rattle.motion_cover.specs.Cover.{AnimatedTransform-cover}

@@ -71,7 +71,7 @@ fn put_asked(
         3 => chains::points(moves, n, floats, x, out, at),
         4 => chains::cover(moves, n, x, out, at),
         9 => chains::covers(moves, n, floats / 6, x, out, at),
-        11 => files::write(moves, n, &question_values::bounds_at(x, 0), out, at),
+        11 => files::write(moves, n, &question_values::values_at::<6>(x, 0), out, at),
         12 => chains::pad(moves, x, out, at),
         13 => chains::try_pose(moves, n, wholes[2], x, out, at),
         17 => chains::window_cover(moves, n, x, out, at),

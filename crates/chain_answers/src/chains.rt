@@ -5,7 +5,7 @@ ghost use Rattle.std.specs.Prelude.{◌≤◌};
 use answer_lines::put_text;
 use answer_values::{put_bounds, put_count, put_error, put_values};
 use chain_slots::kept_moves;
-use question_values::{bounds_at, point_at, pose_at};
+use question_values::values_at;
 
 // Builds a chain and keeps it, or none where it is refused.
 pub(crate) fn build_chain(
@@ -27,7 +27,7 @@ pub(crate) fn build_chain(
         return put_error(out, at);
     }
     let mut given = [[0.0f32; 18]; 50];
-    question_values::put_poses(x, &mut given);
+    question_values::put_groups(x, &mut given);
     let refusal = api::jellyplain_build_moves(rigid, &given[0..count], &mut kept[s]);
     poses[s] = kept_count(refusal, count);
     put_count(refusal, count, out, at)
@@ -47,8 +47,8 @@ pub(crate) fn build_lone(
         return put_error(out, at);
     }
     let s = slot as usize;
-    let start = pose_at(x, 0);
-    let end = pose_at(x, 18);
+    let start = values_at::<18>(x, 0);
+    let end = values_at::<18>(x, 18);
     let refusal = api::jellyplain_build(rigid, &start, &end, &mut kept[s][0]);
     poses[s] = kept_count(refusal, 1);
     put_count(refusal, 2, out, at)
@@ -95,7 +95,7 @@ pub(crate) fn stretch(
         return put_error(out, at);
     }
     let mut given = [[0.0f32; 18]; 50];
-    question_values::put_poses(x, &mut given);
+    question_values::put_groups(x, &mut given);
     let run = api::jellyplain_refused_run(rigid, &given[0..count]);
     if run.refusal != 0 {
         return answer_lines::put_refused(run.refusal, out, at);
@@ -117,7 +117,7 @@ pub(crate) fn point(
     out: &mut [u8; 32768],
     at: usize,
 ) -> usize {
-    let p = point_at(x, 1);
+    let p = values_at::<3>(x, 1);
     let mut moved = [0.0f32; 3];
     let refusal = api::jellyplain_moves_point(moves, x[0], &p, &mut moved);
     answer_values::put_point(refusal, &moved, out, at)
@@ -148,7 +148,7 @@ pub(crate) fn points(
     out: &mut [u8; 32768],
     at: usize,
 ) -> usize {
-    let p = point_at(x, 0);
+    let p = values_at::<3>(x, 0);
     let mut answers = [0.0f32; 2700];
     let size = places_lent(places);
     let refusal = api::jellyplain_moves_points(
@@ -174,7 +174,7 @@ pub(crate) fn cover(
     out: &mut [u8; 32768],
     at: usize,
 ) -> usize {
-    let asked = bounds_at(x, 0);
+    let asked = values_at::<6>(x, 0);
     let mut b = [0.0f32; 6];
     let refusal = api::jellyplain_moves_cover(
         moves,
@@ -194,9 +194,9 @@ pub(crate) fn try_pose(
     out: &mut [u8; 32768],
     at: usize,
 ) -> usize {
-    let pose = pose_at(x, 0);
+    let pose = values_at::<18>(x, 0);
     // The box stands behind the 18 floats of the pose.
-    let asked = bounds_at(x, 18);
+    let asked = values_at::<6>(x, 18);
     let mut b = [0.0f32; 6];
     let refusal = api::jellyplain_moves_try(
         moves,
@@ -223,7 +223,7 @@ pub(crate) fn covers(
         return put_error(out, at);
     }
     let mut boxes = [[0.0f32; 6]; 150];
-    question_values::put_boxes(x, &mut boxes);
+    question_values::put_groups(x, &mut boxes);
     let mut covers = [[0.0f32; 6]; 16];
     let mut union = [0.0f32; 6];
     let refusal = api::jellyplain_moves_covers(
@@ -262,7 +262,7 @@ pub(crate) fn motion_bounds(
     out: &mut [u8; 32768],
     at: usize,
 ) -> usize {
-    let asked = bounds_at(x, 0);
+    let asked = values_at::<6>(x, 0);
     let mut b = [0.0f32; 6];
     let mut examined = [0u32; 3];
     let refusal = api::jellyplain_motion_bounds(motion, &asked, &mut b, &mut examined);
@@ -276,7 +276,7 @@ pub(crate) fn bound_point_motion(
     out: &mut [u8; 32768],
     at: usize,
 ) -> usize {
-    let p = point_at(x, 0);
+    let p = values_at::<3>(x, 0);
     let mut b = [0.0f32; 6];
     let mut examined = [0u32; 3];
     let refusal = api::jellyplain_bound_point_motion(motion, &p, &mut b, &mut examined);
@@ -291,7 +291,7 @@ pub(crate) fn window_cover(
     out: &mut [u8; 32768],
     at: usize,
 ) -> usize {
-    let asked = bounds_at(x, 0);
+    let asked = values_at::<6>(x, 0);
     let mut b = [0.0f32; 6];
     let refusal = api::jellyplain_moves_window_cover(
         moves,
@@ -322,8 +322,8 @@ pub(crate) fn windows(
     if others.len() == 0 {
         return put_error(out, at);
     }
-    let b = bounds_at(x, 0);
-    let other = bounds_at(x, 6);
+    let b = values_at::<6>(x, 0);
+    let other = values_at::<6>(x, 6);
     let mut places = [0u32; 63];
     let met = api::jellyplain_moves_windows(
         moves,
@@ -365,7 +365,7 @@ fn put_set(
     }
     let ok = put_text(b"ok", out, at);
     let behind = answer_lines::put_floats(union, 6, out, ok);
-    let end = answer_values::put_boxes(&covers[0..count], out, behind);
+    let end = answer_values::put_rows(&covers[0..count], out, behind);
     put_text(b"\n", out, end)
 }
 

@@ -3,7 +3,7 @@ ghost use Rattle.std.specs.Prelude.{◌<◌, length};
 
 use answer_lines::put_text;
 use answer_values::put_error;
-use question_lines::{Decimal, part};
+use question_lines::part;
 
 // Answers a line of which the words of the booms begin behind the name.
 pub(crate) fn put_day(line: &[u8], out: &mut [u8; 32768], at: usize) -> usize {
@@ -53,13 +53,13 @@ fn boom_end(line: &[u8], at: usize) -> usize
 fn put_boom(text: &[u8], place: usize, boxes: &mut [[f32; 6]; 8], lengths: &mut [u32; 8]) -> bool {
     let mut b = [0.0f32; 6];
     match read_boom(text, &mut b) {
-        Decimal::Value(ticks) => {
+        Some(ticks) => {
             if place < 8 {
                 boxes[place] = b;
                 lengths[place] = question_lines::saturated(ticks);
             }
         }
-        Decimal::Malformed => {
+        None => {
             return false;
         }
     }
@@ -67,17 +67,17 @@ fn put_boom(text: &[u8], place: usize, boxes: &mut [[f32; 6]; 8], lengths: &mut 
 }
 
 // The run length of a boom, whose box `b` then holds.
-fn read_boom(text: &[u8], b: &mut [f32; 6]) -> Decimal {
+fn read_boom(text: &[u8], b: &mut [f32; 6]) -> Option<u64> {
     if text.len() < 56 {
-        return Decimal::Malformed;
+        return None;
     }
     if text[54] != b' ' {
-        return Decimal::Malformed;
+        return None;
     }
     if question_lines::read_floats(part(text, 0, 54), 6, b) {
         return question_lines::read_decimal(part(text, 55, text.len()));
     }
-    Decimal::Malformed
+    None
 }
 
 // The starting ticks, or the number of a refusal.

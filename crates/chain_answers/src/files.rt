@@ -3,7 +3,6 @@ ghost use Rattle.std.specs.Prelude.{◌≤◌};
 
 use answer_lines::put_text;
 use answer_values::put_error;
-use hexadecimal::Word;
 use question_lines::part;
 
 const DIGITS: [u8; 16] = [
@@ -54,11 +53,8 @@ fn put_line_of(bytes: &[u8], out: &mut [u8; 32768], at: usize) -> usize {
 
 fn put_bytes(bytes: &[u8], out: &mut [u8; 32768], at: usize) -> usize {
     let mut end = at;
-    let mut i = 0;
-    while i < bytes.len() {
-        let next = put_byte(bytes[i], out, end);
-        end = next;
-        i += 1;
+    for byte in bytes {
+        end = put_byte(*byte, out, end);
     }
     end
 }
@@ -88,19 +84,16 @@ pub(crate) fn read(line: &[u8], out: &mut [u8; 32768], at: usize) -> usize {
 
 // Whether a word is pairs of digits; their bytes then stand in the front.
 fn read_bytes(word: &[u8], bytes: &mut [u8; 4000]) -> bool {
-    for i in 0..4000 {
-        if word.len() / 2 <= i {
-            break;
-        }
-        let high = hexadecimal::digit_value(word[2 * i]);
-        let low = hexadecimal::digit_value(word[2 * i + 1]);
+    for (pair, byte) in word.chunks_exact(2).zip(bytes) {
+        let high = hexadecimal::digit_value(pair[0]);
+        let low = hexadecimal::digit_value(pair[1]);
         if 16 <= high {
             return false;
         }
         if 16 <= low {
             return false;
         }
-        bytes[i] = (16 * high + low) as u8;
+        *byte = (16 * high + low) as u8;
     }
     true
 }
@@ -164,12 +157,8 @@ fn put_poses(
     at: usize,
 ) -> usize {
     let mut end = at;
-    for i in 0..559 {
-        if count <= i {
-            break;
-        }
-        let next = put_pose(text, words_before(padded, i), &poses[i], out, end);
-        end = next;
+    for (i, pose) in poses.iter().take(count).enumerate() {
+        end = put_pose(text, words_before(padded, i), pose, out, end);
     }
     put_text(b"\n", out, end)
 }
@@ -197,14 +186,8 @@ fn put_values(
     at: usize,
 ) -> usize {
     let mut end = at;
-    let mut i = 0;
-    while i < values.len() {
-        if count <= i {
-            break;
-        }
-        let next = put_value(values[i], text, first, i, out, end);
-        end = next;
-        i += 1;
+    for (i, x) in values.iter().take(count).enumerate() {
+        end = put_value(*x, text, first, i, out, end);
     }
     end
 }
@@ -222,8 +205,8 @@ fn put_value(
         return answer_lines::put_floats(&[x], 1, out, at);
     }
     match hexadecimal::read_word(text, word_start(text, first, i)) {
-        Word::Bits(bits) => put_bits(bits, out, at),
-        Word::Malformed => put_text(b" 7fc00000", out, at),
+        Some(bits) => put_bits(bits, out, at),
+        None => put_text(b" 7fc00000", out, at),
     }
 }
 
@@ -239,17 +222,15 @@ fn put_bits(bits: u32, out: &mut [u8; 32768], at: usize) -> usize {
 fn word_start(text: &[u8], first: usize, i: usize) -> usize {
     let mut words = 0;
     let mut before = b' ';
-    let mut at = 0;
-    while at < text.len() {
-        let starts = starts_word(before, text[at]);
+    for (at, byte) in text.iter().enumerate() {
+        let starts = starts_word(before, *byte);
         if is_asked(starts, words, first, i) {
             return at;
         }
         words += starts;
-        before = text[at];
-        at += 1;
+        before = *byte;
     }
-    at
+    text.len()
 }
 
 // 1 where a word starts at a byte, by the byte before it, and 0.

@@ -24,14 +24,12 @@ fn main(rt: HostRuntime) -> io::Result<()> {
     let mut kept = [[[[0.0f32; 4]; 45]; 31]; 4];
     let mut poses = [0usize; 4];
     let mut held = 0;
-    let mut turns = u64::MAX;
-    while turns > 0 {
+    for _ in 0..u64::MAX {
         let n = question_lines::read_more(&mut source, &mut input, held)?;
         if n == held {
             break;
         }
         held = answer_block(&mut sink, &mut input, n, &mut out, &mut kept, &mut poses)?;
-        turns -= 1;
     }
     answer_rest(&mut sink, &input, held, &mut out, &mut kept, &mut poses)
 }

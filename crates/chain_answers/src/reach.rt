@@ -1,7 +1,7 @@
 // Which rows, and when, `reach S D NB NT NR BOX* T* BOX*`: five whole numbers, the last three how many boxes, ticks and rows follow; and a box in parts, `cut N BOX`.
 // The words have one space before each.
 use answer_values::put_error;
-use question_lines::{Decimal, part};
+use question_lines::part;
 
 // A whole number, and the place behind its word: one that no line has where the word is malformed.
 #[derive(Clone, Copy)]
@@ -26,8 +26,8 @@ fn read_whole(line: &[u8], at: usize) -> Whole {
     }
     let end = question_lines::find(line, at + 1, b' ');
     match question_lines::read_decimal(part(line, at + 1, end)) {
-        Decimal::Value(value) => Whole { value, end },
-        Decimal::Malformed => Whole {
+        Some(value) => Whole { value, end },
+        None => Whole {
             value: 0,
             end: usize::MAX,
         },
@@ -119,8 +119,8 @@ fn put_asked(
     }
     let mut many = [[0.0f32; 6]; 150];
     let mut asked = [[0.0f32; 6]; 150];
-    question_values::put_boxes(question_values::part(x, 0, 6 * n), &mut many);
-    question_values::put_boxes(question_values::part(x, 6 * n + m, floats), &mut asked);
+    question_values::put_groups(question_values::part(x, 0, 6 * n), &mut many);
+    question_values::put_groups(question_values::part(x, 6 * n + m, floats), &mut asked);
     let mut masks = [0u64; 256];
     let refusal = api::jellyplain_moves_reach(
         moves,
@@ -135,7 +135,7 @@ fn put_asked(
 
 // Answers the n parts of a box.
 pub(crate) fn put_cut(n: u64, x: &[f32; 900], out: &mut [u8; 32768], at: usize) -> usize {
-    let b = question_values::bounds_at(x, 0);
+    let b = question_values::values_at::<6>(x, 0);
     let mut parts = [[0.0f32; 6]; 16];
     let refusal = api::jellyplain_cut(&b, question_lines::saturated(n), &mut parts);
     put_parts(refusal, parts, n, out, at)
@@ -172,6 +172,6 @@ fn put_parts(
     }
     let count = n as usize;
     let ok = answer_lines::put_text(b"ok", out, at);
-    let end = answer_values::put_boxes(&parts[0..count], out, ok);
+    let end = answer_values::put_rows(&parts[0..count], out, ok);
     answer_lines::put_text(b"\n", out, end)
 }

@@ -11,8 +11,8 @@ pub(crate) fn reached(boxes: usize, x: &[f32; 900], out: &mut [u8; 32768], at: u
         return put_error(out, at);
     }
     let mut values = [[0.0f32; 6]; 150];
-    question_values::put_boxes(x, &mut values);
-    let cover = question_values::bounds_at(x, 0);
+    question_values::put_groups(x, &mut values);
+    let cover = question_values::values_at::<6>(x, 0);
     let mut places = [0u32; 256];
     let named = api::jellyplain_reached_rows(&cover, &values[1..boxes], &mut places);
     put_named(named.refusal, &places, named.count, out, at)

@@ -14,7 +14,7 @@ use Rattle.chain_number.proofs.ChainNumber.{numbers-same}
 use Rattle.lent_arrays.specs.matrix4x4.Rows.{Rows}
 use Rattle.lent_arrays.specs.pose_pair.declared.Pose.{Pose}
 use Rattle.lent_arrays.specs.pose_pair.Pose.{Pose-is_binary32}
-use Rattle.animated_transform.specs.declared.AnimatedTransformAnswer.{AnimatedTransformAnswer}
+use Rattle.animated_transform.specs.New.{AnimatedTransformAnswer}
 use Rattle.animated_transform.specs.New.{AnimatedTransform-new}
 use Rattle.animated_transform.specs.Built.{Built}
 use Rattle.animated_transform.proofs.Kept.{new-kept, built-kept}

@@ -35,14 +35,11 @@ fn put_pairs(rigid: bool, poses: &[[f32; 18]], moves: &mut [[[f32; 4]; 45]; 31])
         → moves.new ≡ blocks_left (map (Pair-rows rigid) (neighbours (Poses-of_lists poses.now))) moves.old }
     ensures built { result ≡ 0 → Each (Pair-Built rigid) (neighbours (Poses-of_lists poses.now)) }
 {
-    let n = poses.len();
-    let mut i = 1;
-    while i < n {
+    for i in 1..poses.len() {
         let refusal = put_pair(rigid, poses, i - 1, moves);
         if refusal != 0 {
             return refusal;
         }
-        i = i + 1;
     }
     0
 }

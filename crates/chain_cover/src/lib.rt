@@ -44,12 +44,8 @@ pub fn cover(moves: &[[[f32; 4]; 45]], b: Bounds3f, depth: u32) -> BoundsAnswer
         return BoundsAnswer::Refused(12);
     }
     let mut r = cover_query::cover(motion_rows::from_rows(&moves[0]), b, depth);
-    let mut i = 1;
-    let n = moves.len();
-    while i < n {
-        let u = union_move(r, moves, i, b, depth);
-        r = u;
-        i = i + 1;
+    for i in 1..moves.len() {
+        r = union_move(r, moves, i, b, depth);
     }
     r
 }

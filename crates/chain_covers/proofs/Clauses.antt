@@ -11,9 +11,8 @@ use Rattle.lent_arrays.specs.matrix4x4.Rows.{Rows}
 use Rattle.bounds3.specs.declared.Point3f.{Point3f}
 use Rattle.bounds3.specs.declared.Bounds3f.{Bounds3f}
 use Rattle.bounds3.specs.List.{Bounds3f-list, Bounds3f-of_list}
-use Rattle.lent_arrays.specs.transform.declared.PointAnswer.{PointAnswer}
 use Rattle.lent_arrays.specs.transform.declared.BoundsAnswer.{BoundsAnswer}
-use Rattle.lent_arrays.specs.transform.Answer.{BoundsAnswer-bounds}
+use Rattle.lent_arrays.specs.transform.Answer.{PointAnswer, BoundsAnswer-bounds}
 use Rattle.box_set.specs.motion_chain.Chain.{Chain, Chain-transform_point, Chain-cover}
 use Rattle.box_set.proofs.motion_chain.Cover.{chain-cover-nonzero}
 use Rattle.chain_fronts.specs.chain_rows.Kept.{Chain-to_rows, Moves-chain, Moves-cover, Moves-transform_point}

@@ -20,12 +20,8 @@ fn union_places(places: &[[f32; 6]; 16], n: usize) -> Bounds3f
     ensures value { result ≡ union_places places.now n }
 {
     let mut union = lent_arrays::bounds(&places[0]);
-    let last = n - 1;
-    let mut i = 1;
-    while i <= last {
-        let next = union.union_bounds(lent_arrays::bounds(&places[i]));
-        union = next;
-        i = i + 1;
+    for place in &places[1..n] {
+        union = union.union_bounds(lent_arrays::bounds(place));
     }
     union
 }

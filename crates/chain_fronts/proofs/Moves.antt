@@ -1,13 +1,13 @@
 -- The loop over the moves of a kept chain: before the move at i each box is answered the union of the covers before it,
 -- and with those that are left it is the chain's cover (`Reached`); `reached-first`, `reached-next`, `reached-last`.
 -- Where there is nothing to join: `no-boxes`, `no-moves`.
-use Prim.Native.Nat.{ℕ, suc, ◌+◌, ◌≤◌, ◌<◌}
+use Prim.Native.Nat.{ℕ, suc, ◌+◌, ◌-◌, ◌≤◌, ◌<◌}
 use mathlib.Core.Path.{◌≡◌, refl, sym, ap, subst, ◌∙◌}
 use mathlib.Core.List.{List, [], ◌∷◌, map}
 use native.Mathlib.Omega.{arith}
 use borrow.Author.Tests.{eq-eqb, ne_eqb}
-use lib.ListN.{length, get_or, drop, drop_of_length-le}
-use lib.Seq.{drop-cons}
+use lib.ListN.{length, get_or, take, drop, drop_of_length-le}
+use lib.Seq.{drop-cons, take_all}
 use lib.Ieee.{Float}
 use Rattle.lent_arrays.specs.matrix4x4.Rows.{Rows}
 use Rattle.lent_arrays.specs.bounds3.declared.Bounds3f.{Bounds3f}
@@ -23,6 +23,28 @@ use Rattle.box_front.specs.means.Front.{place_count, Boxes-answers, Front-of}
 use Rattle.motion_fronts.specs.means.Covered.{Places-of, Places-answered, Covered, Continues}
 use Rattle.motion_fronts.proofs.Front.{covered_same}
 use Rattle.motion_fronts.proofs.Places.{asked-all, answered-none, answered-covered, Left}
+
+-- The moves behind the first, as the loop goes over them.
+abbrev behind : List Rows → List Rows
+behind rows = take (length rows - 1) (drop 1 rows)
+
+all-behind : (rows : List Rows) → behind rows ≡ drop 1 rows
+all-behind [] = take_all (0 - 1) [] (omega arith)
+all-behind (r ∷ rows) = take_all (suc (length rows) - 1) rows (omega arith)
+
+pub rows-behind : (rows : List Rows) (i : ℕ) → i < length (behind rows) → (get_or (behind rows) i [] ≡ get_or rows (i + 1) []) × (i + 1 < length rows)
+rows-behind rows i h = rw (all-behind rows) (go rows (rw (all-behind rows) at h))
+  where
+    go : (rows : List Rows) → i < length (drop 1 rows) → (get_or (drop 1 rows) i [] ≡ get_or rows (i + 1) []) × (i + 1 < length rows)
+    go [] l = absurd (omega (arith, l))
+    go (r ∷ rows) l = let n : i + 1 ≡ suc i = omega arith in (rw n refl, omega (arith, l))
+
+pub none-behind : (rows : List Rows) (i : ℕ) → length (behind rows) ≤ i → length rows ≤ i + 1
+none-behind rows i h = go rows (rw (all-behind rows) at h)
+  where
+    go : (rows : List Rows) → length (drop 1 rows) ≤ i → length rows ≤ i + 1
+    go [] l = omega arith
+    go (r ∷ rows) l = omega (arith, l)
 
 module _ (rows : List Rows) (boxes : List (List Float)) (depth : ℕ) where
   abbrev pub cover_at : ℕ → Bounds3f → BoundsAnswer

@@ -29,10 +29,8 @@ fn join_boxes(count: usize, moved: &[[f32; 6]; 16], places: &mut [[f32; 6]; 16])
     requires count_in_bounds { count ≤ length moved.now }
     ensures left { places.new ≡ Places-joined count moved.now places.old }
 {
-    let mut i = 0;
-    while i < count {
+    for i in 0..count {
         join_box(&moved[i], &mut places[i]);
-        i = i + 1;
     }
 }
 
@@ -74,12 +72,8 @@ fn join_moves(
     ensures covered { Covered (λ b. Moves-cover moves.now b depth) boxes.now (Places-of []) places.new result }
 {
     let mut front = motion_fronts::covers(motion_rows::from_rows(&moves[0]), boxes, depth, places);
-    let n = moves.len();
-    let mut i = 1;
-    while i < n {
-        let next = add_move(&moves[i], boxes, depth, front, places);
-        front = next;
-        i = i + 1;
+    for rows in &moves[1..] {
+        front = add_move(rows, boxes, depth, front, places);
     }
     front
 }

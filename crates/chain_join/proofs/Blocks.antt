@@ -1,23 +1,13 @@
--- Blocks put over others one after the other, `put-block`, and then those of a second list behind the first: both stand at the front, `two-fronts`.
-use Prim.Native.Nat.{ℕ, suc, ◌+◌, ◌≤◌, ◌<◌}
+-- Blocks put over others, and then those of a second list behind the first: both stand at the front, `two-fronts`.
+use Prim.Native.Nat.{◌+◌, ◌≤◌}
 use native.Mathlib.Nat.{zero-add}
 use native.Mathlib.Omega.{arith}
 use mathlib.Core.Path.{◌≡◌, refl, sym, ap, ◌∙◌}
 use mathlib.Core.List.{List, [], ◌∷◌, ◌++◌, append_assoc}
-use lib.ListN.{length, take, drop, set, get_or, length-append}
-use lib.Seq.{paste, paste-suc, length-paste, take-length, take-append_seam, drop-append_seam, drop-drop}
+use lib.ListN.{length, take, drop, length-append}
+use lib.Seq.{paste, take-length, take-append_seam, drop-append_seam, drop-drop}
 use Rattle.pose_bits.specs.matrix4x4.Rows.{Rows}
 use Rattle.chain_build.specs.Build.{blocks_left}
-
-pub put-block : (old : List Rows) (at : ℕ) (others : List Rows) (i : ℕ) (filled : List Rows) → at + i < length old → i < length others
-    → filled ≡ paste old at others i → set filled (at + i) (get_or others i []) ≡ paste old at others (i + 1)
-put-block old at others i filled h k e =
-    let n : i + 1 ≡ suc i = omega arith in
-    rw (e, n) (paste-suc old at others i [] h k)
-
-pub put-length : (old : List Rows) (at : ℕ) (others : List Rows) (i : ℕ) {filled : List Rows} → at + i ≤ length old → i ≤ length others
-    → filled ≡ paste old at others i → length filled ≡ length old
-put-length old at others i h k e = ap length e ∙ length-paste old at others i h k
 
 pub two-fronts : (first second old : List Rows) {filled left : List Rows} → length first + length second ≤ length old
     → filled ≡ paste old 0 first (length first) → left ≡ paste filled (length first) second (length second)

@@ -14,7 +14,7 @@ use Rattle.refusal.proofs.First.{first-zero}
 use Rattle.refusal.specs.First.{first_refusal}
 use Rattle.pose_bits.specs.matrix4x4.Rows.{Rows}
 use Rattle.pose_bits.specs.bounds3.declared.Point3f.{Point3f}
-use Rattle.pose_bits.specs.transform.declared.PointAnswer.{PointAnswer}
+use Rattle.pose_bits.specs.transform.Answer.{PointAnswer}
 use Rattle.pose_bits.specs.pose_pair.declared.Pose.{Pose}
 use Rattle.kept_poses.specs.animated_transform.declared.AnimatedTransform.{AnimatedTransform}
 use Rattle.kept_poses.specs.motion_rows.Rows.{AnimatedTransform-to_rows}

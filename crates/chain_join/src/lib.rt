@@ -51,14 +51,12 @@ fn rise_from(time: f32, moves: &[[[f32; 4]; 45]]) -> u8
     ensures value { result ≡ rise_from time moves.now }
 {
     let mut last = time;
-    let mut i = 0;
-    while i < moves.len() {
-        let end = moves[i][17][3];
+    for rows in moves {
+        let end = rows[17][3];
         if !(last < end) {
             return 12;
         }
         last = end;
-        i = i + 1;
     }
     0
 }
@@ -86,11 +84,7 @@ fn with_blocks(
     ensures value { result ≡ paste blocks at others.now (length others.now) }
 {
     let mut filled = blocks;
-    let mut i = 0;
-    while i < others.len() {
-        filled[at + i] = others[i];
-        i = i + 1;
-    }
+    filled[at..at + others.len()].copy_from_slice(others);
     filled
 }
 

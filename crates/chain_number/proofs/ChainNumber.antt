@@ -10,7 +10,7 @@ use lib.ListN.{length, get_or}
 use lib.Ieee.{Float}
 use Rattle.animated_transform.specs.refusal.First.{first_refusal}
 use Rattle.lent_arrays.specs.pose_pair.declared.Pose.{Pose}
-use Rattle.animated_transform.specs.declared.AnimatedTransformAnswer.{AnimatedTransformAnswer}
+use Rattle.animated_transform.specs.New.{AnimatedTransformAnswer}
 use Rattle.animated_transform.specs.New.{AnimatedTransform-new}
 use Rattle.lent_arrays.specs.Arrays.{Pose-of_list}
 use Rattle.chain_poses.specs.motion_chain.Chain.{neighbours, first_number, stage, chain_refusal, built, refused, ChainAnswer-refusal, ChainAnswer-from_moves, Chain-new}

@@ -13,22 +13,21 @@ use animated_transform::AnimatedTransform;
 pub fn move_number(rigid: bool, start: &[f32; 18], end: &[f32; 18]) -> u8
     ensures value { result ≡ Move-number rigid (Pose-of_list start.now, Pose-of_list end.now) }
 {
-    let answer = AnimatedTransform::new(rigid, lent_arrays::pose(start), lent_arrays::pose(end));
-    answer.refusal
+    match AnimatedTransform::new(rigid, lent_arrays::pose(start), lent_arrays::pose(end)) {
+        Ok(_) => 0,
+        Err(refusal) => refusal.number(),
+    }
 }
 
 // The first number of the moves of neighbouring poses, in rising order; 0 for none.
 fn moves_number(rigid: bool, poses: &[[f32; 18]]) -> u8
     ensures value { result ≡ stage (Move-number rigid) (neighbours (Poses-of_lists poses.now)) }
 {
-    let n = poses.len();
-    let mut i = 1;
-    while i < n {
+    for i in 1..poses.len() {
         let number = move_number(rigid, &poses[i - 1], &poses[i]);
         if number != 0 {
             return number;
         }
-        i = i + 1;
     }
     0
 }

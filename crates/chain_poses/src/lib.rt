@@ -3,8 +3,7 @@
 // and of every pose of a rigid chain 17 and 18.
 #![tactic(auto)]
 
-ghost use Rattle.std.specs.Prelude.{◌+◌, ◌<◌, ◌≡◌, ◌||◌, cond, [], ltb, length, get_or};
-ghost use Rattle.lent_arrays.specs.Arrays.{Pose-of_list};
+ghost use Rattle.std.specs.Prelude.{◌+◌, ◌<◌, ◌≡◌, ◌||◌, cond, ltb, length};
 ghost use Rattle.motion_chain.specs.Chain.{min_poses, max_poses, neighbours, stage, Pose-number, Pair-number, kind_stage, chain_refusal};
 ghost use Rattle.chain_poses.specs.Poses.{Poses-of_lists, Poses-pair_at};
 
@@ -33,16 +32,12 @@ fn pose_number(k: u8, p: Pose) -> u8
         return 16;
     }
     if k == 17 {
-        return p.kind_number(true);
+        return match p.judge_kind(true) {
+            Ok(()) => 0,
+            Err(refusal) => refusal.number(),
+        };
     }
     0
-}
-
-fn pose_number_at(k: u8, poses: &[[f32; 18]], i: usize) -> u8
-    requires { i < length poses.now }
-    ensures value { result ≡ Pose-number k (Pose-of_list (get_or poses.now i [])) }
-{
-    pose_number(k, lent_arrays::pose(&poses[i]))
 }
 
 fn pair_number_at(k: u8, poses: &[[f32; 18]], i: usize) -> u8
@@ -58,7 +53,10 @@ fn pair_number_at(k: u8, poses: &[[f32; 18]], i: usize) -> u8
         return 12;
     }
     if k == 3 {
-        return pose_pair::times_refusal(start, end);
+        return match pose_pair::judge_times(start, end) {
+            Ok(()) => 0,
+            Err(refusal) => refusal.number(),
+        };
     }
     0
 }
@@ -66,14 +64,11 @@ fn pair_number_at(k: u8, poses: &[[f32; 18]], i: usize) -> u8
 fn pose_stage(k: u8, poses: &[[f32; 18]]) -> u8
     ensures value { result ≡ stage (Pose-number k) (Poses-of_lists poses.now) }
 {
-    let n = poses.len();
-    let mut i = 0;
-    while i < n {
-        let number = pose_number_at(k, poses, i);
+    for pose in poses {
+        let number = pose_number(k, lent_arrays::pose(pose));
         if number != 0 {
             return number;
         }
-        i = i + 1;
     }
     0
 }
@@ -81,14 +76,11 @@ fn pose_stage(k: u8, poses: &[[f32; 18]]) -> u8
 fn pair_stage(k: u8, poses: &[[f32; 18]]) -> u8
     ensures value { result ≡ stage (Pair-number k) (neighbours (Poses-of_lists poses.now)) }
 {
-    let n = poses.len();
-    let mut i = 1;
-    while i < n {
+    for i in 1..poses.len() {
         let number = pair_number_at(k, poses, i - 1);
         if number != 0 {
             return number;
         }
-        i = i + 1;
     }
     0
 }

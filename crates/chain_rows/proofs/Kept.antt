@@ -12,13 +12,13 @@ use lib.Ieee.{Float}
 use Rattle.transform.specs.matrix4x4.Rows.{Rows}
 use Rattle.bounds3.specs.declared.Point3f.{Point3f}
 use Rattle.bounds3.specs.declared.Bounds3f.{Bounds3f}
-use Rattle.transform.specs.declared.PointAnswer.{PointAnswer}
+use Rattle.transform.specs.Answer.{PointAnswer}
 use Rattle.motion_rows.specs.animated_transform.declared.AnimatedTransform.{AnimatedTransform}
 use Rattle.motion_rows.specs.animated_transform.Built.{Built}
 use Rattle.motion_rows.specs.Rows.{AnimatedTransform-to_rows, AnimatedTransform-from_rows}
 use Rattle.motion_rows.specs.TransformPoint.{Rows-transform_point}
 use Rattle.motion_rows.proofs.RoundTrip.{from-rows-inverse, transform-point-kept}
-use Rattle.pad_query.specs.declared.PadAnswer.{PadAnswer}
+use Rattle.pad_query.specs.PadQuery.{PadAnswer}
 use Rattle.pad_query.proofs.Kept.{pad-kept}
 use Rattle.motion_chain.specs.Chain.{Chain, Chain-moves, Chain-move_at, Chain-transform_point, Chain-cover}
 use Rattle.motion_chain.specs.Built.{Each}

@@ -4,11 +4,11 @@
 ghost use Rattle.std.specs.Prelude.{◌<◌, ◌≡◌, length};
 ghost use Rattle.motion_chain.specs.Chain.{Chain, Chain-transform_point};
 ghost use Rattle.motion_chain.specs.MoveAt.{Chain-index_at};
+ghost use Rattle.refusal.specs.Number.{numbered};
 ghost use Rattle.chain_rows.specs.Kept.{Chain-to_rows, Moves-chain, Moves-transform_point, Chain-pad, Moves-pad};
 
 use bounds3::Point3f;
-use pad_query::PadAnswer;
-use transform::PointAnswer;
+use refusal::Refusal;
 
 // The place of the move that a time belongs to. Accuracy: exact.
 pub fn place(moves: &[[[f32; 4]; 45]], time: f32) -> usize
@@ -17,24 +17,22 @@ pub fn place(moves: &[[[f32; 4]; 45]], time: f32) -> usize
     ensures below { result < length moves.now }
 {
     let last = moves.len() - 1;
-    let mut i = 0;
-    while i < last {
+    for i in 0..last {
         if time <= moves[i][17][3] {
             return i;
         }
-        i = i + 1;
     }
-    i
+    last
 }
 
 // Where a point stands at a time of a kept chain. Refused with 5 or 6, and with 12 where there are no moves.
 // Accuracy: each operation but sine and cosine is correctly rounded.
-pub fn transform_point(moves: &[[[f32; 4]; 45]], time: f32, p: Point3f) -> PointAnswer
-    ensures value { result ≡ Moves-transform_point moves.now time p }
-    ensures kept { (c : Chain) → moves.now ≡ Chain-to_rows c → result ≡ Chain-transform_point c time p }
+pub fn transform_point(moves: &[[[f32; 4]; 45]], time: f32, p: Point3f) -> Result<Point3f, Refusal>
+    ensures value { numbered result ≡ Moves-transform_point moves.now time p }
+    ensures kept { (c : Chain) → moves.now ≡ Chain-to_rows c → numbered result ≡ Chain-transform_point c time p }
 {
     if moves.len() == 0 {
-        return PointAnswer::Refused(12);
+        return Err(Refusal::Chain);
     }
     let i = place(moves, time);
     motion_rows::transform_point(&moves[i], time, p)
@@ -42,12 +40,12 @@ pub fn transform_point(moves: &[[[f32; 4]; 45]], time: f32, p: Point3f) -> Point
 
 // The pad of a kept chain at a time, that of the move to which the time belongs. Refused with 5 or 6, and with 12 where there are no moves.
 // Accuracy: each operation is correctly rounded.
-pub fn pad(moves: &[[[f32; 4]; 45]], time: f32) -> PadAnswer
-    ensures value { result ≡ Moves-pad moves.now time }
-    ensures kept { (c : Chain) → moves.now ≡ Chain-to_rows c → result ≡ Chain-pad c time }
+pub fn pad(moves: &[[[f32; 4]; 45]], time: f32) -> Result<f32, Refusal>
+    ensures value { numbered result ≡ Moves-pad moves.now time }
+    ensures kept { (c : Chain) → moves.now ≡ Chain-to_rows c → numbered result ≡ Chain-pad c time }
 {
     if moves.len() == 0 {
-        return PadAnswer::Refused(12);
+        return Err(Refusal::Chain);
     }
     let i = place(moves, time);
     pad_query::pad(&moves[i], time)

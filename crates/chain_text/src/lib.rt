@@ -68,14 +68,8 @@ fn put_ends(moves: &[[[f32; 4]; 45]], out: &mut [u8])
         ≡ paste out.old 183 (lines_text (map Rows-end_values moves.now)) (126 * length moves.now) }
     ensures floats { Each (Floats pose_columns) (map Rows-end_values moves.now) }
 {
-    let mut i = 0;
-    while i < moves.len() {
-        put_pose(
-            kept_poses::end_pose(&moves[i]),
-            out,
-            NAMES + POSE + POSE * i,
-        );
-        i += 1;
+    for (i, rows) in moves.iter().enumerate() {
+        put_pose(kept_poses::end_pose(rows), out, NAMES + POSE + POSE * i);
     }
 }
 

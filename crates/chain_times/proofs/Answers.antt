@@ -1,5 +1,6 @@
 -- The number of a list's answer from those of its parts: `append-refused`, `append-accepted`; and what an answered list leaves, `left-floats`.
 -- No query is refused with 0 (`moves-point-nonzero`), so a number of 0 is points.
+use Rattle.std.specs.Prelude.{Ok, Err}
 use Prim.Native.Nat.{ℕ}
 use mathlib.Core.Path.{◌≡◌, refl, ap}
 use mathlib.Core.List.{List, [], ◌∷◌, ◌++◌}
@@ -11,9 +12,7 @@ use Rattle.time_list.proofs.control_flow.Choice.{cond-keeps}
 use Rattle.time_list.specs.matrix4x4.Rows.{Rows}
 use Rattle.bounds3.specs.declared.Point3f.{Point3f}
 use Rattle.bounds3.specs.List.{Point3f-list}
-use Rattle.time_list.specs.transform.declared.PointAnswer.{PointAnswer}
-use Rattle.time_list.specs.transform.declared.PointAnswer.TheVariants.{Moved, Refused}
-use Rattle.time_list.specs.transform.Answer.{PointAnswer-point}
+use Rattle.time_list.specs.transform.Answer.{PointAnswer, PointAnswer-point}
 use Rattle.time_list.proofs.motion_point.NonZero.{PointAnswer-NonZero}
 use Rattle.stretch_points.proofs.motion_rows.NonZero.{rows-point-nonzero}
 use Rattle.time_list.specs.motion_chain.MoveAt.{Chain-index_at}
@@ -28,14 +27,14 @@ PointsAnswer-NonZero (refused n) = n ≡ 0 → ⊥
 
 cons-nonzero : (a : PointAnswer) (r : PointsAnswer) → PointAnswer-NonZero a → PointsAnswer-NonZero r → PointsAnswer-NonZero (PointsAnswer-cons a r)
 unfolding PointsAnswer-cons
-cons-nonzero (Moved q) (moved qs) h k = tt
-cons-nonzero (Moved q) (refused n) h k = k
-cons-nonzero (Refused n) r h k = h
+cons-nonzero (Ok q) (moved qs) h k = tt
+cons-nonzero (Ok q) (refused n) h k = k
+cons-nonzero (Err n) r h k = h
 
 pub moves-point-nonzero : (moves : List Rows) (p : Point3f) (t : Float) → PointAnswer-NonZero (Moves-transform_point moves t p)
 unfolding Moves-transform_point
 moves-point-nonzero moves p t =
-    cond-keeps PointAnswer-NonZero (eqb (length moves) 0) (Refused 12) _ (λ e. absurd (omega (arith, e)))
+    cond-keeps PointAnswer-NonZero (eqb (length moves) 0) (Err 12) _ (λ e. absurd (omega (arith, e)))
     (rows-point-nonzero (get_or moves (Chain-index_at (Moves-chain moves) t) []) t p)
 
 -- ---- two parts
@@ -68,6 +67,6 @@ module _ (query : Float → PointAnswer) (nonzero : (t : Float) → PointAnswer-
           → (PointsAnswer-refusal r ≡ 0 → PointsAnswer-left r old ≡ floats_at query times)
           → PointsAnswer-refusal (PointsAnswer-cons a r) ≡ 0
           → PointsAnswer-left (PointsAnswer-cons a r) old ≡ Point3f-list (PointAnswer-point a) ++ floats_at query times
-      go (Moved q) (moved qs) h k ih e = ap (λ (l : List Float). Point3f-list q ++ l) (ih refl)
-      go (Moved q) (refused n) h k ih e = absurd (k e)
-      go (Refused n) r h k ih e = absurd (h e)
+      go (Ok q) (moved qs) h k ih e = ap (λ (l : List Float). Point3f-list q ++ l) (ih refl)
+      go (Ok q) (refused n) h k ih e = absurd (k e)
+      go (Err n) r h k ih e = absurd (h e)

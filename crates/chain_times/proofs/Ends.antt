@@ -1,28 +1,33 @@
--- The end of a stretch, as a loop finds it: `count-here`, `count_next`, `count-end`.
-use Prim.Native.Nat.{ℕ, suc, ◌+◌, ◌≤◌, ◌<◌}
-use mathlib.Core.Path.{◌≡◌}
-use mathlib.Core.Bool.{true, false, cond}
-use mathlib.Core.List.{List}
+-- The end of a stretch: what is counted, `counted`, at most all that is left, `counted-most`, which a part up to the end is, `rest-all`.
+use Prim.Native.Nat.{ℕ, suc, ◌+◌, ◌-◌, ◌≤◌}
+use mathlib.Core.Path.{◌≡◌, refl}
+use mathlib.Core.Bool.{Bool, true, false, cond}
+use mathlib.Core.List.{List, [], ◌∷◌}
 use native.Mathlib.Omega.{arith}
-use lib.ListN.{length, drop, get_or, drop_of_length-le}
-use lib.Seq.{drop-cons}
-use lib.Ieee.{Float, nan, le}
+use lib.ListN.{length, take, drop, length-drop}
+use lib.Seq.{take_all}
+use lib.Ieee.{Float, le}
+use Rattle.std.specs.List.{prefix_len}
 use Rattle.time_list.specs.motion_chain.Stretches.{count_up_to}
 
-module _ (end : Float) (times : List Float) (i : ℕ) where
-  count_at : i < length times → count_up_to end (drop i times) ≡ cond (le (get_or times i nan) end) (suc (count_up_to end (drop (suc i) times))) 0
+pub rest-all : (times : List Float) (from : ℕ) → take (length times - from) (drop from times) ≡ drop from times
+rest-all times from = let n = length-drop from times in take_all (length times - from) (drop from times) (omega (arith, n))
+
+module _ (end : Float) where
+  pub counted : (times : List Float) → prefix_len (λ t. le t end) times ≡ count_up_to end times
   unfolding count_up_to
-  count_at h = rw (drop-cons times i nan h)
+  counted [] = refl
+  counted (t ∷ times) = go (le t end) (counted times)
+    where
+      go : (b : Bool) {n m : ℕ} → n ≡ m → cond b (1 + n) 0 ≡ cond b (suc m) 0
+      go true e = omega (arith, e)
+      go false e = refl
 
-  pub count-here : i < length times → le (get_or times i nan) end ≡ false → i + count_up_to end (drop i times) ≡ i
-  count-here h e = let k : count_up_to end (drop i times) ≡ 0 = rw (count_at h, e) in omega (arith, k)
-
-  pub count_next : i < length times → le (get_or times i nan) end ≡ true → i + 1 + count_up_to end (drop (i + 1) times) ≡ i + count_up_to end (drop i times)
-  count_next h e =
-      let k : count_up_to end (drop i times) ≡ suc (count_up_to end (drop (suc i) times)) = rw (count_at h, e) in
-      let n : i + 1 ≡ suc i = omega arith in
-      rw n (omega (arith, k))
-
-  pub count-end : length times ≤ i → i + count_up_to end (drop i times) ≡ i
+  pub counted-most : (times : List Float) → count_up_to end times ≤ length times
   unfolding count_up_to
-  count-end h = rw (drop_of_length-le times {i = i} h) (omega arith)
+  counted-most [] = omega arith
+  counted-most (t ∷ times) = go (le t end) (counted-most times)
+    where
+      go : (b : Bool) {n m : ℕ} → n ≤ m → cond b (suc n) 0 ≤ suc m
+      go true h = omega (arith, h)
+      go false h = omega arith

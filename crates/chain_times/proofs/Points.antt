@@ -9,7 +9,7 @@ use lib.ListN.{length}
 use lib.Ieee.{Float}
 use Rattle.time_list.specs.matrix4x4.Rows.{Rows}
 use Rattle.bounds3.specs.declared.Point3f.{Point3f}
-use Rattle.time_list.specs.transform.declared.PointAnswer.{PointAnswer}
+use Rattle.time_list.specs.transform.Answer.{PointAnswer}
 use Rattle.time_list.specs.motion_chain.Chain.{Chain}
 use Rattle.time_list.specs.motion_chain.Times.{list_refusal, PointsAnswer, moved, refused, PointsAnswer-refusal}
 use Rattle.time_list.specs.motion_chain.Times.{points_at, Chain-transform_points, PointsAnswer-left, Chain-points_left}

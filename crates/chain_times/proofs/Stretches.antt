@@ -14,7 +14,7 @@ use lib.Ieee.{Float, le}
 use lib.Ieee.Bits.{is_true}
 use Rattle.time_list.specs.matrix4x4.Rows.{Rows}
 use Rattle.bounds3.specs.declared.Point3f.{Point3f}
-use Rattle.time_list.specs.transform.declared.PointAnswer.{PointAnswer}
+use Rattle.time_list.specs.transform.Answer.{PointAnswer}
 use Rattle.stretch_points.specs.motion_rows.TransformPoint.{Rows-transform_point}
 use Rattle.time_list.specs.motion_chain.Built.{Each}
 use Rattle.time_list.specs.motion_chain.Times.{never_falls, places_per_time}

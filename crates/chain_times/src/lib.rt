@@ -20,16 +20,7 @@ fn stretch_end(times: &[f32], from: usize, end: f32) -> usize
     ensures below { result ≤ length times.now }
     ensures above { from ≤ result }
 {
-    let n = times.len();
-    let mut i = from;
-    while i < n {
-        let next = i + 1;
-        if !(times[i] <= end) {
-            return i;
-        }
-        i = next;
-    }
-    i
+    from + times[from..].iter().take_while(|t| **t <= end).count()
 }
 
 // The number of the first time at which the chain refuses the point; 0 for none.
@@ -38,20 +29,17 @@ fn first_refusal(moves: &[[[f32; 4]; 45]], times: &[f32], p: Point3f) -> u8
     requires times_value { never_falls times.now ≡ true }
     ensures value { result ≡ PointsAnswer-refusal (points_at (λ t. Moves-transform_point moves.now t p) times.now) }
 {
-    let n = times.len();
     let last = moves.len() - 1;
-    let mut i = 0;
     let mut from = 0;
-    while i < last {
+    for i in 0..last {
         let end = stretch_end(times, from, moves[i][17][3]);
         let number = stretch_points::first_refusal(&moves[i], &times[from..end], p);
         if number != 0 {
             return number;
         }
         from = end;
-        i = i + 1;
     }
-    stretch_points::first_refusal(&moves[i], &times[from..n], p)
+    stretch_points::first_refusal(&moves[last], &times[from..], p)
 }
 
 // A stretch's times and its part of the answers, lent to its move.
@@ -81,16 +69,13 @@ fn fill_all(moves: &[[[f32; 4]; 45]], times: &[f32], p: Point3f, answers: &mut [
     ensures left { answers.new ≡ floats_at (λ t. Moves-transform_point moves.now t p) times.now }
 {
     let last = moves.len() - 1;
-    let mut i = 0;
     let mut from = 0;
-    while i < last {
+    for i in 0..last {
         let to = stretch_end(times, from, moves[i][17][3]);
         fill_part(&moves[i], times, from, to, p, answers);
         from = to;
-        i = i + 1;
     }
-    let n = times.len();
-    fill_part(&moves[i], times, from, n, p, answers);
+    fill_part(&moves[last], times, from, times.len(), p, answers);
 }
 
 // Where a point stands at each time of a list that never falls, three places a time. Refused with 6, 13 or 5, and with 12 where there are no moves;

@@ -20,8 +20,8 @@ use Rattle.motion_chain.specs.transform.declared.BoundsAnswer.{BoundsAnswer}
 use Rattle.motion_chain.specs.transform.declared.BoundsAnswer.TheVariants.{Bounds, Refused}
 use Rattle.motion_chain.specs.transform.Answer.{OneOf}
 use Rattle.dt_share.specs.interval.declared.Interval.{Interval}
-use Rattle.dt_share.specs.interval.declared.Judged.{Judged}
-use Rattle.motion_chain.specs.pose_steps.declared.JudgedVector.{JudgedVector}
+use Rattle.dt_share.specs.interval.Judged.{Judged}
+use Rattle.motion_chain.specs.pose_steps.Judged.{JudgedVector}
 use Rattle.motion_chain.specs.pose_steps.Enclose.{IntervalMatrix-point, Pose-enclose_point, Bounds3f-intervals, IntervalVector-bounds}
 use Rattle.motion_chain.specs.pose_steps.Promise.{SliceNumber}
 use Rattle.motion_chain.proofs.pose_steps.Number.{transform_point-number, point-number}

@@ -22,10 +22,9 @@ use Rattle.motion_chain.specs.bounds3.Finite.{Point3f-is_finite, Bounds3f-is_fin
 use Rattle.motion_chain.specs.bounds3.Inside.{Inside, Subset}
 use Rattle.motion_chain.proofs.bounds3.Finite.{finite-test}
 use Rattle.motion_chain.proofs.bounds3.Union.{subset-trans}
-use Rattle.motion_chain.specs.transform.declared.PointAnswer.{PointAnswer}
 use Rattle.motion_chain.specs.transform.declared.BoundsAnswer.{BoundsAnswer}
 use Rattle.motion_chain.specs.transform.declared.BoundsAnswer.TheVariants.{Bounds, Refused}
-use Rattle.motion_chain.specs.transform.Answer.{BoundsAnswer-refusal, BoundsAnswer-bounds}
+use Rattle.motion_chain.specs.transform.Answer.{PointAnswer, BoundsAnswer-refusal, BoundsAnswer-bounds}
 use Rattle.motion_chain.specs.bounds_query.Query.{cover_refusal}
 use Rattle.motion_chain.specs.bounds_query.Zeros.{BoundsAnswer-positive_zeros}
 use Rattle.motion_chain.proofs.bounds_query.Accepted.{refusal-accepted}

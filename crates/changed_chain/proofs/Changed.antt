@@ -13,7 +13,7 @@ use lib.Seq.{sets}
 use Rattle.built_poses.specs.pose_pair.declared.Pose.{Pose}
 use Rattle.built_poses.specs.pose_pair.Pose.{Pose-is_binary32}
 use Rattle.built_poses.specs.animated_transform.declared.AnimatedTransform.{AnimatedTransform}
-use Rattle.built_poses.specs.animated_transform.declared.AnimatedTransformAnswer.{AnimatedTransformAnswer}
+use Rattle.built_poses.specs.animated_transform.New.{AnimatedTransformAnswer}
 use Rattle.built_poses.specs.animated_transform.New.{AnimatedTransform-new}
 use Rattle.built_poses.specs.motion_chain.Chain.{min_poses, max_poses, neighbours, every, first_number, stage, Pose-number, Pair-number, kind_stage, chain_stages, chain_refusal}
 use Rattle.built_poses.specs.motion_chain.Chain.{Chain, Chain-moves, ChainAnswer, built, refused, ChainAnswer-refusal, ChainAnswer-from_moves, Chain-new}

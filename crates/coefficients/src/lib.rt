@@ -5,7 +5,7 @@ ghost use Rattle.std.specs.Prelude.{◌≡◌};
 ghost use Rattle.coefficients.specs.Coefficients.{Coefficients-new, Coefficients-zero};
 ghost use Rattle.coefficients.specs.IsFinite.{Coefficients-is_finite};
 
-use axis_derivative::{Derivative, DerivativeTerm};
+use axis_derivative::{Derivative, DerivativeTerm, X, Y, Z};
 use quaternion::Quaternion;
 use vector3::Vector3f;
 
@@ -33,9 +33,9 @@ impl Coefficients {
     {
         let a = matrix4x4::transpose(s0);
         let b = matrix4x4::transpose(s1);
-        let x = axis_derivative::along_x(-t0.x + t1.x, q0, qperp, theta, a, b);
-        let y = axis_derivative::along_y(-t0.y + t1.y, q0, qperp, theta, a, b);
-        let z = axis_derivative::along_z(-t0.z + t1.z, q0, qperp, theta, a, b);
+        let x = axis_derivative::along::<X>(-t0.x + t1.x, q0, qperp, theta, a, b);
+        let y = axis_derivative::along::<Y>(-t0.y + t1.y, q0, qperp, theta, a, b);
+        let z = axis_derivative::along::<Z>(-t0.z + t1.z, q0, qperp, theta, a, b);
         Coefficients { x, y, z }
     }
 

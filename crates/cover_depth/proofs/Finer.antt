@@ -25,7 +25,7 @@ use Rattle.motion_cover.specs.interval.Contains as interval
 use Rattle.motion_cover.specs.unit_interval.Unit.{unit_interval, slice}
 use Rattle.motion_cover.proofs.unit_interval.Slices.{slice-unit, slice-finer, finer-lt}
 use Rattle.motion_cover.specs.pose_steps.declared.PoseConstants.{PoseConstants}
-use Rattle.motion_cover.specs.pose_steps.declared.JudgedVector.{JudgedVector}
+use Rattle.motion_cover.specs.pose_steps.Judged.{JudgedVector}
 use Rattle.motion_cover.specs.pose_steps.Enclose.{Pose-enclose_point, Bounds3f-intervals, IntervalVector-bounds}
 use Rattle.motion_cover.proofs.pose_steps.Isotone.{point-isotone}
 use Rattle.motion_cover.proofs.pose_steps.Box.{refines-subset, refines-finite, wider-finite, refines-order, order-refl}

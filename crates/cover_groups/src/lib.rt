@@ -5,7 +5,6 @@
 
 ghost use Rattle.std.specs.Prelude.{◌*◌, ◌/◌, ◌^◌, ◌≤◌, min, ◌≡◌};
 ghost use Rattle.pose_steps.specs.control_flow.Loop.{loop};
-ghost use Rattle.sine_table.specs.Table.{sine_table};
 ghost use Rattle.pose_steps.specs.unit_interval.Unit.{slice_end};
 ghost use Rattle.motion_cover.specs.bounds_query.Query.{max_depth};
 ghost use Rattle.pose_steps.specs.Pose.{is_near};
@@ -19,6 +18,7 @@ use lanes_rotation::LanesVector;
 use matrix4x4::Matrix4x4;
 use pose_steps::PoseConstants;
 use quaternion::{Quaternion, SLERP_THRESHOLD};
+use trig::Sines;
 
 const MAX_DEPTH: u32 = 12;
 
@@ -53,8 +53,7 @@ fn held_depth(d: u32) -> u32
 }
 
 // The border at dt. Accuracy: heuristic, as sine and cosine are.
-fn border_at(table: &[u32; 2049], near: bool, theta: f32, dt: f32) -> Border
-    requires { table.now ≡ sine_table }
+pub fn border_at(sines: &Sines, near: bool, theta: f32, dt: f32) -> Border
     ensures value { result ≡ Border-at near theta dt }
 {
     if near {
@@ -65,7 +64,7 @@ fn border_at(table: &[u32; 2049], near: bool, theta: f32, dt: f32) -> Border
         }
     } else {
         let x = theta * dt;
-        let angle = trig::sin_cos_in(table, x);
+        let angle = sines.sin_cos(x);
         Border {
             dt,
             cos: angle.cos,
@@ -84,25 +83,18 @@ pub fn ends(a: f32, b: f32, c: f32, d: f32, e: f32) -> Lanes
 }
 
 // The borders of four slices of one width, of which the first is known. Accuracy: heuristic, as sine and cosine are.
-fn borders_from(
-    table: &[u32; 2049],
-    near: bool,
-    theta: f32,
-    width: f32,
-    from: Border,
-) -> LanesBorders
-    requires fact_1 { table.now ≡ sine_table }
-    requires fact_2 { from ≡ Border-at near theta from.dt }
+fn borders_from(sines: &Sines, near: bool, theta: f32, width: f32, from: Border) -> LanesBorders
+    requires { from ≡ Border-at near theta from.dt }
     ensures value { result ≡ LanesBorders-steps near theta width from.dt }
 {
     let second = from.dt + width;
     let third = second + width;
     let fourth = third + width;
     let fifth = fourth + width;
-    let b = border_at(table, near, theta, second);
-    let c = border_at(table, near, theta, third);
-    let d = border_at(table, near, theta, fourth);
-    let e = border_at(table, near, theta, fifth);
+    let b = border_at(sines, near, theta, second);
+    let c = border_at(sines, near, theta, third);
+    let d = border_at(sines, near, theta, fourth);
+    let e = border_at(sines, near, theta, fifth);
     let dt = ends(from.dt, b.dt, c.dt, d.dt, e.dt);
     let cos = ends(from.cos, b.cos, c.cos, d.cos, e.cos);
     let sin = ends(from.sin, b.sin, c.sin, d.sin, e.sin);
@@ -143,7 +135,7 @@ pub fn join_pieces(
 
 // Four more slices of one width. Accuracy: encloses, where nothing is refused.
 fn reach_next(
-    table: &[u32; 2049],
+    sines: &Sines,
     a: PoseConstants,
     second: Quaternion,
     s0: Matrix4x4,
@@ -154,13 +146,12 @@ fn reach_next(
     width: f32,
     reached: Reached,
 ) -> Reached
-    requires fact_1 { table.now ≡ sine_table }
-    requires fact_2 { reached.from ≡ Border-at (is_near a) a.theta reached.from.dt }
+    requires { reached.from ≡ Border-at (is_near a) a.theta reached.from.dt }
     ensures joined { result.union ≡ LanesVector-pieces a second s0 s1 pad0 pad1 p (LanesBorders-steps (is_near a) a.theta width reached.from.dt) reached.union }
     ensures next { result.from ≡ Border-last (LanesBorders-steps (is_near a) a.theta width reached.from.dt) }
 {
     let near = a.cos_theta > SLERP_THRESHOLD;
-    let g = borders_from(table, near, a.theta, width, reached.from);
+    let g = borders_from(sines, near, a.theta, width, reached.from);
     let union = join_pieces(a, second, s0, s1, pad0, pad1, p, g, reached.union);
     let from = last(g);
     Reached { union, from }
@@ -168,7 +159,7 @@ fn reach_next(
 
 // n groups of four slices, from the first border on. Accuracy: encloses, where nothing is refused.
 fn join_groups(
-    table: &[u32; 2049],
+    sines: &Sines,
     a: PoseConstants,
     second: Quaternion,
     s0: Matrix4x4,
@@ -180,20 +171,17 @@ fn join_groups(
     n: u64,
     start: Reached,
 ) -> LanesVector
-    requires fact_1 { table.now ≡ sine_table }
-    requires fact_2 { h ≤ max_depth }
-    requires fact_3 { 4 * n ≤ 2 ^ h }
-    requires fact_4 { start.from ≡ Border-at (is_near a) a.theta (slice_end h 0) }
+    requires h_bound { h ≤ max_depth }
+    requires groups { 4 * n ≤ 2 ^ h }
+    requires start { start.from ≡ Border-at (is_near a) a.theta (slice_end h 0) }
     ensures value { result ≡ loop (LanesVector-group a second s0 s1 pad0 pad1 p h) n start.union }
 {
     // Borders up to depth 12 are exact, so each is the one before and the width, to the bit.
     let width = float_bits::from_fixed(1, h);
     let mut reached = start;
-    let mut g = 0u64;
-    while g < n {
-        let next = reach_next(table, a, second, s0, s1, pad0, pad1, p, width, reached);
+    for _ in 0..n {
+        let next = reach_next(sines, a, second, s0, s1, pad0, pad1, p, width, reached);
         reached = next;
-        g += 1;
     }
     let union = reached.union;
     union
@@ -229,13 +217,13 @@ pub fn union_groups(
 {
     let h = held_depth(d);
     let n = (1u64 << h) / 4;
-    let table = sine_table::table();
+    let sines = Sines::new();
     let second = second_quaternion(a);
     let p = lanes_box::repeated(b);
     let union = lanes_box::repeated(first);
     let near = a.cos_theta > SLERP_THRESHOLD;
-    let from = border_at(&table, near, a.theta, 0.0);
+    let from = border_at(&sines, near, a.theta, 0.0);
     let start = Reached { union, from };
-    let joined = join_groups(&table, a, second, s0, s1, pad0, pad1, p, h, n, start);
+    let joined = join_groups(&sines, a, second, s0, s1, pad0, pad1, p, h, n, start);
     lanes_box::joined(joined)
 }

@@ -74,15 +74,13 @@ fn union_judged(
 {
     let slices = 1u64 << h;
     let mut union = first;
-    let mut k = 0u64;
-    while k < slices {
+    for k in 0..slices {
         let answer = slice_enclosure(m, a, b, h, k);
         let BoundsAnswer::Bounds(moved) = answer else {
             return answer;
         };
         let next = union.union_bounds(moved);
         union = next;
-        k += 1;
     }
     BoundsAnswer::Bounds(union)
 }

@@ -1,8 +1,8 @@
 -- A cut as the code makes it, part by part: nothing is put before the first, `cutting-first`, one more part, `cutting-next`, and what is left in the end,
 -- `cut-done`, or where it is refused, `cut-refused`.
-use Prim.Native.Nat.{ℕ, zero, suc, ◌+◌, ◌≤◌, ◌<◌}
-use mathlib.Core.Path.{◌≡◌, refl, sym, ap, subst, ◌∙◌}
-use mathlib.Core.List.{List, [], ◌∷◌, ◌++◌}
+use Prim.Native.Nat.{ℕ, ◌+◌, ◌≤◌}
+use mathlib.Core.Path.{◌≡◌, refl, sym, ap, ◌∙◌}
+use mathlib.Core.List.{List}
 use native.Mathlib.Omega.{arith}
 use native.Mathlib.Numerals.{add-one}
 use borrow.Author.Tests.{eq-eqb, ne_eqb}
@@ -14,7 +14,7 @@ use Rattle.cut_laws.specs.lent_laws.Front.{in_front}
 use Rattle.cut_laws.proofs.lent_laws.Front.{front-next}
 use Rattle.cut_laws.specs.Cut.{max_parts, cut_refusal, Bounds3f-part, Bounds3f-parts, Bounds3f-cut}
 use Rattle.cut_laws.specs.Theorem.{PartsWithin, PartsCover}
-use Rattle.cut_laws.proofs.Parts.{LowFits, parts-counted, parts-length, parts_within, parts-cover}
+use Rattle.cut_laws.proofs.Parts.{LowFits, parts-length, parts_within, parts-cover}
 
 abbrev Clauses : Bounds3f → ℕ → List (List Float) → List (List Float) → ℕ → Type 0
 Clauses b n old new number =
@@ -22,23 +22,21 @@ Clauses b n old new number =
 
 module _ (b : Bounds3f) (n : ℕ) (old : List (List Float)) where
   pub record Cutting (new : List (List Float)) (k : ℕ) : Type 0 where
-    pub within : k ≤ n
     pub put : new ≡ in_front (Bounds3f-parts b n k) old
 
   pub cutting-first : Cutting old 0
   unfolding Bounds3f-parts in_front
-  cutting-first = record { within = omega arith; put = refl }
+  cutting-first = record { put = refl }
 
-  pub cutting-next : {new : List (List Float)} {k : ℕ} {part : Bounds3f} {values : List Float} → Cutting new k → k < n
+  pub cutting-next : {new : List (List Float)} {k : ℕ} {part : Bounds3f} {values : List Float} → Cutting new k
       → values ≡ Bounds3f-list part → part ≡ Bounds3f-part b n k → Cutting (set new k values) (k + 1)
   unfolding Bounds3f-parts
-  cutting-next {new} {k} {part} {values} c l v e = record {
-    within = omega (arith, l);
+  cutting-next {new} {k} {part} {values} c v e = record {
     put = rw (c.put, v, e, add-one) (front-next (Bounds3f-parts b n k) old (Bounds3f-list (Bounds3f-part b n k)) k (parts-length b n k));
   }
 
-  pub cutting-last : {new : List (List Float)} {k : ℕ} → Cutting new k → n ≤ k → new ≡ in_front (Bounds3f-parts b n n) old
-  cutting-last {new} {k} c l = let w = c.within in let all : k ≡ n = omega (arith, w, l) in c.put ∙ ap (λ (j : ℕ). in_front (Bounds3f-parts b n j) old) all
+  pub cutting-last : {new : List (List Float)} {k : ℕ} → Cutting new k → k ≡ n → new ≡ in_front (Bounds3f-parts b n n) old
+  cutting-last {new} {k} c e = c.put ∙ ap (λ (j : ℕ). in_front (Bounds3f-parts b n j) old) e
 
   pub cut-refused : {number : ℕ} → number ≡ cut_refusal b n → (number ≡ 0 → ⊥) → Clauses b n old old number
   unfolding Bounds3f-cut

@@ -149,10 +149,8 @@ fn put_parts(b: Bounds3f, n: u32, old: [[f32; 6]; 16]) -> [[f32; 6]; 16]
     ensures length { length old ≡ max_parts }
 {
     let mut parts = old;
-    let mut i = 0u32;
-    while i < n {
+    for i in 0..n {
         parts[i as usize] = lent_arrays::bounds_values(part(b, n, i, i + 1));
-        i += 1;
     }
     parts
 }

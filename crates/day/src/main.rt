@@ -7,8 +7,7 @@
 ghost use Rattle.std.specs.Prelude.{◌≤◌, ◌<◌, length};
 
 use answer_lines::put_text;
-use hexadecimal::Word;
-use question_lines::{Decimal, find, part, same};
+use question_lines::{find, part, same};
 use std::process::ExitCode;
 
 // What departs from the layout has no number of booms.
@@ -118,13 +117,13 @@ fn put_boom(line: &[u8], place: usize, boxes: &mut [[f32; 6]; 8], lengths: &mut 
         return false;
     }
     match question_lines::read_saturated(part(line, 54, line.len())) {
-        Decimal::Value(ticks) => {
+        Some(ticks) => {
             if place < 8 {
                 boxes[place] = b;
                 lengths[place] = question_lines::saturated(ticks);
             }
         }
-        Decimal::Malformed => {
+        None => {
             return false;
         }
     }
@@ -159,10 +158,10 @@ fn read_value(line: &[u8], k: usize, b: &mut [f32; 6]) -> bool
     requires k_bound { k < 6 }
 {
     match hexadecimal::read_word(line, 9 * k) {
-        Word::Bits(bits) => {
+        Some(bits) => {
             b[k] = hexadecimal::float_of_bits(bits);
         }
-        Word::Malformed => {
+        None => {
             return false;
         }
     }

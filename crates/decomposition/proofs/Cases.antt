@@ -5,7 +5,7 @@ use mathlib.Core.List.{[], ◌∷◌}
 use Prim.Native.Nat.{ℕ}
 use lib.Ieee.{Float, binary32, of_bits}
 use Rattle.matrix4x4.specs.Rows.{Row, Rows, tabulate, Matrix4x4-from_rows}
-use Rattle.decomposition.specs.declared.Decomposition.{Decomposition}
+use Rattle.decomposition.specs.Decompose.{DecompositionAnswer}
 use Rattle.decomposition.specs.Decompose.{Decomposition-refused, Matrix4x4-decompose}
 use Rattle.decomposition.specs.means.Computing.{computing}
 
@@ -25,7 +25,7 @@ zeros-refused = refl
 abbrev turned : Rows
 turned = bits 0 0xc0000000 0 0x3f800000 ∷ bits 0x3f000000 0 0 0x40000000 ∷ bits 0 0 0x3f800000 0x40400000 ∷ bits 0 0 0 0x3f800000 ∷ []
 
-abbrev turned_parts : Rows → Decomposition
+abbrev turned_parts : Rows → DecompositionAnswer
 turned_parts s =
     record {
       t = record { x = float 0x3f800000; y = float 0x40000000; z = float 0x40400000 };

@@ -13,20 +13,19 @@ use lib.Ieee.Fits.{and_l, and_r}
 use Rattle.matrix4x4.specs.Rows.{Rows, Matrix4x4-to_rows, Matrix4x4-from_rows}
 use Rattle.matrix4x4.specs.Transpose.{Matrix4x4-transpose}
 use Rattle.matrix4x4.specs.IsFinite.{Matrix4x4-is_finite}
-use Rattle.matrix_inverse.specs.declared.InverseAnswer.{InverseAnswer}
-use Rattle.matrix_inverse.specs.Inverse.{Matrix4x4-inverse}
+use Rattle.matrix_inverse.specs.Inverse.{InverseAnswer, Matrix4x4-inverse}
 use Rattle.matrix_inverse.proofs.control_flow.Loop.{loop-keeps}
 use Rattle.matrix_inverse.proofs.Refusal.{inverse-refusal}
 use Rattle.quaternion.specs.declared.Quaternion.{Quaternion}
 use Rattle.quaternion.specs.IsFinite.{Quaternion-is_finite}
 use Rattle.matrix_quaternion.specs.FromMatrix.{Quaternion-from_matrix}
-use Rattle.decomposition.specs.declared.Decomposition.{Decomposition}
+use Rattle.decomposition.specs.Decompose.{DecompositionAnswer}
 use Rattle.polar_round.specs.PolarRound.{linear_part, mean, distance}
 use Rattle.decomposition.specs.Polar.{settled_norm, Polar, refused, unsettled, settled, judged_round, polar_round, polar}
 use Rattle.decomposition.specs.Decompose.{Decomposition-refused, translation_of, Decomposition-judged, scale_by, parts, finish, Matrix4x4-decompose}
 
 -- The parts of m that were not refused: the translation as it stands in m, a finite quaternion, a finite scale.
-pub record Accepted (m : Rows) (d : Decomposition) : Type 0 where
+pub record Accepted (m : Rows) (d : DecompositionAnswer) : Type 0 where
   pub translation : d.t ≡ translation_of m
   pub rotation : T (Quaternion-is_finite d.r)
   pub scale : T (Matrix4x4-is_finite (Matrix4x4-to_rows d.s))
@@ -73,7 +72,7 @@ polar-numbered : (m : Rows) → Numbered (polar m)
 unfolding polar
 polar-numbered m = loop-keeps (λ k s. Numbered s) polar_round 100 (λ k s l h. round-numbered k s h) (unsettled (linear_part m)) going
 
-data Answered (m : Rows) (d : Decomposition) : Type 0 where
+data Answered (m : Rows) (d : DecompositionAnswer) : Type 0 where
   none : (n : ℕ) → Number n → d ≡ Decomposition-refused n → Answered m d
   parted : d.refusal ≡ 0 → Accepted m d → Answered m d
 
@@ -81,7 +80,7 @@ judged-answered : (m : Rows) (q : Quaternion) (s : Rows) → Answered m (Decompo
 unfolding Decomposition-judged Matrix4x4-is_finite
 judged-answered m q s = go (Quaternion-is_finite q && Matrix4x4-is_finite s) (λ h. h)
   where
-    good : Decomposition
+    good : DecompositionAnswer
     good = record { t = translation_of m; r = q; s = Matrix4x4-from_rows s; refusal = 0 }
 
     go : (b : Bool) → (T b → T (Quaternion-is_finite q && Matrix4x4-is_finite s)) → Answered m (cond b good (Decomposition-refused 5))
@@ -116,15 +115,15 @@ pub decompose-refusal : (rigid : Bool) (m : Rows)
     → ((Matrix4x4-decompose rigid m).refusal ≡ 0) ⊎ (((Matrix4x4-decompose rigid m).refusal ≡ 4) ⊎ ((Matrix4x4-decompose rigid m).refusal ≡ 5))
 decompose-refusal rigid m = go (Matrix4x4-decompose rigid m) (decompose-answered rigid m)
   where
-    go : (d : Decomposition) → Answered m d → (d.refusal ≡ 0) ⊎ ((d.refusal ≡ 4) ⊎ (d.refusal ≡ 5))
+    go : (d : DecompositionAnswer) → Answered m d → (d.refusal ≡ 0) ⊎ ((d.refusal ≡ 4) ⊎ (d.refusal ≡ 5))
     go d (parted e a) = inl e
-    go d (none _ zero_pivot e) = inr (inl (ap (λ (x : Decomposition). x.refusal) e))
-    go d (none _ not_finite e) = inr (inr (ap (λ (x : Decomposition). x.refusal) e))
+    go d (none _ zero_pivot e) = inr (inl (ap (λ (x : DecompositionAnswer). x.refusal) e))
+    go d (none _ not_finite e) = inr (inr (ap (λ (x : DecompositionAnswer). x.refusal) e))
 
 pub decompose-accepted : (rigid : Bool) (m : Rows) → (Matrix4x4-decompose rigid m).refusal ≡ 0 → Accepted m (Matrix4x4-decompose rigid m)
 decompose-accepted rigid m h = go (Matrix4x4-decompose rigid m) h (decompose-answered rigid m)
   where
-    go : (d : Decomposition) → d.refusal ≡ 0 → Answered m d → Accepted m d
+    go : (d : DecompositionAnswer) → d.refusal ≡ 0 → Answered m d → Accepted m d
     go d h (parted e a) = a
-    go d h (none _ zero_pivot e) = absurd (let i : d.refusal ≡ 4 = ap (λ (x : Decomposition). x.refusal) e in omega arith)
-    go d h (none _ not_finite e) = absurd (let i : d.refusal ≡ 5 = ap (λ (x : Decomposition). x.refusal) e in omega arith)
+    go d h (none _ zero_pivot e) = absurd (let i : d.refusal ≡ 4 = ap (λ (x : DecompositionAnswer). x.refusal) e in omega arith)
+    go d h (none _ not_finite e) = absurd (let i : d.refusal ≡ 5 = ap (λ (x : DecompositionAnswer). x.refusal) e in omega arith)

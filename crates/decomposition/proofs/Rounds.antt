@@ -15,8 +15,7 @@ use Rattle.matrix4x4.specs.Rows.{Rows}
 use Rattle.matrix4x4.specs.Transpose.{Matrix4x4-transpose}
 use Rattle.matrix4x4.specs.IsFinite.{Matrix4x4-is_finite}
 use Rattle.matrix_inverse.specs.control_flow.Loop.{loop}
-use Rattle.matrix_inverse.specs.declared.InverseAnswer.{InverseAnswer}
-use Rattle.matrix_inverse.specs.Inverse.{Matrix4x4-inverse}
+use Rattle.matrix_inverse.specs.Inverse.{InverseAnswer, Matrix4x4-inverse}
 use Rattle.polar_round.specs.PolarRound.{linear_part, mean, distance}
 use Rattle.decomposition.specs.Polar.{settled_norm, Polar, refused, unsettled, settled, judged_round, polar_round, polar}
 use Rattle.decomposition.specs.Decompose.{Decomposition-refused, parts, finish, Matrix4x4-decompose}

@@ -3,41 +3,22 @@
 #![tactic(auto)]
 
 ghost use Rattle.std.specs.Prelude.{◌≡◌};
-ghost use Rattle.decomposition.specs.Decompose.{Decomposition-refused, Decomposition-judged, scale_by, parts, Matrix4x4-decompose};
+ghost use Rattle.decomposition.specs.Decompose.{DecompositionAnswer-of_result, Decomposition-judged, scale_by, parts, Matrix4x4-decompose};
 
 use matrix4x4::Matrix4x4;
 use quaternion::Quaternion;
+use refusal::Refusal;
 use vector3::Vector3f;
 
-// Translation, rotation and scale beside a refusal (error code, 0 for none), after which every number is +0.
 #[derive(Clone, Copy)]
 pub struct Decomposition {
     pub t: Vector3f,
     pub r: Quaternion,
     pub s: Matrix4x4,
-    pub refusal: u8,
 }
 
-fn refused(refusal: u8) -> Decomposition
-    ensures value { result ≡ Decomposition-refused refusal }
-{
-    let t = Vector3f {
-        x: 0.0,
-        y: 0.0,
-        z: 0.0,
-    };
-    let r = Quaternion { v: t, w: 0.0 };
-    let s = Matrix4x4 {
-        r0: [0.0; 4],
-        r1: [0.0; 4],
-        r2: [0.0; 4],
-        r3: [0.0; 4],
-    };
-    Decomposition { t, r, s, refusal }
-}
-
-fn judged(m: [[f32; 4]; 4], r: Quaternion, s: [[f32; 4]; 4]) -> Decomposition
-    ensures value { result ≡ Decomposition-judged m r s }
+fn judged(m: [[f32; 4]; 4], r: Quaternion, s: [[f32; 4]; 4]) -> Result<Decomposition, Refusal>
+    ensures value { DecompositionAnswer-of_result result ≡ Decomposition-judged m r s }
 {
     if r.is_finite() & matrix4x4::is_finite(s) {
         let a = m[0];
@@ -48,15 +29,10 @@ fn judged(m: [[f32; 4]; 4], r: Quaternion, s: [[f32; 4]; 4]) -> Decomposition
             y: b[3],
             z: c[3],
         };
-        let rows = Matrix4x4::from_rows(s);
-        Decomposition {
-            t,
-            r,
-            s: rows,
-            refusal: 0,
-        }
+        let rows = Matrix4x4::from(s);
+        Ok(Decomposition { t, r, s: rows })
     } else {
-        refused(5)
+        Err(Refusal::NotFinite)
     }
 }
 
@@ -77,36 +53,29 @@ fn scale_by(rigid: bool, inverse: [[f32; 4]; 4], m: [[f32; 4]; 4]) -> [[f32; 4];
 }
 
 // The parts of m, whose rotation is the matrix r. pbrt computes the inverse of r twice; it is the same both times.
-fn parts(rigid: bool, m: [[f32; 4]; 4], r: [[f32; 4]; 4]) -> Decomposition
-    ensures value { result ≡ parts rigid m r }
+fn parts(rigid: bool, m: [[f32; 4]; 4], r: [[f32; 4]; 4]) -> Result<Decomposition, Refusal>
+    ensures value { DecompositionAnswer-of_result result ≡ parts rigid m r }
 {
-    let inverse = matrix_inverse::inverse(r);
-    if inverse.refusal == 0 {
-        judged(
-            m,
-            matrix_quaternion::quaternion_from_matrix(r),
-            scale_by(rigid, inverse.matrix(), m),
-        )
-    } else {
-        refused(inverse.refusal)
-    }
+    let inverse = matrix_inverse::inverse(r)?;
+    judged(
+        m,
+        matrix_quaternion::quaternion_from_matrix(r),
+        scale_by(rigid, inverse, m),
+    )
 }
 
 // pbrt's `decompose`: translation, rotation and scale of a matrix; a rigid move's scale is the identity. pbrt goes on where this refuses:
 // 4 at a zero pivot, 5 where a matrix or the quaternion holds a value that isn't finite. Accuracy: each operation is correctly rounded.
-pub fn decompose(rigid: bool, m: [[f32; 4]; 4]) -> Decomposition
-    ensures value { result ≡ Matrix4x4-decompose rigid m }
+pub fn decompose(rigid: bool, m: [[f32; 4]; 4]) -> Result<Decomposition, Refusal>
+    ensures value { DecompositionAnswer-of_result result ≡ Matrix4x4-decompose rigid m }
 {
     let mut r = polar_round::linear_part(m);
     let mut counter = 0u32;
     let rotation = loop {
-        let rit = matrix_inverse::inverse(matrix4x4::transpose(r));
-        if rit.refusal != 0 {
-            return refused(rit.refusal);
-        }
-        let rnext = polar_round::mean(r, rit.matrix());
+        let rit = matrix_inverse::inverse(matrix4x4::transpose(r))?;
+        let rnext = polar_round::mean(r, rit);
         if !matrix4x4::is_finite(rnext) {
-            return refused(5);
+            return Err(Refusal::NotFinite);
         }
         let norm = polar_round::distance(r, rnext);
         counter += 1;

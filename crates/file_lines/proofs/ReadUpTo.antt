@@ -1,5 +1,6 @@
 -- A line of as many values as there are places, read into them up to a place: `ReadUpTo`, what is known there; `read-start`, `read_more` and `read-filled` lead
 -- through the line, `read-formed`, `read-inside` and `read-spaced` say what must stand in it. Rests on `Values.antt`.
+use Rattle.std.specs.Prelude.{Some, None}
 use Prim.Native.Nat.{ℕ, suc, ◌+◌, ◌-◌, ◌≤◌, ◌<◌}
 use native.Mathlib.Nat.{sub-zero, lt_of_not-le}
 use native.Mathlib.Numerals.{add-one}
@@ -13,7 +14,6 @@ use lib.ListN.{length, take, drop, get_or, set, length-set}
 use lib.Seq.{take-suc-set, append_snoc, take_all}
 use borrow.Author.Tests.{eqb-true, eqb-false}
 use Rattle.hexadecimal.specs.Word.{Word-read}
-use Rattle.hexadecimal.specs.declared.Word.TheVariants.{Bits, Malformed}
 use Rattle.motion_file.specs.Text.{space}
 use Rattle.motion_file.specs.Layout.{words, value_of, are_values}
 use Rattle.motion_file.specs.means.Place.{NextByte}
@@ -32,10 +32,10 @@ read-start line out h = record { room = lt_of_not-le none; left = rw (sub-zero (
     none g = let e : length out ≡ 0 = omega (arith, g) in false≢true (sym (values-none line) ∙ rw e at h)
 
 module _ (line : List ℕ) (out : List Float) (at k : ℕ) (s : ReadUpTo line out at k) where
-  pub read-formed : Word-read line at ≡ Malformed → ⊥
+  pub read-formed : Word-read line at ≡ None → ⊥
   read-formed e = false≢true (sym (values-malformed line at (length out - k) e) ∙ s.left)
 
-  module _ (n : ℕ) (e : Word-read line at ≡ Bits n) where
+  module _ (n : ℕ) (e : Word-read line at ≡ Some n) where
     -- where another value follows, spaces stand before it
     pub read-inside : (k + 1 ≡ length out → ⊥) → at + 8 < length line
     read-inside m =

@@ -1,5 +1,6 @@
 -- A line of values from a place on, as the code reads it: `values-more` takes one value and the spaces behind it, `values-final` the last, and
 -- `values-malformed`, `values-short`, `values-unspaced` refuse. Rests on `Words.antt`.
+use Rattle.std.specs.Prelude.{Some, None}
 use Prim.Native.Nat.{ℕ, suc, ◌+◌, ◌≤◌, ◌<◌}
 use native.Mathlib.Nat.{eq-or-lt_of_le}
 use native.Mathlib.Omega.{arith}
@@ -14,7 +15,6 @@ use lib.Seq.{take_all, drop-cons, drop-drop, length-take-le}
 use borrow.Author.Tests.{leb-true, le-leb, eqb-true, eqb-false, eq-eqb, ne_eqb}
 use Rattle.hexadecimal.specs.Digit.{position}
 use Rattle.hexadecimal.specs.Word.{digits_only, number, Word-read}
-use Rattle.hexadecimal.specs.declared.Word.TheVariants.{Bits, Malformed}
 use Rattle.hexadecimal.proofs.Digits.{position-bound}
 use Rattle.motion_file.specs.Text.{space, single_spaced}
 use Rattle.motion_file.specs.Layout.{words, is_value, value_of, all_values, are_values}
@@ -29,25 +29,25 @@ record Reads (line : List ℕ) (at n : ℕ) : Type 0 where
   only : digits_only (take 8 (drop at line)) ≡ true
   writes : number (take 8 (drop at line)) ≡ n
 
-differ : (n : ℕ) → Malformed ≡ Bits n → ⊥
+differ : (n : ℕ) → None ≡ Some n → ⊥
 differ n p = let z : ◌≡◌ {A = ℕ} 0 1 = cc in omega arith
 
-reads : (line : List ℕ) (at n : ℕ) → Word-read line at ≡ Bits n → Reads line at n
+reads : (line : List ℕ) (at n : ℕ) → Word-read line at ≡ Some n → Reads line at n
 unfolding Word-read
 reads line at n e = go (leb (at + 8) (length line)) (digits_only (take 8 (drop at line))) refl refl e
   where
     go : (p q : Bool) → leb (at + 8) (length line) ≡ p → digits_only (take 8 (drop at line)) ≡ q
-        → cond (p && q) (Bits (number (take 8 (drop at line)))) Malformed ≡ Bits n → Reads line at n
+        → cond (p && q) (Some (number (take 8 (drop at line)))) None ≡ Some n → Reads line at n
     go true true f g h = record { inside = leb-true (at + 8) (length line) f; only = g; writes = cc }
     go true false f g h = absurd (differ n h)
     go false q f g h = absurd (differ n h)
 
 -- eight digits that were read stand inside the line
-pub bits_inside : (line : List ℕ) (at n : ℕ) → Word-read line at ≡ Bits n → at + 8 ≤ length line
+pub bits_inside : (line : List ℕ) (at n : ℕ) → Word-read line at ≡ Some n → at + 8 ≤ length line
 bits_inside line at n e = (reads line at n e).inside
 
 digits-read : (line : List ℕ) (at : ℕ) → at + 8 ≤ length line → digits_only (take 8 (drop at line)) ≡ true
-    → Word-read line at ≡ Bits (number (take 8 (drop at line)))
+    → Word-read line at ≡ Some (number (take 8 (drop at line)))
 unfolding Word-read
 digits-read line at h e = rw (le-leb (at + 8) (length line) h, e)
 
@@ -67,7 +67,7 @@ values-none line = rw ((words-first line).1, eqb-suc-zero)
 values-long : (t : List ℕ) (m : ℕ) → (position space t ≡ 8 → ⊥) → are_values m (words t) ≡ false
 values-long t m n = values-refused t m (rw (first-length t, ne_eqb (position space t) 8 n))
 
-pub values-malformed : (line : List ℕ) (at m : ℕ) → Word-read line at ≡ Malformed → are_values m (words (drop at line)) ≡ false
+pub values-malformed : (line : List ℕ) (at m : ℕ) → Word-read line at ≡ None → are_values m (words (drop at line)) ≡ false
 values-malformed line at m e = values-refused (drop at line) m (go (is_value (take (position space (drop at line)) (drop at line))) refl)
   where
     go : (p : Bool) → is_value (take (position space (drop at line)) (drop at line)) ≡ p → p ≡ false
@@ -83,7 +83,7 @@ values-malformed line at m e = values-refused (drop at line) m (go (is_value (ta
         (sym e
         ∙ digits-read line at (omega (arith, position-bound space (drop at line), length-drop at line)) (rw q at tests.1)))
 
-module _ (line : List ℕ) (at n : ℕ) (e : Word-read line at ≡ Bits n) where
+module _ (line : List ℕ) (at n : ℕ) (e : Word-read line at ≡ Some n) where
   eight : length (take 8 (drop at line)) ≡ 8
   eight = length-take-le 8 (drop at line) (rw (length-drop at line) (omega (arith, (reads line at n e).inside)))
 

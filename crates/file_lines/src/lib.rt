@@ -6,23 +6,19 @@ ghost use Rattle.motion_file.specs.Layout.{names, values, fits, values_of};
 ghost use Rattle.motion_file.specs.means.Place.{NextByte};
 ghost use Rattle.file_lines.specs.Values.{values_left};
 
-use hexadecimal::Word;
-
 // Whether a line, every run of spaces read as one space, is the names `text`. Accuracy: exact.
 pub fn is_names(line: &[u8], text: &[u8]) -> bool
     ensures value { result ≡ fits (names text.now) line.now }
 {
     let mut at = 0;
-    let mut i = 0;
-    while i < text.len() {
+    for byte in text {
         if line.len() <= at {
             return false;
         }
-        if line[at] != text[i] {
+        if line[at] != *byte {
             return false;
         }
         at = next_byte(line, at);
-        i += 1;
     }
     at == line.len()
 }
@@ -49,19 +45,14 @@ fn are_values(line: &[u8], count: usize) -> bool
         return false;
     }
     let mut at = 0;
-    let mut left = count;
-    loop {
+    for _ in 1..count {
         match hexadecimal::read_word(line, at) {
-            Word::Bits(_) => {}
-            Word::Malformed => {
+            Some(_) => {}
+            None => {
                 return false;
             }
         }
         at += 8;
-        left -= 1;
-        if left == 0 {
-            return at == line.len();
-        }
         if line.len() <= at {
             return false;
         }
@@ -71,6 +62,10 @@ fn are_values(line: &[u8], count: usize) -> bool
         }
         at = next_byte(line, at);
     }
+    match hexadecimal::read_word(line, at) {
+        Some(_) => at + 8 == line.len(),
+        None => false,
+    }
 }
 
 // Puts the values of a line into `out`, which has a place for each.
@@ -79,21 +74,18 @@ fn put_values(line: &[u8], out: &mut [f32])
     ensures { out.new ≡ values_of line.now }
 {
     let mut at = 0;
-    let mut k = 0;
-    loop {
+    for k in 0..out.len() {
         match hexadecimal::read_word(line, at) {
-            Word::Bits(bits) => {
+            Some(bits) => {
                 out[k] = hexadecimal::float_of_bits(bits);
             }
-            Word::Malformed => {
+            None => {
                 return;
             }
         }
-        k += 1;
-        if k == out.len() {
-            return;
+        if k + 1 < out.len() {
+            at = next_byte(line, at + 8);
         }
-        at = next_byte(line, at + 8);
     }
 }
 
@@ -102,15 +94,13 @@ fn next_byte(line: &[u8], at: usize) -> usize
     requires { at < length line.now }
     ensures { NextByte line.now at result }
 {
-    let mut i = at + 1;
     if line[at] != b' ' {
-        return i;
+        return at + 1;
     }
-    while i < line.len() {
+    for i in at + 1..line.len() {
         if line[i] != b' ' {
             return i;
         }
-        i += 1;
     }
-    i
+    line.len()
 }

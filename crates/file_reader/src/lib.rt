@@ -83,11 +83,8 @@ fn after_values(s: &[u8], at: usize, count: usize, scratch: &mut [f32]) -> usize
     ensures { result ≡ through (replicate count (values (length scratch.old))) s.now at }
 {
     let mut place = at;
-    let mut i = 0;
-    while i < count {
-        let next = values_line(s, place, scratch);
-        place = next;
-        i += 1;
+    for _ in 0..count {
+        place = values_line(s, place, scratch);
     }
     place
 }
@@ -102,13 +99,10 @@ fn put_poses(s: &[u8], at: usize, count: usize, columns: usize, poses: &mut [[f3
     ensures { poses.new ≡ front (map pose_of (lines_through (replicate count (values columns)) s.now at)) poses.old }
 {
     let mut place = at;
-    let mut i = 0;
-    while i < count {
+    for pose in &mut poses[..count] {
         let mut line = [0.0f32; 14];
-        let next = values_line(s, place, &mut line[..columns]);
-        poses[i] = motion_file::pose_of(line);
-        place = next;
-        i += 1;
+        place = values_line(s, place, &mut line[..columns]);
+        *pose = motion_file::pose_of(line);
     }
 }
 

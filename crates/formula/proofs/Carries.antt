@@ -8,7 +8,7 @@ use lib.ListN.{length, get_or}
 use Rattle.interval.specs.refusal.First.{first_refusal}
 use Rattle.interval.proofs.refusal.First.{first-zero, first-stands, first-right, first-assoc}
 use Rattle.interval.specs.declared.Interval.{Interval}
-use Rattle.interval.specs.declared.Judged.{Judged}
+use Rattle.interval.specs.Judged.{Judged}
 use Rattle.interval.specs.Interval.{Interval-point}
 use Rattle.interval.specs.Extension.{carry, Carries₁, Carries₂}
 use Rattle.interval.proofs.Refusal.{add-carries, sub-carries, mul-carries, div-carries, sqrt-carries, sin-carries, cos-carries}

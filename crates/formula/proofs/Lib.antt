@@ -3,7 +3,6 @@ pub mod Carries
 pub mod Extends
 pub mod Isotone
 pub mod Stop
-pub mod Trace
 pub mod Stage
 pub mod Points
 pub mod Regular

@@ -1,21 +1,17 @@
 -- Going on with the first number carried along gives what stopping at the first refusal gives: `program-stops`. Rests on `program-carries` and its like.
 use mathlib.Core.Path.{◌≡◌, refl, ◌∙◌}
 use Prim.Native.Nat.{ℕ, zero, suc}
-use native.Mathlib.Omega.{arith}
+use Rattle.std.specs.Prelude.{Result, Ok}
 use mathlib.Core.List.{List, [], ◌∷◌, ◌++◌}
 use lib.ListN.{length}
 use Rattle.interval.specs.declared.Interval.{Interval}
-use Rattle.interval.specs.declared.Judged.{Judged}
+use Rattle.interval.specs.refusal.Outcome.{outcome, and_then}
+use Rattle.interval.proofs.refusal.Outcome.{chain}
+use Rattle.interval.specs.Judged.{Judged, Judged-outcome}
 use Rattle.formula.specs.Program.{Expr, var, con, binary, unary, Program, ◌>>=◌, give}
 use Rattle.formula.specs.Enclose.{Binary-enclose, Unary-enclose, Expr-enclose, Enclosure, enclosure, Expr-enclose_all, extend, Program-enclose}
-use Rattle.formula.specs.Stop.{Outcome, accepted, and_then, outcome, Judged-outcome, Expr-enclose_or_stop, Expr-enclose_all_or_stop, Program-enclose_or_stop}
+use Rattle.formula.specs.Stop.{Expr-enclose_or_stop, Expr-enclose_all_or_stop, Program-enclose_or_stop}
 use Rattle.formula.proofs.Carries.{binary-stands, unary-stands, expr-stands, all-stands, program-stands}
-
--- A value X that was met with the number m, and what is done with it: k where m is 0, and where it is not, something that keeps it.
-chain : {B : Type 0} (X : Interval) (m : ℕ) (s : Outcome Interval) (k : Interval → Outcome B) (b : B) (n : ℕ)
-    → outcome X m ≡ s → (m ≡ 0 → outcome b n ≡ k X) → ((m ≡ 0 → ⊥) → n ≡ m) → outcome b n ≡ and_then s k
-chain X zero s k b n h g st = rw (← h) (g refl)
-chain X (suc m) s k b n h g st = rw (← h, st (λ z. omega arith))
 
 expr-stops : (σ : List Interval) (e : Expr) → Judged-outcome (Expr-enclose 0 σ e) ≡ Expr-enclose_or_stop σ e
 unfolding Expr-enclose
@@ -50,7 +46,7 @@ expr-stops σ (unary o a) = first (Expr-enclose 0 σ a) (expr-stops σ a)
         chain p.interval p.refusal (Expr-enclose_or_stop σ a) (λ (X : Interval). Judged-outcome (Unary-enclose o 0 X)) r.interval r.refusal h
         (λ z. rw z) (unary-stands o p.refusal p.interval)
 
-abbrev Enclosure-outcome : Enclosure → Outcome (List Interval)
+abbrev Enclosure-outcome : Enclosure → Result (List Interval) ℕ
 Enclosure-outcome c = outcome c.intervals c.refusal
 
 all-stop : (σ : List Interval) (es : List Expr) → Enclosure-outcome (Expr-enclose_all 0 σ es) ≡ Expr-enclose_all_or_stop σ es
@@ -58,8 +54,8 @@ unfolding Expr-enclose_all
 all-stop σ [] = refl
 all-stop σ (e ∷ es) = first (Expr-enclose 0 σ e) (expr-stops σ e) (all-stop σ es)
   where
-    second : (X : Interval) (Xs : List Interval) (n : ℕ) (s : Outcome (List Interval)) → outcome Xs n ≡ s
-        → outcome (X ∷ Xs) n ≡ and_then s (λ (Xs : List Interval). accepted (X ∷ Xs))
+    second : (X : Interval) (Xs : List Interval) (n : ℕ) (s : Result (List Interval) ℕ) → outcome Xs n ≡ s
+        → outcome (X ∷ Xs) n ≡ and_then s (λ (Xs : List Interval). Ok (X ∷ Xs))
     second X Xs zero s h = rw (← h)
     second X Xs (suc n) s h = rw (← h)
 
@@ -68,7 +64,7 @@ all-stop σ (e ∷ es) = first (Expr-enclose 0 σ e) (expr-stops σ e) (all-stop
     first p h g =
         let q = Expr-enclose_all p.refusal σ es in
         chain p.interval p.refusal (Expr-enclose_or_stop σ e)
-        (λ (X : Interval). and_then (Expr-enclose_all_or_stop σ es) (λ (Xs : List Interval). accepted (X ∷ Xs))) (p.interval ∷ q.intervals) q.refusal h
+        (λ (X : Interval). and_then (Expr-enclose_all_or_stop σ es) (λ (Xs : List Interval). Ok (X ∷ Xs))) (p.interval ∷ q.intervals) q.refusal h
         (λ z. second p.interval q.intervals q.refusal (Expr-enclose_all_or_stop σ es) (rw z g)) (all-stands p.refusal σ es)
 
 pub program-stops : (p : Program) (σ : List Interval) → Enclosure-outcome (Program-enclose (enclosure 0 σ) p) ≡ Program-enclose_or_stop σ p

@@ -5,7 +5,7 @@ use Rattle.std.specs.Prelude.{ℕ, Bool, true, ◌&&◌, List, [], ◌∷◌, �
 use Rattle.std.specs.Float.{nan}
 use Rattle.std.specs.Float.Ieee.Scale.{finite}
 use Rattle.interval.specs.declared.Interval.{Interval}
-use Rattle.interval.specs.declared.Judged.{Judged}
+use Rattle.interval.specs.Judged.{Judged}
 use Rattle.interval.specs.Interval.{Interval-point}
 use Rattle.interval.specs.Enclosure.{are_angles, Judged-add_enclosure, Judged-sub_enclosure, Judged-mul_enclosure}
 use Rattle.interval.specs.Enclosure.{Judged-div_enclosure, Judged-sqrt_enclosure, Judged-sin_enclosure, Judged-cos_enclosure}

@@ -1,7 +1,8 @@
 -- A vector divided by its length, as one formula with two readings, and what the second promises of the first. Definitions only.
-use Rattle.std.specs.Prelude.{◌≡◌, ℕ, List, [], ◌∷◌, get_or, Float}
+use Rattle.std.specs.Prelude.{◌≡◌, ℕ, Result, List, [], ◌∷◌, get_or, Float}
 use Rattle.std.specs.Float.{nan}
 use Rattle.interval.specs.declared.Interval.{Interval}
+use Rattle.interval.specs.refusal.Outcome.{outcome}
 use Rattle.interval.specs.Contains.{Encloses}
 use Rattle.formula.specs.Program.{Expr, var, Program, ◌>>=◌, give, ◌⊕◌, ◌⊗◌, ◌⊘◌, sqrt}
 use Rattle.formula.specs.Eval.{Program-eval}
@@ -9,7 +10,15 @@ use Rattle.formula.specs.Enclose.{unbound, Enclosure, enclosure, Program-enclose
 use Rattle.formula.specs.Promise.{Pairwise}
 use Rattle.formula_example.specs.declared.Vector2.{Vector2}
 use Rattle.formula_example.specs.declared.IntervalVector2.{IntervalVector2}
-use Rattle.formula_example.specs.declared.JudgedVector2.{JudgedVector2}
+
+-- With its refusal number, 0 for none.
+pub record JudgedVector2 : Type 0 where
+  pub value : IntervalVector2
+  pub refusal : ℕ
+
+-- As code gives it: after a refusal the value means nothing.
+abbrev pub JudgedVector2-outcome : JudgedVector2 → Result IntervalVector2 ℕ
+JudgedVector2-outcome j = outcome j.value j.refusal
 
 -- The formula.
 abbrev pub normalize : Expr → Expr → Program

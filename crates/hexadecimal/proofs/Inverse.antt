@@ -1,5 +1,6 @@
 -- Reading inverts writing: `read-inverse`. Rests on `digits-only` and `number_digits`, that the digits of a number are digits and write it, and on the place
 -- that a write leaves them at.
+use Rattle.std.specs.Prelude.{Some}
 use Prim.Native.Nat.{ℕ, zero, suc, ◌+◌, ◌/◌, ◌%◌, ◌^◌, ◌≤◌, ◌<◌}
 use native.Mathlib.Nat.{pow-succ', one-le-pow, mod-one, mod-eq_of_lt}
 use native.Mathlib.Omega.{arith}
@@ -11,7 +12,6 @@ use lib.ListN.{length, take, drop}
 use lib.Seq.{paste, take_all, take_at, drop_at, length-take-le, length-paste}
 use borrow.Author.Tests.{lt-ltb, le-leb}
 use Rattle.hexadecimal.specs.Word.{digits_only, number, digits, Word-read, Word-write}
-use Rattle.hexadecimal.specs.declared.Word.TheVariants.{Bits}
 use Rattle.hexadecimal.proofs.Digits.{digit_value-inverse}
 use Rattle.hexadecimal.proofs.Words.{length_digits, write-fits}
 
@@ -48,7 +48,7 @@ pasted s t at k h e =
     )
 
 -- a word that was written is read back
-pub read-inverse : (s : List ℕ) (at n : ℕ) → n < 2 ^ 32 → at + 8 ≤ length s → Word-read (Word-write s at n) at ≡ Bits n
+pub read-inverse : (s : List ℕ) (at n : ℕ) → n < 2 ^ 32 → at + 8 ≤ length s → Word-read (Word-write s at n) at ≡ Some n
 unfolding Word-read
 read-inverse s at n h f =
     rw (

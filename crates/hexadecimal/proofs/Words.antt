@@ -1,5 +1,6 @@
 -- Words of eight digits as the code takes them apart: `half-digits`, `read-halves` and `read_short` of a reading, `digits-store`, `write-fits` and
 -- `write-short` of a writing. Rests on the definitions of `specs/Word.antt` alone.
+use Rattle.std.specs.Prelude.{Some, None}
 use Prim.Native.Nat.{ℕ, zero, suc, ◌+◌, ◌-◌, ◌*◌, ◌/◌, ◌%◌, ◌^◌, ◌≤◌, ◌<◌}
 use native.Mathlib.Nat.{pow-succ', mul_assoc, mul-le-mul_right}
 use native.Mathlib.Numerals.{add-one, add-two, add-three}
@@ -14,7 +15,6 @@ use lib.Seq.{drop-cons, drop-drop, take-add, take_all, length-take-le, paste, pa
 use borrow.Author.Tests.{ltb-true, lt-ltb, le-leb, lt-leb}
 use Rattle.hexadecimal.specs.Digit.{digit_value, lower_digits}
 use Rattle.hexadecimal.specs.Word.{digits_only, number, number_or, digits, Word-read, Word-write}
-use Rattle.hexadecimal.specs.declared.Word.TheVariants.{Bits, Malformed}
 
 -- the four bytes from a place on, one by one
 take-four : (s : List ℕ) (at : ℕ) → at + 4 ≤ length s
@@ -86,14 +86,14 @@ number_or-test s e = go (digits_only s) refl
 
 -- eight digits are two halves of four
 joined : (s t : List ℕ) → length s ≡ 4 → length t ≡ 4
-    → cond (ltb (number_or 65536 s) 65536 && ltb (number_or 65536 t) 65536) (Bits (number_or 65536 s * 65536 + number_or 65536 t)) Malformed
-    ≡ cond (digits_only (s ++ t)) (Bits (number (s ++ t))) Malformed
+    → cond (ltb (number_or 65536 s) 65536 && ltb (number_or 65536 t) 65536) (Some (number_or 65536 s * 65536 + number_or 65536 t)) None
+    ≡ cond (digits_only (s ++ t)) (Some (number (s ++ t))) None
 unfolding number_or
 joined s t d e = rw (number_or-test s d, number_or-test t e, digits_only-append s t, number_append s t, e) (go (digits_only s) (digits_only t))
   where
     go : (p q : Bool)
-        → cond (p && q) (Bits (cond p (number s) 65536 * 65536 + cond q (number t) 65536)) Malformed
-        ≡ cond (p && q) (Bits (number s * 65536 + number t)) Malformed
+        → cond (p && q) (Some (cond p (number s) 65536 * 65536 + cond q (number t) 65536)) None
+        ≡ cond (p && q) (Some (number s * 65536 + number t)) None
     go true true = refl
     go true false = refl
     go false q = refl
@@ -106,15 +106,15 @@ eight-halves s at = take-add 4 4 (drop at s) ∙ ap (λ (t : List ℕ). take 4 (
 
 pub read-halves : (s : List ℕ) (at : ℕ) → at + 8 ≤ length s
     → cond (ltb (number_or 65536 (take 4 (drop at s))) 65536 && ltb (number_or 65536 (take 4 (drop (at + 4) s))) 65536)
-    (Bits (number_or 65536 (take 4 (drop at s)) * 65536 + number_or 65536 (take 4 (drop (at + 4) s))))
-    Malformed
+    (Some (number_or 65536 (take 4 (drop at s)) * 65536 + number_or 65536 (take 4 (drop (at + 4) s))))
+    None
     ≡ Word-read s at
 unfolding Word-read
 read-halves s at h =
     rw (le-leb (at + 8) (length s) h, eight-halves s at)
     (joined (take 4 (drop at s)) (take 4 (drop (at + 4) s)) (four-long s at (omega arith)) (four-long s (at + 4) (omega arith)))
 
-pub read_short : (s : List ℕ) (at : ℕ) → length s < at + 8 → Malformed ≡ Word-read s at
+pub read_short : (s : List ℕ) (at : ℕ) → length s < at + 8 → None ≡ Word-read s at
 unfolding Word-read
 read_short s at h = rw (lt-leb (at + 8) (length s) h)
 

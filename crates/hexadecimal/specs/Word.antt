@@ -1,9 +1,7 @@
 -- A word of eight hexadecimal digits in a list of bytes: `Word-read`, the number that stands at a place, and `Word-write`, the list with a number put there.
 -- Document 01, "File and program": a value is eight hexadecimal digits, the most significant first. Rests on the digits of `Digit.antt`.
-use Rattle.std.specs.Prelude.{ℕ, zero, suc, ◌+◌, ◌*◌, ◌/◌, ◌%◌, ◌^◌, Bool, true, cond, ◌&&◌, List, [], ◌∷◌, ◌++◌, ltb, leb, length, take, drop, get_or}
+use Rattle.std.specs.Prelude.{ℕ, zero, suc, ◌+◌, ◌*◌, ◌/◌, ◌%◌, ◌^◌, Bool, true, cond, ◌&&◌, List, [], ◌∷◌, ◌++◌, ltb, leb, length, take, drop, get_or, Option, Some, None}
 use Rattle.hexadecimal.specs.Digit.{digit_value, lower_digits}
-use Rattle.hexadecimal.specs.declared.Word.{Word}
-use Rattle.hexadecimal.specs.declared.Word.TheVariants.{Bits, Malformed}
 
 -- every byte is a digit
 unfoldable pub digits_only : List ℕ → Bool
@@ -24,8 +22,8 @@ abbrev pub Word-fits : ℕ → ℕ → Bool
 Word-fits size at = leb (at + 8) size
 
 -- the bits that the eight digits from the place on write; malformed where they are fewer or a byte is no digit
-unfoldable pub Word-read : List ℕ → ℕ → Word
-Word-read s at = cond (Word-fits (length s) at && digits_only (take 8 (drop at s))) (Bits (number (take 8 (drop at s)))) Malformed
+unfoldable pub Word-read : List ℕ → ℕ → Option ℕ
+Word-read s at = cond (Word-fits (length s) at && digits_only (take 8 (drop at s))) (Some (number (take 8 (drop at s)))) None
 
 -- the k lowest digits of n, in lower case
 unfoldable pub digits : ℕ → ℕ → List ℕ

@@ -7,13 +7,6 @@ ghost use Rattle.std.specs.Float.Ieee.{of_bits, to_bits};
 ghost use Rattle.hexadecimal.specs.Digit.{digit_value, lower_digits};
 ghost use Rattle.hexadecimal.specs.Word.{number_or, Word-fits, Word-read, Word-write};
 
-// What eight bytes of text say.
-#[derive(Clone, Copy)]
-pub enum Word {
-    Bits(u32),
-    Malformed,
-}
-
 // The value of a digit of either case, and 16 for a byte that is no digit. Accuracy: exact.
 pub fn digit_value(b: u8) -> u32
     ensures value { result ≡ digit_value b }
@@ -34,21 +27,21 @@ pub fn digit_value(b: u8) -> u32
 }
 
 // The bits that the eight digits from `at` on write; malformed where there are fewer bytes, or one is no digit. Accuracy: exact.
-pub fn read_word(s: &[u8], at: usize) -> Word
+pub fn read_word(s: &[u8], at: usize) -> Option<u32>
     ensures value { result ≡ Word-read s.now at }
 {
     if s.len() < 8 {
-        return Word::Malformed;
+        return None;
     }
     if s.len() - 8 < at {
-        return Word::Malformed;
+        return None;
     }
     let high = read_half(s, at);
     let low = read_half(s, at + 4);
     if (high < 65536) & (low < 65536) {
-        return Word::Bits(high * 65536 + low);
+        return Some(high * 65536 + low);
     }
-    Word::Malformed
+    None
 }
 
 // The number that the four digits from `at` on write, and 65,536 where a byte is no digit.

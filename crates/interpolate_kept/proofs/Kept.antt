@@ -1,5 +1,6 @@
 -- The transform of a kept move is the move's, `interpolate-kept`, and that of a kept chain the chain's, `chain-interpolate-kept`. Where it is answered, it moves
 -- a finite point as the point query of the same rows does: `interpolate-points`. Its numbers: `rows-interpolate-refusal`, `rows-interpolate-refused`.
+use Rattle.std.specs.Prelude.{Err}
 use mathlib.Core.Path.{◌≡◌, refl, sym, ap, subst, ◌∙◌}
 use mathlib.Core.Bool.{Bool, true, false, not, ◌||◌, cond}
 use mathlib.Core.List.{List, []}
@@ -12,9 +13,10 @@ use Rattle.transform.specs.bounds3.declared.Point3f.{Point3f}
 use Rattle.transform.specs.bounds3.Finite.{Point3f-is_finite, Finite}
 use Rattle.transform.proofs.bounds3.Finite.{finite-test}
 use Rattle.transform.specs.declared.Transform.{Transform}
-use Rattle.transform.specs.declared.TransformAnswer.{TransformAnswer}
-use Rattle.transform.specs.declared.PointAnswer.{PointAnswer}
-use Rattle.transform.specs.declared.PointAnswer.TheVariants.{Refused}
+use Rattle.std.specs.Prelude.{Result, Ok, Err, IfOk}
+use Rattle.refusal.specs.declared.Refusal.{Refusal}
+use Rattle.transform.specs.Transform.{TransformAnswer, TransformAnswer-of_result}
+use Rattle.transform.specs.Answer.{PointAnswer}
 use Rattle.transform.specs.Transform.{TransformAnswer-refused}
 use Rattle.transform.specs.TransformPoint.{Transform-transform_point}
 use Rattle.pose_slerp.specs.unit_interval.Unit.{dt}
@@ -92,7 +94,7 @@ module _ (p : Point3f) where
 
   -- The two queries choose by the same tests.
   chosen : (n b s e : Bool) (x y w : TransformAnswer) (q r v : PointAnswer) → T b → Moves x q → Moves y r → Moves w v
-      → Moves (cond n (TransformAnswer-refused 6) (cond s x (cond e y w))) (cond (n || not b) (Refused 6) (cond s q (cond e r v)))
+      → Moves (cond n (TransformAnswer-refused 6) (cond s x (cond e y w))) (cond (n || not b) (Err 6) (cond s q (cond e r v)))
   chosen true b s e x y w q r v t α β γ z = absurd (omega (arith, z))
   chosen false true true e x y w q r v t α β γ z = α z
   chosen false true false true x y w q r v t α β γ z = β z
@@ -100,7 +102,7 @@ module _ (p : Point3f) where
   chosen false false s e x y w q r v t α β γ z = absurd t
 
   by-moves : (m : AnimatedTransform) (a : PoseConstants) (time : Float) → Finite p → Moves (AnimatedTransform-interpolate_by m (Pose-transform a m.s0 m.s1) time)
-      (cond (is_nan time || not (Point3f-is_finite p)) (Refused 6) (AnimatedTransform-moved_point m a time p))
+      (cond (is_nan time || not (Point3f-is_finite p)) (Err 6) (AnimatedTransform-moved_point m a time p))
   unfolding AnimatedTransform-interpolate_by AnimatedTransform-moved_point
   by-moves m a time f =
       chosen (is_nan time) (Point3f-is_finite p) (at_start m time) (at_end m time) _ _ _ _ _ _ (finite-test f)
@@ -121,19 +123,16 @@ interpolate-points rows time z p f = go (eqb (length rows) 0) z
 
     go : (b : Bool) → (cond b (TransformAnswer-refused 12) (Rows-interpolate block time)).refusal ≡ 0
         → Transform-transform_point (cond b (TransformAnswer-refused 12) (Rows-interpolate block time)).transform p
-        ≡ cond b (Refused 12) (Rows-transform_point block time p)
+        ≡ cond b (Err 12) (Rows-transform_point block time p)
     go true h = absurd (omega (arith, h))
     go false h = rows-moves p block time f h
 
 -- The clauses of the query, from its value.
-pub chain-clauses : (rows : List Rows) (time : Float) {r : TransformAnswer} → r ≡ Moves-interpolate rows time
-    → (r ≡ Moves-interpolate rows time) × (((c : Chain) → rows ≡ Chain-to_rows c → r ≡ Chain-interpolate c time)
-    × (r.refusal ≡ 0 → MovesPoints rows time r.transform))
-chain-clauses rows time {r} e = (
-  e,
-  (
-    λ c k. e ∙ chain-interpolate-kept rows c time k,
-    λ z. subst (λ (a : TransformAnswer). MovesPoints rows time a.transform) (sym e)
-        (interpolate-points rows time (ap (λ (a : TransformAnswer). a.refusal) (sym e) ∙ z)),
-  ),
-)
+pub chain-clauses : (rows : List Rows) (time : Float) (a : Result Transform Refusal) → TransformAnswer-of_result a ≡ Moves-interpolate rows time
+    → ((c : Chain) → rows ≡ Chain-to_rows c → TransformAnswer-of_result a ≡ Chain-interpolate c time) × IfOk a (MovesPoints rows time)
+chain-clauses rows time a e = (λ c k. e ∙ chain-interpolate-kept rows c time k, points a e)
+  where
+    points : (b : Result Transform Refusal) → TransformAnswer-of_result b ≡ Moves-interpolate rows time → IfOk b (MovesPoints rows time)
+    points (Err r) same = tt
+    points (Ok t) same = subst (λ (x : TransformAnswer). MovesPoints rows time x.transform) (sym same)
+        (interpolate-points rows time (ap (λ (x : TransformAnswer). x.refusal) (sym same)))

@@ -3,7 +3,7 @@
 -- the time belongs: `Chain-interpolate`, and of any rows `Moves-interpolate`. Definitions only.
 use Rattle.std.specs.Prelude.{cond, List, [], eqb, length, get_or, Float}
 use Rattle.transform.specs.matrix4x4.Rows.{Rows}
-use Rattle.transform.specs.declared.TransformAnswer.{TransformAnswer}
+use Rattle.transform.specs.Transform.{TransformAnswer}
 use Rattle.transform.specs.Transform.{TransformAnswer-refused}
 use Rattle.interpolation.specs.Interpolate.{Pose-transform, AnimatedTransform-interpolate_by, AnimatedTransform-interpolate}
 use Rattle.motion_rows.specs.Rows.{AnimatedTransform-from_rows, PoseConstants-from_rows}

@@ -2,7 +2,8 @@
 // them that the rows hold, which the point query takes too.
 #![tactic(auto)]
 
-ghost use Rattle.std.specs.Prelude.{◌≡◌};
+ghost use Rattle.std.specs.Prelude.{◌≡◌, IfOk};
+ghost use Rattle.transform.specs.Transform.{TransformAnswer-of_result};
 ghost use Rattle.interpolation.specs.Interpolate.{Pose-transform};
 ghost use Rattle.motion_rows.specs.Rows.{AnimatedTransform-from_rows, PoseConstants-from_rows};
 ghost use Rattle.chain_rows.specs.motion_chain.Chain.{Chain};
@@ -10,11 +11,12 @@ ghost use Rattle.chain_rows.specs.Kept.{Chain-to_rows};
 ghost use Rattle.interpolate_kept.specs.Kept.{Rows-interpolate, Chain-interpolate, Moves-interpolate};
 ghost use Rattle.interpolate_kept.specs.Theorem.{MovesPoints};
 
-use transform::TransformAnswer;
+use refusal::Refusal;
+use transform::Transform;
 
 // The transform at a dt between the two poses.
-fn pose_at(rows: &[[f32; 4]; 45], dt: f32) -> TransformAnswer
-    ensures value { result ≡ Pose-transform (PoseConstants-from_rows rows.now)
+fn pose_at(rows: &[[f32; 4]; 45], dt: f32) -> Result<Transform, Refusal>
+    ensures value { TransformAnswer-of_result result ≡ Pose-transform (PoseConstants-from_rows rows.now)
         (AnimatedTransform-from_rows rows.now).s0 (AnimatedTransform-from_rows rows.now).s1 dt }
 {
     let a = motion_rows::constants_from_rows(rows);
@@ -31,11 +33,11 @@ fn pose_at(rows: &[[f32; 4]; 45], dt: f32) -> TransformAnswer
 
 // The transform of a kept move at a time, whatever its rows. Refused with 6, then with 4 or 5, whichever is met first.
 // Accuracy: each operation but sine and cosine is correctly rounded.
-pub fn interpolate(rows: &[[f32; 4]; 45], time: f32) -> TransformAnswer
-    ensures value { result ≡ Rows-interpolate rows.now time }
+pub fn interpolate(rows: &[[f32; 4]; 45], time: f32) -> Result<Transform, Refusal>
+    ensures value { TransformAnswer-of_result result ≡ Rows-interpolate rows.now time }
 {
     if time != time {
-        return transform::refused(6);
+        return Err(Refusal::Query);
     }
     let start = rows[16];
     let end = rows[17];
@@ -51,13 +53,13 @@ pub fn interpolate(rows: &[[f32; 4]; 45], time: f32) -> TransformAnswer
 
 // The transform of a kept chain at a time, that of the move to which the time belongs. Refused with 12 where there are no moves, with 6, then with 4 or 5.
 // Accuracy: each operation but sine and cosine is correctly rounded.
-pub fn interpolate_chain(moves: &[[[f32; 4]; 45]], time: f32) -> TransformAnswer
-    ensures value { result ≡ Moves-interpolate moves.now time }
-    ensures kept { (c : Chain) → moves.now ≡ Chain-to_rows c → result ≡ Chain-interpolate c time }
-    ensures moves_points { result.refusal ≡ 0 → MovesPoints moves.now time result.transform }
+pub fn interpolate_chain(moves: &[[[f32; 4]; 45]], time: f32) -> Result<Transform, Refusal>
+    ensures value { TransformAnswer-of_result result ≡ Moves-interpolate moves.now time }
+    ensures kept { (c : Chain) → moves.now ≡ Chain-to_rows c → TransformAnswer-of_result result ≡ Chain-interpolate c time }
+    ensures moves_points { IfOk result (MovesPoints moves.now time) }
 {
     if moves.len() == 0 {
-        return transform::refused(12);
+        return Err(Refusal::Chain);
     }
     let i = chain_rows::place(moves, time);
     interpolate(&moves[i], time)

@@ -11,7 +11,7 @@ use Rattle.quaternion.specs.declared.Quaternion.{Quaternion}
 use Rattle.matrix4x4.specs.declared.Matrix4x4.{Matrix4x4}
 use Rattle.matrix4x4.specs.Rows.{Row}
 use Rattle.transform.specs.declared.Transform.{Transform}
-use Rattle.transform.specs.declared.TransformAnswer.{TransformAnswer}
+use Rattle.transform.specs.Transform.{TransformAnswer}
 use Rattle.transform.specs.Transform.{TransformAnswer-refused}
 use Rattle.animated_transform.specs.coefficients.Coefficients.{Coefficients-zero}
 use Rattle.animated_transform.specs.declared.AnimatedTransform.{AnimatedTransform}

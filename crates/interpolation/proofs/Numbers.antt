@@ -16,7 +16,7 @@ use Rattle.quaternion.specs.declared.Quaternion.{Quaternion}
 use Rattle.quaternion.specs.Slerp.{Quaternion-slerp}
 use Rattle.quaternion.specs.IsFinite.{Quaternion-is_finite}
 use Rattle.transform.specs.declared.Transform.{Transform}
-use Rattle.transform.specs.declared.TransformAnswer.{TransformAnswer}
+use Rattle.transform.specs.Transform.{TransformAnswer}
 use Rattle.transform.specs.Transform.{TransformAnswer-refused, Transform-from_matrix, Transform-translate, Transform-mul}
 use Rattle.transform.proofs.FromMatrix.{from-matrix-numbers}
 use Rattle.rotation.specs.FromQuaternion.{Transform-from_quaternion}

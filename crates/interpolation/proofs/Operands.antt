@@ -19,7 +19,7 @@ use Rattle.vector3.specs.declared.Vector3f.{Vector3f}
 use Rattle.quaternion.specs.declared.Quaternion.{Quaternion}
 use Rattle.quaternion.specs.IsFinite.{Quaternion-is_finite}
 use Rattle.transform.specs.declared.Transform.{Transform}
-use Rattle.transform.specs.declared.TransformAnswer.{TransformAnswer}
+use Rattle.transform.specs.Transform.{TransformAnswer}
 use Rattle.transform.specs.Transform.{TransformAnswer-refused, Transform-from_matrix, Transform-translate, Transform-mul}
 use Rattle.transform.proofs.FromMatrix.{from-matrix-refusal, from-matrix-accepted}
 use Rattle.rotation.specs.FromQuaternion.{inverse_rotation, Transform-from_quaternion}
@@ -162,23 +162,8 @@ module _ (trans : Vector3f) (rotate : Quaternion) (scale : Rows) (z : (Transform
       ∙ (rw z (taken (Transform-is_finite (last_product trans rotate scale)) (TransformAnswer-accepted (last_product trans rotate scale)) (TransformAnswer-refused 5) h))
 
 -- As the code tests it.
-pub composed-tested : (trans : Vector3f) (rotate : Quaternion) (scale : Rows) (n : ℕ) (last : Transform) → n ≡ (Transform-from_matrix scale).refusal
-    → last ≡ last_product trans rotate scale → (eqb n 0 && Transform-is_finite last) ≡ true → TransformAnswer-accepted last ≡ composed trans rotate scale
-composed-tested trans rotate scale n last number same test =
-    ap TransformAnswer-accepted same ∙ sym (composed-last trans rotate scale (sym number ∙ zero) (subst (λ (t : Transform). T (Transform-is_finite t)) same passed.1))
-  where
-    both_true : (a b : Bool) → (a && b) ≡ true → (a ≡ true) × T b
-    both_true a b e = (bool-true a (and_l a b (holds (a && b) e)), and_r a b (holds (a && b) e))
-      where
-        holds : (x : Bool) → x ≡ true → T x
-        holds x e = rw e tt
-
-        bool-true : (x : Bool) → T x → x ≡ true
-        bool-true true t = refl
-        bool-true false t = elim t [ ]
-
-    passed : (eqb n 0 ≡ true) × T (Transform-is_finite last)
-    passed = both_true (eqb n 0) (Transform-is_finite last) test
-
-    zero : n ≡ 0
-    zero = eqb-true n 0 passed.0
+pub composed-tested : (trans : Vector3f) (rotate : Quaternion) (scale : Rows) (last : Transform) → (Transform-from_matrix scale).refusal ≡ 0
+    → last ≡ last_product trans rotate scale → Transform-is_finite last ≡ true → TransformAnswer-accepted last ≡ composed trans rotate scale
+composed-tested trans rotate scale last none same finite =
+    ap TransformAnswer-accepted same
+    ∙ sym (composed-last trans rotate scale none (subst (λ (t : Transform). T (Transform-is_finite t)) same (rw finite tt)))

@@ -18,7 +18,7 @@ use Rattle.quaternion.specs.IsFinite.{Quaternion-is_finite}
 use Rattle.transform.specs.bounds3.declared.Point3f.{Point3f}
 use Rattle.transform.specs.bounds3.Finite.{Finite}
 use Rattle.transform.specs.declared.Transform.{Transform}
-use Rattle.transform.specs.declared.TransformAnswer.{TransformAnswer}
+use Rattle.transform.specs.Transform.{TransformAnswer}
 use Rattle.transform.specs.Transform.{translation, Transform-from_matrix, Transform-translate, Transform-mul}
 use Rattle.transform.specs.TransformPoint.{PointAnswer-judged, Transform-transform_point}
 use Rattle.transform.proofs.FromMatrix.{from-matrix-refusal, from-matrix-accepted}

@@ -9,7 +9,7 @@ use lib.Ieee.Fits.{and_i}
 use Rattle.matrix4x4.specs.Rows.{Matrix4x4-to_rows}
 use Rattle.matrix4x4.specs.IsFinite.{Matrix4x4-is_finite}
 use Rattle.transform.specs.declared.Transform.{Transform}
-use Rattle.transform.specs.declared.TransformAnswer.{TransformAnswer}
+use Rattle.transform.specs.Transform.{TransformAnswer}
 use Rattle.transform.specs.Transform.{TransformAnswer-refused, Transform-eq}
 use Rattle.unit_interval.specs.Unit.{dt}
 use Rattle.animated_transform.specs.declared.AnimatedTransform.{AnimatedTransform}

@@ -5,13 +5,15 @@
 
 ghost use Rattle.std.specs.Prelude.{◌≡◌};
 ghost use Rattle.matrix4x4.specs.Rows.{Matrix4x4-to_rows};
+ghost use Rattle.transform.specs.Transform.{TransformAnswer-of_result};
 ghost use Rattle.interpolation.specs.Interpolate.{Transform-is_finite, TransformAnswer-judged, scaled, composed};
 ghost use Rattle.interpolation.specs.Interpolate.{AnimatedTransform-pose_at, AnimatedTransform-interpolate};
 
 use animated_transform::AnimatedTransform;
 use matrix4x4::Matrix4x4;
 use quaternion::Quaternion;
-use transform::{Transform, TransformAnswer};
+use refusal::Refusal;
+use transform::Transform;
 use vector3::Vector3f;
 
 // Both halves.
@@ -22,38 +24,35 @@ fn is_finite(t: Transform) -> bool
 }
 
 // A transform as it is stored, refused with 5 where a half isn't finite. Accuracy: exact.
-pub fn judged(transform: Transform) -> TransformAnswer
-    ensures value { result ≡ TransformAnswer-judged transform }
+pub fn judged(transform: Transform) -> Result<Transform, Refusal>
+    ensures value { TransformAnswer-of_result result ≡ TransformAnswer-judged transform }
 {
     if is_finite(transform) {
-        TransformAnswer {
-            transform,
-            refusal: 0,
-        }
+        Ok(transform)
     } else {
-        transform::refused(5)
+        Err(Refusal::NotFinite)
     }
 }
 
 // The scale's inverse is met here, after the first product and before the last.
-fn scaled(first: Transform, scale: Matrix4x4) -> TransformAnswer
-    ensures value { result ≡ scaled first (Matrix4x4-to_rows scale) }
+fn scaled(first: Transform, scale: Matrix4x4) -> Result<Transform, Refusal>
+    ensures value { TransformAnswer-of_result result ≡ scaled first (Matrix4x4-to_rows scale) }
 {
-    let s = Transform::from_matrix(scale.to_rows());
-    if s.refusal == 0 {
-        judged(first.mul(s.transform))
-    } else {
-        transform::refused(s.refusal)
-    }
+    let s = Transform::from_matrix(scale.to_rows())?;
+    judged(first * s)
 }
 
 // Each thing that is finished is judged before the next, so that the first refusal stands.
-fn composed_in_order(trans: Vector3f, rotate: Quaternion, scale: Matrix4x4) -> TransformAnswer
-    ensures value { result ≡ composed trans rotate (Matrix4x4-to_rows scale) }
+fn composed_in_order(
+    trans: Vector3f,
+    rotate: Quaternion,
+    scale: Matrix4x4,
+) -> Result<Transform, Refusal>
+    ensures value { TransformAnswer-of_result result ≡ composed trans rotate (Matrix4x4-to_rows scale) }
 {
     let translation = Transform::translate(trans);
     let rotation = rotation::transform_from_quaternion(rotate);
-    let first = translation.mul(rotation);
+    let first = translation * rotation;
     let finite = rotate.is_finite()
         & matrix4x4::is_finite(scale.to_rows())
         & is_finite(translation)
@@ -62,33 +61,31 @@ fn composed_in_order(trans: Vector3f, rotate: Quaternion, scale: Matrix4x4) -> T
     if finite {
         scaled(first, scale)
     } else {
-        transform::refused(5)
+        Err(Refusal::NotFinite)
     }
 }
 
 // pbrt's last line: Transform::translate(&trans) * rotate.into() * Transform::from_matrix(&scale). Refused with 4 or 5, whichever is met first.
 // What isn't finite stays so in sums and products: where the last product is finite and the scale has its inverse, all that stands before is finite.
 // Accuracy: each operation is correctly rounded.
-pub fn composed(trans: Vector3f, rotate: Quaternion, scale: Matrix4x4) -> TransformAnswer
-    ensures value { result ≡ composed trans rotate (Matrix4x4-to_rows scale) }
+pub fn composed(trans: Vector3f, rotate: Quaternion, scale: Matrix4x4) -> Result<Transform, Refusal>
+    ensures value { TransformAnswer-of_result result ≡ composed trans rotate (Matrix4x4-to_rows scale) }
 {
     let translation = Transform::translate(trans);
     let rotation = rotation::transform_from_quaternion(rotate);
-    let first = translation.mul(rotation);
-    let s = Transform::from_matrix(scale.to_rows());
-    let last = first.mul(s.transform);
-    if (s.refusal == 0) & is_finite(last) {
-        return TransformAnswer {
-            transform: last,
-            refusal: 0,
-        };
+    let first = translation * rotation;
+    if let Ok(s) = Transform::from_matrix(scale.to_rows()) {
+        let last = first * s;
+        if is_finite(last) {
+            return Ok(last);
+        }
     }
     composed_in_order(trans, rotate, scale)
 }
 
 // The transform between the two poses: dt runs from 0 to 1.
-fn pose_at(m: AnimatedTransform, dt: f32) -> TransformAnswer
-    ensures value { result ≡ AnimatedTransform-pose_at m dt }
+fn pose_at(m: AnimatedTransform, dt: f32) -> Result<Transform, Refusal>
+    ensures value { TransformAnswer-of_result result ≡ AnimatedTransform-pose_at m dt }
 {
     let trans = pose_parts::translation(m.t0, m.t1, dt);
     let rotate = quaternion::slerp(m.r0, m.r1, dt);
@@ -99,11 +96,11 @@ fn pose_at(m: AnimatedTransform, dt: f32) -> TransformAnswer
 // pbrt's `interpolate`: the transform at a time; refused with 6 for a NaN time, with 5 for a stored transform that isn't finite, and between the two poses
 // with 4 or 5; pbrt goes on where this refuses.
 // Accuracy: each operation but sine, cosine and arc cosine is correctly rounded.
-pub fn interpolate(m: AnimatedTransform, time: f32) -> TransformAnswer
-    ensures value { result ≡ AnimatedTransform-interpolate m time }
+pub fn interpolate(m: AnimatedTransform, time: f32) -> Result<Transform, Refusal>
+    ensures value { TransformAnswer-of_result result ≡ AnimatedTransform-interpolate m time }
 {
     if time != time {
-        return transform::refused(6);
+        return Err(Refusal::Query);
     }
     if !m.actually_animated | (time <= m.start_time) {
         return judged(m.start_transform);

@@ -3,7 +3,7 @@
 use Rattle.std.proofs.Common.{◌≡◌, ℕ, true, false, refl}
 use lib.Ieee.{Float, nan, inf, binary32, of_bits, round}
 use Rattle.interval.specs.declared.Interval.{Interval}
-use Rattle.interval.specs.declared.Judged.{Judged}
+use Rattle.interval.specs.Judged.{Judged}
 use Rattle.interval.specs.Interval.{Interval-hull, Interval-add, Interval-sub, Interval-mul, Interval-sin, Interval-cos, pi}
 use Rattle.interval.specs.Enclosure.{Judged-add_enclosure, Judged-sub_enclosure, Judged-mul_enclosure, Judged-div_enclosure}
 use Rattle.interval.specs.Enclosure.{Judged-sqrt_enclosure, Judged-sin_enclosure, Judged-cos_enclosure}

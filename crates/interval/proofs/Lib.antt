@@ -5,6 +5,7 @@ pub mod Extends
 pub mod Isotone
 pub mod Angles
 pub mod Places
+mod Ends
 pub mod Divisor
 pub mod Points
 pub mod InOrder

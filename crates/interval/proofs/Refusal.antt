@@ -1,16 +1,21 @@
 -- What a refusal number of 0 says: nothing was refused before (`first-zero`), the ends are finite (`finite-accepted`, `accepted-finite`), the low
--- end is positive (`positive-accepted`, `accepted-positive`). What follows of an interval that is judged: `judge-encloses`, `judge-narrower`.
+-- end is positive (`positive-accepted`, `accepted-positive`). What follows of an interval that is judged: `judge-encloses`, `judge-narrower`, `refused-positive`.
 -- Every operation carries its number: `add-carries` and its like.
-use Rattle.std.proofs.Common.{◌≡◌, ℕ, zero, suc, Bool, true, false, cond, not, ◌&&◌, T, pos, refl, inl, inr, eq-zero-or-pos, arith, lt→ltb}
+use Rattle.std.proofs.Common.{◌≡◌, ℕ, zero, suc, Bool, true, false, cond, not, ◌&&◌, T, pos, refl, inl, inr, eq-zero-or-pos, arith, lt→ltb, Err}
 use lib.Ieee.{Float, nan, inf, fin, binary32, of_bits, le}
 use lib.Ieee.Fits.{and_l, and_r, and_i}
 use lib.Ieee.Bits.{is_true}
 use lib.Ieee.Scale.{finite}
 use lib.Ieee.Positive.{positive}
 use Rattle.refusal.specs.First.{first_refusal}
-use Rattle.refusal.proofs.First.{first-zero, zero-first, first-assoc}
+use Rattle.refusal.specs.declared.Refusal.{Refusal}
+use Rattle.refusal.specs.Number.{Refusal-number}
+use Rattle.refusal.proofs.First.{first-zero, zero-first, first-stands, first-assoc}
+use Rattle.refusal.proofs.Number.{number-nonzero}
+use Rattle.refusal.proofs.Outcome.{refused}
 use Rattle.float32.proofs.rounding.Order.{of-fraction, zeros_equal, above-positive}
 use Rattle.interval.specs.declared.Interval.{Interval}
+use Rattle.interval.specs.Judged.{Judged-outcome}
 use Rattle.interval.specs.Contains.{Contains, Subset, Finite, Encloses}
 use Rattle.interval.specs.Enclosure.{Interval-div_enclosure, Interval-sqrt_enclosure, not_finite, not_positive, Judged-judge}
 use Rattle.interval.specs.Enclosure.{Judged-add_enclosure, Judged-sub_enclosure, Judged-mul_enclosure, Judged-div_enclosure}
@@ -90,6 +95,12 @@ judge-zero m X h = (first-zero m (not_finite X) h).0
 -- judged with the number of a test for a positive low end
 pub judged-positive : (m : ℕ) {Y : Interval} (Z : Interval) → Finite Y → (Judged-judge (first_refusal m (not_positive Y)) Z).refusal ≡ 0 → T (positive Y.low)
 judged-positive m {Y} Z f h = accepted-positive Y f.low (first-zero m (not_positive Y) (judge-zero (first_refusal m (not_positive Y)) Z h)).1
+
+-- refused by the test for a positive low end, as code has it
+pub refused-positive : (r : Refusal) (Y Z : Interval) → Refusal-number r ≡ not_positive Y
+    → Err (Refusal-number r) ≡ Judged-outcome (Judged-judge (first_refusal 0 (not_positive Y)) Z)
+unfolding Judged-judge
+refused-positive r Y Z e = rw (← e, ← first-stands (Refusal-number r) (not_finite Z) (number-nonzero r)) (refused Z r)
 
 -- ---- the number is carried along
 judge-carries : (m n : ℕ) (X : Interval) → Judged-judge (first_refusal m n) X ≡ carry m (Judged-judge n X)

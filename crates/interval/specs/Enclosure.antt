@@ -10,7 +10,7 @@ use Rattle.square_root.specs.SquareRoot.{sqrt}
 use Rattle.trig.specs.Range.{sin_low, sin_high, cos_low, cos_high, full_turn_float}
 use Rattle.float32.specs.Operators.{◌⊕◌, ◌⊖◌, ◌⊗◌, ◌⊘◌}
 use Rattle.interval.specs.declared.Interval.{Interval}
-use Rattle.interval.specs.declared.Judged.{Judged}
+use Rattle.interval.specs.Judged.{Judged}
 use Rattle.interval.specs.Interval.{Interval-of_four}
 
 -- ---- document 01, Cover

@@ -4,7 +4,7 @@
 use Rattle.std.specs.Prelude.{◌≡◌, ℕ, T, Float}
 use Rattle.refusal.specs.First.{first_refusal}
 use Rattle.interval.specs.declared.Interval.{Interval}
-use Rattle.interval.specs.declared.Judged.{Judged}
+use Rattle.interval.specs.Judged.{Judged}
 use Rattle.interval.specs.Contains.{Encloses, Refines}
 use Rattle.interval.specs.Enclosure.{are_angles}
 

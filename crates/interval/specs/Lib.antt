@@ -1,5 +1,6 @@
 pub mod Contains
 pub mod Interval
+pub mod Judged
 pub mod Enclosure
 pub mod Extension
 pub mod means

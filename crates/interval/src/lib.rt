@@ -1,18 +1,22 @@
-// Closed intervals of 32-bit floats. `Interval` has pbrt's own operations, with which the zero search bounds a function's range. `Judged` has those of document
-// 01's cover: an interval is judged as it is formed, and each operation takes the refusal number met before it, m, and hands the first number on.
+// Closed intervals of 32-bit floats. `Interval` has pbrt's own operations, with which the zero search bounds a function's range, and those of document 01's
+// cover, which judge an interval as it is formed.
 #![tactic(auto)]
 
-ghost use Rattle.std.specs.Prelude.{◌≡◌};
+ghost use Rattle.std.specs.Prelude.{◌≡◌, Ok};
+ghost use Rattle.refusal.specs.Number.{refusal_number, numbered};
+ghost use Rattle.refusal.specs.Outcome.{and_then};
 ghost use Rattle.trig.specs.SinCos.{sin, cos};
 ghost use Rattle.trig.specs.Range.{lies};
 ghost use Rattle.interval.specs.Interval.{Interval-new, Interval-point, Interval-hull, Interval-midpoint, Interval-of_four, Interval-add, Interval-sub};
 ghost use Rattle.interval.specs.Interval.{Interval-mul, Interval-straddles, Interval-sin_between, Interval-sin, Interval-cos_between, Interval-cos};
-ghost use Rattle.interval.specs.Enclosure.{not_finite, not_positive, Judged-judge, Judged-add_enclosure, Judged-sub_enclosure, Judged-mul_enclosure};
+ghost use Rattle.interval.specs.Judged.{Judged-outcome};
+ghost use Rattle.interval.specs.Enclosure.{not_positive, Judged-judge, Judged-add_enclosure, Judged-sub_enclosure, Judged-mul_enclosure};
 ghost use Rattle.interval.specs.Enclosure.{Judged-div_enclosure, Judged-sqrt_enclosure, Judged-sin_enclosure, Judged-cos_enclosure};
 ghost use Rattle.interval.specs.means.EndAngle.{EndAngle-from_sin_cos, EndAngle-new, EndAngle-sin_range, EndAngle-cos_range};
 
 use float32::select;
-use refusal::first_refusal;
+use refusal::Refusal;
+use std::ops::{Add, Mul, Sub};
 use trig::SinCos;
 
 // pbrt's std::f32::consts::PI.
@@ -34,25 +38,11 @@ pub struct Interval {
     pub high: f32,
 }
 
-// An interval with its refusal number, 0 for none.
-#[derive(Clone, Copy)]
-pub struct Judged {
-    pub interval: Interval,
-    pub refusal: u8,
-}
-
 // The sine and the cosine of an interval.
 #[derive(Clone, Copy)]
 pub struct IntervalSinCos {
     pub sin: Interval,
     pub cos: Interval,
-}
-
-// The same, judged: the cosine first, as in `slerp`.
-#[derive(Clone, Copy)]
-pub struct JudgedSinCos {
-    pub cos: Judged,
-    pub sin: Judged,
 }
 
 // An end of an interval of angles: the angle, its u held at 2^52, which is beyond every quarter, its sine and its cosine.
@@ -73,13 +63,6 @@ impl Interval {
             low: float32::min(v0, v1),
             high: float32::max(v0, v1),
         }
-    }
-
-    // The interval of one number. Accuracy: exact.
-    pub fn point(f: f32) -> Self
-        ensures value { result ≡ Interval-point f }
-    {
-        Self { low: f, high: f }
     }
 
     // The smallest interval that contains both. Accuracy: exact.
@@ -104,33 +87,6 @@ impl Interval {
         ensures value { result ≡ Interval-of_four a b c d }
     {
         Interval::new(a, b).hull(Interval::new(c, d))
-    }
-
-    // pbrt's sum; as of all its operations, nothing is judged. Accuracy: heuristic.
-    pub fn add(self, i: Interval) -> Self
-        ensures value { result ≡ Interval-add self i }
-    {
-        Interval::new(self.low + i.low, self.high + i.high)
-    }
-
-    // pbrt's difference. Accuracy: heuristic.
-    pub fn sub(self, i: Interval) -> Self
-        ensures value { result ≡ Interval-sub self i }
-    {
-        Interval::new(self.low - i.high, self.high - i.low)
-    }
-
-    // pbrt's product. Accuracy: heuristic.
-    pub fn mul(self, i: Interval) -> Self
-        ensures value { result ≡ Interval-mul self i }
-    {
-        let four = Interval::of_four(
-            self.low * i.low,
-            self.high * i.low,
-            self.low * i.high,
-            self.high * i.high,
-        );
-        Interval::new(four.low, four.high)
     }
 
     // Whether x lies strictly inside.
@@ -184,23 +140,53 @@ impl Interval {
     {
         self.sin_cos().cos
     }
+}
 
-    // 5 where an end is not finite.
-    fn not_finite(self) -> u8
-        ensures value { result ≡ not_finite self }
-    {
-        if float32::is_finite(self.low) & float32::is_finite(self.high) {
-            0
-        } else {
-            5
-        }
+// The interval of one number, as pbrt's. Accuracy: exact.
+impl From<f32> for Interval {
+    ghost from_gives = { λ f r. r ≡ Interval-point f };
+
+    fn from(f: f32) -> Interval {
+        Interval { low: f, high: f }
     }
+}
 
-    // 10 where the low end is zero or below.
-    fn not_positive(self) -> u8
-        ensures value { result ≡ not_positive self }
-    {
-        if self.low <= 0.0 { 10 } else { 0 }
+// pbrt's sum; as of all its operations, nothing is judged. Accuracy: heuristic.
+impl Add for Interval {
+    type Output = Interval;
+
+    ghost add_gives = { λ x y r. r ≡ Interval-add x y };
+
+    fn add(self, i: Interval) -> Interval {
+        Interval::new(self.low + i.low, self.high + i.high)
+    }
+}
+
+// pbrt's difference. Accuracy: heuristic.
+impl Sub for Interval {
+    type Output = Interval;
+
+    ghost sub_gives = { λ x y r. r ≡ Interval-sub x y };
+
+    fn sub(self, i: Interval) -> Interval {
+        Interval::new(self.low - i.high, self.high - i.low)
+    }
+}
+
+// pbrt's product. Accuracy: heuristic.
+impl Mul for Interval {
+    type Output = Interval;
+
+    ghost mul_gives = { λ x y r. r ≡ Interval-mul x y };
+
+    fn mul(self, i: Interval) -> Interval {
+        let four = Interval::of_four(
+            self.low * i.low,
+            self.high * i.low,
+            self.low * i.high,
+            self.high * i.high,
+        );
+        Interval::new(four.low, four.high)
     }
 }
 
@@ -268,103 +254,113 @@ impl EndAngle {
     }
 }
 
-impl Judged {
-    // An interval as it is formed: 5 where an end is not finite, unless a number was met before. Accuracy: exact.
-    pub fn judge(m: u8, x: Interval) -> Self
-        ensures value { result ≡ Judged-judge m x }
+// The operations of the cover.
+impl Interval {
+    // An interval as it is formed: refused with 5 where an end is not finite. Accuracy: exact.
+    pub fn judge(self) -> Result<Interval, Refusal>
+        ensures value { numbered result ≡ Judged-outcome (Judged-judge 0 self) }
     {
-        Self {
-            interval: x,
-            refusal: first_refusal(m, x.not_finite()),
+        if float32::is_finite(self.low) & float32::is_finite(self.high) {
+            Ok(self)
+        } else {
+            Err(Refusal::NotFinite)
+        }
+    }
+
+    // Refused with 10 where the low end is zero or below.
+    fn judge_positive(self) -> Result<(), Refusal>
+        ensures value { refusal_number result ≡ not_positive self }
+    {
+        if self.low <= 0.0 {
+            Err(Refusal::SquaredLength)
+        } else {
+            Ok(())
         }
     }
 
     // The sum. Accuracy: encloses.
-    pub fn add_enclosure(m: u8, x: Interval, y: Interval) -> Self
-        ensures value { result ≡ Judged-add_enclosure m x y }
+    pub fn add_enclosure(self, y: Interval) -> Result<Interval, Refusal>
+        ensures value { numbered result ≡ Judged-outcome (Judged-add_enclosure 0 self y) }
     {
-        Judged::judge(
-            m,
-            Interval {
-                low: x.low + y.low,
-                high: x.high + y.high,
-            },
-        )
+        let sum = Interval {
+            low: self.low + y.low,
+            high: self.high + y.high,
+        };
+        sum.judge()
     }
 
     // The difference. Accuracy: encloses.
-    pub fn sub_enclosure(m: u8, x: Interval, y: Interval) -> Self
-        ensures value { result ≡ Judged-sub_enclosure m x y }
+    pub fn sub_enclosure(self, y: Interval) -> Result<Interval, Refusal>
+        ensures value { numbered result ≡ Judged-outcome (Judged-sub_enclosure 0 self y) }
     {
-        Judged::judge(
-            m,
-            Interval {
-                low: x.low - y.high,
-                high: x.high - y.low,
-            },
-        )
+        let difference = Interval {
+            low: self.low - y.high,
+            high: self.high - y.low,
+        };
+        difference.judge()
     }
 
     // The product. Accuracy: encloses.
-    pub fn mul_enclosure(m: u8, x: Interval, y: Interval) -> Self
-        ensures value { result ≡ Judged-mul_enclosure m x y }
-    {
-        Judged::judge(
-            m,
-            Interval::of_four(
-                x.low * y.low,
-                x.high * y.low,
-                x.low * y.high,
-                x.high * y.high,
-            ),
-        )
-    }
-
-    // The quotient; 10 where the divisor's low end is zero or below. Accuracy: encloses.
-    pub fn div_enclosure(m: u8, x: Interval, y: Interval) -> Self
-        ensures value { result ≡ Judged-div_enclosure m x y }
+    pub fn mul_enclosure(self, y: Interval) -> Result<Interval, Refusal>
+        ensures value { numbered result ≡ Judged-outcome (Judged-mul_enclosure 0 self y) }
     {
         let four = Interval::of_four(
-            x.low / y.low,
-            x.high / y.low,
-            x.low / y.high,
-            x.high / y.high,
+            self.low * y.low,
+            self.high * y.low,
+            self.low * y.high,
+            self.high * y.high,
         );
-        Judged::judge(first_refusal(m, y.not_positive()), four)
+        four.judge()
     }
 
-    // The square root; 10 where the low end of x is zero or below. Accuracy: encloses.
-    pub fn sqrt_enclosure(m: u8, x: Interval) -> Self
-        ensures value { result ≡ Judged-sqrt_enclosure m x }
+    // The quotient; refused with 10 where the divisor's low end is zero or below. Accuracy: encloses.
+    pub fn div_enclosure(self, y: Interval) -> Result<Interval, Refusal>
+        ensures value { numbered result ≡ Judged-outcome (Judged-div_enclosure 0 self y) }
     {
+        y.judge_positive()?;
+        let four = Interval::of_four(
+            self.low / y.low,
+            self.high / y.low,
+            self.low / y.high,
+            self.high / y.high,
+        );
+        four.judge()
+    }
+
+    // The square root; refused with 10 where the low end is zero or below. Accuracy: encloses.
+    pub fn sqrt_enclosure(self) -> Result<Interval, Refusal>
+        ensures value { numbered result ≡ Judged-outcome (Judged-sqrt_enclosure 0 self) }
+    {
+        self.judge_positive()?;
         let roots = Interval {
-            low: square_root::sqrt(x.low),
-            high: square_root::sqrt(x.high),
+            low: square_root::sqrt(self.low),
+            high: square_root::sqrt(self.high),
         };
-        Judged::judge(first_refusal(m, x.not_positive()), roots)
+        roots.judge()
     }
 
-    // The cosine, then the sine with the number that the cosine hands on. Accuracy: encloses, for angles from 0 to a full turn.
-    pub fn sin_cos_enclosure(m: u8, x: Interval) -> JudgedSinCos
-        ensures value { (result.cos ≡ Judged-cos_enclosure m x) × (result.sin ≡ Judged-sin_enclosure result.cos.refusal x) }
+    // The cosine, judged first, and the sine. Accuracy: encloses, for angles from 0 to a full turn.
+    pub fn sin_cos_enclosure(self) -> Result<IntervalSinCos, Refusal>
+        ensures value { numbered result ≡ and_then (Judged-outcome (Judged-cos_enclosure 0 self))
+            (λ cos. and_then (Judged-outcome (Judged-sin_enclosure 0 self)) (λ sin. Ok (record { sin = sin; cos = cos }))) }
     {
-        let ends = trig::sin_cos_pair(x.low, x.high);
+        let ends = trig::sin_cos_pair(self.low, self.high);
         let from = EndAngle::from_sin_cos(
-            x.low,
+            self.low,
             SinCos {
                 sin: ends.sin_x,
                 cos: ends.cos_x,
             },
         );
         let to = EndAngle::from_sin_cos(
-            x.high,
+            self.high,
             SinCos {
                 sin: ends.sin_y,
                 cos: ends.cos_y,
             },
         );
-        let cos = Judged::judge(m, from.cos_range(to));
-        let sin = Judged::judge(cos.refusal, from.sin_range(to));
-        JudgedSinCos { cos, sin }
+        let cos = from.cos_range(to).judge()?;
+        let sin = from.sin_range(to).judge()?;
+        Ok(IntervalSinCos { sin, cos })
     }
 }

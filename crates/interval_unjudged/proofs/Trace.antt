@@ -1,5 +1,5 @@
 -- A function that calls one unjudged operation for each step works out what the formula's unjudged reading says: `traced-unjudged`, which
--- takes the calls' contracts in working order, as `formula`'s `traced` does of judged ones. tools/trace.py writes its arguments from the code.
+-- takes the calls' contracts in working order. tools/trace.py writes its arguments from the code.
 use mathlib.Core.Path.{◌≡◌, refl, sym, subst}
 use mathlib.Core.List.{List, [], ◌∷◌, ◌++◌}
 use lib.ListN.{length, get_or}

@@ -10,7 +10,7 @@ use lib.Ieee.Fits.{and_l, and_r}
 use lib.Ieee.Scale.{finite}
 use Rattle.interval.proofs.refusal.First.{first-right}
 use Rattle.interval.specs.declared.Interval.{Interval}
-use Rattle.interval.specs.declared.Judged.{Judged}
+use Rattle.interval.specs.Judged.{Judged}
 use Rattle.interval.specs.Contains.{Finite}
 use Rattle.interval.specs.Enclosure.{not_finite, Judged-judge, Judged-add_enclosure, Judged-sub_enclosure, Judged-mul_enclosure}
 use Rattle.interval.specs.Enclosure.{Judged-div_enclosure, Judged-sqrt_enclosure, Judged-sin_enclosure, Judged-cos_enclosure}

@@ -1,14 +1,13 @@
 -- Poses and transforms in arrays of floats, and what each kind of answer leaves in a lent array:
 -- `PointAnswer-left`, `BoundsAnswer-left`, `TransformAnswer-left`. Definitions only.
-use Rattle.std.specs.Prelude.{cond, List, [], ◌∷◌, ◌++◌, eqb, get_or, Float}
+use Rattle.std.specs.Prelude.{cond, List, [], ◌∷◌, ◌++◌, eqb, get_or, Float, Ok, Err}
 use Rattle.std.specs.Float.{nan}
 use Rattle.matrix4x4.specs.Rows.{Rows, Matrix4x4-to_rows}
 use Rattle.bounds3.specs.List.{Point3f-list, Bounds3f-list}
 use Rattle.pose_pair.specs.declared.Pose.{Pose}
 use Rattle.transform.specs.declared.Transform.{Transform}
-use Rattle.transform.specs.declared.TransformAnswer.{TransformAnswer}
-use Rattle.transform.specs.declared.PointAnswer.{PointAnswer}
-use Rattle.transform.specs.declared.PointAnswer.TheVariants as point
+use Rattle.transform.specs.Transform.{TransformAnswer}
+use Rattle.transform.specs.Answer.{PointAnswer}
 use Rattle.transform.specs.declared.BoundsAnswer.{BoundsAnswer}
 use Rattle.transform.specs.declared.BoundsAnswer.TheVariants as bounds
 
@@ -32,8 +31,8 @@ transform_rows t = Matrix4x4-to_rows t.m ++ Matrix4x4-to_rows t.m_inv
 
 -- ---- a lent array after an answer: `old` is what stood in it, and stands in it after a refusal
 abbrev pub PointAnswer-left : PointAnswer → List Float → List Float
-PointAnswer-left (point.Moved p) old = Point3f-list p
-PointAnswer-left (point.Refused n) old = old
+PointAnswer-left (Ok p) old = Point3f-list p
+PointAnswer-left (Err n) old = old
 
 abbrev pub BoundsAnswer-left : BoundsAnswer → List Float → List Float
 BoundsAnswer-left (bounds.Bounds b) old = Bounds3f-list b

@@ -4,14 +4,17 @@
 #![tactic(auto)]
 
 ghost use Rattle.std.specs.Prelude.{◌≡◌};
+ghost use Rattle.refusal.specs.Number.{numbered};
 ghost use Rattle.bounds3.specs.List.{Point3f-of_list, Bounds3f-list, Bounds3f-of_list};
 ghost use Rattle.transform.specs.Answer.{PointAnswer-refusal, BoundsAnswer-refusal};
+ghost use Rattle.transform.specs.Transform.{TransformAnswer-of_result};
 ghost use Rattle.lent_arrays.specs.Arrays.{Pose-of_list, transform_rows, PointAnswer-left, BoundsAnswer-left, TransformAnswer-left};
 
 use bounds3::{Bounds3f, Point3f};
 use matrix4x4::Matrix4x4;
 use pose_pair::Pose;
-use transform::{BoundsAnswer, PointAnswer, Transform, TransformAnswer};
+use refusal::Refusal;
+use transform::{BoundsAnswer, Transform};
 
 // The point of three coordinates. Accuracy: exact.
 pub fn point(p: &[f32; 3]) -> Point3f
@@ -67,16 +70,16 @@ pub fn pose(values: &[f32; 18]) -> Pose
 }
 
 // Puts a moved point into `out`, or after a refusal nothing, and gives the refusal's number, 0 for none. Accuracy: exact.
-pub fn put_point(answer: PointAnswer, out: &mut [f32; 3]) -> u8
-    ensures refusal { result ≡ PointAnswer-refusal answer }
-    ensures left { out.new ≡ PointAnswer-left answer out.old }
+pub fn put_point(answer: Result<Point3f, Refusal>, out: &mut [f32; 3]) -> u8
+    ensures refusal { result ≡ PointAnswer-refusal (numbered answer) }
+    ensures left { out.new ≡ PointAnswer-left (numbered answer) out.old }
 {
     match answer {
-        PointAnswer::Moved(p) => {
+        Ok(p) => {
             *out = [p.x, p.y, p.z];
             0
         }
-        PointAnswer::Refused(n) => n,
+        Err(refusal) => refusal.number(),
     }
 }
 
@@ -112,12 +115,15 @@ fn transform_rows(t: Transform) -> [[f32; 4]; 8]
 }
 
 // Puts both halves of a transform into `out`, or after a refusal nothing, and gives the refusal's number, 0 for none. Accuracy: exact.
-pub fn put_transform(answer: TransformAnswer, out: &mut [[f32; 4]; 8]) -> u8
-    ensures refusal { result ≡ answer.refusal }
-    ensures left { out.new ≡ TransformAnswer-left answer out.old }
+pub fn put_transform(answer: Result<Transform, Refusal>, out: &mut [[f32; 4]; 8]) -> u8
+    ensures refusal { result ≡ (TransformAnswer-of_result answer).refusal }
+    ensures left { out.new ≡ TransformAnswer-left (TransformAnswer-of_result answer) out.old }
 {
-    if answer.refusal == 0 {
-        *out = transform_rows(answer.transform);
+    match answer {
+        Ok(transform) => {
+            *out = transform_rows(transform);
+            0
+        }
+        Err(refusal) => refusal.number(),
     }
-    answer.refusal
 }

@@ -24,11 +24,9 @@ fn put_all(masks: &[u64], out: &mut [u8], at: usize) -> usize
     ensures left { out.new ≡ put_all (map mask_text masks.now) out.old at }
 {
     let mut end = at;
-    let mut k = 0;
-    while k < masks.len() {
-        let text = mask_text(masks[k]);
+    for mask in masks {
+        let text = mask_text(*mask);
         end = put_text(&text, out, end);
-        k += 1;
     }
     end
 }

@@ -2,17 +2,17 @@
 #![tactic(auto)]
 
 ghost use Rattle.std.specs.Prelude.{◌≡◌};
-ghost use Rattle.std.specs.Float.Ieee.{eq};
+ghost use Rattle.std.specs.Ordering.{on};
 ghost use Rattle.std.specs.Float.Ieee.Scale.{finite};
 ghost use Rattle.matrix4x4.specs.Rows.{row, col, tabulate, all, Matrix4x4-to_rows, Matrix4x4-from_rows};
 ghost use Rattle.matrix4x4.specs.Transpose.{Matrix4x4-transpose};
 ghost use Rattle.matrix4x4.specs.Mul.{dot4, Matrix4x4-mul};
 ghost use Rattle.matrix4x4.specs.Eq.{Matrix4x4-eq};
+ghost use Rattle.matrix4x4.specs.means.EqLaws.{Matrix4x4-eq-laws};
 ghost use Rattle.matrix4x4.specs.IsFinite.{Matrix4x4-is_finite};
 ghost use Rattle.matrix4x4.specs.IsAffine.{Matrix4x4-is_affine};
 
 // A matrix that is kept: a transform's, a pose's, a scale. It has a field for each row, since many of its readers take single rows.
-// A field `[[f32; 4]; 4]` is made and read whole, by functions whose code is walked by hand: `InverseAnswer` of matrix_inverse has one.
 #[derive(Clone, Copy)]
 pub struct Matrix4x4 {
     pub r0: [f32; 4],
@@ -22,17 +22,6 @@ pub struct Matrix4x4 {
 }
 
 impl Matrix4x4 {
-    // The matrix of four rows, as a struct holds it. Accuracy: exact.
-    pub fn from_rows(m: [[f32; 4]; 4]) -> Matrix4x4
-        ensures value { result ≡ Matrix4x4-from_rows m }
-    {
-        let r0 = m[0];
-        let r1 = m[1];
-        let r2 = m[2];
-        let r3 = m[3];
-        Matrix4x4 { r0, r1, r2, r3 }
-    }
-
     // The four rows of a matrix, as an array. Accuracy: exact.
     pub fn to_rows(self) -> [[f32; 4]; 4]
         ensures value { result ≡ Matrix4x4-to_rows self }
@@ -42,6 +31,33 @@ impl Matrix4x4 {
         let r2 = self.r2;
         let r3 = self.r3;
         [r0, r1, r2, r3]
+    }
+}
+
+// The matrix of four rows, as a struct holds it. Accuracy: exact.
+impl From<[[f32; 4]; 4]> for Matrix4x4 {
+    ghost from_gives = { λ m r. r ≡ Matrix4x4-from_rows m };
+
+    fn from(m: [[f32; 4]; 4]) -> Matrix4x4 {
+        let r0 = m[0];
+        let r1 = m[1];
+        let r2 = m[2];
+        let r3 = m[3];
+        Matrix4x4 { r0, r1, r2, r3 }
+    }
+}
+
+// pbrt's `==`: a NaN differs from itself, and the two zeros are equal. Accuracy: exact.
+impl PartialEq for Matrix4x4 {
+    ghost eq = { on Matrix4x4-to_rows Matrix4x4-eq };
+
+    ghost laws = { Matrix4x4-eq-laws };
+
+    fn eq(&self, other: &Matrix4x4) -> bool {
+        (self.r0 == other.r0)
+            & (self.r1 == other.r1)
+            & (self.r2 == other.r2)
+            & (self.r3 == other.r3)
     }
 }
 
@@ -88,27 +104,6 @@ pub fn mul(m1: [[f32; 4]; 4], m2: [[f32; 4]; 4]) -> [[f32; 4]; 4]
     let c = m1[2];
     let d = m1[3];
     [mul_row(a, t), mul_row(b, t), mul_row(c, t), mul_row(d, t)]
-}
-
-fn row_eq(r: [f32; 4], s: [f32; 4]) -> bool
-    ensures value { result ≡ all (λ j. eq (col r j) (col s j)) }
-{
-    (r[0] == s[0]) & (r[1] == s[1]) & (r[2] == s[2]) & (r[3] == s[3])
-}
-
-// pbrt's `==`: a NaN differs from itself, and the two zeros are equal. Accuracy: exact.
-pub fn eq(m1: [[f32; 4]; 4], m2: [[f32; 4]; 4]) -> bool
-    ensures value { result ≡ Matrix4x4-eq m1 m2 }
-{
-    let a1 = m1[0];
-    let b1 = m1[1];
-    let c1 = m1[2];
-    let d1 = m1[3];
-    let a2 = m2[0];
-    let b2 = m2[1];
-    let c2 = m2[2];
-    let d2 = m2[3];
-    row_eq(a1, a2) & row_eq(b1, b2) & row_eq(c1, c2) & row_eq(d1, d2)
 }
 
 fn row_is_finite(r: [f32; 4]) -> bool

@@ -1,4 +1,3 @@
-mod RowsField
 pub mod InRange
 pub mod Rounds
 pub mod Refusal

@@ -6,11 +6,10 @@ use native.Mathlib.Omega.{arith}
 use lib.Dec.{T}
 use Rattle.matrix4x4.specs.Rows.{Rows}
 use Rattle.matrix4x4.specs.IsFinite.{Matrix4x4-is_finite}
-use Rattle.matrix_inverse.specs.declared.InverseAnswer.{InverseAnswer}
 use Rattle.control_flow.specs.Loop.{loop}
 use Rattle.matrix_inverse.specs.RestoreColumns.{restore_columns}
 use Rattle.matrix_inverse.specs.Inverse.{Elimination, zero_pivot, running, zeros, elimination_round}
-use Rattle.matrix_inverse.specs.Inverse.{refused, InverseAnswer-judged, finish, Matrix4x4-inverse}
+use Rattle.matrix_inverse.specs.Inverse.{InverseAnswer, refused, InverseAnswer-judged, finish, Matrix4x4-inverse}
 
 -- refused with one of the numbers, or finite
 data Answered (r : InverseAnswer) : Type 0 where

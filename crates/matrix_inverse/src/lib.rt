@@ -5,9 +5,10 @@ ghost use Rattle.std.specs.Prelude.{◌≡◌, ◌<◌};
 ghost use Rattle.matrix_inverse.specs.Pivot.{consider, search_row, Pivot-search};
 ghost use Rattle.matrix_inverse.specs.Eliminate.{swap_rows, replace, scale_row, clear_row, clear_at, eliminate};
 ghost use Rattle.matrix_inverse.specs.RestoreColumns.{swap_entries, swap_columns, restore_at, restore_columns};
-ghost use Rattle.matrix_inverse.specs.Inverse.{refused, InverseAnswer-judged, Matrix4x4-inverse, AllBelow};
+ghost use Rattle.matrix_inverse.specs.Inverse.{InverseAnswer-of_result, InverseAnswer-judged, Matrix4x4-inverse, AllBelow};
 
 use float32::select;
+use refusal::Refusal;
 
 // The best candidate for a pivot so far: its absolute value, row and column.
 #[derive(Clone, Copy)]
@@ -15,30 +16,6 @@ pub struct Pivot {
     pub big: f32,
     pub irow: usize,
     pub icol: usize,
-}
-
-// A matrix and a refusal (error code, 0 for none), after which every entry is +0.
-#[derive(Clone, Copy)]
-pub struct InverseAnswer {
-    pub m: [[f32; 4]; 4],
-    pub refusal: u8,
-}
-
-// The borrow checker covers no field that is an array of arrays. `new` makes this one and `matrix` reads it, both proved by a walk of their code by hand;
-// all other code goes through the two.
-impl InverseAnswer {
-    fn new(m: [[f32; 4]; 4], refusal: u8) -> InverseAnswer
-        ensures value { result ≡ record { m = m; refusal = refusal } }
-    {
-        InverseAnswer { m, refusal }
-    }
-
-    // The matrix. Accuracy: exact.
-    pub fn matrix(self) -> [[f32; 4]; 4]
-        ensures value { result ≡ self.m }
-    {
-        self.m
-    }
 }
 
 fn consider(row: [f32; 4], ipiv: [u32; 4], j: usize, k: usize, p: Pivot) -> Pivot
@@ -203,26 +180,20 @@ fn restore_columns(m: [[f32; 4]; 4], indxr: [usize; 4], indxc: [usize; 4]) -> [[
     r
 }
 
-fn refused(refusal: u8) -> InverseAnswer
-    ensures value { result ≡ refused refusal }
-{
-    InverseAnswer::new([[0.0; 4]; 4], refusal)
-}
-
-fn judged(m: [[f32; 4]; 4]) -> InverseAnswer
-    ensures value { result ≡ InverseAnswer-judged m }
+fn judged(m: [[f32; 4]; 4]) -> Result<[[f32; 4]; 4], Refusal>
+    ensures value { InverseAnswer-of_result result ≡ InverseAnswer-judged m }
 {
     if matrix4x4::is_finite(m) {
-        InverseAnswer::new(m, 0)
+        Ok(m)
     } else {
-        refused(5)
+        Err(Refusal::NotFinite)
     }
 }
 
 // pbrt's `Matrix4x4::inverse`: the inverse by Gauss-Jordan elimination; pbrt logs where this refuses: 4 at a zero pivot, 5 where an entry of the result is not
 // finite. Accuracy: each operation is correctly rounded.
-pub fn inverse(m: [[f32; 4]; 4]) -> InverseAnswer
-    ensures value { result ≡ Matrix4x4-inverse m }
+pub fn inverse(m: [[f32; 4]; 4]) -> Result<[[f32; 4]; 4], Refusal>
+    ensures value { InverseAnswer-of_result result ≡ Matrix4x4-inverse m }
 {
     let mut minv = m;
     let mut ipiv = [0u32; 4];
@@ -235,7 +206,7 @@ pub fn inverse(m: [[f32; 4]; 4]) -> InverseAnswer
         let s = swap_rows(minv, irow, icol);
         // Departs from pbrt: a zero pivot is refused, before the division (docs/DECISIONS.md, 1).
         if s[icol][icol] == 0.0 {
-            return refused(4);
+            return Err(Refusal::ZeroPivot);
         }
         ipiv[icol] += 1;
         indxr[i] = irow;

@@ -5,7 +5,7 @@ use Rattle.bounds3.specs.declared.Bounds3f.{Bounds3f}
 use Rattle.transform.specs.declared.BoundsAnswer.{BoundsAnswer}
 use Rattle.transform.specs.declared.BoundsAnswer.TheVariants.{Refused}
 use Rattle.lent_arrays.specs.pose_pair.Pose.{Pose-is_finite, Pose-is_padded}
-use Rattle.chain_build.specs.animated_transform.declared.AnimatedTransformAnswer.{AnimatedTransformAnswer}
+use Rattle.chain_build.specs.animated_transform.New.{AnimatedTransformAnswer}
 use Rattle.chain_build.specs.animated_transform.New.{AnimatedTransform-new}
 use Rattle.chain_build.specs.motion_cover.Cover.{AnimatedTransform-cover}
 use Rattle.chain_build.specs.motion_chain.Chain.{every}

@@ -1,5 +1,6 @@
 -- The places of the zero array after the stored ones are joined as one: `unused-once`.
 -- Each is +0, and a point that was just joined changes no box (`moved-again`).
+use Rattle.std.specs.Prelude.{Ok, Err}
 use mathlib.Core.Path.{◌≡◌, refl, sym, ap, ◌∙◌}
 use mathlib.Core.Bool.{Bool, true, false, cond}
 use mathlib.Core.List.{List}
@@ -15,8 +16,7 @@ use Rattle.bounds3.specs.declared.Bounds3f.{Bounds3f}
 use Rattle.bounds3.specs.Point3f.{Point3f-min, Point3f-max}
 use Rattle.bounds3.specs.Bounds3f.{Bounds3f-union_point}
 use Rattle.transform.specs.control_flow.Loop.{loop}
-use Rattle.transform.specs.declared.PointAnswer.{PointAnswer}
-use Rattle.transform.specs.declared.PointAnswer.TheVariants as point
+use Rattle.transform.specs.Answer.{PointAnswer}
 use Rattle.transform.specs.declared.BoundsAnswer.{BoundsAnswer}
 use Rattle.transform.specs.declared.BoundsAnswer.TheVariants.{Bounds, Refused}
 use Rattle.transform.specs.TransformBounds.{BoundsAnswer-union_moved}
@@ -65,8 +65,8 @@ point-again b q =
 
 moved-again : (r : BoundsAnswer) (a : PointAnswer) → BoundsAnswer-union_moved (BoundsAnswer-union_moved r a) a ≡ BoundsAnswer-union_moved r a
 unfolding BoundsAnswer-union_moved
-moved-again (Bounds b) (point.Moved q) = ap Bounds (point-again b q)
-moved-again (Bounds b) (point.Refused n) = refl
+moved-again (Bounds b) (Ok q) = ap Bounds (point-again b q)
+moved-again (Bounds b) (Err n) = refl
 moved-again (Refused n) a = refl
 
 -- ---- the places from `count` on

@@ -2,7 +2,7 @@
 -- before the points at that axis's zeros. The five terms at a point are not judged, and the time of a zero may be an infinity, which means a stored pose.
 -- Definitions only. `places` says how many places of the zero array are joined: all eight in 000, the stored ones in the book Physically Based Rendering,
 -- third edition.
-use Rattle.std.specs.Prelude.{ℕ, not, cond, List, eqb, get_or, Float}
+use Rattle.std.specs.Prelude.{ℕ, not, cond, List, eqb, get_or, Float, Ok, Err}
 use Rattle.std.specs.Float.{nan}
 use Rattle.float32.specs.Operators.{◌⊕◌, ◌⊗◌}
 use Rattle.float32.specs.Lerp.{lerp}
@@ -11,8 +11,7 @@ use Rattle.bounds3.specs.declared.Bounds3f.{Bounds3f}
 use Rattle.bounds3.specs.Bounds3f.{Bounds3f-default, Bounds3f-from_points, Bounds3f-corner}
 use Rattle.bounds3.specs.Finite.{Point3f-is_finite}
 use Rattle.transform.specs.control_flow.Loop.{loop}
-use Rattle.transform.specs.declared.PointAnswer.{PointAnswer}
-use Rattle.transform.specs.declared.PointAnswer.TheVariants as point
+use Rattle.transform.specs.Answer.{PointAnswer}
 use Rattle.transform.specs.declared.BoundsAnswer.{BoundsAnswer}
 use Rattle.transform.specs.declared.BoundsAnswer.TheVariants.{Bounds, Refused}
 use Rattle.transform.specs.TransformPoint.{Transform-transform_point}
@@ -33,9 +32,9 @@ DerivativeTerm-eval k p = k.kc ⊕ k.kx ⊗ p.x ⊕ k.ky ⊗ p.y ⊕ k.kz ⊗ p.
 
 -- `Bounds3f::from_points` of the two moved points: the first refusal stands
 unfoldable pub BoundsAnswer-from_ends : PointAnswer → PointAnswer → BoundsAnswer
-BoundsAnswer-from_ends (point.Moved p1) (point.Moved p2) = Bounds (Bounds3f-from_points p1 p2)
-BoundsAnswer-from_ends (point.Moved p1) (point.Refused n) = Refused n
-BoundsAnswer-from_ends (point.Refused n) a = Refused n
+BoundsAnswer-from_ends (Ok p1) (Ok p2) = Bounds (Bounds3f-from_points p1 p2)
+BoundsAnswer-from_ends (Ok p1) (Err n) = Refused n
+BoundsAnswer-from_ends (Err n) a = Refused n
 
 -- 000's `for item in &zeros`: all eight, of which the unused are 0.0
 abbrev pub all_places : Zeros → ℕ

@@ -4,6 +4,7 @@
 #![tactic(auto)]
 
 ghost use Rattle.std.specs.Prelude.{◌≡◌, ◌+◌, ◌<◌};
+ghost use Rattle.refusal.specs.Number.{numbered};
 ghost use Rattle.zero_search.specs.Stored.{Stored};
 ghost use Rattle.motion_bounds.specs.MotionBounds.{DerivativeTerm-eval, BoundsAnswer-from_ends, point_at, union_zero, union_zeros};
 ghost use Rattle.motion_bounds.specs.MotionBounds.{all_places, axis_search, union_axis, point_bounds, union_corners, box_bounds};
@@ -15,7 +16,8 @@ use animated_transform::AnimatedTransform;
 use axis_derivative::{Derivative, DerivativeTerm};
 use bounds3::{Bounds3f, Point3f};
 use pose_steps::PoseConstants;
-use transform::{BoundsAnswer, PointAnswer};
+use refusal::Refusal;
+use transform::BoundsAnswer;
 use zero_list::Zeros;
 use zero_search::Search;
 
@@ -73,21 +75,26 @@ fn eval(k: DerivativeTerm, p: Point3f) -> f32
 }
 
 // The box of a point moved by the start and by the end: the start's refusal stands before the end's.
-fn from_ends(start: PointAnswer, end: PointAnswer) -> BoundsAnswer
-    ensures value { result ≡ BoundsAnswer-from_ends start end }
+fn from_ends(start: Result<Point3f, Refusal>, end: Result<Point3f, Refusal>) -> BoundsAnswer
+    ensures value { result ≡ BoundsAnswer-from_ends (numbered start) (numbered end) }
 {
     match start {
-        PointAnswer::Moved(p1) => match end {
-            PointAnswer::Moved(p2) => BoundsAnswer::Bounds(Bounds3f::from_points(p1, p2)),
-            PointAnswer::Refused(n) => BoundsAnswer::Refused(n),
+        Ok(p1) => match end {
+            Ok(p2) => BoundsAnswer::Bounds(Bounds3f::from_points(p1, p2)),
+            Err(refusal) => BoundsAnswer::Refused(refusal.number()),
         },
-        PointAnswer::Refused(n) => BoundsAnswer::Refused(n),
+        Err(refusal) => BoundsAnswer::Refused(refusal.number()),
     }
 }
 
 // The point at one zero's time, which may be an infinity: that means a stored pose.
-fn point_at(m: AnimatedTransform, a: PoseConstants, p: Point3f, zero: f32) -> PointAnswer
-    ensures value { result ≡ point_at m a p zero }
+fn point_at(
+    m: AnimatedTransform,
+    a: PoseConstants,
+    p: Point3f,
+    zero: f32,
+) -> Result<Point3f, Refusal>
+    ensures value { numbered result ≡ point_at m a p zero }
 {
     motion_point::moved_point(m, a, float32::lerp(zero, m.start_time, m.end_time), p)
 }
@@ -106,8 +113,8 @@ fn union_zero(
         BoundsAnswer::Bounds(b) => {
             let q = point_at(m, a, p, zero);
             match q {
-                PointAnswer::Moved(pz) => BoundsAnswer::Bounds(b.union_point(pz)),
-                PointAnswer::Refused(n) => BoundsAnswer::Refused(n),
+                Ok(pz) => BoundsAnswer::Bounds(b.union_point(pz)),
+                Err(refusal) => BoundsAnswer::Refused(refusal.number()),
             }
         }
         BoundsAnswer::Refused(_) => r,

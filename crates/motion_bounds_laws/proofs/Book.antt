@@ -1,6 +1,7 @@
 -- Joining all eight places of the zero array, as pbrt-rust does, gives the book's box: `bound-point-motion-book`,
 -- `motion-bounds-book`, for a built move and every point and box. An unused place is +0 (`interval_find_zeros-stored`),
 -- which means the start's point (`point-at-start`), and the box holds that from the first.
+use Rattle.std.specs.Prelude.{Ok, Err}
 use Prim.Native.Nat.{ℕ, zero, suc, ◌+◌, ◌≤◌}
 use mathlib.Core.Path.{◌≡◌, refl, ◌∙◌}
 use mathlib.Core.Bool.{Bool, true, false, not, cond}
@@ -20,11 +21,9 @@ use Rattle.motion_bounds.proofs.bounds3.Finite.{test-finite}
 use Rattle.motion_bounds.proofs.bounds3.Union.{subset-inside, union-inside-left, union-least, union_subset_left, finite-self, inside-subset}
 use Rattle.motion_bounds.proofs.bounds3.Union.{union-isotone, from-point-inside, union-point-box, union-point-keeps}
 use Rattle.motion_bounds.specs.control_flow.Loop.{loop}
-use Rattle.motion_bounds.specs.transform.declared.PointAnswer.{PointAnswer}
-use Rattle.motion_bounds.specs.transform.declared.PointAnswer.TheVariants as point
 use Rattle.motion_bounds.specs.transform.declared.BoundsAnswer.{BoundsAnswer}
 use Rattle.motion_bounds.specs.transform.declared.BoundsAnswer.TheVariants.{Bounds, Refused}
-use Rattle.motion_bounds.specs.transform.Answer.{PointAnswer-Judged, BoundsAnswer-bounds}
+use Rattle.motion_bounds.specs.transform.Answer.{PointAnswer, PointAnswer-Judged, BoundsAnswer-bounds}
 use Rattle.motion_bounds.specs.transform.TransformPoint.{Transform-transform_point}
 use Rattle.motion_bounds.specs.transform.TransformBounds.{BoundsAnswer-from_moved, BoundsAnswer-union_moved}
 use Rattle.motion_bounds.proofs.transform.Judged.{transform-point-judged, transform-bounds-judged}
@@ -71,13 +70,13 @@ module _ {o : Point3f} where
   both-joined : {r s : BoundsAnswer} (q : PointAnswer) → PointAnswer-Judged q
       → Holding o r s → Holding o (BoundsAnswer-union_moved r q) (BoundsAnswer-union_moved s q)
   unfolding BoundsAnswer-union_moved
-  both-joined (point.Moved q) j (boxes i s t) = let f = test-finite q j.values in
+  both-joined (Ok q) j (boxes i s t) = let f = test-finite q j.values in
       boxes (union-point-keeps q i) (union-point-isotone q f s) (union-point-isotone q f t)
-  both-joined (point.Refused n) j (boxes i s t) = refusals n
+  both-joined (Err n) j (boxes i s t) = refusals n
   both-joined q j (refusals n) = refusals n
 
   -- the start's point is joined to one
-  start-joined : {r s : BoundsAnswer} {q : PointAnswer} → q ≡ point.Moved o → Holding o r s → Holding o (BoundsAnswer-union_moved r q) s
+  start-joined : {r s : BoundsAnswer} {q : PointAnswer} → q ≡ Ok o → Holding o r s → Holding o (BoundsAnswer-union_moved r q) s
   unfolding BoundsAnswer-union_moved
   start-joined e (boxes {x} {y} i s t) =
       rw (e, union-point-box x o)
@@ -86,7 +85,7 @@ module _ {o : Point3f} where
 
 -- ---- one axis: the places below the count are joined to both, those after it to ours alone
 module _ {m : AnimatedTransform} (built : Built m) (a : PoseConstants) (p o : Point3f)
-    (start : Transform-transform_point m.start_transform p ≡ point.Moved o) where
+    (start : Transform-transform_point m.start_transform p ≡ Ok o) where
   place : List Float → ℕ → BoundsAnswer → BoundsAnswer
   place zeros k = union_zero m a p (get_or zeros k nan)
 
@@ -141,12 +140,12 @@ module _ {m : AnimatedTransform} (built : Built m) (a : PoseConstants) (p : Poin
       → BoundsAnswer-Same (cond (not m.actually_animated) (BoundsAnswer-from_moved start) (axes all_places (BoundsAnswer-from_ends start end)))
       (cond (not m.actually_animated) (BoundsAnswer-from_moved start) (axes stored_places (BoundsAnswer-from_ends start end)))
   unfolding end axes BoundsAnswer-from_moved BoundsAnswer-from_ends union_axis
-  point-by-start (point.Refused n) e j = cond_same (not m.actually_animated) (same-refusal n) (same-refusal n)
-  point-by-start (point.Moved o) e j =
+  point-by-start (Err n) e j = cond_same (not m.actually_animated) (same-refusal n) (same-refusal n)
+  point-by-start (Ok o) e j =
       let f = test-finite o j.values in
       let c = m.coefficients in
-      let ends : Holding o (BoundsAnswer-from_ends (point.Moved o) end) (BoundsAnswer-from_ends (point.Moved o) end) =
-      rw (from-ends-union (point.Moved o) end)
+      let ends : Holding o (BoundsAnswer-from_ends (Ok o) end) (BoundsAnswer-from_ends (Ok o) end) =
+      rw (from-ends-union (Ok o) end)
       (both-joined end (transform-point-judged m.end_transform p) (boxes (from-point-inside f) (point-subset f) (point-subset f))) in
       cond_same (not m.actually_animated) (same-box (point-subset f) (point-subset f))
       (same (axis-same built a p o e c.z (axis-same built a p o e c.y (axis-same built a p o e c.x ends))))

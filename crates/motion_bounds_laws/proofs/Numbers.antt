@@ -1,6 +1,7 @@
 -- The numbers that a motion box gives are 5, 6, 7 and 9, those of a point's motion 5, 6 and 9, what isn't refused is finite, and the counts
 -- are at most 511 for a point and 4,088 for a box: `motion-bounds-numbers`, `bound-point-motion-numbers`, for all structs and arguments.
 -- Rests on `moved-point-judged`, on what a search's refusal can be, `axis-zeros-stored`, and on `point-examined`.
+use Rattle.std.specs.Prelude.{Ok, Err}
 use Prim.Native.Nat.{ℕ}
 use mathlib.Core.Path.{◌≡◌, refl}
 use mathlib.Core.Bool.{not, ◌||◌}
@@ -16,11 +17,9 @@ use Rattle.motion_bounds.specs.bounds3.Finite.{Point3f-is_finite, Bounds3f-is_fi
 use Rattle.motion_bounds.proofs.bounds3.Finite.{test-finite, box-finite, union-point-finite, union-finite}
 use Rattle.motion_bounds.proofs.control_flow.Loop.{loop-keeps}
 use Rattle.motion_bounds.proofs.control_flow.Choice.{cond-keeps}
-use Rattle.motion_bounds.specs.transform.declared.PointAnswer.{PointAnswer}
-use Rattle.motion_bounds.specs.transform.declared.PointAnswer.TheVariants as point
 use Rattle.motion_bounds.specs.transform.declared.BoundsAnswer.{BoundsAnswer}
 use Rattle.motion_bounds.specs.transform.declared.BoundsAnswer.TheVariants.{Bounds, Refused}
-use Rattle.motion_bounds.specs.transform.Answer.{OneOf, origin, PointAnswer-Judged, BoundsAnswer-Judged}
+use Rattle.motion_bounds.specs.transform.Answer.{PointAnswer, OneOf, origin, PointAnswer-Judged, BoundsAnswer-Judged}
 use Rattle.motion_bounds.specs.transform.TransformBounds.{BoundsAnswer-from_moved, BoundsAnswer-union_moved}
 use Rattle.motion_bounds.proofs.transform.Judged.{transform-point-judged, transform-bounds-judged}
 use Rattle.motion_bounds.proofs.transform.Answer.{one-of-wider}
@@ -61,15 +60,15 @@ judged-worked j = record { number = five j.number; values = j.values }
 
 from-moved-worked : (a : PointAnswer) → PointAnswer-Judged a → Worked (BoundsAnswer-from_moved a)
 unfolding BoundsAnswer-from_moved
-from-moved-worked (point.Moved p) j =
+from-moved-worked (Ok p) j =
     let f = test-finite p j.values in
     record { number = inl refl; values = box-finite (Bounds3f-from_point p) f f }
-from-moved-worked (point.Refused n) j = refused-answered n (five j.number)
+from-moved-worked (Err n) j = refused-answered n (five j.number)
 
 union-moved-worked : (r : BoundsAnswer) (a : PointAnswer) → Worked r → PointAnswer-Judged a → Worked (BoundsAnswer-union_moved r a)
 unfolding BoundsAnswer-union_moved
-union-moved-worked (Bounds b) (point.Moved p) w j = record { number = inl refl; values = union-point-finite b p w.values j.values }
-union-moved-worked (Bounds b) (point.Refused n) w j = refused-answered n (five j.number)
+union-moved-worked (Bounds b) (Ok p) w j = record { number = inl refl; values = union-point-finite b p w.values j.values }
+union-moved-worked (Bounds b) (Err n) w j = refused-answered n (five j.number)
 union-moved-worked (Refused n) a w j = w
 
 union-worked : (r s : BoundsAnswer) → Worked r → Worked s → Worked (BoundsAnswer-union_bounds r s)

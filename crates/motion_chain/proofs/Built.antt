@@ -18,7 +18,7 @@ use Rattle.bounds_answers.specs.refusal.First.{first_refusal}
 use Rattle.bounds_answers.specs.pose_pair.declared.Pose.{Pose}
 use Rattle.bounds_answers.specs.pose_pair.Pose.{Pose-is_finite, Pose-is_binary32, Pose-is_affine, Pose-is_padded, times_refusal, poses_refusal, Pose-kind_number}
 use Rattle.bounds_answers.specs.animated_transform.declared.AnimatedTransform.{AnimatedTransform}
-use Rattle.bounds_answers.specs.animated_transform.declared.AnimatedTransformAnswer.{AnimatedTransformAnswer}
+use Rattle.bounds_answers.specs.animated_transform.New.{AnimatedTransformAnswer}
 use Rattle.bounds_answers.specs.animated_transform.New.{AnimatedTransform-from_poses, AnimatedTransform-new}
 use Rattle.bounds_answers.specs.animated_transform.Built.{Built}
 use Rattle.bounds_answers.proofs.animated_transform.Kept.{new-kept}

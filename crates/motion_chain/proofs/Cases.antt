@@ -2,6 +2,7 @@
 -- to the earlier move, and it meets the guarantee's hypotheses (`hypotheses-met`), as a rigid chain does (`rigid-hypotheses-met`). Lists of times asked of it,
 -- answered and refused.
 -- The counts, the times and the order of the checks: 12 after 1 and before 3, and 3 before anything is worked.
+use Rattle.std.specs.Prelude.{Ok, Err}
 use Prim.Native.Nat.{ℕ, zero, suc, ◌*◌, ◌^◌}
 use mathlib.Core.Path.{◌≡◌, refl, subst}
 use mathlib.Core.Bool.{true, false}
@@ -11,7 +12,6 @@ use Rattle.bounds_answers.specs.rounding.Order.{◌≼◌}
 use Rattle.bounds_answers.specs.matrix4x4.declared.Matrix4x4.{Matrix4x4}
 use Rattle.bounds_answers.specs.bounds3.declared.Point3f.{Point3f}
 use Rattle.bounds_answers.specs.bounds3.declared.Bounds3f.{Bounds3f}
-use Rattle.bounds_answers.specs.transform.declared.PointAnswer.TheVariants as point
 use Rattle.bounds_answers.specs.transform.Answer.{BoundsAnswer-refusal, BoundsAnswer-bounds}
 use Rattle.bounds_answers.specs.pose_pair.declared.Pose.{Pose}
 use Rattle.bounds_answers.specs.animated_transform.declared.AnimatedTransform.{AnimatedTransform}
@@ -95,15 +95,15 @@ after-last-pose-last-move : Chain-index_at chain (inf false) ≡ 1
 unfolding computing index_from
 after-last-pose-last-move = refl
 
-point-at-inner-time : Chain-transform_point chain one (on_x o) ≡ point.Moved (on_x one)
+point-at-inner-time : Chain-transform_point chain one (on_x o) ≡ Ok (on_x one)
 unfolding computing
 point-at-inner-time = refl
 
-point-on-the-way-back : Chain-transform_point chain (fraction 3 2) (on_x o) ≡ point.Moved (on_x (fraction 1 2))
+point-on-the-way-back : Chain-transform_point chain (fraction 3 2) (on_x o) ≡ Ok (on_x (fraction 1 2))
 unfolding computing
 point-on-the-way-back = refl
 
-nan-time-refused : Chain-transform_point chain nan (on_x o) ≡ point.Refused 6
+nan-time-refused : Chain-transform_point chain nan (on_x o) ≡ Err 6
 unfolding computing
 nan-time-refused = refl
 
@@ -312,10 +312,10 @@ rigid-way-covered =
     (record { x = (one-refl, one-refl); y = (zero-refl, zero-refl); z = (zero-refl, zero-refl) }))
 
 -- the point on its way, unscaled; at the inner pose's own time, scaled
-rigid-point-unscaled : Chain-transform_point rigid_chain (fraction 1 2) (on_x one) ≡ point.Moved (on_x (fraction 3 2))
+rigid-point-unscaled : Chain-transform_point rigid_chain (fraction 1 2) (on_x one) ≡ Ok (on_x (fraction 3 2))
 unfolding computing
 rigid-point-unscaled = refl
 
-rigid-pose-as-set : Chain-transform_point rigid_chain one (on_x one) ≡ point.Moved (on_x (fraction 8193 4096))
+rigid-pose-as-set : Chain-transform_point rigid_chain one (on_x one) ≡ Ok (on_x (fraction 8193 4096))
 unfolding computing
 rigid-pose-as-set = refl

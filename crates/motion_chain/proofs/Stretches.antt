@@ -1,6 +1,7 @@
 -- A list of times is the stretches of a chain's moves, `stretches`, and the query with the list is each move's query over its own stretch,
 -- whose points fill its own part of the lent answers, `stretch-points`. The times of a stretch are up to its move's end time (`front-up-to`),
 -- and those behind it are above that (`rest-above`), since the list never falls.
+use Rattle.std.specs.Prelude.{Ok, Err}
 use Prim.Native.Nat.{ℕ, zero, suc, ◌*◌}
 use mathlib.Core.Path.{◌≡◌, refl, sym, ap, subst, ◌∙◌}
 use mathlib.Core.Bool.{Bool, true, false, not, ◌&&◌, cond}
@@ -15,8 +16,7 @@ use Rattle.bounds_answers.specs.rounding.Order.{◌≼◌}
 use Rattle.bounds_answers.proofs.rounding.Order.{≼_trans}
 use Rattle.bounds_answers.specs.bounds3.declared.Point3f.{Point3f}
 use Rattle.bounds_answers.specs.bounds3.List.{Point3f-list}
-use Rattle.bounds_answers.specs.transform.declared.PointAnswer.{PointAnswer}
-use Rattle.bounds_answers.specs.transform.declared.PointAnswer.TheVariants.{Moved, Refused}
+use Rattle.bounds_answers.specs.transform.Answer.{PointAnswer}
 use Rattle.bounds_answers.specs.animated_transform.declared.AnimatedTransform.{AnimatedTransform}
 use Rattle.bounds_answers.specs.motion_point.TransformPoint.{AnimatedTransform-transform_point}
 use Rattle.motion_chain.specs.Chain.{Chain, Chain-moves, move_from, Chain-move_at, Chain-transform_point}
@@ -169,10 +169,10 @@ append-nothing (refused n) = refl
 
 cons-append : (a : PointAnswer) (r s : PointsAnswer) → PointsAnswer-cons a (PointsAnswer-append r s) ≡ PointsAnswer-append (PointsAnswer-cons a r) s
 unfolding PointsAnswer-cons PointsAnswer-append
-cons-append (Moved q) (moved ps) (moved qs) = refl
-cons-append (Moved q) (moved ps) (refused n) = refl
-cons-append (Moved q) (refused n) s = refl
-cons-append (Refused n) r s = refl
+cons-append (Ok q) (moved ps) (moved qs) = refl
+cons-append (Ok q) (moved ps) (refused n) = refl
+cons-append (Ok q) (refused n) s = refl
+cons-append (Err n) r s = refl
 
 nothing-append : (r : PointsAnswer) → r ≡ PointsAnswer-append (moved []) r
 unfolding PointsAnswer-append

@@ -2,6 +2,7 @@
 -- own 5 and 6, `chain-point-numbered`); the lent answers keep their length, `times-left`; and of a built chain, for a point of a box whose cover is accepted,
 -- it answers at every time with a point inside the cover, `chain-contains-times`.
 -- All rest on what an answered list is: each time answered, one point for each (`cons-moved`, `each-moved`), after checks that passed (`list-passed`).
+use Rattle.std.specs.Prelude.{Ok, Err}
 use Prim.Native.Nat.{ℕ, suc, ◌+◌, ◌*◌}
 use mathlib.Core.Path.{◌≡◌, refl, sym, ap, subst, ◌∙◌}
 use mathlib.Core.Bool.{Bool, true, false, not, ◌&&◌, ◌||◌, cond}
@@ -18,9 +19,7 @@ use Rattle.bounds_answers.specs.bounds3.declared.Point3f.{Point3f}
 use Rattle.bounds_answers.specs.bounds3.declared.Bounds3f.{Bounds3f}
 use Rattle.bounds_answers.specs.bounds3.Finite.{Point3f-is_finite}
 use Rattle.bounds_answers.specs.bounds3.List.{Point3f-list}
-use Rattle.bounds_answers.specs.transform.declared.PointAnswer.{PointAnswer}
-use Rattle.bounds_answers.specs.transform.declared.PointAnswer.TheVariants.{Moved, Refused}
-use Rattle.bounds_answers.specs.transform.Answer.{OneOf, PointAnswer-refusal, PointAnswer-point, PointAnswer-Judged, BoundsAnswer-bounds}
+use Rattle.bounds_answers.specs.transform.Answer.{PointAnswer, OneOf, PointAnswer-refusal, PointAnswer-point, PointAnswer-Judged, BoundsAnswer-bounds}
 use Rattle.bounds_answers.specs.animated_transform.declared.AnimatedTransform.{AnimatedTransform}
 use Rattle.bounds_answers.specs.motion_point.TransformPoint.{AnimatedTransform-constants, AnimatedTransform-moved_point, AnimatedTransform-transform_point}
 use Rattle.bounds_answers.specs.motion_point.Answer.{PointAnswer-Numbered}
@@ -51,10 +50,10 @@ refused-same (moved qs) h = absurd (h refl)
 refused-same (refused n) h = refl
 
 abbrev is_point : PointAnswer → Bool
-is_point (Moved q) = true
-is_point (Refused n) = false
+is_point (Ok q) = true
+is_point (Err n) = false
 
-refused-point : {n : ℕ} {q : Point3f} → Refused n ≡ Moved q → ⊥
+refused-point : {n : ℕ} {q : Point3f} → Err n ≡ Ok q → ⊥
 refused-point e = subst T (sym (ap is_point e)) tt
 
 -- A tested number, then points: the number was 0.
@@ -68,15 +67,15 @@ tested-moved n a qs = go (eqb n 0) (eqb-true n 0)
 record ConsMoved (a : PointAnswer) (r : PointsAnswer) (qs : List Point3f) : Type 0 where
   point : Point3f
   rest : List Point3f
-  first-moved : a ≡ Moved point
+  first-moved : a ≡ Ok point
   rest-moved : r ≡ moved rest
   same : qs ≡ point ∷ rest
 
 cons-moved : (a : PointAnswer) (r : PointsAnswer) (qs : List Point3f) → PointsAnswer-cons a r ≡ moved qs → ConsMoved a r qs
 unfolding PointsAnswer-cons
-cons-moved (Moved q) (moved rest) qs e = record { point = q; rest = rest; first-moved = refl; rest-moved = refl; same = sym (ap PointsAnswer-points e) }
-cons-moved (Moved q) (refused n) qs e = absurd (refused-moved e)
-cons-moved (Refused n) r qs e = absurd (refused-moved e)
+cons-moved (Ok q) (moved rest) qs e = record { point = q; rest = rest; first-moved = refl; rest-moved = refl; same = sym (ap PointsAnswer-points e) }
+cons-moved (Ok q) (refused n) qs e = absurd (refused-moved e)
+cons-moved (Err n) r qs e = absurd (refused-moved e)
 
 -- ---- a list that was answered
 module _ (query : Float → PointAnswer) where
@@ -109,8 +108,8 @@ module _ (c : Chain) (p : Point3f) where
       go : (a : PointAnswer) (r : PointsAnswer) → Chain-transform_point c t p ≡ a
           → points_at (λ t. Chain-transform_point c t p) times ≡ r → PointsAnswer-cons a r ≡ refused n
           → (points_at (λ t. Chain-transform_point c t p) times ≡ refused n → FirstRefused c p times n) → FirstRefused c p (t ∷ times) n
-      go (Moved q) (moved qs) f g e later = absurd (refused-moved (sym e))
-      go (Moved q) (refused k) f g e later =
+      go (Ok q) (moved qs) f g e later = absurd (refused-moved (sym e))
+      go (Ok q) (refused k) f g e later =
           let h = later (g ∙ e) in
           record {
             before = t ∷ h.before;
@@ -121,7 +120,7 @@ module _ (c : Chain) (p : Point3f) where
             answered = (ap PointAnswer-refusal f, ap PointAnswer-point f, h.answered);
             number = h.number;
           }
-      go (Refused k) r f g e later =
+      go (Err k) r f g e later =
           let number = ap PointAnswer-refusal f ∙ ap PointsAnswer-refusal e in
           record { before = []; time = t; after = times; split = refl; points = []; answered = tt; number = number }
 
@@ -174,9 +173,9 @@ chain-point-numbered c time p = transform-point-numbered (Chain-move_at c time) 
 pub cons-numbered : (numbers : List ℕ) (a : PointAnswer) (r : PointsAnswer) → PointAnswer-Numbered numbers a → PointsAnswer-Numbered numbers r
     → PointsAnswer-Numbered numbers (PointsAnswer-cons a r)
 unfolding PointsAnswer-cons
-cons-numbered numbers (Moved q) (moved qs) h k = record { number = k.number; none = λ _. refl }
-cons-numbered numbers (Moved q) (refused n) h k = k
-cons-numbered numbers (Refused n) r h k = record { number = h.number; none = λ e. absurd (refused-point (h.none e)) }
+cons-numbered numbers (Ok q) (moved qs) h k = record { number = k.number; none = λ _. refl }
+cons-numbered numbers (Ok q) (refused n) h k = k
+cons-numbered numbers (Err n) r h k = record { number = h.number; none = λ e. absurd (refused-point (h.none e)) }
 
 module _ (c : Chain) (p : Point3f) (finite : T (Point3f-is_finite p)) where
   time-numbered : (t : Float) → T (not (is_nan t)) → PointAnswer-Numbered (0 ∷ 5 ∷ []) (Chain-transform_point c t p)
@@ -275,7 +274,7 @@ answered-finite c time p =
     let m = Chain-move_at c time in
     go (is_nan time) (Point3f-is_finite p) (AnimatedTransform-moved_point m (AnimatedTransform-constants m) time p) (λ h. h)
   where
-    go : (n f : Bool) (a : PointAnswer) → (T f → T (Point3f-is_finite p)) → PointAnswer-refusal (cond (n || not f) (Refused 6) a) ≡ 0 → T (Point3f-is_finite p)
+    go : (n f : Bool) (a : PointAnswer) → (T f → T (Point3f-is_finite p)) → PointAnswer-refusal (cond (n || not f) (Err 6) a) ≡ 0 → T (Point3f-is_finite p)
     go n true a g e = g tt
     go true false a g e = absurd (omega (arith, e))
     go false false a g e = absurd (omega (arith, e))
@@ -286,7 +285,7 @@ record MovedPoints (box : Bounds3f) (pad_at : Float → Float) (times : List Flo
   inside : Pairwise (λ t q. PaddedInside box (pad_at t) q) times points
 
 cons-inside : (box : Bounds3f) (pad_at : Float → Float) (a : PointAnswer) (q : Point3f) (r : PointsAnswer) (t : Float) (times : List Float)
-    → a ≡ Moved q → PaddedInside box (pad_at t) q → MovedPoints box pad_at times r → MovedPoints box pad_at (t ∷ times) (PointsAnswer-cons a r)
+    → a ≡ Ok q → PaddedInside box (pad_at t) q → MovedPoints box pad_at times r → MovedPoints box pad_at (t ∷ times) (PointsAnswer-cons a r)
 unfolding PointsAnswer-cons
 cons-inside box pad_at a q r t times e i h = record { points = q ∷ h.points; answered = rw (e, h.answered); inside = (i, h.inside) }
 

@@ -26,7 +26,7 @@ use Rattle.bounds_answers.specs.matrix4x4.IsFinite.{Matrix4x4-is_finite}
 use Rattle.bounds_answers.specs.pose_pair.declared.Pose.{Pose}
 use Rattle.bounds_answers.specs.pose_pair.Pose.{Pose-is_finite, Pose-is_affine, Pose-is_padded, times_refusal, poses_refusal, Pose-kind_number}
 use Rattle.bounds_answers.specs.animated_transform.declared.AnimatedTransform.{AnimatedTransform}
-use Rattle.bounds_answers.specs.animated_transform.declared.AnimatedTransformAnswer.{AnimatedTransformAnswer}
+use Rattle.bounds_answers.specs.animated_transform.New.{AnimatedTransformAnswer}
 use Rattle.bounds_answers.specs.animated_transform.New.{AnimatedTransformAnswer-refused, AnimatedTransform-from_poses, build_refusal, AnimatedTransform-new}
 use Rattle.motion_chain.specs.Chain.{neighbours, every, first_number, Pose-number, Pair-number, kind_stage}
 use Rattle.motion_chain.specs.Chain.{chain_refusal, built, refused, ChainAnswer-from_moves, Chain-new}

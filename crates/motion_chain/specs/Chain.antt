@@ -5,13 +5,13 @@ use Rattle.std.specs.Float.Ieee.{lt, le}
 use Rattle.bounds_answers.specs.refusal.First.{first_refusal}
 use Rattle.bounds_answers.specs.bounds3.declared.Point3f.{Point3f}
 use Rattle.bounds_answers.specs.bounds3.declared.Bounds3f.{Bounds3f}
-use Rattle.bounds_answers.specs.transform.declared.PointAnswer.{PointAnswer}
+use Rattle.bounds_answers.specs.transform.Answer.{PointAnswer}
 use Rattle.bounds_answers.specs.transform.declared.BoundsAnswer.{BoundsAnswer}
 use Rattle.bounds_answers.specs.UnionAll.{BoundsAnswer-union_all}
 use Rattle.bounds_answers.specs.pose_pair.declared.Pose.{Pose}
 use Rattle.bounds_answers.specs.pose_pair.Pose.{Pose-is_finite, Pose-is_affine, Pose-is_padded, times_refusal, Pose-kind_number}
 use Rattle.bounds_answers.specs.animated_transform.declared.AnimatedTransform.{AnimatedTransform}
-use Rattle.bounds_answers.specs.animated_transform.declared.AnimatedTransformAnswer.{AnimatedTransformAnswer}
+use Rattle.bounds_answers.specs.animated_transform.New.{AnimatedTransformAnswer}
 use Rattle.bounds_answers.specs.animated_transform.New.{AnimatedTransform-new}
 use Rattle.bounds_answers.specs.motion_point.TransformPoint.{AnimatedTransform-transform_point}
 use Rattle.bounds_answers.specs.motion_point.PadAt.{AnimatedTransform-pad_at}

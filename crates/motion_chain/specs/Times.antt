@@ -2,13 +2,12 @@
 -- Quotations are of document 02, "Poses in a chain", unless another document is named.
 -- 6 is judged of the point and of every time before 13; then the times are worked in rising order, and the first refusal stands.
 -- An empty list does not fall: for a finite point and no places it answers no points.
-use Rattle.std.specs.Prelude.{ℕ, ◌*◌, Bool, true, not, ◌&&◌, ◌||◌, cond, List, [], ◌∷◌, ◌++◌, eqb, length, Float}
+use Rattle.std.specs.Prelude.{ℕ, ◌*◌, Bool, true, not, ◌&&◌, ◌||◌, cond, List, [], ◌∷◌, ◌++◌, eqb, length, Float, Ok, Err}
 use Rattle.std.specs.Float.Ieee.{is_nan, le}
 use Rattle.bounds_answers.specs.bounds3.declared.Point3f.{Point3f}
 use Rattle.bounds_answers.specs.bounds3.Finite.{Point3f-is_finite}
 use Rattle.bounds_answers.specs.bounds3.List.{Point3f-list}
-use Rattle.bounds_answers.specs.transform.declared.PointAnswer.{PointAnswer}
-use Rattle.bounds_answers.specs.transform.declared.PointAnswer.TheVariants as point
+use Rattle.bounds_answers.specs.transform.Answer.{PointAnswer}
 use Rattle.bounds_answers.specs.animated_transform.declared.AnimatedTransform.{AnimatedTransform}
 use Rattle.bounds_answers.specs.motion_point.TransformPoint.{AnimatedTransform-transform_point}
 use Rattle.motion_chain.specs.Chain.{every, Chain, Chain-transform_point}
@@ -53,9 +52,9 @@ PointsAnswer-points (refused n) = []
 
 -- What came of a time and of the times after it: the first refusal stands.
 unfoldable pub PointsAnswer-cons : PointAnswer → PointsAnswer → PointsAnswer
-PointsAnswer-cons (point.Moved q) (moved qs) = moved (q ∷ qs)
-PointsAnswer-cons (point.Moved q) (refused n) = refused n
-PointsAnswer-cons (point.Refused n) r = refused n
+PointsAnswer-cons (Ok q) (moved qs) = moved (q ∷ qs)
+PointsAnswer-cons (Ok q) (refused n) = refused n
+PointsAnswer-cons (Err n) r = refused n
 
 -- What came of a part of the list and of the part after it: the first refusal stands.
 unfoldable pub PointsAnswer-append : PointsAnswer → PointsAnswer → PointsAnswer

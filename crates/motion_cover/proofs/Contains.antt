@@ -2,6 +2,7 @@
 -- A stored transform over the box holds what that transform moves (`stored-contains`), and a piece of the move what every pose
 -- of its dt moves (`piece-contains`), since the interval steps enclose the float steps; grown by no less than the pad, they
 -- hold the moved point less and plus the pad too (`grow-holds`). dt lies in some slice, and a union holds what its parts hold.
+use Rattle.std.specs.Prelude.{Ok}
 use Prim.Native.Nat.{ℕ, zero, suc, ◌<◌, ◌≤◌, ◌^◌}
 use mathlib.Core.Path.{◌≡◌, refl, sym, ap, subst, ◌∙◌}
 use mathlib.Core.Bool.{Bool, true, false, not, cond}
@@ -15,7 +16,7 @@ use Rattle.stored_box.proofs.rounding.Order.{≼_refl, finite_number, not-lt-≼
 use Rattle.stored_box.specs.float32.MinMax.{max_num}
 use Rattle.stored_box.proofs.float32.MinMax.{max-picks}
 use Rattle.stored_box.specs.interval.declared.Interval.{Interval}
-use Rattle.stored_box.specs.interval.declared.Judged.{Judged}
+use Rattle.stored_box.specs.interval.Judged.{Judged}
 use Rattle.stored_box.specs.interval.Contains.{Contains, Subset, Encloses}
 use Rattle.stored_box.specs.bounds3.declared.Point3f.{Point3f}
 use Rattle.stored_box.specs.bounds3.declared.Bounds3f.{Bounds3f}
@@ -25,11 +26,9 @@ use Rattle.stored_box.specs.bounds3.Inside.{Inside, Subset as Subset3}
 use Rattle.stored_box.specs.bounds3.List.{Point3f-list}
 use Rattle.stored_box.proofs.bounds3.Union.{union-inside-left, union-inside-right, subset-inside}
 use Rattle.stored_box.specs.transform.declared.Transform.{Transform}
-use Rattle.stored_box.specs.transform.declared.PointAnswer.{PointAnswer}
-use Rattle.stored_box.specs.transform.declared.PointAnswer.TheVariants.{Moved}
 use Rattle.stored_box.specs.transform.declared.BoundsAnswer.{BoundsAnswer}
 use Rattle.stored_box.specs.transform.declared.BoundsAnswer.TheVariants.{Bounds, Refused}
-use Rattle.stored_box.specs.transform.Answer.{PointAnswer-refusal, PointAnswer-point, BoundsAnswer-bounds}
+use Rattle.stored_box.specs.transform.Answer.{PointAnswer, PointAnswer-refusal, PointAnswer-point, BoundsAnswer-bounds}
 use Rattle.stored_box.specs.transform.TransformPoint.{Transform-transform_point}
 use Rattle.stored_box.proofs.transform.Judged.{judged-moved}
 use Rattle.stored_box.specs.bounds_query.Query.{Bounds3f-refusal, BoundsAnswer-union_bounds, max_depth, cover_refusal}
@@ -43,7 +42,7 @@ use Rattle.stored_box.proofs.unit_interval.DtUnit.{dt-unit}
 use Rattle.stored_box.specs.pose_steps.declared.PoseConstants.{PoseConstants}
 use Rattle.stored_box.specs.formula.Promise.{Pairwise}
 use Rattle.stored_box.specs.pose_steps.declared.IntervalVector.{IntervalVector}
-use Rattle.stored_box.specs.pose_steps.declared.JudgedVector.{JudgedVector}
+use Rattle.stored_box.specs.pose_steps.Judged.{JudgedVector}
 use Rattle.stored_box.specs.pose_steps.Pose.{Pose-transform_point, Pose-moved_point}
 use Rattle.stored_box.specs.pose_steps.Enclose.{IntervalVector-list, Pose-enclose_point, Bounds3f-intervals, IntervalVector-bounds}
 use Rattle.stored_box.specs.pose_steps.Promise.{PoseConstants-Valid, FiniteScale, EnclosesAnswer}
@@ -78,13 +77,13 @@ pub record Holds (r : BoundsAnswer) (pad : Float) (point : PointAnswer) : Type 0
 -- Where the answer r is a box, it is finite and holds the point, whose coordinates are values of binary32: what growing asks for.
 pub record Moves (r : BoundsAnswer) (answer : PointAnswer) : Type 0 where
   pub point : (box : Bounds3f) → r ≡ Bounds box → Point3f
-  pub moved : (box : Bounds3f) (e : r ≡ Bounds box) → answer ≡ Moved (point box e)
+  pub moved : (box : Bounds3f) (e : r ≡ Bounds box) → answer ≡ Ok (point box e)
   pub inside : (box : Bounds3f) (e : r ≡ Bounds box) → Inside box (point box e)
   pub finite : (box : Bounds3f) → r ≡ Bounds box → T (Bounds3f-is_finite box)
-  pub values : (q : Point3f) → answer ≡ Moved q → Binary32 q
+  pub values : (q : Point3f) → answer ≡ Ok q → Binary32 q
 
 moved_inside : {box : Bounds3f} {pad : Float} {answer : PointAnswer} (point : Point3f)
-    → answer ≡ Moved point → PaddedInside box pad point → MovedInside box pad answer
+    → answer ≡ Ok point → PaddedInside box pad point → MovedInside box pad answer
 moved_inside {box} {pad} point e i = record { accepted = ap PointAnswer-refusal e; inside = subst (PaddedInside box pad) (sym (ap PointAnswer-point e)) i }
 
 -- A box that holds whatever another holds.
@@ -131,7 +130,7 @@ encloses-finite W p (x, (y, (z, e))) =
     (record { x = x.finite.high; y = y.finite.high; z = z.finite.high })
 
 enclosure-moves : {answer : PointAnswer} (j : JudgedVector)
-    → (j.refusal ≡ 0 → EnclosesAnswer j.vector answer) → ((q : Point3f) → answer ≡ Moved q → Binary32 q)
+    → (j.refusal ≡ 0 → EnclosesAnswer j.vector answer) → ((q : Point3f) → answer ≡ Ok q → Binary32 q)
     → Moves (BoundsAnswer-from_enclosure j) answer
 enclosure-moves j f v = record {
   point = λ box e. (f (from-enclosure-accepted j box e).accepted).point;

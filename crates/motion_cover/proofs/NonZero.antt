@@ -16,10 +16,10 @@ use Rattle.stored_box.specs.transform.declared.BoundsAnswer.TheVariants.{Bounds,
 use Rattle.stored_box.specs.transform.Answer.{OneOf, BoundsAnswer-refusal, BoundsAnswer-bounds}
 use Rattle.stored_box.specs.bounds_query.Query.{BoundsAnswer-union_bounds, cover_refusal}
 use Rattle.stored_box.specs.bounds_query.Zeros.{BoundsAnswer-positive_zeros}
-use Rattle.stored_box.specs.interval.declared.Judged.{Judged}
+use Rattle.stored_box.specs.interval.Judged.{Judged}
 use Rattle.stored_box.specs.unit_interval.Unit.{slice}
 use Rattle.stored_box.specs.pose_steps.declared.PoseConstants.{PoseConstants}
-use Rattle.stored_box.specs.pose_steps.declared.JudgedVector.{JudgedVector}
+use Rattle.stored_box.specs.pose_steps.Judged.{JudgedVector}
 use Rattle.stored_box.specs.pose_steps.Enclose.{Pose-enclose_point, Bounds3f-intervals, IntervalVector-bounds}
 use Rattle.stored_box.specs.EnclosePoints.{Transform-enclose_points}
 use Rattle.motion_point.specs.animated_transform.declared.AnimatedTransform.{AnimatedTransform}

@@ -10,7 +10,7 @@ use lib.Ieee.{Float}
 use Rattle.stored_box.specs.float32.MinMax.{max_num}
 use Rattle.stored_box.specs.bounds3.declared.Bounds3f.{Bounds3f}
 use Rattle.stored_box.specs.interval.declared.Interval.{Interval}
-use Rattle.stored_box.specs.interval.declared.Judged.{Judged}
+use Rattle.stored_box.specs.interval.Judged.{Judged}
 use Rattle.stored_box.specs.transform.declared.Transform.{Transform}
 use Rattle.stored_box.specs.transform.declared.BoundsAnswer.{BoundsAnswer}
 use Rattle.stored_box.specs.transform.declared.BoundsAnswer.TheVariants.{Bounds, Refused}
@@ -22,7 +22,7 @@ use Rattle.stored_box.proofs.bounds_query.Union.{union-keeps}
 use Rattle.stored_box.proofs.bounds_query.Zeros.{zeros-refusal}
 use Rattle.stored_box.specs.unit_interval.Unit.{slice}
 use Rattle.stored_box.specs.pose_steps.declared.PoseConstants.{PoseConstants}
-use Rattle.stored_box.specs.pose_steps.declared.JudgedVector.{JudgedVector}
+use Rattle.stored_box.specs.pose_steps.Judged.{JudgedVector}
 use Rattle.stored_box.specs.pose_steps.Enclose.{IntervalMatrix-point, Pose-enclose_point, Bounds3f-intervals, IntervalVector-bounds}
 use Rattle.stored_box.specs.pose_steps.Promise.{SliceNumber}
 use Rattle.stored_box.proofs.pose_steps.Number.{transform_point-number, point-number}

@@ -11,7 +11,7 @@ use lib.Ieee.Scale.{finite}
 use Rattle.stored_box.specs.rounding.Order.{◌≼◌}
 use Rattle.stored_box.proofs.rounding.Order.{≼_trans, ≼_refl, number-left, number-right, finite_number, between-finite}
 use Rattle.stored_box.specs.interval.declared.Interval.{Interval}
-use Rattle.stored_box.specs.interval.declared.Judged.{Judged}
+use Rattle.stored_box.specs.interval.Judged.{Judged}
 use Rattle.stored_box.specs.interval.Contains.{Subset, Refines}
 use Rattle.stored_box.specs.bounds3.declared.Bounds3f.{Bounds3f}
 use Rattle.stored_box.specs.bounds3.Bounds3f.{Bounds3f-union_bounds}
@@ -30,7 +30,7 @@ use Rattle.stored_box.proofs.bounds_query.Accepted.{refusal-accepted}
 use Rattle.stored_box.specs.unit_interval.Unit.{unit_interval, slice}
 use Rattle.stored_box.proofs.unit_interval.Slices.{slice-unit}
 use Rattle.stored_box.specs.formula.Promise.{Pairwise}
-use Rattle.stored_box.specs.pose_steps.declared.JudgedVector.{JudgedVector}
+use Rattle.stored_box.specs.pose_steps.Judged.{JudgedVector}
 use Rattle.stored_box.specs.pose_steps.Enclose.{IntervalVector-list, IntervalMatrix-point, Pose-enclose_transform_point}
 use Rattle.stored_box.specs.pose_steps.Enclose.{Pose-enclose_point, Bounds3f-intervals, IntervalVector-bounds}
 use Rattle.stored_box.specs.pose_steps.Promise.{InOrder}

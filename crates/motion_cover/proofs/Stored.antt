@@ -14,7 +14,7 @@ use Rattle.stored_box.specs.transform.TransformBounds.{Transform-transform_bound
 use Rattle.stored_box.specs.bounds_query.Query.{Bounds3f-refusal}
 use Rattle.stored_box.specs.bounds_query.Same.{BoundsAnswer-Same, same-box, same-refusal}
 use Rattle.stored_box.specs.bounds_query.Zeros.{BoundsAnswer-positive_zeros}
-use Rattle.stored_box.specs.pose_steps.declared.JudgedVector.{JudgedVector}
+use Rattle.stored_box.specs.pose_steps.Judged.{JudgedVector}
 use Rattle.stored_box.specs.pose_steps.Enclose.{IntervalVector-bounds}
 use Rattle.stored_box.proofs.StoredBox.{stored-box-same, stored-box-accepted, stored-box-refusal}
 use Rattle.stored_box.specs.EnclosePoints.{Transform-enclose_points}

@@ -9,8 +9,7 @@ use Rattle.stored_box.specs.float32.MinMax.{max_num}
 use Rattle.stored_box.specs.bounds3.declared.Point3f.{Point3f}
 use Rattle.stored_box.specs.bounds3.declared.Bounds3f.{Bounds3f}
 use Rattle.stored_box.specs.bounds3.Inside.{Inside}
-use Rattle.stored_box.specs.transform.declared.PointAnswer.{PointAnswer}
-use Rattle.stored_box.specs.transform.Answer.{BoundsAnswer-refusal, BoundsAnswer-bounds}
+use Rattle.stored_box.specs.transform.Answer.{PointAnswer, BoundsAnswer-refusal, BoundsAnswer-bounds}
 use Rattle.motion_point.specs.animated_transform.declared.AnimatedTransform.{AnimatedTransform}
 use Rattle.motion_point.specs.animated_transform.Built.{Built}
 use Rattle.motion_point.specs.animated_transform.AtTime.{at_start, at_end}

@@ -21,7 +21,7 @@ use Rattle.stored_box.specs.transform.declared.BoundsAnswer.TheVariants.{Bounds}
 use Rattle.stored_box.specs.bounds_query.Query.{BoundsAnswer-union_bounds}
 use Rattle.stored_box.specs.bounds_query.Zeros.{Bounds3f-positive_zeros}
 use Rattle.stored_box.proofs.bounds_query.Union.{union-accepted}
-use Rattle.stored_box.specs.interval.declared.Judged.{Judged}
+use Rattle.stored_box.specs.interval.Judged.{Judged}
 use Rattle.stored_box.specs.unit_interval.Unit.{slice}
 use Rattle.stored_box.specs.pose_steps.declared.PoseConstants.{PoseConstants}
 use Rattle.motion_point.specs.animated_transform.declared.AnimatedTransform.{AnimatedTransform}

@@ -12,7 +12,7 @@ use Rattle.stored_box.specs.bounds_query.Zeros.{BoundsAnswer-positive_zeros}
 use Rattle.stored_box.specs.interval.declared.Interval.{Interval}
 use Rattle.stored_box.specs.unit_interval.Unit.{slice}
 use Rattle.stored_box.specs.pose_steps.declared.PoseConstants.{PoseConstants}
-use Rattle.stored_box.specs.pose_steps.declared.JudgedVector.{JudgedVector}
+use Rattle.stored_box.specs.pose_steps.Judged.{JudgedVector}
 use Rattle.stored_box.specs.EnclosePoints.{Transform-enclose_points}
 use Rattle.stored_box.specs.pose_steps.Enclose.{Pose-enclose_point, Bounds3f-intervals, IntervalVector-bounds}
 use Rattle.motion_point.specs.animated_transform.declared.AnimatedTransform.{AnimatedTransform}

@@ -17,9 +17,8 @@ use Rattle.std.specs.Float.Ieee.{is_nan}
 use Rattle.stored_box.specs.bounds3.declared.Point3f.{Point3f}
 use Rattle.stored_box.specs.bounds3.declared.Bounds3f.{Bounds3f}
 use Rattle.stored_box.specs.bounds3.Inside.{Inside}
-use Rattle.stored_box.specs.transform.declared.PointAnswer.{PointAnswer}
 use Rattle.stored_box.specs.transform.declared.BoundsAnswer.{BoundsAnswer}
-use Rattle.stored_box.specs.transform.Answer.{PointAnswer-refusal, PointAnswer-point, BoundsAnswer-refusal, BoundsAnswer-bounds}
+use Rattle.stored_box.specs.transform.Answer.{PointAnswer, PointAnswer-refusal, PointAnswer-point, BoundsAnswer-refusal, BoundsAnswer-bounds}
 use Rattle.motion_point.specs.animated_transform.declared.AnimatedTransform.{AnimatedTransform}
 use Rattle.motion_point.specs.animated_transform.Built.{Built}
 use Rattle.motion_point.specs.TransformPoint.{AnimatedTransform-transform_point}

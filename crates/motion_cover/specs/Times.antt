@@ -6,9 +6,8 @@ use Rattle.stored_box.specs.float32.MinMax.{max_num}
 use Rattle.stored_box.specs.bounds3.declared.Point3f.{Point3f}
 use Rattle.stored_box.specs.bounds3.declared.Bounds3f.{Bounds3f}
 use Rattle.stored_box.specs.bounds3.Inside.{Inside}
-use Rattle.stored_box.specs.transform.declared.PointAnswer.{PointAnswer}
 use Rattle.stored_box.specs.transform.declared.BoundsAnswer.{BoundsAnswer}
-use Rattle.stored_box.specs.transform.Answer.{BoundsAnswer-refusal, BoundsAnswer-bounds}
+use Rattle.stored_box.specs.transform.Answer.{PointAnswer, BoundsAnswer-refusal, BoundsAnswer-bounds}
 use Rattle.stored_box.specs.transform.TransformPoint.{Transform-transform_point}
 use Rattle.stored_box.specs.unit_interval.Unit.{dt}
 use Rattle.stored_box.specs.pose_steps.Pose.{Pose-moved_point}

@@ -24,7 +24,7 @@ pub struct MotionDerivative {
 fn affine(a: f32, b: f32, i: Interval) -> Interval
     ensures value { result ≡ affine a b i }
 {
-    Interval::point(a).add(Interval::point(b).mul(i))
+    Interval::from(a) + Interval::from(b) * i
 }
 
 impl MotionDerivative {
@@ -32,16 +32,16 @@ impl MotionDerivative {
     fn range_at(self, i: Interval, angle: IntervalSinCos) -> Interval
         ensures value { result ≡ MotionDerivative-range_at self i angle.sin angle.cos }
     {
-        let cosines = affine(self.c2, self.c3, i).mul(angle.cos);
-        let sines = affine(self.c4, self.c5, i).mul(angle.sin);
-        Interval::point(self.c1).add(cosines).add(sines)
+        let cosines = affine(self.c2, self.c3, i) * angle.cos;
+        let sines = affine(self.c4, self.c5, i) * angle.sin;
+        Interval::from(self.c1) + cosines + sines
     }
 
     // The sine and the cosine of an interval's angles.
     fn sin_cos(self, i: Interval) -> IntervalSinCos
         ensures value { (result.sin ≡ Interval-sin (MotionDerivative-angles self i)) × (result.cos ≡ Interval-cos (MotionDerivative-angles self i)) }
     {
-        Interval::point(2.0 * self.theta).mul(i).sin_cos()
+        (Interval::from(2.0 * self.theta) * i).sin_cos()
     }
 
     // Whether the bounds have no zero inside, or are one number, where the sine and the cosine of the interval's angles are known. Accuracy: heuristic.

@@ -8,10 +8,10 @@ use native.Mathlib.Omega.{arith}
 use mathlib.Core.Path.{◌≡◌, refl, sym, ap, ◌∙◌}
 use mathlib.Core.Bool.{Bool, true, false, cond, ◌&&◌, and-eq-true_iff}
 use mathlib.Core.Logic.{◌⊎◌, inl, inr}
-use mathlib.Core.List.{List, [], ◌∷◌, ◌++◌, map, append_assoc}
+use mathlib.Core.List.{List, [], ◌∷◌, ◌++◌, map, append_assoc, append-nil}
 use lib.Ieee.{Float, nan, binary32, of_bits}
 use lib.Dec.{eqb, leb, ltb}
-use lib.ListN.{length, get_or, set, take, drop, replicate, length-replicate, length-map, length-drop, get_or-append, get_or-eq_default}
+use lib.ListN.{length, get_or, set, take, drop, replicate, length-replicate, length-map, length-drop, drop_of_length-le, get_or-append, get_or-eq_default}
 use lib.Seq.{take_at, take-append-le, get_or-append-add, get_or-drop, drop-cons, length-take-le, sets, sets-eq}
 use borrow.Author.Tests.{le-leb, lt-leb, eqb-true, eq-eqb, ne_eqb}
 use Rattle.matrix4x4.specs.IsAffine.{bottom_row}
@@ -214,13 +214,23 @@ module _ (columns : ℕ) (least : 13 ≤ columns) (most : columns ≤ 14) where
   unfolding pose_of
   pose-put s count i at next places h en ep = rw (lines-from-next (values columns) s count i at h, en, ep, add-one i)
 
-pub poses-put : (columns : ℕ) (s : List ℕ) (count at : ℕ) (old : List (List Float)) → count ≤ length old
-    → let poses = map pose_of (lines_through (replicate count (values columns)) s at) in sets old 0 poses ≡ front poses old
-poses-put columns s count at old h =
+-- the poses put into the front of `old`, which is lent as a part of it
+pub poses-put : (columns : ℕ) (s : List ℕ) (count at : ℕ) (old : List (List Float)) {part : List (List Float)} → count ≤ length old
+    → let poses = map pose_of (lines_through (replicate count (values columns)) s at) in
+    part ≡ sets (take count old) 0 poses → part ++ drop count old ≡ front poses old
+poses-put columns s count at old h e =
     let lines = lines_through (replicate count (values columns)) s at in
     let few : length (map pose_of lines) ≡ count =
     length-map lines pose_of ∙ lines-length (replicate count (values columns)) s at ∙ length-replicate count (values columns) in
-    sets-eq (map pose_of lines) old 0 (omega (arith, few, h)) ∙ rw (zero-add (length (map pose_of lines)))
+    let size = length-take-le count old h in
+    rw (
+      e,
+      few,
+      sets-eq (map pose_of lines) (take count old) 0 (omega (arith, few, size)),
+      zero-add (length (map pose_of lines)),
+      drop_of_length-le (take count old) {i = length (map pose_of lines)} (omega (arith, few, size)),
+      append-nil,
+    )
 
 -- ---- a pose of fourteen values, item by item
 

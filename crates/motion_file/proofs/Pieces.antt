@@ -1,8 +1,7 @@
 -- Where a separator stands and how it cuts a text: `position_here`, `position-next`, `position-end` by place, `split-cut` and `split-whole` by the first
--- separator; how many pieces it makes: `pieces-next`, `pieces_end`.
+-- separator; how many pieces it makes: `pieces_counted`.
 use Prim.Native.Nat.{ℕ, suc, ◌+◌, ◌≤◌, ◌<◌}
 use native.Mathlib.Nat.{not-suc-le-zero, eq-or-lt_of_le}
-use native.Mathlib.Numerals.{add-one}
 use native.Mathlib.Omega.{arith}
 use mathlib.Core.Path.{◌≡◌, refl, sym, ap}
 use mathlib.Core.Bool.{Bool, true, false, cond}
@@ -12,6 +11,8 @@ use lib.Dec.{eqb}
 use lib.ListN.{length, take, drop, get_or, drop_of_length-le}
 use lib.Seq.{drop-cons, take_all}
 use borrow.Author.Tests.{eqb-true, eq-eqb, ne_eqb}
+use Rattle.std.specs.List.{count_by}
+use Rattle.std.proofs.lemmas.List.Sums.{sum_by-cons}
 use Rattle.hexadecimal.specs.Digit.{position}
 use Rattle.hexadecimal.proofs.Digits.{position-bound}
 use Rattle.motion_file.specs.Text.{split, on_first}
@@ -74,20 +75,14 @@ split-first b s = ⊎_elim whole cut (eq-or-lt_of_le (position-bound b s))
     cut : position b s < length s → (ps : List (List ℕ)) × (split b s ≡ take (position b s) s ∷ ps)
     cut l = (split b (drop (suc (position b s)) s), split-cut b s l)
 
--- ---- how many pieces there are from a place on
-first-length : (b : ℕ) (ps : List (List ℕ)) → length (on_first b ps) ≡ length ps
-first-length b [] = refl
-first-length b (p ∷ ps) = refl
-
-pub pieces-next : (b : ℕ) (s : List ℕ) (i : ℕ) → i < length s
-    → length (split b (drop i s)) ≡ cond (eqb b (get_or s i 0)) 1 0 + length (split b (drop (i + 1) s))
+-- one piece more than there are separators
+pub pieces_counted : (b : ℕ) (s : List ℕ) → count_by (eqb b) s + 1 ≡ length (split b s)
 unfolding split
-pieces-next b s i h = rw (drop-cons s i 0 h, add-one i) (go (eqb b (get_or s i 0)) (split b (drop (suc i) s)))
+pieces_counted b [] = refl
+pieces_counted b (c ∷ s) = rw (sum_by-cons (λ c. cond (eqb b c) 1 0) c s) (go (eqb b c) (split b s) (pieces_counted b s))
   where
-    go : (t : Bool) (ps : List (List ℕ)) → length (cond t ([] ∷ ps) (on_first (get_or s i 0) ps)) ≡ cond t 1 0 + length ps
-    go true ps = omega arith
-    go false ps = omega (arith, first-length (get_or s i 0) ps)
-
-pub pieces_end : (b : ℕ) (s : List ℕ) (i : ℕ) → length s ≤ i → length (split b (drop i s)) ≡ 1
-unfolding split
-pieces_end b s i h = rw (drop_of_length-le s h)
+    go : (t : Bool) (ps : List (List ℕ)) → count_by (eqb b) s + 1 ≡ length ps
+        → cond t 1 0 + count_by (eqb b) s + 1 ≡ length (cond t ([] ∷ ps) (on_first c ps))
+    go true ps h = omega (arith, h)
+    go false [] h = omega (arith, h)
+    go false (p ∷ ps) h = omega (arith, h)

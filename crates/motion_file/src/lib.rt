@@ -41,19 +41,7 @@ pub fn pose_lines(s: &[u8]) -> usize
 fn line_feeds(s: &[u8]) -> usize
     ensures { result + 1 ≡ length (split line_feed s.now) }
 {
-    let mut feeds = 0;
-    let mut i = 0;
-    while i < s.len() {
-        feeds += is_line_feed(s[i]);
-        i += 1;
-    }
-    feeds
-}
-
-fn is_line_feed(b: u8) -> usize
-    ensures { result ≡ cond (eqb line_feed b) 1 0 }
-{
-    if b == b'\n' { 1 } else { 0 }
+    s.iter().filter(|b| **b == b'\n').count()
 }
 
 // The pose of a line: behind its matrix's three rows stand the bottom row 0 0 0 1 and the pad, +0 where the line has none. Accuracy: exact.
@@ -70,14 +58,12 @@ pub fn pose_of(line: [f32; 14]) -> [f32; 18]
 pub fn line_end(s: &[u8], at: usize) -> usize
     ensures { result ≡ at + line_length s.now at }
 {
-    let mut i = at;
-    while i < s.len() {
+    for i in at..s.len() {
         if s[i] == b'\n' {
             return i;
         }
-        i += 1;
     }
-    i
+    at.max(s.len())
 }
 
 // The place behind the line feed at `end`; past the end where the file, of that size, has none there. Accuracy: exact.

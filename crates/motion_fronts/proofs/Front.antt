@@ -17,7 +17,7 @@ use Rattle.motion_pad.specs.transform.declared.BoundsAnswer.{BoundsAnswer}
 use Rattle.motion_pad.specs.transform.declared.BoundsAnswer.TheVariants.{Bounds, Refused}
 use Rattle.motion_pad.specs.transform.Answer.{BoundsAnswer-bounds}
 use Rattle.motion_pad.specs.bounds_query.Query.{BoundsAnswer-union_bounds}
-use Rattle.motion_piece.specs.declared.PaddedPose.{PaddedPose}
+use Rattle.motion_piece.specs.means.Piece.{PaddedPose}
 use Rattle.motion_piece.specs.means.Piece.{PaddedPose-enclose_bounds}
 use Rattle.box_front.specs.declared.Front.{Front}
 use Rattle.box_front.specs.means.Front.{place_count, Boxes-answers, Front-of, Front-after, BoundsAnswer-put, Places-put, PaddedPose-front, PaddedPose-places}

@@ -21,7 +21,7 @@ use Rattle.motion_point.specs.TransformPoint.{AnimatedTransform-constants}
 use Rattle.motion_piece.specs.motion_cover.Cover.{AnimatedTransform-enclose_ends, union_slices, AnimatedTransform-enclose_motion}
 use Rattle.motion_piece.proofs.motion_cover.Contains.{cover-depth, motion-stored, motion-slices}
 use Rattle.motion_piece.proofs.motion_cover.Slices.{refused-first}
-use Rattle.motion_piece.specs.declared.PaddedPose.{PaddedPose}
+use Rattle.motion_piece.specs.means.Piece.{PaddedPose}
 use Rattle.motion_piece.specs.means.Piece.{PaddedPose-enclose_bounds, PaddedPose-stored}
 use Rattle.motion_piece.proofs.Piece.{stored-composition}
 use Rattle.motion_pad.specs.Pad.{Pad-start}

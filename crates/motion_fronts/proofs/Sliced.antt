@@ -11,7 +11,7 @@ use Rattle.motion_pad.specs.transform.declared.BoundsAnswer.{BoundsAnswer}
 use Rattle.motion_pad.specs.bounds_query.Query.{BoundsAnswer-union_bounds}
 use Rattle.motion_pad.specs.unit_interval.Unit.{slice}
 use Rattle.motion_pad.specs.pose_steps.declared.PoseConstants.{PoseConstants}
-use Rattle.motion_piece.specs.declared.PaddedPose.{PaddedPose}
+use Rattle.motion_piece.specs.means.Piece.{PaddedPose}
 use Rattle.animated_transform.specs.declared.AnimatedTransform.{AnimatedTransform}
 use Rattle.motion_point.specs.TransformPoint.{AnimatedTransform-constants}
 use Rattle.motion_piece.specs.motion_cover.Cover.{union_slices}

@@ -44,12 +44,10 @@ fn take_slices(
     let a = motion_point::constants(m);
     let slices = 1u64 << d;
     let mut reached = front;
-    let mut k = 0u64;
-    while k < slices {
+    for k in 0..slices {
         let pose = motion_piece::padded_enclosure(a, m.s0, m.s1, m.pad0, m.pad1, slice(d, k));
         let next = box_front::take_pose(false, pose, boxes, reached, places);
         reached = next;
-        k += 1;
     }
     reached
 }
@@ -98,11 +96,8 @@ fn places_zeros(boxes: &[[f32; 6]], places: &mut [[f32; 6]; 16])
     requires { length boxes.now ≤ place_count }
     ensures left { places.new ≡ Places-positive_zeros boxes.now places.old }
 {
-    let n = boxes.len();
-    let mut i = 0;
-    while i < n {
+    for i in 0..boxes.len() {
         place_zeros(&mut places[i]);
-        i = i + 1;
     }
 }
 

@@ -2,12 +2,13 @@
 -- it is in order where the box is (`grow-order`), and a box in another, with no greater pad, grows to a box in the other's (`grow-subset`).
 -- An answer that is grown was a box, and its pad was not refused (`grow-accepted`), and a part of it is accepted with it and lies in it
 -- (`grow-isotone`). A pad of +0 leaves a box as it was, a zero's sign aside (`grow-zero`), and so does making its zeros +0 (`zeros-subset`).
-use Prim.Native.Nat.{ℕ}
+use Prim.Native.Nat.{ℕ, zero, suc}
 use mathlib.Core.Path.{◌≡◌, refl, sym, ap, subst, ◌∙◌}
 use mathlib.Core.Bool.{Bool, true, false, cond}
 use mathlib.Core.Logic.{◌⊎◌, inl, inr}
 use lib.Dec.{T, eqb}
-use borrow.Author.Tests.{eqb-true, eqb-false, eq-eqb}
+use native.Mathlib.Omega.{arith}
+use borrow.Author.Tests.{eqb-true, eqb-false, eq-eqb, ne_eqb}
 use lib.Ieee.{Float, binary32, fits}
 use lib.Ieee.Bits.{is_true}
 use lib.Ieee.Scale.{finite}
@@ -17,7 +18,8 @@ use Rattle.float32.proofs.rounding.Arithmetic.{add-mono, sub-mono}
 use Rattle.float32.specs.Operators.{◌⊕◌, ◌⊖◌, positive_zero}
 use Rattle.float32.proofs.Constants.{zero-finite}
 use Rattle.own_rounding.proofs.OwnRounding.{sub-add, add-above, sub-below, add-zero, sub-zero}
-use Rattle.interval.specs.declared.Judged.{Judged}
+use Rattle.interval.specs.refusal.Outcome.{outcome}
+use Rattle.interval.specs.Judged.{Judged, Judged-outcome, Judged-from}
 use Rattle.bounds3.specs.declared.Point3f.{Point3f}
 use Rattle.bounds3.specs.declared.Bounds3f.{Bounds3f}
 use Rattle.bounds3.specs.Finite.{Bounds3f-is_finite}
@@ -177,6 +179,16 @@ grow-isotone pad pad' b c box e w o f f' s h =
       grow-box pad b e (within-finite order inside whole),
       subst (Subset (Bounds3f-grow pad.interval.high b)) (ap (Bounds3f-grow pad'.interval.high) same ∙ g.grown) inside,
     )
+
+-- By a pad as code has it.
+pub grow-from : (pad : Judged) (r : BoundsAnswer) → BoundsAnswer-grow pad r ≡ BoundsAnswer-grow (Judged-from (Judged-outcome pad)) r
+unfolding BoundsAnswer-grow
+grow-from pad (Refused n) = refl
+grow-from pad (Bounds b) = go pad.refusal refl
+  where
+    go : (n : ℕ) → pad.refusal ≡ n → BoundsAnswer-grow pad (Bounds b) ≡ BoundsAnswer-grow (Judged-from (outcome pad.interval n)) (Bounds b)
+    go zero e = rw e
+    go (suc n) e = rw (e, ne_eqb (suc n) 0 (λ z. omega arith))
 
 -- A refusal passes on.
 pub grow-refused : (pad : Judged) (n : ℕ) → BoundsAnswer-grow pad (Refused n) ≡ Refused n

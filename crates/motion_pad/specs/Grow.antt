@@ -1,7 +1,7 @@
 -- A point less and plus a pad, and a box grown by a pad: document 02, "A box grows on every face as soon as it is worked out". Definitions only.
 use Rattle.std.specs.Prelude.{cond, eqb, Float}
 use Rattle.float32.specs.Operators.{◌⊕◌, ◌⊖◌}
-use Rattle.interval.specs.declared.Judged.{Judged}
+use Rattle.interval.specs.Judged.{Judged}
 use Rattle.bounds3.specs.declared.Point3f.{Point3f}
 use Rattle.bounds3.specs.declared.Bounds3f.{Bounds3f}
 use Rattle.bounds3.specs.Finite.{Bounds3f-is_finite}

@@ -4,7 +4,7 @@ use Rattle.std.specs.Prelude.{Bool, cond, List, [], ◌∷◌, Float}
 use Rattle.float32.specs.MinMax.{max_num}
 use Rattle.float32.specs.Lerp as float
 use Rattle.interval.specs.declared.Interval.{Interval}
-use Rattle.interval.specs.declared.Judged.{Judged}
+use Rattle.interval.specs.Judged.{Judged}
 use Rattle.interval.specs.Interval.{Interval-point}
 use Rattle.interval_unjudged.specs.formula.Program.{var, Program, give}
 use Rattle.interval_unjudged.specs.formula.Enclose.{Enclosure, enclosure, Program-enclose}

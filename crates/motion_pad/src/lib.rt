@@ -2,26 +2,25 @@
 #![tactic(auto)]
 
 ghost use Rattle.std.specs.Prelude.{◌≡◌};
+ghost use Rattle.interval.specs.refusal.Number.{numbered};
+ghost use Rattle.interval.specs.Judged.{Judged-outcome, Judged-from};
 ghost use Rattle.transform.specs.declared.BoundsAnswer.TheVariants.{Bounds};
 ghost use Rattle.motion_pad.specs.Pad.{Pad-enclose, Pad-stored, Pad-start};
 ghost use Rattle.motion_pad.specs.Grow.{Bounds3f-grow, BoundsAnswer-grow};
 ghost use Rattle.motion_pad.specs.means.Unjudged.{Pad-unjudged};
 
 use bounds3::{Bounds3f, Point3f};
-use interval::{Interval, Judged};
+use interval::Interval;
+use refusal::Refusal;
 use transform::BoundsAnswer;
 
 // A pose's own pad, with equal ends. Accuracy: exact.
-pub fn stored_pad(pad: f32) -> Judged
-    ensures value { result ≡ Pad-stored pad }
+pub fn stored_pad(pad: f32) -> Interval
+    ensures value { record { interval = result; refusal = 0 } ≡ Pad-stored pad }
 {
-    let interval = Interval {
+    Interval {
         low: pad,
         high: pad,
-    };
-    Judged {
-        interval,
-        refusal: 0,
     }
 }
 
@@ -56,8 +55,8 @@ fn pad_unjudged(pad0: f32, pad1: f32, dt: Interval) -> Interval
     interval_unjudged::add_enclosure(p, q)
 }
 
-fn pad_judged(pad0: f32, pad1: f32, dt: Interval) -> Judged
-    ensures value { result ≡ Pad-enclose pad0 pad1 dt }
+fn pad_judged(pad0: f32, pad1: f32, dt: Interval) -> Result<Interval, Refusal>
+    ensures value { numbered result ≡ Judged-outcome (Pad-enclose pad0 pad1 dt) }
 {
     let one = Interval {
         low: 1.0,
@@ -71,16 +70,16 @@ fn pad_judged(pad0: f32, pad1: f32, dt: Interval) -> Judged
         low: pad1,
         high: pad1,
     };
-    let s = Judged::sub_enclosure(0, one, dt);
-    let p = Judged::mul_enclosure(s.refusal, s.interval, a);
-    let q = Judged::mul_enclosure(p.refusal, dt, b);
-    Judged::add_enclosure(q.refusal, p.interval, q.interval)
+    let s = one.sub_enclosure(dt)?;
+    let p = s.mul_enclosure(a)?;
+    let q = dt.mul_enclosure(b)?;
+    p.add_enclosure(q)
 }
 
 // The pad between two poses over an interval of dt: pbrt's `lerp` of their pads; refused with 5 where an end isn't finite. Judging is left out where a sum over
 // all ends is finite, which gives the same. Accuracy: encloses.
-pub fn pad_enclosure(pad0: f32, pad1: f32, dt: Interval) -> Judged
-    ensures value { result ≡ Pad-enclose pad0 pad1 dt }
+pub fn pad_enclosure(pad0: f32, pad1: f32, dt: Interval) -> Result<Interval, Refusal>
+    ensures value { numbered result ≡ Judged-outcome (Pad-enclose pad0 pad1 dt) }
 {
     let one = Interval {
         low: 1.0,
@@ -92,10 +91,7 @@ pub fn pad_enclosure(pad0: f32, pad1: f32, dt: Interval) -> Judged
         + interval_unjudged::ends_sum(s)
         + interval_unjudged::ends_sum(interval);
     if float32::is_finite(ends) {
-        Judged {
-            interval,
-            refusal: 0,
-        }
+        Ok(interval)
     } else {
         pad_judged(pad0, pad1, dt)
     }
@@ -120,13 +116,10 @@ fn grown(pad: f32, b: Bounds3f) -> Bounds3f
     Bounds3f { p_min, p_max }
 }
 
-fn grow_box(pad: Judged, b: Bounds3f) -> BoundsAnswer
-    ensures value { result ≡ BoundsAnswer-grow pad (Bounds b) }
+fn grow_box(pad: Interval, b: Bounds3f) -> BoundsAnswer
+    ensures value { result ≡ BoundsAnswer-grow (record { interval = pad; refusal = 0 }) (Bounds b) }
 {
-    if pad.refusal != 0 {
-        return BoundsAnswer::Refused(pad.refusal);
-    }
-    let faces = grown(pad.interval.high, b);
+    let faces = grown(pad.high, b);
     if faces.is_finite() {
         BoundsAnswer::Bounds(faces)
     } else {
@@ -136,11 +129,14 @@ fn grow_box(pad: Judged, b: Bounds3f) -> BoundsAnswer
 
 // An answer's box grown by the high end of a pad interval; refused with the answer's number, the pad's, or 5 where a face isn't finite. Accuracy: each face is
 // correctly rounded.
-pub fn grow(pad: Judged, answer: BoundsAnswer) -> BoundsAnswer
-    ensures value { result ≡ BoundsAnswer-grow pad answer }
+pub fn grow(pad: Result<Interval, Refusal>, answer: BoundsAnswer) -> BoundsAnswer
+    ensures value { result ≡ BoundsAnswer-grow (Judged-from (numbered pad)) answer }
 {
     match answer {
-        BoundsAnswer::Bounds(b) => grow_box(pad, b),
+        BoundsAnswer::Bounds(b) => match pad {
+            Ok(high) => grow_box(high, b),
+            Err(refusal) => BoundsAnswer::Refused(refusal.number()),
+        },
         BoundsAnswer::Refused(n) => BoundsAnswer::Refused(n),
     }
 }

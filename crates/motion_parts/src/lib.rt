@@ -39,8 +39,7 @@ fn put_part_rows(motion: &[[f32; 4]; 45], out: &mut [u8], at: usize) -> usize
     ensures left { out.new ≡ put_all (row_pieces motion.now 0) out.old at }
 {
     let mut end = at;
-    for k in 0..35 {
-        let i = PARTS[k];
+    for i in PARTS {
         end = answer_lines::put_floats(&motion[i], part_size(i), out, end);
     }
     end

@@ -1,45 +1,51 @@
-// A piece of a cover in two steps: the poses over any interval of dt as one judged matrix with their pad, and the box that they move a box to.
+// A piece of a cover in two steps: the poses over any interval of dt as one matrix with their pad, and the box that they move a box to.
 // Many boxes then share the first step. Nothing is asked of dt or of the constants: what isn't finite is refused.
 #![tactic(auto)]
 
 ghost use Rattle.std.specs.Prelude.{◌≡◌};
+ghost use Rattle.interval.specs.refusal.Number.{numbered};
+ghost use Rattle.pose_steps.specs.Judged.{JudgedQuaternion-outcome, JudgedMatrix-outcome};
 ghost use Rattle.pose_steps.specs.Enclose.{Pose-enclose_slerp, Pose-enclose_matrix, Bounds3f-intervals, IntervalVector-bounds};
-ghost use Rattle.motion_cover.specs.Cover.{BoundsAnswer-from_enclosure};
-ghost use Rattle.motion_piece.specs.means.Piece.{PaddedPose-enclose_bounds, PaddedPose-over, PaddedPose-stored};
+ghost use Rattle.motion_piece.specs.means.Piece.{moved_box, moved_intervals, PaddedPose-judged, PaddedPose-enclose_bounds, PaddedPose-over, PaddedPose-stored};
 
 use bounds3::{Bounds3f, Point3f};
-use interval::{Interval, Judged};
+use interval::Interval;
 use matrix4x4::Matrix4x4;
-use pose_steps::{IntervalVector, JudgedMatrix, JudgedQuaternion, JudgedVector, PoseConstants};
+use pose_steps::{IntervalMatrix, IntervalQuaternion, IntervalVector, PoseConstants};
 use quaternion::SLERP_THRESHOLD;
+use refusal::Refusal;
 use transform::{BoundsAnswer, Transform};
 
-// Poses as one judged matrix, with their pad.
+// Poses as one matrix, with their pad. The matrix's refusal comes first, then that of a moved box, then the pad's.
 #[derive(Clone, Copy)]
 pub struct PaddedPose {
-    pub matrix: JudgedMatrix,
-    pub pad: Judged,
+    pub matrix: Result<IntervalMatrix, Refusal>,
+    pub pad: Result<Interval, Refusal>,
 }
 
-// The rotation over an interval of dt, with m the refusal number met before; refused with 5 or 10.
-// Accuracy: encloses, for an angle from 0 to a quarter turn and dt from 0 to 1.
-pub fn slerp_enclosure(m: u8, a: PoseConstants, dt: Interval) -> JudgedQuaternion
-    ensures value { result ≡ Pose-enclose_slerp m a dt }
+// The rotation over an interval of dt; refused with 5 or 10. Accuracy: encloses, for an angle from 0 to a quarter turn and dt from 0 to 1.
+pub fn slerp_enclosure(a: PoseConstants, dt: Interval) -> Result<IntervalQuaternion, Refusal>
+    ensures value { numbered result ≡ JudgedQuaternion-outcome (Pose-enclose_slerp 0 a dt) }
 {
     if a.cos_theta > SLERP_THRESHOLD {
-        pose_slerp::slerp_near_enclosure(m, a.r0, a.r1, dt)
+        pose_slerp::slerp_near_enclosure(a.r0, a.r1, dt)
     } else {
-        pose_slerp::slerp_far_enclosure(m, a, dt)
+        pose_slerp::slerp_far_enclosure(a, dt)
     }
 }
 
 // The pose's matrix over an interval of dt; refused with 5 or 10. Accuracy: encloses, for an angle from 0 to a quarter turn and dt from 0 to 1.
-pub fn pose_enclosure(a: PoseConstants, s0: Matrix4x4, s1: Matrix4x4, dt: Interval) -> JudgedMatrix
-    ensures value { result ≡ Pose-enclose_matrix a s0 s1 dt }
+pub fn pose_enclosure(
+    a: PoseConstants,
+    s0: Matrix4x4,
+    s1: Matrix4x4,
+    dt: Interval,
+) -> Result<IntervalMatrix, Refusal>
+    ensures value { numbered result ≡ JudgedMatrix-outcome (Pose-enclose_matrix a s0 s1 dt) }
 {
-    let trans = pose_parts::translation_enclosure(0, a.t0, a.t1, dt);
-    let rotate = slerp_enclosure(trans.refusal, a, dt);
-    pose::composition_enclosure(a.rigid, trans.vector, rotate, s0, s1, dt)
+    let trans = pose_parts::translation_enclosure(a.t0, a.t1, dt)?;
+    let rotate = slerp_enclosure(a, dt)?;
+    pose::composition_enclosure(a.rigid, trans, rotate, s0, s1, dt)
 }
 
 // The same with the pad over that interval. Accuracy: encloses, for an angle from 0 to a quarter turn and dt from 0 to 1.
@@ -51,7 +57,7 @@ pub fn padded_enclosure(
     pad1: f32,
     dt: Interval,
 ) -> PaddedPose
-    ensures value { result ≡ PaddedPose-over a s0 s1 pad0 pad1 dt }
+    ensures value { PaddedPose-judged result ≡ PaddedPose-over a s0 s1 pad0 pad1 dt }
 {
     let matrix = pose_enclosure(a, s0, s1, dt);
     let pad = motion_pad::pad_enclosure(pad0, pad1, dt);
@@ -60,15 +66,14 @@ pub fn padded_enclosure(
 
 // A stored transform's matrix and a pad, with equal ends. Accuracy: exact.
 pub fn stored_enclosure(own: f32, t: Transform) -> PaddedPose
-    ensures value { result ≡ PaddedPose-stored own t }
+    ensures value { PaddedPose-judged result ≡ PaddedPose-stored own t }
 {
-    let entries = pose_point::matrix_point(t.m);
+    let matrix = pose_point::matrix_point(t.m);
     let pad = motion_pad::stored_pad(own);
-    let matrix = JudgedMatrix {
-        matrix: entries,
-        refusal: 0,
-    };
-    PaddedPose { matrix, pad }
+    PaddedPose {
+        matrix: Ok(matrix),
+        pad: Ok(pad),
+    }
 }
 
 // A box as three intervals. Accuracy: exact.
@@ -109,26 +114,31 @@ fn bounds(w: IntervalVector) -> Bounds3f
     Bounds3f { p_min, p_max }
 }
 
-// Three intervals as a box, or the number that was met on the way. Accuracy: exact.
-pub fn from_enclosure(j: JudgedVector) -> BoundsAnswer
-    ensures value { result ≡ BoundsAnswer-from_enclosure j }
+// The intervals that a matrix moves a box to.
+fn moved_intervals(
+    matrix: Result<IntervalMatrix, Refusal>,
+    b: Bounds3f,
+) -> Result<IntervalVector, Refusal>
+    ensures value { numbered result ≡ moved_intervals (numbered matrix) b }
 {
-    if j.refusal == 0 {
-        BoundsAnswer::Bounds(bounds(j.vector))
-    } else {
-        BoundsAnswer::Refused(j.refusal)
+    let a = matrix?;
+    pose_point::transform_point_enclosure(a, intervals(b))
+}
+
+// Three intervals as a box, or the number that was met on the way. Accuracy: exact.
+fn moved_box(moved: Result<IntervalVector, Refusal>) -> BoundsAnswer
+    ensures value { result ≡ moved_box (numbered moved) }
+{
+    match moved {
+        Ok(w) => BoundsAnswer::Bounds(bounds(w)),
+        Err(refusal) => BoundsAnswer::Refused(refusal.number()),
     }
 }
 
-// The box that a judged matrix moves a box to, grown by the high end of the pad; refused with the matrix's number, or with 5. Accuracy: encloses.
+// The box that a matrix moves a box to, grown by the high end of the pad; refused with the matrix's number, or with 5. Accuracy: encloses.
 pub fn box_enclosure(pose: PaddedPose, b: Bounds3f) -> BoundsAnswer
-    ensures value { result ≡ PaddedPose-enclose_bounds pose b }
+    ensures value { result ≡ PaddedPose-enclose_bounds (PaddedPose-judged pose) b }
 {
-    let matrix = pose.matrix;
-    let moved = from_enclosure(pose_point::transform_point_enclosure(
-        matrix.refusal,
-        matrix.matrix,
-        intervals(b),
-    ));
-    motion_pad::grow(pose.pad, moved)
+    let moved = moved_intervals(pose.matrix, b);
+    motion_pad::grow(pose.pad, moved_box(moved))
 }

@@ -1,6 +1,7 @@
 -- The point query gives no number but 5 and 6, and a finite point where it gives none: `transform-point-answered`, for all structs and arguments.
 -- At and outside the end times, and where the poses are equal, a stored transform moves the point (`moved-point-start`, `moved-point-end`); between
 -- them the pose at dt does (`moved-point-between`). `transform-point-accepted`: that is what the query answers, once its arguments have passed.
+use Rattle.std.specs.Prelude.{Err}
 use mathlib.Core.Path.{◌≡◌, refl}
 use mathlib.Core.Bool.{Bool, true, false, not, ◌||◌, cond}
 use mathlib.Core.Logic.{◌⊎◌, inl, inr}
@@ -8,10 +9,8 @@ use lib.Ieee.{Float, is_nan, of_bits}
 use Rattle.transform.proofs.control_flow.Choice.{cond-keeps}
 use Rattle.bounds3.specs.declared.Point3f.{Point3f}
 use Rattle.bounds3.specs.Finite.{Point3f-is_finite}
-use Rattle.transform.specs.declared.PointAnswer.{PointAnswer}
-use Rattle.transform.specs.declared.PointAnswer.TheVariants.{Refused}
 use Rattle.transform.specs.TransformPoint.{Transform-transform_point}
-use Rattle.transform.specs.Answer.{PointAnswer-refusal, PointAnswer-Judged}
+use Rattle.transform.specs.Answer.{PointAnswer, PointAnswer-refusal, PointAnswer-Judged}
 use Rattle.transform.proofs.Judged.{transform-point-judged}
 use Rattle.unit_interval.specs.Unit.{dt}
 use Rattle.pose_steps.specs.declared.PoseConstants.{PoseConstants}
@@ -58,12 +57,12 @@ judged-answered {a} j = record { number = widen j.number; values = j.values }
     widen (inl e) = inl e
     widen (inr e) = inr (inl e)
 
-refused-answered : PointAnswer-Answered (Refused 6)
+refused-answered : PointAnswer-Answered (Err 6)
 unfolding Point3f-is_finite of_bits
 refused-answered = record { number = inr (inr refl); values = tt }
 
 pub transform-point-answered : (m : AnimatedTransform) (time : Float) (p : Point3f) → PointAnswer-Answered (AnimatedTransform-transform_point m time p)
 unfolding AnimatedTransform-transform_point
 transform-point-answered m time p =
-    cond-keeps PointAnswer-Answered (is_nan time || not (Point3f-is_finite p)) (Refused 6) _ refused-answered
+    cond-keeps PointAnswer-Answered (is_nan time || not (Point3f-is_finite p)) (Err 6) _ refused-answered
     (judged-answered (moved-point-judged m (AnimatedTransform-constants m) time p))

@@ -1,9 +1,7 @@
 -- What is promised of every answer to a point query: the statements of `transform-point-answered` and `transform-point-numbered`.
-use Rattle.std.specs.Prelude.{ℕ, ◌≡◌, ◌⊎◌, List, T}
+use Rattle.std.specs.Prelude.{ℕ, ◌≡◌, ◌⊎◌, List, T, Ok}
 use Rattle.bounds3.specs.Finite.{Point3f-is_finite}
-use Rattle.transform.specs.declared.PointAnswer.{PointAnswer}
-use Rattle.transform.specs.declared.PointAnswer.TheVariants.{Moved}
-use Rattle.transform.specs.Answer.{OneOf, PointAnswer-refusal, PointAnswer-point}
+use Rattle.transform.specs.Answer.{PointAnswer, OneOf, PointAnswer-refusal, PointAnswer-point}
 
 -- document 01, Refusals: "A point query .. never gives 4"; its numbers are 5 and 6, and an answer that isn't refused is finite
 pub record PointAnswer-Answered (a : PointAnswer) : Type 0 where
@@ -13,4 +11,4 @@ pub record PointAnswer-Answered (a : PointAnswer) : Type 0 where
 -- The number is one of those listed, and an answer whose number is 0 is a moved point. (After a refusal the point is +0 by `PointAnswer-point`.)
 pub record PointAnswer-Numbered (numbers : List ℕ) (a : PointAnswer) : Type 0 where
   pub number : OneOf (PointAnswer-refusal a) numbers
-  pub none : PointAnswer-refusal a ≡ 0 → a ≡ Moved (PointAnswer-point a)
+  pub none : PointAnswer-refusal a ≡ 0 → a ≡ Ok (PointAnswer-point a)

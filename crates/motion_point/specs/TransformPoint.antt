@@ -1,12 +1,11 @@
 -- The point query, pbrt's two-argument `AnimatedTransform::transform_point`. Definitions only.
 -- A NaN time or a coordinate that isn't finite is 6. At and outside the end times, and where the poses are equal, the stored transform moves the point;
 -- else the pose at dt does.
-use Rattle.std.specs.Prelude.{not, ◌||◌, cond, Float}
+use Rattle.std.specs.Prelude.{not, ◌||◌, cond, Float, Err}
 use Rattle.std.specs.Float.Ieee.{is_nan}
 use Rattle.bounds3.specs.declared.Point3f.{Point3f}
 use Rattle.bounds3.specs.Finite.{Point3f-is_finite}
-use Rattle.transform.specs.declared.PointAnswer.{PointAnswer}
-use Rattle.transform.specs.declared.PointAnswer.TheVariants.{Refused}
+use Rattle.transform.specs.Answer.{PointAnswer}
 use Rattle.transform.specs.TransformPoint.{Transform-transform_point}
 use Rattle.unit_interval.specs.Unit.{dt}
 use Rattle.pose_steps.specs.declared.PoseConstants.{PoseConstants}
@@ -28,4 +27,4 @@ AnimatedTransform-moved_point m a time p =
 -- document 01, Refusals: 6 where "the time is NaN, or a coordinate is not finite"
 unfoldable pub AnimatedTransform-transform_point : AnimatedTransform → Float → Point3f → PointAnswer
 AnimatedTransform-transform_point m time p =
-    cond (is_nan time || not (Point3f-is_finite p)) (Refused 6) (AnimatedTransform-moved_point m (AnimatedTransform-constants m) time p)
+    cond (is_nan time || not (Point3f-is_finite p)) (Err 6) (AnimatedTransform-moved_point m (AnimatedTransform-constants m) time p)

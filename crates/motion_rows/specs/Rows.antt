@@ -16,7 +16,7 @@ use Rattle.axis_derivative.specs.declared.Derivative.{Derivative}
 use Rattle.coefficients.specs.declared.Coefficients.{Coefficients}
 use Rattle.pose_steps.specs.declared.PoseConstants.{PoseConstants}
 use Rattle.animated_transform.specs.declared.AnimatedTransform.{AnimatedTransform}
-use Rattle.animated_transform.specs.declared.AnimatedTransformAnswer.{AnimatedTransformAnswer}
+use Rattle.animated_transform.specs.New.{AnimatedTransformAnswer}
 use Rattle.motion_point.specs.TransformPoint.{AnimatedTransform-constants}
 
 -- ---- to rows

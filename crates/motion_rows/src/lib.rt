@@ -3,20 +3,23 @@
 #![tactic(auto)]
 
 ghost use Rattle.std.specs.Prelude.{◌+◌, ◌<◌, ◌≡◌};
+ghost use Rattle.refusal.specs.Number.{numbered};
+ghost use Rattle.animated_transform.specs.New.{AnimatedTransformAnswer-of_result};
 ghost use Rattle.motion_point.specs.TransformPoint.{AnimatedTransform-moved_point};
 ghost use Rattle.motion_rows.specs.TransformPoint.{Rows-transform_point};
 ghost use Rattle.motion_rows.specs.Rows.{flag, constants_row, pads_row, fields_rows, vector_at, quaternion_at, matrix_at};
 ghost use Rattle.motion_rows.specs.Rows.{transform_at, term_at, derivative_at, coefficients_at, AnimatedTransform-to_rows};
 ghost use Rattle.motion_rows.specs.Rows.{AnimatedTransformAnswer-left, AnimatedTransform-from_rows, PoseConstants-from_rows};
 
-use animated_transform::{AnimatedTransform, AnimatedTransformAnswer};
+use animated_transform::AnimatedTransform;
 use axis_derivative::{Derivative, DerivativeTerm};
 use bounds3::Point3f;
 use coefficients::Coefficients;
 use matrix4x4::Matrix4x4;
 use pose_steps::PoseConstants;
 use quaternion::Quaternion;
-use transform::{PointAnswer, Transform};
+use refusal::Refusal;
+use transform::Transform;
 use vector3::Vector3f;
 
 fn flag(b: bool) -> f32
@@ -164,14 +167,17 @@ fn to_rows(m: AnimatedTransform) -> [[f32; 4]; 45]
 
 // Puts a built move into `out`, or after a refusal nothing, and gives the refusal's number, 0 for none.
 // Accuracy: exact but for the constants of the pose between, which are those of `motion_point`.
-pub fn put_motion(answer: AnimatedTransformAnswer, out: &mut [[f32; 4]; 45]) -> u8
-    ensures refusal { result ≡ answer.refusal }
-    ensures left { out.new ≡ AnimatedTransformAnswer-left answer out.old }
+pub fn put_motion(answer: Result<AnimatedTransform, Refusal>, out: &mut [[f32; 4]; 45]) -> u8
+    ensures refusal { result ≡ (AnimatedTransformAnswer-of_result answer).refusal }
+    ensures left { out.new ≡ AnimatedTransformAnswer-left (AnimatedTransformAnswer-of_result answer) out.old }
 {
-    if answer.refusal == 0 {
-        *out = to_rows(answer.value);
+    match answer {
+        Ok(m) => {
+            *out = to_rows(m);
+            0
+        }
+        Err(refusal) => refusal.number(),
     }
-    answer.refusal
 }
 
 fn vector_at(rows: &[[f32; 4]; 45], i: usize) -> Vector3f
@@ -329,8 +335,8 @@ pub fn end_scale(rows: &[[f32; 4]; 45]) -> Matrix4x4
 
 // `motion_point::moved_point` of a kept move, which reads the rows that it needs and no others; refused with 5 where a finished value isn't finite.
 // Accuracy: each operation but sine and cosine is correctly rounded.
-pub fn moved_point(rows: &[[f32; 4]; 45], time: f32, p: Point3f) -> PointAnswer
-    ensures value { result ≡ AnimatedTransform-moved_point (AnimatedTransform-from_rows rows.now)
+pub fn moved_point(rows: &[[f32; 4]; 45], time: f32, p: Point3f) -> Result<Point3f, Refusal>
+    ensures value { numbered result ≡ AnimatedTransform-moved_point (AnimatedTransform-from_rows rows.now)
         (PoseConstants-from_rows rows.now) time p }
 {
     let start = rows[16];
@@ -352,11 +358,11 @@ pub fn moved_point(rows: &[[f32; 4]; 45], time: f32, p: Point3f) -> PointAnswer
 }
 
 // Where a point stands at a time of a kept move. Refused with 5 or 6. Accuracy: each operation but sine and cosine is correctly rounded.
-pub fn transform_point(rows: &[[f32; 4]; 45], time: f32, p: Point3f) -> PointAnswer
-    ensures value { result ≡ Rows-transform_point rows.now time p }
+pub fn transform_point(rows: &[[f32; 4]; 45], time: f32, p: Point3f) -> Result<Point3f, Refusal>
+    ensures value { numbered result ≡ Rows-transform_point rows.now time p }
 {
     if (time != time) | !p.is_finite() {
-        return PointAnswer::Refused(6);
+        return Err(Refusal::Query);
     }
     moved_point(rows, time, p)
 }

@@ -88,11 +88,7 @@ fn put(text: &[u8], out: &mut [u8], at: usize)
     requires { at + length text.now ≤ length out.old }
     ensures { out.new ≡ paste out.old at text.now (length text.now) }
 {
-    let mut i = 0;
-    while i < text.len() {
-        out[at + i] = text[i];
-        i += 1;
-    }
+    out[at..at + text.len()].copy_from_slice(text);
 }
 
 // Puts a line of values into `out` from `at` on: eight digits and a byte behind them for each.
@@ -100,11 +96,9 @@ fn put_values(values: &[f32], out: &mut [u8], at: usize)
     requires { at + 9 * length values.now ≤ length out.old }
     ensures { out.new ≡ paste out.old at (line (map word_of values.now)) (9 * length values.now) }
 {
-    let mut k = 0;
-    while k < values.len() {
-        hexadecimal::write_word(hexadecimal::bits_of_float(values[k]), out, at + 9 * k);
+    for (k, value) in values.iter().enumerate() {
+        hexadecimal::write_word(hexadecimal::bits_of_float(*value), out, at + 9 * k);
         out[at + 9 * k + 8] = separator(k + 1 < values.len());
-        k += 1;
     }
 }
 

@@ -1,1 +1,2 @@
 pub mod GivenRotation
+mod Steps

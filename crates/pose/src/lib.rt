@@ -4,17 +4,19 @@
 #![tactic(auto)]
 
 ghost use Rattle.std.specs.Prelude.{◌≡◌};
+ghost use Rattle.interval.specs.refusal.Number.{numbered};
 ghost use Rattle.transform.specs.Transform.{translation};
 ghost use Rattle.pose_steps.specs.Pose.{Pose-mul, all_finite, PoseAnswer-judged, Pose-matrix, Pose-moved_point};
+ghost use Rattle.pose_steps.specs.Judged.{JudgedMatrix-outcome};
 ghost use Rattle.pose_steps.specs.Enclose.{Pose-enclose_composition};
 ghost use Rattle.pose.specs.means.Composition.{Pose-composition, Pose-composed_point};
 
 use bounds3::Point3f;
 use interval::Interval;
 use matrix4x4::Matrix4x4;
-use pose_steps::{IntervalVector, JudgedMatrix, JudgedQuaternion, PoseAnswer, PoseConstants};
+use pose_steps::{IntervalMatrix, IntervalQuaternion, IntervalVector, PoseAnswer, PoseConstants};
 use quaternion::Quaternion;
-use transform::PointAnswer;
+use refusal::Refusal;
 use vector3::Vector3f;
 
 // The matrix that adds v to a point.
@@ -32,7 +34,7 @@ fn translation_matrix(v: Vector3f) -> Matrix4x4
 fn product(a: Matrix4x4, b: Matrix4x4) -> Matrix4x4
     ensures value { result ≡ Pose-mul a b }
 {
-    Matrix4x4::from_rows(pose_product::mul(a.to_rows(), b.to_rows()))
+    Matrix4x4::from(pose_product::mul(a.to_rows(), b.to_rows()))
 }
 
 fn all_finite(m: Matrix4x4) -> bool
@@ -86,15 +88,15 @@ pub fn moved_point(
     s1: Matrix4x4,
     dt: f32,
     p: Point3f,
-) -> PointAnswer
-    ensures value { result ≡ Pose-moved_point a s0 s1 dt p }
+) -> Result<Point3f, Refusal>
+    ensures value { numbered result ≡ Pose-moved_point a s0 s1 dt p }
 {
     let pose = matrix(a, s0, s1, dt);
     let q = pose_point::transform_point(pose.m, p);
     if (pose.refusal == 0) & q.is_finite() {
-        PointAnswer::Moved(q)
+        Ok(q)
     } else {
-        PointAnswer::Refused(5)
+        Err(Refusal::NotFinite)
     }
 }
 
@@ -131,32 +133,32 @@ pub fn composed_point(
     s1: Matrix4x4,
     dt: f32,
     p: Point3f,
-) -> PointAnswer
-    ensures value { result ≡ Pose-composed_point a rotate s0 s1 dt p }
+) -> Result<Point3f, Refusal>
+    ensures value { numbered result ≡ Pose-composed_point a rotate s0 s1 dt p }
 {
     let pose = composition(a, rotate, s0, s1, dt);
     let q = pose_point::transform_point(pose.m, p);
     if (pose.refusal == 0) & q.is_finite() {
-        PointAnswer::Moved(q)
+        Ok(q)
     } else {
-        PointAnswer::Refused(5)
+        Err(Refusal::NotFinite)
     }
 }
 
-// The pose's matrix over an interval of dt, from its translation and its rotation there, with the refusal number met before; refused with 5.
-// Accuracy: encloses.
+// The pose's matrix over an interval of dt, from its translation and its rotation there; refused with 5. Accuracy: encloses.
 pub fn composition_enclosure(
     rigid: bool,
     trans: IntervalVector,
-    rotate: JudgedQuaternion,
+    rotate: IntervalQuaternion,
     s0: Matrix4x4,
     s1: Matrix4x4,
     dt: Interval,
-) -> JudgedMatrix
-    ensures value { result ≡ Pose-enclose_composition rigid trans rotate s0 s1 dt }
+) -> Result<IntervalMatrix, Refusal>
+    ensures value { numbered result ≡ JudgedMatrix-outcome (Pose-enclose_composition rigid trans
+        (record { quaternion = rotate; refusal = 0 }) s0 s1 dt) }
 {
-    let scaling = pose_parts::scale_by_enclosure(rigid, rotate.refusal, s0, s1, dt);
-    let rotating = pose_rotation::rotation_enclosure(scaling.refusal, rotate.quaternion);
-    let first = pose_product::translate_enclosure(rotating.refusal, trans, rotating.matrix);
-    pose_product::mul_enclosure(first.refusal, first.matrix, scaling.matrix)
+    let scaling = pose_parts::scale_by_enclosure(rigid, s0, s1, dt)?;
+    let rotating = pose_rotation::rotation_enclosure(rotate)?;
+    let first = pose_product::translate_enclosure(trans, rotating)?;
+    pose_product::mul_enclosure(first, scaling)
 }

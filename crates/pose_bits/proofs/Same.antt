@@ -41,9 +41,6 @@ last-or-below {A} i n h last below = go (eqb i n) (eqb-true i n) (eqb-false i n)
     go true s d = last (s refl)
     go false s d = let f = d refl in below (omega (arith, h, f))
 
-pub same_next : (a b : List Float) (n : ℕ) → SameBelow a b n → get_or a n nan ≡ get_or b n nan → SameBelow a b (n + 1)
-same_next a b n h e i k = last-or-below i n k (λ s. rw s e) (h i)
-
 abbrev same_at : List Float → List Float → ℕ → Bool
 same_at a b i = Float-same_bits (get_or a i nan) (get_or b i nan)
 

@@ -20,12 +20,10 @@ pub fn same_pose(a: &[f32; 18], b: &[f32; 18]) -> bool
     ensures value { result ≡ Pose-same_bits (Pose-of_list a.now) (Pose-of_list b.now) }
     ensures same { result ≡ true → Pose-of_list a.now ≡ Pose-of_list b.now }
 {
-    let mut i = 0;
-    while i < 18 {
-        if !same_bits(a[i], b[i]) {
+    for (x, y) in a.iter().zip(b) {
+        if !same_bits(*x, *y) {
             return false;
         }
-        i += 1;
     }
     true
 }

@@ -12,7 +12,7 @@ use Rattle.formula_lean.specs.float32.MinMax.{min_num, max_num}
 use Rattle.formula_lean.specs.trig.SinCos.{sin, cos}
 use Rattle.formula_lean.specs.trig.Range.{quarter_turn_float, full_turn_float}
 use Rattle.formula_lean.specs.interval.declared.Interval.{Interval}
-use Rattle.formula_lean.specs.interval.declared.Judged.{Judged}
+use Rattle.formula_lean.specs.interval.Judged.{Judged}
 use Rattle.formula_lean.specs.interval.Interval.{Interval-point, Interval-new, Interval-hull, Interval-of_four}
 use Rattle.formula_lean.specs.interval.Contains.{Subset}
 use Rattle.formula_lean.specs.interval.Enclosure.{not_finite, Judged-judge, Interval-add_enclosure, Interval-mul_enclosure, Judged-mul_enclosure}

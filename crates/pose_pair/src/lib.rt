@@ -2,9 +2,11 @@
 #![tactic(auto)]
 
 ghost use Rattle.std.specs.Prelude.{◌≡◌};
+ghost use Rattle.refusal.specs.Number.{refusal_number};
 ghost use Rattle.pose_pair.specs.Pose.{Pose-is_finite, Pose-is_affine, Pose-is_padded, times_refusal, poses_refusal, Pose-kind_number};
 
 use matrix4x4::Matrix4x4;
+use refusal::Refusal;
 
 // A matrix at a time, and the pad: how far beyond the boom the spray wets the ground then.
 #[derive(Clone, Copy)]
@@ -38,46 +40,46 @@ impl Pose {
         self.pad >= 0.0
     }
 
-    // What a rigid move asks of a pose: refused with 17 where it scales or shears, then with 18 where its determinant isn't above zero; 0 for none, and
-    // for a plain move. Accuracy: heuristic, by rounded products.
-    pub fn kind_number(self, rigid: bool) -> u8
-        ensures value { result ≡ Pose-kind_number rigid self }
+    // What a rigid move asks of a pose: refused with 17 where it scales or shears, then with 18 where its determinant isn't above zero; of a plain move
+    // nothing. Accuracy: heuristic, by rounded products.
+    pub fn judge_kind(self, rigid: bool) -> Result<(), Refusal>
+        ensures value { refusal_number result ≡ Pose-kind_number rigid self }
     {
         if rigid {
-            rigid_pose::refusal(self.m.to_rows())
+            rigid_pose::judge(self.m.to_rows())
         } else {
-            0
+            Ok(())
         }
     }
 }
 
-// 3 where the end time is below the start time, or their rounded difference isn't finite, and 0 otherwise. Accuracy: exact.
-pub fn times_refusal(start: f32, end: f32) -> u8
-    ensures value { result ≡ times_refusal start end }
+// Refused with 3 where the end time is below the start time, or their rounded difference isn't finite. Accuracy: exact.
+pub fn judge_times(start: f32, end: f32) -> Result<(), Refusal>
+    ensures value { refusal_number result ≡ times_refusal start end }
 {
     if (end < start) | !float32::is_finite(end - start) {
-        3
+        Err(Refusal::Times)
     } else {
-        0
+        Ok(())
     }
 }
 
-// 1 for a time, an entry or a pad that isn't finite, then 2 for a bottom row other than 0 0 0 1, 16 for a pad below zero, 3 for the times, 0 for none.
+// Refused with 1 for a time, an entry or a pad that isn't finite, then with 2 for a bottom row other than 0 0 0 1, 16 for a pad below zero, 3 for the times.
 // Accuracy: exact.
-pub fn poses_refusal(start: Pose, end: Pose) -> u8
-    ensures value { result ≡ poses_refusal start end }
+pub fn judge_poses(start: Pose, end: Pose) -> Result<(), Refusal>
+    ensures value { refusal_number result ≡ poses_refusal start end }
 {
     let finite = start.is_finite() & end.is_finite();
     let affine = start.is_affine() & end.is_affine();
     let padded = start.is_padded() & end.is_padded();
     if !finite {
-        return 1;
+        return Err(Refusal::PoseNotFinite);
     }
     if !affine {
-        return 2;
+        return Err(Refusal::BottomRow);
     }
     if !padded {
-        return 16;
+        return Err(Refusal::Pad);
     }
-    times_refusal(start.time, end.time)
+    judge_times(start.time, end.time)
 }

@@ -3,14 +3,17 @@
 #![tactic(auto)]
 
 ghost use Rattle.std.specs.Prelude.{◌≡◌};
+ghost use Rattle.interval.specs.refusal.Number.{numbered};
 ghost use Rattle.pose_steps.specs.Pose.{Pose-translation, Pose-scale_row, Pose-scale, Pose-scale_by};
+ghost use Rattle.pose_steps.specs.Judged.{JudgedVector-outcome, JudgedMatrix-outcome};
 ghost use Rattle.pose_steps.specs.Enclose.{IntervalVector-point, IntervalRow-point, IntervalMatrix-point};
 ghost use Rattle.pose_steps.specs.Enclose.{Pose-enclose_translation, Pose-enclose_scale, enclose_scale_by};
 ghost use Rattle.pose_parts.specs.means.Unjudged.{Pose-unjudged_translation, Pose-unjudged_scale_row, Pose-unjudged_scale};
 
 use interval::Interval;
 use matrix4x4::Matrix4x4;
-use pose_steps::{IntervalMatrix, IntervalRow, IntervalVector, JudgedMatrix, JudgedVector};
+use pose_steps::{IntervalMatrix, IntervalRow, IntervalVector};
+use refusal::Refusal;
 use vector3::Vector3f;
 
 // The translation at dt: t0 (1 - dt) + t1 dt, as `interpolate` has it. Accuracy: each operation is correctly rounded.
@@ -47,9 +50,13 @@ fn translation_unjudged(t0: Vector3f, t1: Vector3f, dt: Interval) -> IntervalVec
     IntervalVector { x, y, z }
 }
 
-// The same over an interval of dt, with m the refusal number met before; refused with 5 where an end isn't finite. Accuracy: encloses.
-pub fn translation_enclosure(m: u8, t0: Vector3f, t1: Vector3f, dt: Interval) -> JudgedVector
-    ensures value { result ≡ Pose-enclose_translation m (IntervalVector-point t0) (IntervalVector-point t1) dt }
+// The same over an interval of dt; refused with 5 where an end isn't finite. Accuracy: encloses.
+pub fn translation_enclosure(
+    t0: Vector3f,
+    t1: Vector3f,
+    dt: Interval,
+) -> Result<IntervalVector, Refusal>
+    ensures value { numbered result ≡ JudgedVector-outcome (Pose-enclose_translation 0 (IntervalVector-point t0) (IntervalVector-point t1) dt) }
 {
     let one = Interval {
         low: 1.0,
@@ -61,11 +68,11 @@ pub fn translation_enclosure(m: u8, t0: Vector3f, t1: Vector3f, dt: Interval) ->
         + interval_unjudged::ends_sum(s)
         + pose_ends::vector_ends_sum(vector);
     if float32::is_finite(ends) {
-        JudgedVector { vector, refusal: m }
+        Ok(vector)
     } else {
         let a = pose_point::vector_point(t0);
         let b = pose_point::vector_point(t1);
-        pose_judged::translation_enclosure(m, a, b, dt)
+        pose_judged::translation_enclosure(a, b, dt)
     }
 }
 
@@ -157,9 +164,13 @@ fn scale_unjudged(s0: Matrix4x4, s1: Matrix4x4, dt: Interval) -> IntervalMatrix
     IntervalMatrix { r0, r1, r2 }
 }
 
-// The same over an interval of dt, with m the refusal number met before; refused with 5 where an end isn't finite. Accuracy: encloses.
-pub fn scale_enclosure(m: u8, s0: Matrix4x4, s1: Matrix4x4, dt: Interval) -> JudgedMatrix
-    ensures value { result ≡ Pose-enclose_scale m (IntervalMatrix-point s0) (IntervalMatrix-point s1) dt }
+// The same over an interval of dt; refused with 5 where an end isn't finite. Accuracy: encloses.
+pub fn scale_enclosure(
+    s0: Matrix4x4,
+    s1: Matrix4x4,
+    dt: Interval,
+) -> Result<IntervalMatrix, Refusal>
+    ensures value { numbered result ≡ JudgedMatrix-outcome (Pose-enclose_scale 0 (IntervalMatrix-point s0) (IntervalMatrix-point s1) dt) }
 {
     let one = Interval {
         low: 1.0,
@@ -171,23 +182,22 @@ pub fn scale_enclosure(m: u8, s0: Matrix4x4, s1: Matrix4x4, dt: Interval) -> Jud
         + interval_unjudged::ends_sum(s)
         + pose_ends::matrix_ends_sum(matrix);
     if float32::is_finite(ends) {
-        JudgedMatrix { matrix, refusal: m }
+        Ok(matrix)
     } else {
         let a = pose_point::matrix_point(s0);
         let b = pose_point::matrix_point(s1);
-        pose_judged::scale_enclosure(m, a, b, dt)
+        pose_judged::scale_enclosure(a, b, dt)
     }
 }
 
-// The same of a move of either kind: a rigid one has the identity with equal ends, and no number is met. Accuracy: encloses.
+// The same of a move of either kind: a rigid one has the identity with equal ends, and is not refused. Accuracy: encloses.
 pub fn scale_by_enclosure(
     rigid: bool,
-    m: u8,
     s0: Matrix4x4,
     s1: Matrix4x4,
     dt: Interval,
-) -> JudgedMatrix
-    ensures value { result ≡ enclose_scale_by rigid m s0 s1 dt }
+) -> Result<IntervalMatrix, Refusal>
+    ensures value { numbered result ≡ JudgedMatrix-outcome (enclose_scale_by rigid 0 s0 s1 dt) }
 {
     if rigid {
         let zero = Interval {
@@ -216,12 +226,8 @@ pub fn scale_by_enclosure(
             c2: one,
             c3: zero,
         };
-        let identity = IntervalMatrix { r0, r1, r2 };
-        JudgedMatrix {
-            matrix: identity,
-            refusal: m,
-        }
+        Ok(IntervalMatrix { r0, r1, r2 })
     } else {
-        scale_enclosure(m, s0, s1, dt)
+        scale_enclosure(s0, s1, dt)
     }
 }

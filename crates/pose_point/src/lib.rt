@@ -4,23 +4,26 @@
 #![tactic(auto)]
 
 ghost use Rattle.std.specs.Prelude.{◌≡◌};
+ghost use Rattle.interval.specs.refusal.Number.{numbered};
 ghost use Rattle.pose_steps.specs.Pose.{Pose-transform_point};
+ghost use Rattle.pose_steps.specs.Judged.{JudgedVector-outcome};
 ghost use Rattle.pose_steps.specs.Enclose.{IntervalVector-point, IntervalRow-point, IntervalMatrix-point, Pose-enclose_transform_point};
 ghost use Rattle.pose_point.specs.means.Unjudged.{Pose-unjudged_transform_point};
 
 use bounds3::Point3f;
 use interval::Interval;
 use matrix4x4::Matrix4x4;
-use pose_steps::{IntervalMatrix, IntervalRow, IntervalVector, JudgedVector};
+use pose_steps::{IntervalMatrix, IntervalRow, IntervalVector};
+use refusal::Refusal;
 use vector3::Vector3f;
 
 // A vector with equal ends. Accuracy: exact.
 pub fn vector_point(v: Vector3f) -> IntervalVector
     ensures value { result ≡ IntervalVector-point v }
 {
-    let x = Interval::point(v.x);
-    let y = Interval::point(v.y);
-    let z = Interval::point(v.z);
+    let x = Interval::from(v.x);
+    let y = Interval::from(v.y);
+    let z = Interval::from(v.z);
     IntervalVector { x, y, z }
 }
 
@@ -28,10 +31,10 @@ pub fn vector_point(v: Vector3f) -> IntervalVector
 pub fn row_point(r: [f32; 4]) -> IntervalRow
     ensures value { result ≡ IntervalRow-point r }
 {
-    let c0 = Interval::point(r[0]);
-    let c1 = Interval::point(r[1]);
-    let c2 = Interval::point(r[2]);
-    let c3 = Interval::point(r[3]);
+    let c0 = Interval::from(r[0]);
+    let c1 = Interval::from(r[1]);
+    let c2 = Interval::from(r[2]);
+    let c3 = Interval::from(r[3]);
     IntervalRow { c0, c1, c2, c3 }
 }
 
@@ -90,17 +93,20 @@ fn transform_point_unjudged(a: IntervalMatrix, p: IntervalVector) -> IntervalVec
     IntervalVector { x, y, z }
 }
 
-// The same over a box of points, with m the refusal number met before; refused with 5 where an end isn't finite. Accuracy: encloses.
-pub fn transform_point_enclosure(m: u8, a: IntervalMatrix, p: IntervalVector) -> JudgedVector
-    ensures value { result ≡ Pose-enclose_transform_point m a p }
+// The same over a box of points; refused with 5 where an end isn't finite. Accuracy: encloses.
+pub fn transform_point_enclosure(
+    a: IntervalMatrix,
+    p: IntervalVector,
+) -> Result<IntervalVector, Refusal>
+    ensures value { numbered result ≡ JudgedVector-outcome (Pose-enclose_transform_point 0 a p) }
 {
     let vector = transform_point_unjudged(a, p);
     let ends = pose_ends::matrix_ends_sum(a)
         + pose_ends::vector_ends_sum(p)
         + pose_ends::vector_ends_sum(vector);
     if float32::is_finite(ends) {
-        JudgedVector { vector, refusal: m }
+        Ok(vector)
     } else {
-        pose_judged::transform_point_enclosure(m, a, p)
+        pose_judged::transform_point_enclosure(a, p)
     }
 }

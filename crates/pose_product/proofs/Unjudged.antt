@@ -16,8 +16,8 @@ use Rattle.interval_unjudged.proofs.Unjudged.{all_append, program-unjudged}
 use Rattle.pose_steps.specs.declared.IntervalRow.{IntervalRow}
 use Rattle.pose_steps.specs.declared.IntervalMatrix.{IntervalMatrix}
 use Rattle.pose_steps.specs.declared.IntervalVector.{IntervalVector}
-use Rattle.pose_steps.specs.declared.JudgedRow.{JudgedRow}
-use Rattle.pose_steps.specs.declared.JudgedMatrix.{JudgedMatrix}
+use Rattle.pose_steps.specs.Judged.{JudgedRow}
+use Rattle.pose_steps.specs.Judged.{JudgedMatrix}
 use Rattle.pose_steps.specs.Stages.{mul_row_stage}
 use Rattle.pose_steps.specs.Enclose.{IntervalRow-list, IntervalMatrix-list, JudgedRow-of, Pose-enclose_mul_row, Pose-enclose_mul, IntervalMatrix-translation}
 use Rattle.pose_ends.specs.means.Ends.{IntervalMatrix-ends_sum}

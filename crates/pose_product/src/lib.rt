@@ -3,13 +3,16 @@
 #![tactic(auto)]
 
 ghost use Rattle.std.specs.Prelude.{◌≡◌};
+ghost use Rattle.interval.specs.refusal.Number.{numbered};
 ghost use Rattle.pose_steps.specs.matrix4x4.Rows.{Matrix4x4-to_rows, Matrix4x4-from_rows};
 ghost use Rattle.pose_steps.specs.Pose.{Pose-mul_row, Pose-mul};
+ghost use Rattle.pose_steps.specs.Judged.{JudgedMatrix-outcome};
 ghost use Rattle.pose_steps.specs.Enclose.{Pose-enclose_mul, IntervalMatrix-translation};
 ghost use Rattle.pose_product.specs.means.Unjudged.{Pose-unjudged_mul_row, Pose-unjudged_mul, IntervalVector-times, Pose-translated_column};
 
 use interval::Interval;
-use pose_steps::{IntervalMatrix, IntervalRow, IntervalVector, JudgedMatrix};
+use pose_steps::{IntervalMatrix, IntervalRow, IntervalVector};
+use refusal::Refusal;
 
 // A row of the first matrix by the rows of the second, whose bottom row is taken as 0, 0, 0, 1.
 fn mul_row(a: [f32; 4], b: [[f32; 4]; 4]) -> [f32; 4]
@@ -88,9 +91,9 @@ fn mul_row_unjudged(a: IntervalRow, b: IntervalMatrix) -> IntervalRow
     IntervalRow { c0, c1, c2, c3 }
 }
 
-// The same in intervals, with m the refusal number met before; refused with 5 where an end isn't finite. Accuracy: encloses.
-pub fn mul_enclosure(m: u8, a: IntervalMatrix, b: IntervalMatrix) -> JudgedMatrix
-    ensures value { result ≡ Pose-enclose_mul m a b }
+// The same in intervals; refused with 5 where an end isn't finite. Accuracy: encloses.
+pub fn mul_enclosure(a: IntervalMatrix, b: IntervalMatrix) -> Result<IntervalMatrix, Refusal>
+    ensures value { numbered result ≡ JudgedMatrix-outcome (Pose-enclose_mul 0 a b) }
 {
     let r0 = mul_row_unjudged(a.r0, b);
     let r1 = mul_row_unjudged(a.r1, b);
@@ -100,9 +103,9 @@ pub fn mul_enclosure(m: u8, a: IntervalMatrix, b: IntervalMatrix) -> JudgedMatri
         + pose_ends::matrix_ends_sum(b)
         + pose_ends::matrix_ends_sum(matrix);
     if float32::is_finite(ends) {
-        JudgedMatrix { matrix, refusal: m }
+        Ok(matrix)
     } else {
-        pose_judged::mul_enclosure(m, a, b)
+        pose_judged::mul_enclosure(a, b)
     }
 }
 
@@ -241,21 +244,18 @@ fn translated(v: IntervalVector, b: IntervalMatrix) -> IntervalMatrix
     IntervalMatrix { r0, r1, r2 }
 }
 
-// The product of the matrix that adds v to a point, and b, with m the refusal number met before; refused with 5 where an end isn't finite. Accuracy: encloses.
-pub fn translate_enclosure(m: u8, v: IntervalVector, b: IntervalMatrix) -> JudgedMatrix
-    ensures value { result ≡ Pose-enclose_mul m (IntervalMatrix-translation v) b }
+// The product of the matrix that adds v to a point, and b; refused with 5 where an end isn't finite. Accuracy: encloses.
+pub fn translate_enclosure(v: IntervalVector, b: IntervalMatrix) -> Result<IntervalMatrix, Refusal>
+    ensures value { numbered result ≡ JudgedMatrix-outcome (Pose-enclose_mul 0 (IntervalMatrix-translation v) b) }
 {
-    let a = translation_matrix(v);
+    let translate = translation_matrix(v);
     let product = translated(v, b);
-    let ends = pose_ends::matrix_ends_sum(a)
+    let ends = pose_ends::matrix_ends_sum(translate)
         + pose_ends::matrix_ends_sum(b)
         + pose_ends::matrix_ends_sum(product);
     if float32::is_finite(ends) {
-        JudgedMatrix {
-            matrix: product,
-            refusal: m,
-        }
+        Ok(product)
     } else {
-        pose_judged::mul_enclosure(m, a, b)
+        pose_judged::mul_enclosure(translate, b)
     }
 }

@@ -3,15 +3,18 @@
 #![tactic(auto)]
 
 ghost use Rattle.std.specs.Prelude.{◌≡◌};
+ghost use Rattle.interval.specs.refusal.Number.{numbered};
 ghost use Rattle.pose_steps.specs.Pose.{Pose-rotation};
+ghost use Rattle.pose_steps.specs.Judged.{JudgedMatrix-outcome};
 ghost use Rattle.pose_steps.specs.Enclose.{Pose-enclose_rotation};
 ghost use Rattle.pose_rotation.specs.means.Unjudged.{Products-of, Products-ends_sum, Pose-unjudged_rotation};
 
 use interval::Interval;
 use interval_unjudged::ends_sum;
 use matrix4x4::Matrix4x4;
-use pose_steps::{IntervalMatrix, IntervalQuaternion, IntervalRow, JudgedMatrix};
+use pose_steps::{IntervalMatrix, IntervalQuaternion, IntervalRow};
 use quaternion::Quaternion;
+use refusal::Refusal;
 
 // The products of two components each.
 #[derive(Clone, Copy)]
@@ -149,9 +152,9 @@ fn rotation_unjudged(p: Products) -> IntervalMatrix
     IntervalMatrix { r0, r1, r2 }
 }
 
-// The same in intervals, with m the refusal number met before; refused with 5 where an end isn't finite. Accuracy: encloses.
-pub fn rotation_enclosure(m: u8, q: IntervalQuaternion) -> JudgedMatrix
-    ensures value { result ≡ Pose-enclose_rotation m q }
+// The same in intervals; refused with 5 where an end isn't finite. Accuracy: encloses.
+pub fn rotation_enclosure(q: IntervalQuaternion) -> Result<IntervalMatrix, Refusal>
+    ensures value { numbered result ≡ JudgedMatrix-outcome (Pose-enclose_rotation 0 q) }
 {
     let p = products_unjudged(q);
     let matrix = rotation_unjudged(p);
@@ -159,8 +162,8 @@ pub fn rotation_enclosure(m: u8, q: IntervalQuaternion) -> JudgedMatrix
         + products_ends_sum(p)
         + pose_ends::matrix_ends_sum(matrix);
     if float32::is_finite(ends) {
-        JudgedMatrix { matrix, refusal: m }
+        Ok(matrix)
     } else {
-        pose_judged::rotation_enclosure(m, q)
+        pose_judged::rotation_enclosure(q)
     }
 }

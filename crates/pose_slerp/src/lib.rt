@@ -5,7 +5,9 @@
 #![tactic(auto)]
 
 ghost use Rattle.std.specs.Prelude.{◌≡◌};
+ghost use Rattle.interval.specs.refusal.Number.{numbered};
 ghost use Rattle.pose_steps.specs.Pose.{PoseConstants-new, Pose-slerp_near, Pose-slerp_far, Pose-slerp};
+ghost use Rattle.pose_steps.specs.Judged.{JudgedQuaternion-outcome};
 ghost use Rattle.pose_steps.specs.Enclose.{IntervalQuaternion-point, Pose-enclose_slerp_near, Pose-enclose_slerp_far, Pose-enclose_slerp};
 ghost use Rattle.interval.specs.Interval.{Interval-point};
 ghost use Rattle.pose_slerp.specs.means.Unjudged.{Perpendicular-of, Quaternion-turned, IntervalQuaternion-combination};
@@ -13,8 +15,9 @@ ghost use Rattle.pose_slerp.specs.means.Unjudged.{IntervalQuaternion-squared, In
 
 use interval::Interval;
 use interval_unjudged::ends_sum;
-use pose_steps::{IntervalQuaternion, JudgedQuaternion, PoseConstants};
+use pose_steps::{IntervalQuaternion, PoseConstants};
 use quaternion::{Quaternion, SLERP_THRESHOLD};
+use refusal::Refusal;
 use vector3::Vector3f;
 
 // The unit quaternion that `slerp` turns the first one to, and the length that it was divided by.
@@ -104,10 +107,10 @@ pub fn slerp(a: PoseConstants, t: f32) -> Quaternion
 fn quaternion_point(q: Quaternion) -> IntervalQuaternion
     ensures value { result ≡ IntervalQuaternion-point q }
 {
-    let x = Interval::point(q.v.x);
-    let y = Interval::point(q.v.y);
-    let z = Interval::point(q.v.z);
-    let w = Interval::point(q.w);
+    let x = Interval::from(q.v.x);
+    let y = Interval::from(q.v.y);
+    let z = Interval::from(q.v.z);
+    let w = Interval::from(q.w);
     IntervalQuaternion { x, y, z, w }
 }
 
@@ -160,10 +163,14 @@ fn quotient_unjudged(q: IntervalQuaternion, n: Interval) -> IntervalQuaternion
     IntervalQuaternion { x, y, z, w }
 }
 
-// Linear slerp over an interval of t, with m the refusal number met before; refused with 5 where an end isn't finite, and with 10 where the low end of the
-// squared length is zero or below. Accuracy: encloses.
-pub fn slerp_near_enclosure(m: u8, q1: Quaternion, q2: Quaternion, t: Interval) -> JudgedQuaternion
-    ensures value { result ≡ Pose-enclose_slerp_near m (IntervalQuaternion-point q1) (IntervalQuaternion-point q2) t }
+// Linear slerp over an interval of t; refused with 5 where an end isn't finite, and with 10 where the low end of the squared length is zero or below.
+// Accuracy: encloses.
+pub fn slerp_near_enclosure(
+    q1: Quaternion,
+    q2: Quaternion,
+    t: Interval,
+) -> Result<IntervalQuaternion, Refusal>
+    ensures value { numbered result ≡ JudgedQuaternion-outcome (Pose-enclose_slerp_near 0 (IntervalQuaternion-point q1) (IntervalQuaternion-point q2) t) }
 {
     let one = Interval {
         low: 1.0,
@@ -180,14 +187,11 @@ pub fn slerp_near_enclosure(m: u8, q1: Quaternion, q2: Quaternion, t: Interval) 
         + pose_ends::quaternion_ends_sum(q)
         + pose_ends::quaternion_ends_sum(quaternion);
     if float32::is_finite(ends) & (0.0 < n.low) & (0.0 < n.high) {
-        JudgedQuaternion {
-            quaternion,
-            refusal: m,
-        }
+        Ok(quaternion)
     } else {
         let a = quaternion_point(q1);
         let b = quaternion_point(q2);
-        pose_judged::slerp_near_enclosure(m, a, b, t)
+        pose_judged::slerp_near_enclosure(a, b, t)
     }
 }
 
@@ -211,13 +215,13 @@ pub fn perpendicular_to(q1: Quaternion, q2: Quaternion, cos_theta: f32) -> Perpe
 
 // slerp by the angle over an interval of t, with every interval judged, and refused as linear slerp is.
 // Accuracy: encloses, for an angle from 0 to a quarter turn and t from 0 to 1.
-pub fn slerp_far_enclosure(m: u8, a: PoseConstants, t: Interval) -> JudgedQuaternion
-    ensures value { result ≡ Pose-enclose_slerp_far m (IntervalQuaternion-point a.r0)
-        (IntervalQuaternion-point a.r1) (Interval-point a.cos_theta) (Interval-point a.theta) t }
+pub fn slerp_far_enclosure(a: PoseConstants, t: Interval) -> Result<IntervalQuaternion, Refusal>
+    ensures value { numbered result ≡ JudgedQuaternion-outcome (Pose-enclose_slerp_far 0 (IntervalQuaternion-point a.r0)
+        (IntervalQuaternion-point a.r1) (Interval-point a.cos_theta) (Interval-point a.theta) t) }
 {
     let p = quaternion_point(a.r0);
     let q = quaternion_point(a.r1);
-    let cos_theta = Interval::point(a.cos_theta);
-    let theta = Interval::point(a.theta);
-    pose_judged::slerp_far_enclosure(m, p, q, cos_theta, theta, t)
+    let cos_theta = Interval::from(a.cos_theta);
+    let theta = Interval::from(a.theta);
+    pose_judged::slerp_far_enclosure(p, q, cos_theta, theta, t)
 }

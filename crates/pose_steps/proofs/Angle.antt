@@ -23,7 +23,7 @@ use Rattle.quaternion.specs.declared.Quaternion.{Quaternion}
 use Rattle.quaternion.specs.Quaternion.{Quaternion-dot}
 use Rattle.interval.specs.declared.Interval.{Interval}
 use Rattle.unit_interval.specs.Unit.{unit_interval}
-use Rattle.interval.specs.declared.Judged.{Judged}
+use Rattle.interval.specs.Judged.{Judged}
 use Rattle.interval.specs.Interval.{Interval-point, Interval-new, Interval-hull, Interval-of_four}
 use Rattle.interval.specs.Contains.{Subset, Finite}
 use Rattle.interval.specs.Enclosure.{are_angles, not_finite, Judged-judge, Interval-mul_enclosure, Judged-mul_enclosure}

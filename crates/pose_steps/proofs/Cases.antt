@@ -1,6 +1,7 @@
 -- Cases of the definitions, by computing. A translation by 1 along x: half way it moves the origin by a half; over
 -- all of dt near slerp meets a squared length that starts at zero, and over the first half it does not. A swing: a
 -- sixth of a turn about z, with a stretch along z and a translation; the numbers are pbrt-rust's own answers.
+use Rattle.std.specs.Prelude.{Ok}
 use mathlib.Core.Path.{◌≡◌, refl}
 use mathlib.Core.Bool.{false}
 use mathlib.Core.List.{[], ◌∷◌}
@@ -14,13 +15,12 @@ use Rattle.matrix4x4.specs.Rows.{positive_zero}
 use Rattle.matrix4x4.specs.IsAffine.{bottom_row}
 use Rattle.rotation.specs.bounds3.declared.Point3f.{Point3f}
 use Rattle.rotation.specs.transform.Transform.{translation}
-use Rattle.rotation.specs.transform.declared.PointAnswer.TheVariants.{Moved}
 use Rattle.interval.specs.declared.Interval.{Interval}
 use Rattle.interval.specs.Interval.{Interval-point}
 use Rattle.unit_interval.specs.Unit.{unit_interval}
 use Rattle.pose_steps.specs.declared.PoseConstants.{PoseConstants}
 use Rattle.pose_steps.specs.declared.IntervalVector.{IntervalVector}
-use Rattle.pose_steps.specs.declared.JudgedVector.{JudgedVector}
+use Rattle.pose_steps.specs.Judged.{JudgedVector}
 use Rattle.pose_steps.specs.Pose.{Pose-moved_point}
 use Rattle.pose_steps.specs.Enclose.{Pose-enclose_point}
 use Rattle.pose_steps.specs.means.Computing.{computing}
@@ -57,7 +57,7 @@ no_rotation = record { v = vector 0 0 0; w = one }
 abbrev along : PoseConstants
 along = record { t0 = vector 0 0 0; t1 = vector 0x3f800000 0 0; r0 = no_rotation; r1 = no_rotation; cos_theta = one; theta = positive_zero; rigid = false }
 
-along-half : Pose-moved_point along identity identity half (point 0 0 0) ≡ Moved (point 0x3f000000 0 0)
+along-half : Pose-moved_point along identity identity half (point 0 0 0) ≡ Ok (point 0x3f000000 0 0)
 unfolding computing
 along-half = refl
 
@@ -93,12 +93,12 @@ stretch =
     }
 
 swing-quarter : Pose-moved_point swing identity stretch (bits 0x3e800000)
-    (point 0x3f800000 0x40000000 0xbf000000) ≡ Moved (point 0x3f72c300 0x401433f3 0xbf500000)
+    (point 0x3f800000 0x40000000 0xbf000000) ≡ Ok (point 0x3f72c300 0x401433f3 0xbf500000)
 unfolding computing
 swing-quarter = refl
 
 swing-seventh-tenth : Pose-moved_point swing identity stretch (bits 0x3f333333)
-    (point 0x3f800000 0x40000000 0xbf000000) ≡ Moved (point 0x3f4e0ce2 0x402058ce 0xbfb00000)
+    (point 0x3f800000 0x40000000 0xbf000000) ≡ Ok (point 0x3f4e0ce2 0x402058ce 0xbfb00000)
 unfolding computing
 swing-seventh-tenth = refl
 

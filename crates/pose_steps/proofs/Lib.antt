@@ -1,6 +1,7 @@
 pub mod Angle
 mod Valid
 pub mod Zero
+pub mod Stands
 pub mod Rows
 pub mod Finite
 pub mod Extends

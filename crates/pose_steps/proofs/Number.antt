@@ -1,5 +1,6 @@
 -- The numbers that a slice can give: 5, and 10 of a squared length (`matrix-number`, `point-number`); one induction over the language, `program-number`.
 -- A point query between the poses gives 5 alone (`moved_point-judged`).
+use Rattle.std.specs.Prelude.{Ok, Err}
 use mathlib.Core.Path.{refl}
 use mathlib.Core.Logic.{inl, inr}
 use Prim.Native.Nat.{ℕ}
@@ -15,7 +16,6 @@ use Rattle.interval.specs.refusal.First.{first_refusal}
 use Rattle.matrix4x4.specs.declared.Matrix4x4.{Matrix4x4}
 use Rattle.rotation.specs.bounds3.declared.Point3f.{Point3f}
 use Rattle.rotation.specs.bounds3.Finite.{Point3f-is_finite}
-use Rattle.rotation.specs.transform.declared.PointAnswer.TheVariants.{Moved, Refused}
 use Rattle.rotation.specs.transform.Answer.{PointAnswer-Judged}
 use Rattle.rotation.proofs.transform.Judged.{origin-finite}
 use Rattle.interval.specs.declared.Interval.{Interval}
@@ -179,6 +179,6 @@ moved_point-judged a s0 s1 dt p =
     let z = eqb pose.refusal 0 in
     go q (z && Point3f-is_finite q) (and_r z (Point3f-is_finite q))
   where
-    go : (q : Point3f) (b : Bool) → (T b → T (Point3f-is_finite q)) → PointAnswer-Judged (cond b (Moved q) (Refused 5))
+    go : (q : Point3f) (b : Bool) → (T b → T (Point3f-is_finite q)) → PointAnswer-Judged (cond b (Ok q) (Err 5))
     go q true f = record { number = inl refl; values = f tt }
     go q false f = record { number = inr refl; values = origin-finite }

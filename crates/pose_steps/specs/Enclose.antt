@@ -16,10 +16,10 @@ use Rattle.pose_steps.specs.declared.IntervalVector.{IntervalVector}
 use Rattle.pose_steps.specs.declared.IntervalQuaternion.{IntervalQuaternion}
 use Rattle.pose_steps.specs.declared.IntervalRow.{IntervalRow}
 use Rattle.pose_steps.specs.declared.IntervalMatrix.{IntervalMatrix}
-use Rattle.pose_steps.specs.declared.JudgedVector.{JudgedVector}
-use Rattle.pose_steps.specs.declared.JudgedQuaternion.{JudgedQuaternion}
-use Rattle.pose_steps.specs.declared.JudgedRow.{JudgedRow}
-use Rattle.pose_steps.specs.declared.JudgedMatrix.{JudgedMatrix}
+use Rattle.pose_steps.specs.Judged.{JudgedVector}
+use Rattle.pose_steps.specs.Judged.{JudgedQuaternion}
+use Rattle.pose_steps.specs.Judged.{JudgedRow}
+use Rattle.pose_steps.specs.Judged.{JudgedMatrix}
 use Rattle.pose_steps.specs.Stages.{translation_stage, slerp_near_stage, slerp_far_stage, scale_row_stage, rotation_stage, mul_row_stage, transform_point_stage}
 use Rattle.pose_steps.specs.Pose.{is_near, Matrix4x4-identity}
 

@@ -1,5 +1,6 @@
 pub mod Stages
 pub mod Pose
+pub mod Judged
 pub mod Enclose
 pub mod Promise
 pub mod Composition

@@ -1,7 +1,7 @@
 -- The steps read in floats: a move's pose at dt, `Pose-matrix`, and a point that it moves, `Pose-moved_point`, stage by stage and in sequence. Definitions only.
 -- What is judged is what document 01 calls finished: the quaternion, the scale, the matrices, the products and the moved point; one that isn't finite is 5.
 -- cos_theta, theta and the kind, rigid or not, are the move's constants, worked out once (`PoseConstants-new`).
-use Rattle.std.specs.Prelude.{Bool, true, false, ◌&&◌, cond, List, [], ◌∷◌, ◌++◌, eqb, Float}
+use Rattle.std.specs.Prelude.{Bool, true, false, ◌&&◌, cond, List, [], ◌∷◌, ◌++◌, eqb, Float, Ok, Err}
 use Rattle.std.specs.Float.Ieee.{lt, neg}
 use Rattle.matrix4x4.specs.float32.Operators.{one}
 use Rattle.matrix4x4.specs.float32.Clamp.{clamp}
@@ -19,8 +19,7 @@ use Rattle.rotation.specs.bounds3.declared.Point3f.{Point3f}
 use Rattle.rotation.specs.bounds3.List.{Point3f-list, Point3f-of_list}
 use Rattle.rotation.specs.bounds3.Finite.{Point3f-is_finite}
 use Rattle.rotation.specs.transform.Transform.{translation}
-use Rattle.rotation.specs.transform.declared.PointAnswer.{PointAnswer}
-use Rattle.rotation.specs.transform.declared.PointAnswer.TheVariants.{Moved, Refused}
+use Rattle.rotation.specs.transform.Answer.{PointAnswer}
 use Rattle.formula.specs.Eval.{Program-eval}
 use Rattle.pose_steps.specs.declared.PoseConstants.{PoseConstants}
 use Rattle.pose_steps.specs.declared.PoseAnswer.{PoseAnswer}
@@ -145,4 +144,4 @@ unfoldable pub Pose-moved_point : PoseConstants → Matrix4x4 → Matrix4x4 → 
 Pose-moved_point a s0 s1 dt p =
     let pose = Pose-matrix a s0 s1 dt in
     let q = Pose-transform_point pose.m p in
-    cond (eqb pose.refusal 0 && Point3f-is_finite q) (Moved q) (Refused 5)
+    cond (eqb pose.refusal 0 && Point3f-is_finite q) (Ok q) (Err 5)

@@ -1,6 +1,6 @@
 -- What a move's constants have to be for a slice's promises, and the words for vectors and matrices. Definitions only.
 -- A built move's constants are finite, and the angle between its rotations is at most a quarter turn, since the second was turned to the first's side.
-use Rattle.std.specs.Prelude.{◌≡◌, ◌⊎◌, ℕ, zero, suc, List, [], ◌∷◌, get_or, T, Float}
+use Rattle.std.specs.Prelude.{◌≡◌, ◌⊎◌, ℕ, zero, suc, List, [], ◌∷◌, get_or, T, Float, Ok}
 use Rattle.std.specs.Float.Ieee.Scale.{finite}
 use Rattle.matrix4x4.specs.rounding.Order.{◌≼◌}
 use Rattle.interval.specs.trig.Range.{quarter_turn_float}
@@ -9,8 +9,7 @@ use Rattle.matrix4x4.specs.Rows.{Row, Matrix4x4-to_rows, positive_zero}
 use Rattle.rotation.specs.bounds3.declared.Point3f.{Point3f}
 use Rattle.rotation.specs.bounds3.declared.Bounds3f.{Bounds3f}
 use Rattle.rotation.specs.bounds3.List.{Point3f-list}
-use Rattle.rotation.specs.transform.declared.PointAnswer.{PointAnswer}
-use Rattle.rotation.specs.transform.declared.PointAnswer.TheVariants.{Moved}
+use Rattle.rotation.specs.transform.Answer.{PointAnswer}
 use Rattle.interval.specs.declared.Interval.{Interval}
 use Rattle.interval.specs.Contains.{Encloses, Refines}
 use Rattle.formula.specs.Enclose.{enclosure}
@@ -20,10 +19,10 @@ use Rattle.pose_steps.specs.declared.PoseAnswer.{PoseAnswer}
 use Rattle.pose_steps.specs.declared.IntervalVector.{IntervalVector}
 use Rattle.pose_steps.specs.declared.IntervalRow.{IntervalRow}
 use Rattle.pose_steps.specs.declared.IntervalMatrix.{IntervalMatrix}
-use Rattle.pose_steps.specs.declared.JudgedVector.{JudgedVector}
-use Rattle.pose_steps.specs.declared.JudgedQuaternion.{JudgedQuaternion}
-use Rattle.pose_steps.specs.declared.JudgedRow.{JudgedRow}
-use Rattle.pose_steps.specs.declared.JudgedMatrix.{JudgedMatrix}
+use Rattle.pose_steps.specs.Judged.{JudgedVector}
+use Rattle.pose_steps.specs.Judged.{JudgedQuaternion}
+use Rattle.pose_steps.specs.Judged.{JudgedRow}
+use Rattle.pose_steps.specs.Judged.{JudgedMatrix}
 use Rattle.pose_steps.specs.Pose.{Vector3f-list, Quaternion-list, three, entries}
 use Rattle.pose_steps.specs.Enclose.{IntervalVector-list, IntervalQuaternion-list, IntervalRow-list, IntervalRow-three}
 
@@ -90,7 +89,7 @@ pub record EnclosesPose (M : IntervalMatrix) (r : PoseAnswer) : Type 0 where
 -- A point is answered, and it lies in the box.
 pub record EnclosesAnswer (P : IntervalVector) (r : PointAnswer) : Type 0 where
   pub point : Point3f
-  pub moved : r ≡ Moved point
+  pub moved : r ≡ Ok point
   pub encloses : Pairwise Encloses (IntervalVector-list P) (Point3f-list point)
 
 -- ---- where the wider one was not refused, neither is the narrower one, and each interval lies in its counterpart

@@ -57,28 +57,3 @@ pub struct IntervalMatrix {
     pub r1: IntervalRow,
     pub r2: IntervalRow,
 }
-
-// Each beside the first refusal number that was met, 0 for none.
-#[derive(Clone, Copy)]
-pub struct JudgedVector {
-    pub vector: IntervalVector,
-    pub refusal: u8,
-}
-
-#[derive(Clone, Copy)]
-pub struct JudgedQuaternion {
-    pub quaternion: IntervalQuaternion,
-    pub refusal: u8,
-}
-
-#[derive(Clone, Copy)]
-pub struct JudgedRow {
-    pub row: IntervalRow,
-    pub refusal: u8,
-}
-
-#[derive(Clone, Copy)]
-pub struct JudgedMatrix {
-    pub matrix: IntervalMatrix,
-    pub refusal: u8,
-}

@@ -8,6 +8,7 @@ ghost use Rattle.quaternion.specs.Quaternion.{Quaternion-sub, Quaternion-neg, Qu
 ghost use Rattle.quaternion.specs.IsFinite.{Quaternion-is_finite};
 ghost use Rattle.quaternion.specs.Slerp.{slerp_near, slerp_far, Quaternion-slerp};
 
+use std::ops::{Add, Div, Mul, Neg, Sub};
 use vector3::Vector3f;
 
 // slerp is linear where the dot product is above it, and a move has rotation where it is below: at 0.9995 itself neither holds.
@@ -31,47 +32,7 @@ impl Quaternion {
     pub fn normalize(self) -> Quaternion
         ensures value { result ≡ Quaternion-normalize self }
     {
-        self.div(square_root::sqrt(self.dot(self)))
-    }
-
-    // pbrt's sum, component by component. Accuracy: correctly rounded.
-    pub fn add(self, q: Quaternion) -> Quaternion
-        ensures value { result ≡ Quaternion-add self q }
-    {
-        let v = self.v.add(q.v);
-        Quaternion { v, w: self.w + q.w }
-    }
-
-    // pbrt's difference, component by component. Accuracy: correctly rounded.
-    pub fn sub(self, q: Quaternion) -> Quaternion
-        ensures value { result ≡ Quaternion-sub self q }
-    {
-        let v = self.v.sub(q.v);
-        Quaternion { v, w: self.w - q.w }
-    }
-
-    // pbrt's negative, which is the same rotation. Accuracy: exact.
-    pub fn neg(self) -> Quaternion
-        ensures value { result ≡ Quaternion-neg self }
-    {
-        let v = self.v.neg();
-        Quaternion { v, w: -self.w }
-    }
-
-    // Each component times f. Accuracy: correctly rounded.
-    pub fn mul(self, f: f32) -> Quaternion
-        ensures value { result ≡ Quaternion-mul self f }
-    {
-        let v = self.v.mul(f);
-        Quaternion { v, w: self.w * f }
-    }
-
-    // Each component divided by f. Accuracy: correctly rounded.
-    pub fn div(self, f: f32) -> Quaternion
-        ensures value { result ≡ Quaternion-div self f }
-    {
-        let v = self.v.div(f);
-        Quaternion { v, w: self.w / f }
+        self / square_root::sqrt(self.dot(self))
     }
 
     // Whether no component is a NaN or an infinity. Accuracy: exact.
@@ -86,13 +47,81 @@ impl Quaternion {
     }
 }
 
+// pbrt's sum, component by component. Accuracy: correctly rounded.
+impl Add for Quaternion {
+    type Output = Quaternion;
+
+    ghost add_gives = { λ q r s. s ≡ Quaternion-add q r };
+
+    fn add(self, q: Quaternion) -> Quaternion {
+        Quaternion {
+            v: self.v + q.v,
+            w: self.w + q.w,
+        }
+    }
+}
+
+// pbrt's difference, component by component. Accuracy: correctly rounded.
+impl Sub for Quaternion {
+    type Output = Quaternion;
+
+    ghost sub_gives = { λ q r s. s ≡ Quaternion-sub q r };
+
+    fn sub(self, q: Quaternion) -> Quaternion {
+        Quaternion {
+            v: self.v - q.v,
+            w: self.w - q.w,
+        }
+    }
+}
+
+// pbrt's negative, which is the same rotation. Accuracy: exact.
+impl Neg for Quaternion {
+    type Output = Quaternion;
+
+    ghost neg_gives = { λ q r. r ≡ Quaternion-neg q };
+
+    fn neg(self) -> Quaternion {
+        Quaternion {
+            v: -self.v,
+            w: -self.w,
+        }
+    }
+}
+
+// Each component times f. Accuracy: correctly rounded.
+impl Mul<f32> for Quaternion {
+    type Output = Quaternion;
+
+    ghost mul_gives = { λ q f r. r ≡ Quaternion-mul q f };
+
+    fn mul(self, f: f32) -> Quaternion {
+        Quaternion {
+            v: self.v * f,
+            w: self.w * f,
+        }
+    }
+}
+
+// Each component divided by f. Accuracy: correctly rounded.
+impl Div<f32> for Quaternion {
+    type Output = Quaternion;
+
+    ghost div_gives = { λ q f r. r ≡ Quaternion-div q f };
+
+    fn div(self, f: f32) -> Quaternion {
+        Quaternion {
+            v: self.v / f,
+            w: self.w / f,
+        }
+    }
+}
+
 // The straight line between the two, normalized.
 fn slerp_near(q1: Quaternion, q2: Quaternion, t: f32) -> Quaternion
     ensures value { result ≡ slerp_near q1 q2 t }
 {
-    let a = q1.mul(1.0 - t);
-    let b = q2.mul(t);
-    a.add(b).normalize()
+    (q1 * (1.0 - t) + q2 * t).normalize()
 }
 
 // The arc from q1 towards q2, through the angle between them times t.
@@ -101,11 +130,9 @@ fn slerp_far(q1: Quaternion, q2: Quaternion, t: f32, cos_theta: f32) -> Quaterni
 {
     let theta = arc_cosine::acos(float32::clamp(cos_theta, -1.0, 1.0));
     let thetap = theta * t;
-    let qperp = q2.sub(q1.mul(cos_theta)).normalize();
+    let qperp = (q2 - q1 * cos_theta).normalize();
     let angle = trig::sin_cos(thetap);
-    let a = q1.mul(angle.cos);
-    let b = qperp.mul(angle.sin);
-    a.add(b)
+    q1 * angle.cos + qperp * angle.sin
 }
 
 // pbrt's `slerp`: spherical interpolation from q1 at t = 0 to q2 at t = 1, linear where the dot product is above 0.9995; has_rotation asks for less: at 0.9995

@@ -1,5 +1,6 @@
 -- A text of floats read one by one: `read-on` and `stored_on`, one float more; `read_off` and `stored-off`, a malformed one; `fit` where the
 -- sizes fit, `few` and `other-size` where they do not.
+use Rattle.std.specs.Prelude.{Some, None}
 use Prim.Native.Nat.{ℕ, suc, ◌+◌, ◌-◌, ◌*◌, ◌≤◌, ◌<◌}
 use native.Mathlib.Numerals.{add-one}
 use native.Mathlib.Omega.{arith}
@@ -9,27 +10,26 @@ use mathlib.Core.List.{List}
 use lib.Ieee.{Float, binary32, of_bits}
 use lib.ListN.{length, set}
 use borrow.Author.Tests.{le-leb, lt-leb, eq-eqb, ne_eqb}
-use Rattle.hexadecimal.specs.declared.Word.TheVariants.{Bits, Malformed}
 use Rattle.question_lines.specs.Words.{Float-read, floats_from, stored_from, Floats-read, Floats-stored}
 
 module _ (text : List ℕ) (values : List Float) (count k : ℕ) (h : k < count) where
   one_less : count - k ≡ suc (count - (k + 1))
   one_less = omega arith
 
-  pub read-on : (bits : ℕ) → Float-read text (9 * k) ≡ Bits bits → floats_from (count - k) k text ≡ floats_from (count - (k + 1)) (k + 1) text
+  pub read-on : (bits : ℕ) → Float-read text (9 * k) ≡ Some bits → floats_from (count - k) k text ≡ floats_from (count - (k + 1)) (k + 1) text
   unfolding floats_from
   read-on bits e = ap (λ (n : ℕ). floats_from n k text) one_less ∙ rw (e, add-one k)
 
-  pub stored_on : (bits : ℕ) → Float-read text (9 * k) ≡ Bits bits
+  pub stored_on : (bits : ℕ) → Float-read text (9 * k) ≡ Some bits
       → stored_from (count - k) k text values ≡ stored_from (count - (k + 1)) (k + 1) text (set values k (of_bits binary32 bits))
   unfolding stored_from
   stored_on bits e = ap (λ (n : ℕ). stored_from n k text values) one_less ∙ rw (e, add-one k)
 
-  pub read_off : Float-read text (9 * k) ≡ Malformed → false ≡ floats_from (count - k) k text
+  pub read_off : Float-read text (9 * k) ≡ None → false ≡ floats_from (count - k) k text
   unfolding floats_from
   read_off e = sym (ap (λ (n : ℕ). floats_from n k text) one_less ∙ rw e)
 
-  pub stored-off : Float-read text (9 * k) ≡ Malformed → values ≡ stored_from (count - k) k text values
+  pub stored-off : Float-read text (9 * k) ≡ None → values ≡ stored_from (count - k) k text values
   unfolding stored_from
   stored-off e = sym (ap (λ (n : ℕ). stored_from n k text values) one_less ∙ rw e)
 

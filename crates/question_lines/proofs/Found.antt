@@ -1,24 +1,21 @@
--- The first byte b from a place on: `found-here`, it stands at the place; `found-later`, another byte stands there; `found_none`, the text has no byte there.
-use Prim.Native.Nat.{ℕ, suc, ◌+◌, ◌≤◌, ◌<◌}
-use native.Mathlib.Numerals.{add-one}
-use mathlib.Core.Path.{◌≡◌, sym}
-use mathlib.Core.List.{List}
-use lib.ListN.{length, drop, get_or}
-use lib.Seq.{drop-cons}
-use borrow.Author.Tests.{eq-eqb, ne_eqb}
-use Rattle.std.specs.Prelude.{◌≢◌}
-use Rattle.std.proofs.lemmas.List.{drop_all}
+-- The bytes before the first b: `before_is`, as many as stand in front that are another.
+use Rattle.std.proofs.Common.{ℕ, ◌≡◌, refl, sym, List, [], ◌∷◌, Bool, true, false, cond, not, nat_eq, suc, ◌+◌, arith}
+use Rattle.std.specs.List.{prefix_len}
+use borrow.Author.Tests.{eq-eqb, ne_eqb, eqb-true, eqb-false}
 use Rattle.hexadecimal.specs.Digit.{position}
 
-module _ (b : ℕ) (s : List ℕ) (at : ℕ) where
-  pub found-here : at < length s → get_or s at 0 ≡ b → position b (drop at s) ≡ 0
-  unfolding position
-  found-here h e = rw (drop-cons s at 0 h, eq-eqb b (get_or s at 0) (sym e))
+eqb-swap : (b x : ℕ) → nat_eq b x ≡ nat_eq x b
+eqb-swap b x = go (nat_eq x b) refl
+  where
+    go : (t : Bool) → nat_eq x b ≡ t → nat_eq b x ≡ t
+    go true e = eq-eqb b x (sym (eqb-true x b e))
+    go false e = ne_eqb b x (λ h. eqb-false x b e (sym h))
 
-  pub found-later : at < length s → get_or s at 0 ≢ b → position b (drop at s) ≡ suc (position b (drop (at + 1) s))
-  unfolding position
-  found-later h e = rw (drop-cons s at 0 h, ne_eqb b (get_or s at 0) (λ p. e (sym p)), add-one at)
-
-  pub found_none : length s ≤ at → position b (drop at s) ≡ 0
-  unfolding position
-  found_none h = rw (drop_all at s h)
+pub before_is : (b : ℕ) (s : List ℕ) → prefix_len (λ x. not (nat_eq x b)) s ≡ position b s
+unfolding position
+before_is b [] = refl
+before_is b (x ∷ s) = rw (eqb-swap b x, before_is b s) (go (nat_eq x b))
+  where
+    go : (t : Bool) → cond (not t) (1 + position b s) 0 ≡ cond t 0 (suc (position b s))
+    go true = refl
+    go false = omega arith

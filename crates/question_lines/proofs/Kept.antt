@@ -1,14 +1,12 @@
--- Bytes that are moved to the front of their buffer: `kept-turn`, one byte more, and `kept-front`, all of them.
-use Prim.Native.Nat.{ℕ, ◌+◌, ◌-◌, ◌≤◌, ◌<◌}
-use native.Mathlib.Nat.{add_comm, zero-add}
-use native.Mathlib.Numerals.{add-one}
+-- Bytes that are moved to the front of their buffer: `kept-front`, and `kept-none` and `kept-empty` where there are none.
+use Prim.Native.Nat.{ℕ, ◌-◌, ◌≤◌, ◌<◌}
 use native.Mathlib.Omega.{arith}
-use mathlib.Core.Path.{◌≡◌, refl, sym, ◌∙◌, ap}
+use mathlib.Core.Path.{◌≡◌, refl, sym, ◌∙◌}
 use mathlib.Core.Bool.{Bool, true, false, cond}
 use mathlib.Core.List.{List, []}
 use lib.Dec.{ltb}
-use lib.ListN.{length, take, drop, get_or, set, length-drop}
-use lib.Seq.{paste, paste-zero, paste-suc, take-nil, drop-paste, get_or-drop, take-take, take_all, length-take-le}
+use lib.ListN.{length, take, drop, length-drop}
+use lib.Seq.{paste, paste-zero, take-nil, take-take, take_all, length-take-le}
 use borrow.Author.Tests.{ltb-true, ltb-false, le-leb, lt-leb}
 use Rattle.motion_text.specs.Answer.{text_left}
 use Rattle.motion_text.proofs.Pastes.{front_fits}
@@ -28,32 +26,6 @@ lesser-bound m n = go (ltb m n) refl
     go : (t : Bool) → ltb m n ≡ t → cond t m n ≤ m
     go true e = omega arith
     go false e = ltb-false m n e
-
-module _ (d : List ℕ) (from k : ℕ) (h : from + k < length d) where
-  room : k < length (drop from d)
-  room = rw (length-drop from d) (omega arith)
-
-  kept-behind : drop k (paste d 0 (drop from d) k) ≡ drop k d
-  kept-behind =
-      ap (λ (j : ℕ). drop j (paste d 0 (drop from d) k)) (sym (zero-add k))
-      ∙ drop-paste d 0 (drop from d) k (omega arith) (omega (arith, room))
-      ∙ ap (λ (j : ℕ). drop j d) (zero-add k)
-
-  -- what has been moved stands before what is read
-  behind_moved : get_or (paste d 0 (drop from d) k) (from + k) 0 ≡ get_or (drop from d) k 0
-  behind_moved =
-      rw (add_comm from k, ← get_or-drop k (paste d 0 (drop from d) k) from 0)
-      (ap (λ (l : List ℕ). get_or l from 0) kept-behind
-      ∙ get_or-drop k d from 0
-      ∙ rw (add_comm k from) (sym (get_or-drop from d k 0)))
-
-  pub kept-turn : (o : List ℕ) → o ≡ paste d 0 (drop from d) k → set o k (get_or o (from + k) 0) ≡ paste d 0 (drop from d) (k + 1)
-  kept-turn o e =
-      ap (λ (l : List ℕ). set l k (get_or l (from + k) 0)) e
-      ∙ ap (set (paste d 0 (drop from d) k) k) behind_moved
-      ∙ ap (λ (j : ℕ). set (paste d 0 (drop from d) k) j (get_or (drop from d) k 0)) (sym (zero-add k))
-      ∙ paste-suc d 0 (drop from d) k 0 (omega arith) room
-      ∙ ap (paste d 0 (drop from d)) (sym (add-one k))
 
 -- what a function that keeps a part of a buffer gives: how many bytes, and the buffer afterwards
 abbrev pub Keeps : List ℕ → List ℕ → List ℕ → ℕ → Type 0

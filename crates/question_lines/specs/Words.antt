@@ -1,15 +1,11 @@
 -- Words of a question line: `part`, what stands between two places; `Words-position`, a word's place in a list; `Decimal-read`, a whole number below 2^64;
 -- `Decimal-read_saturated`, one of any size as 32 bits hold it; `Floats-read` and `Floats-stored`, floats with a space before each. Rests on the texts of
 -- `motion_file` and the words of `hexadecimal`.
-use Rattle.std.specs.Prelude.{ℕ, zero, suc, ◌+◌, ◌-◌, ◌*◌, ◌^◌, Bool, true, false, cond, ◌&&◌, List, [], ◌∷◌, eqb, leb, ltb, Float, length, take, drop, get_or, set}
+use Rattle.std.specs.Prelude.{ℕ, zero, suc, ◌+◌, ◌-◌, ◌*◌, ◌^◌, Bool, true, false, cond, ◌&&◌, List, [], ◌∷◌, eqb, leb, ltb, Float, length, take, drop, get_or, set, Option, Some, None}
 use Rattle.std.specs.Float.{binary32}
 use Rattle.std.specs.Float.Ieee.{of_bits}
 use Rattle.hexadecimal.specs.Word.{Word-read}
-use Rattle.hexadecimal.specs.declared.Word.{Word}
-use Rattle.hexadecimal.specs.declared.Word.TheVariants.{Bits, Malformed as NoWord}
 use Rattle.motion_text.specs.motion_file.Text.{space, split, equal}
-use Rattle.question_lines.specs.declared.Decimal.{Decimal}
-use Rattle.question_lines.specs.declared.Decimal.TheVariants.{Value, Malformed}
 
 -- the bytes from a place up to another, none where the second is no place of the text or stands before the first
 unfoldable pub part : List ℕ → ℕ → ℕ → List ℕ
@@ -31,17 +27,17 @@ appended n b = n * 10 + (b - 48)
 abbrev pub can_append : ℕ → ℕ → Bool
 can_append n b = leb 48 b && leb b 57 && ltb (appended n b) (2 ^ 64)
 
-unfoldable pub Decimal-append : ℕ → ℕ → Decimal
-Decimal-append n b = cond (can_append n b) (Value (appended n b)) Malformed
+unfoldable pub Decimal-append : ℕ → ℕ → Option ℕ
+Decimal-append n b = cond (can_append n b) (Some (appended n b)) None
 
 -- a number with digits behind it
-unfoldable pub append_all : ℕ → List ℕ → Decimal
-append_all n [] = Value n
-append_all n (b ∷ bs) = cond (can_append n b) (append_all (appended n b) bs) Malformed
+unfoldable pub append_all : ℕ → List ℕ → Option ℕ
+append_all n [] = Some n
+append_all n (b ∷ bs) = cond (can_append n b) (append_all (appended n b) bs) None
 
 -- a word of at least one digit, with any zeros in front
-unfoldable pub Decimal-read : List ℕ → Decimal
-Decimal-read word = cond (eqb (length word) 0) Malformed (append_all 0 word)
+unfoldable pub Decimal-read : List ℕ → Option ℕ
+Decimal-read word = cond (eqb (length word) 0) None (append_all 0 word)
 
 -- a number as 32 bits hold it: itself, or the greatest that they hold
 abbrev pub Decimal-saturated : ℕ → ℕ
@@ -57,27 +53,27 @@ number_from n [] = n
 number_from n (b ∷ bs) = number_from (appended n b) bs
 
 -- a word of at least one digit, with any zeros in front, as 32 bits hold its number
-unfoldable pub Decimal-read_saturated : List ℕ → Decimal
-Decimal-read_saturated word = cond (ltb 0 (length word) && are_digits word) (Value (Decimal-saturated (number_from 0 word))) Malformed
+unfoldable pub Decimal-read_saturated : List ℕ → Option ℕ
+Decimal-read_saturated word = cond (ltb 0 (length word) && are_digits word) (Some (Decimal-saturated (number_from 0 word))) None
 
 -- a space and a float's eight digits at a place
-unfoldable pub Float-read : List ℕ → ℕ → Word
-Float-read text at = cond (eqb (get_or text at 0) space) (Word-read text (at + 1)) NoWord
+unfoldable pub Float-read : List ℕ → ℕ → Option ℕ
+Float-read text at = cond (eqb (get_or text at 0) space) (Word-read text (at + 1)) None
 
 -- what follows from a word's bits, and what else where it is malformed
-abbrev pub if_bits : {A : Type 0} → Word → (ℕ → A) → A → A
-if_bits (Bits n) f a = f n
-if_bits NoWord f a = a
+abbrev pub if_some : {A : Type 0} → Option ℕ → (ℕ → A) → A → A
+if_some (Some n) f a = f n
+if_some None f a = a
 
 -- whether n floats stand in a text, the first of them its k-th
 unfoldable pub floats_from : ℕ → ℕ → List ℕ → Bool
 floats_from zero k text = true
-floats_from (suc n) k text = if_bits (Float-read text (9 * k)) (λ _. floats_from n (suc k) text) false
+floats_from (suc n) k text = if_some (Float-read text (9 * k)) (λ _. floats_from n (suc k) text) false
 
 -- the values with these floats in their places, up to the first that is malformed
 unfoldable pub stored_from : ℕ → ℕ → List ℕ → List Float → List Float
 stored_from zero k text values = values
-stored_from (suc n) k text values = if_bits (Float-read text (9 * k)) (λ bits. stored_from n (suc k) text (set values k (of_bits binary32 bits))) values
+stored_from (suc n) k text values = if_some (Float-read text (9 * k)) (λ bits. stored_from n (suc k) text (set values k (of_bits binary32 bits))) values
 
 -- a text as long as so many floats, and values that have places for them
 abbrev pub Floats-fit : List ℕ → ℕ → List Float → Bool

@@ -9,30 +9,15 @@ ghost use Rattle.motion_text.specs.Answer.{text_left};
 ghost use Rattle.question_lines.specs.Words.{part as Words-part, Words-position, Decimal-append, Decimal-read, Decimal-saturated};
 ghost use Rattle.question_lines.specs.Words.{Decimal-read_saturated, Float-read, Floats-read, Floats-stored};
 
-use hexadecimal::Word;
 use std::io;
 use std::io::Read;
-
-// What a word says.
-#[derive(Clone, Copy)]
-pub enum Decimal {
-    Value(u64),
-    Malformed,
-}
 
 // The place of the first byte b of a text from a place on, the text's end where none follows, and the place itself beyond that. Accuracy: exact.
 pub fn find(text: &[u8], from: usize, b: u8) -> usize
     ensures value { result ≡ from + bytes_before b (drop from text.now) }
     ensures upper_bound { result ≤ max from (length text.now) }
 {
-    let mut at = from;
-    while at < text.len() {
-        if text[at] == b {
-            return at;
-        }
-        at += 1;
-    }
-    at
+    from + text.iter().skip(from).take_while(|x| **x != b).count()
 }
 
 // Whether two texts are the same bytes. Accuracy: exact.
@@ -60,58 +45,48 @@ pub fn position(word: &[u8], list: &[u8]) -> usize
 }
 
 // A whole number below 2^64, with any zeros in front. Accuracy: exact.
-pub fn read_decimal(word: &[u8]) -> Decimal
+pub fn read_decimal(word: &[u8]) -> Option<u64>
     ensures value { result ≡ Decimal-read word.now }
 {
     if word.len() == 0 {
-        return Decimal::Malformed;
+        return None;
     }
     let mut value = 0;
-    let mut i = 0;
-    while i < word.len() {
-        match append_digit(value, word[i]) {
-            Decimal::Value(n) => value = n,
-            Decimal::Malformed => return Decimal::Malformed,
-        }
-        i += 1;
+    for b in word {
+        value = append_digit(value, *b)?;
     }
-    Decimal::Value(value)
+    Some(value)
 }
 
 // A whole number of any number of digits, as 32 bits hold it (`saturated`), with any zeros in front. Accuracy: exact.
-pub fn read_saturated(word: &[u8]) -> Decimal
+pub fn read_saturated(word: &[u8]) -> Option<u64>
     ensures value { result ≡ Decimal-read_saturated word.now }
 {
     if word.len() == 0 {
-        return Decimal::Malformed;
+        return None;
     }
     let mut value = 0;
-    let mut i = 0;
-    while i < word.len() {
-        match append_digit(value, word[i]) {
-            Decimal::Value(n) => value = saturated(n) as u64,
-            Decimal::Malformed => return Decimal::Malformed,
-        }
-        i += 1;
+    for b in word {
+        value = saturated(append_digit(value, *b)?) as u64;
     }
-    Decimal::Value(value)
+    Some(value)
 }
 
 // The number n with a digit behind it.
-fn append_digit(n: u64, b: u8) -> Decimal
+fn append_digit(n: u64, b: u8) -> Option<u64>
     ensures value { result ≡ Decimal-append n b }
 {
     if b < 48 {
-        return Decimal::Malformed;
+        return None;
     }
     if 57 < b {
-        return Decimal::Malformed;
+        return None;
     }
     let d = (b - 48) as u64;
     if (u64::MAX - d) / 10 < n {
-        return Decimal::Malformed;
+        return None;
     }
-    Decimal::Value(n * 10 + d)
+    Some(n * 10 + d)
 }
 
 // Whether a text is `count` floats, a space before each. `values` then starts with them; where one is malformed, with those before it. Accuracy: exact.
@@ -128,24 +103,22 @@ pub fn read_floats(text: &[u8], count: usize, values: &mut [f32]) -> bool
     if text.len() != 9 * count {
         return false;
     }
-    let mut k = 0;
-    while k < count {
+    for k in 0..count {
         match read_float(text, 9 * k) {
-            Word::Bits(bits) => values[k] = hexadecimal::float_of_bits(bits),
-            Word::Malformed => return false,
+            Some(bits) => values[k] = hexadecimal::float_of_bits(bits),
+            None => return false,
         }
-        k += 1;
     }
     true
 }
 
 // A space and a float.
-fn read_float(text: &[u8], at: usize) -> Word
+fn read_float(text: &[u8], at: usize) -> Option<u32>
     requires { at < length text.now }
     ensures { result ≡ Float-read text.now at }
 {
     if text[at] != b' ' {
-        return Word::Malformed;
+        return None;
     }
     hexadecimal::read_word(text, at + 1)
 }
@@ -186,9 +159,7 @@ pub fn keep(input: &mut [u8], from: usize, to: usize, most: usize) -> usize
         return 0;
     }
     let size = least(to - from, most);
-    for k in 0..size {
-        input[k] = input[from + k];
-    }
+    input.copy_within(from..from + size, 0);
     size
 }
 

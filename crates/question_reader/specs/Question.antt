@@ -3,9 +3,7 @@
 use Rattle.std.specs.Prelude.{ℕ, zero, suc, ◌+◌, ◌-◌, ◌/◌, ◌%◌, ◌^◌, Bool, false, cond, ◌&&◌, List, [], eqb, leb, ltb, Float, length, drop, get_or, set}
 use Rattle.question_lines.specs.hexadecimal.Digit.{position}
 use Rattle.question_lines.specs.motion_file.Text.{ascii, space}
-use Rattle.question_lines.specs.Words.{part, Words-position, Decimal-read, Floats-read, Floats-stored}
-use Rattle.question_lines.specs.declared.Decimal.{Decimal}
-use Rattle.question_lines.specs.declared.Decimal.TheVariants.{Value, Malformed}
+use Rattle.question_lines.specs.Words.{part, Words-position, Decimal-read, Floats-read, Floats-stored, if_some}
 use Rattle.question_reader.specs.declared.Question.{Question}
 use Rattle.question_reader.specs.declared.Kind.{Kind}
 
@@ -21,21 +19,16 @@ word_end line at = at + position space (drop at line)
 abbrev pub word_at : List ℕ → ℕ → List ℕ
 word_at line at = part line at (word_end line at)
 
--- what follows from a number, and what else where a word is none
-abbrev pub if_value : {A : Type 0} → Decimal → (ℕ → A) → A → A
-if_value (Value n) f a = f n
-if_value Malformed f a = a
-
 -- the place behind n whole numbers, a space before each; none where one is malformed
 unfoldable pub decimals_end : ℕ → List ℕ → ℕ → ℕ
 decimals_end zero line at = at
-decimals_end (suc n) line at = if_value (Decimal-read (word_at line (at + 1))) (λ _. decimals_end n line (word_end line (at + 1))) no_place
+decimals_end (suc n) line at = if_some (Decimal-read (word_at line (at + 1))) (λ _. decimals_end n line (word_end line (at + 1))) no_place
 
 -- the whole numbers with these in their places from the k-th on, up to the first that is malformed
 unfoldable pub decimals_stored : ℕ → ℕ → List ℕ → ℕ → List ℕ → List ℕ
 decimals_stored zero k line at wholes = wholes
 decimals_stored (suc n) k line at wholes =
-    if_value (Decimal-read (word_at line (at + 1))) (λ v. decimals_stored n (suc k) line (word_end line (at + 1)) (set wholes k v)) wholes
+    if_some (Decimal-read (word_at line (at + 1))) (λ v. decimals_stored n (suc k) line (word_end line (at + 1)) (set wholes k v)) wholes
 
 -- no more than four
 unfoldable pub Decimals-end : ℕ → List ℕ → ℕ → ℕ

@@ -8,7 +8,7 @@ ghost use Rattle.question_lines.specs.Words.{Words-position};
 ghost use Rattle.question_reader.specs.Question.{word_end, word_at, Decimals-end, Decimals-stored, Kind-read, Shape-fits};
 ghost use Rattle.question_reader.specs.Question.{Question-none, Question-rest, rest_stored, Question-read, wholes_stored, values_stored};
 
-use question_lines::{Decimal, part, position};
+use question_lines::{part, position};
 
 // What is asked, as the place of its name, whether its word is `rigid`, and how many floats it has.
 #[derive(Clone, Copy)]
@@ -89,18 +89,16 @@ fn read_decimals(line: &[u8], at: usize, count: usize, wholes: &mut [u64; 4]) ->
         return usize::MAX;
     }
     let mut end = at;
-    let mut k = 0;
-    while k < count {
+    for k in 0..count {
         if line.len() <= end {
             return usize::MAX;
         }
         let start = end + 1;
         end = word_end(line, start);
         match question_lines::read_decimal(part(line, start, end)) {
-            Decimal::Value(n) => wholes[k] = n,
-            Decimal::Malformed => return usize::MAX,
+            Some(n) => wholes[k] = n,
+            None => return usize::MAX,
         }
-        k += 1;
     }
     end
 }

@@ -1,13 +1,13 @@
--- Floats copied one by one: `left-few`, `left-turn` and `left-all`; things of so many floats put one by one: `groups-turn` and `groups-all`.
+-- Floats copied: `left-few` and `left-enough`; things of so many floats put one by one: `groups-turn` and `groups-all`.
 use Prim.Native.Nat.{ℕ, zero, suc, ◌+◌, ◌*◌, ◌≤◌, ◌<◌}
 use native.Mathlib.Nat.{zero-add, add-zero, not-suc-le-zero, le_refl}
 use native.Mathlib.Numerals.{add-one}
 use native.Mathlib.Omega.{arith}
 use mathlib.Core.Path.{◌≡◌, refl, sym, ◌∙◌, ap}
 use mathlib.Core.List.{List, [], ◌++◌, append-nil}
-use lib.Ieee.{Float, nan}
-use lib.ListN.{length, take, drop, get_or, set, length-drop, drop_of_length-le}
-use lib.Seq.{paste, paste-suc, get_or-drop, take-length}
+use lib.Ieee.{Float}
+use lib.ListN.{length, take, drop, get_or, set, drop_of_length-le}
+use lib.Seq.{paste, paste-suc, take-length}
 use borrow.Author.Tests.{le-leb, lt-leb}
 use Rattle.question_values.specs.Places.{values_left, values_at, groups_from}
 
@@ -33,15 +33,9 @@ module _ (values : List Float) (at : ℕ) (old : List Float) where
   unfolding values_left
   left-few h = rw (lt-leb (at + length old) (length values) h)
 
-  pub left-turn : (o : List Float) (k : ℕ) → at + length old ≤ length values → k < length old → o ≡ paste old 0 (drop at values) k
-      → set o k (get_or values (at + k) nan) ≡ paste old 0 (drop at values) (k + 1)
-  left-turn o k h l e =
-      paste-next old (drop at values) o k nan (get_or values (at + k) nan) l (rw (length-drop at values) (omega arith)) e (sym (get_or-drop at values k nan))
-
-  pub left-all : (o : List Float) (k : ℕ) → at + length old ≤ length values → k ≡ length old → o ≡ paste old 0 (drop at values) k → o ≡ values_left values at old
+  pub left-enough : at + length old ≤ length values → take (length old) (drop at values) ≡ values_left values at old
   unfolding values_left
-  left-all o k h l e =
-      rw (le-leb (at + length old) (length values) h) (e ∙ ap (paste old 0 (drop at values)) l ∙ paste_all old (drop at values))
+  left-enough h = rw (le-leb (at + length old) (length values) h)
 
 module _ (size : ℕ) (values : List Float) where
   groups-at : (n k j : ℕ) → j < n → get_or (groups_from size n k values) j [] ≡ values_at size values (size * (k + j))

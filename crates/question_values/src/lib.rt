@@ -1,4 +1,4 @@
-// Values among the floats of a question, from a place on: points, rows, boxes, poses. Where there are too few floats, each is +0.
+// Values among the floats of a question, from a place on: a point, a row, a box, a pose, or many of them. Where there are too few floats, each is +0.
 #![tactic(auto)]
 
 ghost use Rattle.std.specs.Prelude.{◌≡◌, ◌*◌, length};
@@ -14,87 +14,34 @@ pub fn put_values(values: &[f32], at: usize, out: &mut [f32])
     if values.len() - out.len() < at {
         return;
     }
-    let mut k = 0;
-    while k < out.len() {
-        out[k] = values[at + k];
-        k += 1;
+    out.copy_from_slice(&values[at..at + out.len()]);
+}
+
+// As many floats as the array has places, from a place on. Accuracy: exact.
+pub fn values_at<const N: usize>(values: &[f32], at: usize) -> [f32; N]
+    ensures value { result ≡ values_at N values.now at }
+{
+    let mut out = [0.0f32; N];
+    put_values(values, at, &mut out);
+    out
+}
+
+// As many groups of floats, one after the other, as there are places for. Accuracy: exact.
+pub fn put_groups<const N: usize>(values: &[f32], groups: &mut [[f32; N]])
+    ensures left { groups.new ≡ groups_from N (length groups.old) 0 values.now }
+{
+    for (i, group) in groups.iter_mut().enumerate() {
+        *group = nth_group(values, i);
     }
 }
 
-// The three floats from a place on. Accuracy: exact.
-pub fn point_at(values: &[f32], at: usize) -> [f32; 3]
-    ensures value { result ≡ values_at 3 values.now at }
+fn nth_group<const N: usize>(values: &[f32], i: usize) -> [f32; N]
+    ensures { result ≡ values_at N values.now (N * i) }
 {
-    let mut p = [0.0f32; 3];
-    put_values(values, at, &mut p);
-    p
-}
-
-// The four floats from a place on. Accuracy: exact.
-pub fn row_at(values: &[f32], at: usize) -> [f32; 4]
-    ensures value { result ≡ values_at 4 values.now at }
-{
-    let mut r = [0.0f32; 4];
-    put_values(values, at, &mut r);
-    r
-}
-
-// The box of six floats from a place on. Accuracy: exact.
-pub fn bounds_at(values: &[f32], at: usize) -> [f32; 6]
-    ensures value { result ≡ values_at 6 values.now at }
-{
-    let mut b = [0.0f32; 6];
-    put_values(values, at, &mut b);
-    b
-}
-
-// The pose of 18 floats from a place on. Accuracy: exact.
-pub fn pose_at(values: &[f32], at: usize) -> [f32; 18]
-    ensures value { result ≡ values_at 18 values.now at }
-{
-    let mut p = [0.0f32; 18];
-    put_values(values, at, &mut p);
-    p
-}
-
-// As many boxes, six floats each, as there are places for. Accuracy: exact.
-pub fn put_boxes(values: &[f32], boxes: &mut [[f32; 6]])
-    ensures left { boxes.new ≡ groups_from 6 (length boxes.old) 0 values.now }
-{
-    let mut i = 0;
-    while i < boxes.len() {
-        boxes[i] = nth_bounds(values, i);
-        i += 1;
+    match N.checked_mul(i) {
+        Some(at) => values_at(values, at),
+        None => [0.0; N],
     }
-}
-
-fn nth_bounds(values: &[f32], i: usize) -> [f32; 6]
-    ensures { result ≡ values_at 6 values.now (6 * i) }
-{
-    if values.len() / 6 <= i {
-        return [0.0; 6];
-    }
-    bounds_at(values, 6 * i)
-}
-
-// As many poses, 18 floats each, as there are places for. Accuracy: exact.
-pub fn put_poses(values: &[f32], poses: &mut [[f32; 18]])
-    ensures left { poses.new ≡ groups_from 18 (length poses.old) 0 values.now }
-{
-    let mut i = 0;
-    while i < poses.len() {
-        poses[i] = nth_pose(values, i);
-        i += 1;
-    }
-}
-
-fn nth_pose(values: &[f32], i: usize) -> [f32; 18]
-    ensures { result ≡ values_at 18 values.now (18 * i) }
-{
-    if values.len() / 18 <= i {
-        return [0.0; 18];
-    }
-    pose_at(values, 18 * i)
 }
 
 // The floats from `from` up to `to`, none where these are no places. Accuracy: exact.

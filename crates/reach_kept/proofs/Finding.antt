@@ -54,11 +54,11 @@ module _ (moves : List Rows) (boxes : List Bounds3f) (depth : ℕ) (ticks : List
   abbrev mask_up_to : List Window → Bounds3f → ℕ
   mask_up_to ws row = mask_of (λ w. named c boxes depth w row) ws
 
-  -- The first k windows are asked, none of them refused; i is the place of the next one's later tick.
-  pub record Finding (masks : List ℕ) (k i : ℕ) : Type 0 where
-    pub place : i ≡ k + 1
-    pub rest : stage number (drop k (windows_of ticks)) ≡ stage number (windows_of ticks)
-    pub found : masks ≡ map (mask_up_to (take k (windows_of ticks))) rows ++ replicate (max_rows - length rows) 0
+  -- The first i - 1 windows are asked, none of them refused; i is the place of the next one's later tick.
+  pub record Finding (masks : List ℕ) (i : ℕ) : Type 0 where
+    pub place : 0 < i
+    pub rest : stage number (drop (i - 1) (windows_of ticks)) ≡ stage number (windows_of ticks)
+    pub found : masks ≡ map (mask_up_to (take (i - 1) (windows_of ticks))) rows ++ replicate (max_rows - length rows) 0
 
   zeros : (rs : List Bounds3f) (n : ℕ) → length rs ≤ n → replicate {A = ℕ} n 0 ≡ map (λ (r : Bounds3f). 0) rs ++ replicate (n - length rs) 0
   zeros [] n h = let e : n - 0 ≡ n = omega arith in rw e
@@ -67,11 +67,17 @@ module _ (moves : List Rows) (boxes : List Bounds3f) (depth : ℕ) (ticks : List
       let e : suc n - suc (length rs) ≡ n - length rs = omega arith in
       rw e (ap (λ (l : List ℕ). 0 ∷ l) (zeros rs n (omega (arith, h))))
 
-  pub finding-first : length rows ≤ max_rows → Finding (replicate max_rows 0) 0 1
+  pub finding-first : length rows ≤ max_rows → Finding (replicate max_rows 0) 1
   unfolding mask_of
-  finding-first few = record { place = refl; rest = refl; found = zeros rows max_rows few }
+  finding-first few = record { place = omega arith; rest = refl; found = zeros rows max_rows few }
 
-  module _ {masks : List ℕ} {k i : ℕ} (f : Finding masks k i) (h : i < length ticks) {w : Window} (e : w ≡ window_to ticks i) where
+  module _ {masks : List ℕ} {i : ℕ} (f : Finding masks i) (h : i < length ticks) {w : Window} (e : w ≡ window_to ticks i) where
+    abbrev k : ℕ
+    k = i - 1
+
+    after : i ≡ suc k
+    after = let p = f.place in omega (arith, p)
+
     abbrev ws : List Window
     ws = windows_of ticks
 
@@ -79,11 +85,7 @@ module _ (moves : List Rows) (boxes : List Bounds3f) (depth : ℕ) (ticks : List
     below = let p = f.place in let l = windows-length ticks in omega (arith, h, p, l)
 
     same : w ≡ tick_window ticks k
-    same =
-        let p = f.place in
-        let s : k + 1 ≡ suc k = omega arith in
-        let q : suc k - 1 ≡ k = omega arith in
-        e ∙ ap (window_to ticks) (p ∙ s) ∙ ap (λ (j : ℕ). record { earlier = get_or ticks j nan; later = get_or ticks (suc k) nan }) q
+    same = e ∙ ap (λ (j : ℕ). record { earlier = get_or ticks k nan; later = get_or ticks j nan }) after
 
     here : get_or ws k w ≡ w
     here = let p = f.place in window-at ticks k w (omega (arith, h, p)) ∙ sym same
@@ -107,10 +109,10 @@ module _ (moves : List Rows) (boxes : List Bounds3f) (depth : ℕ) (ticks : List
     }
 
     pub finding-next : {n : ℕ} {names : List Bool} {new : List ℕ} → n ≡ number w → n ≡ 0 → names ≡ Moves-window_names moves boxes depth w rows
-        → new ≡ added_masks k masks names → Finding new (k + 1) (i + 1)
+        → new ≡ added_masks k masks names → Finding new (i + 1)
     finding-next {n} {names} {new} a z q r =
         let none : number w ≡ 0 = sym a ∙ z in
-        let p = f.place in
+        let s : i + 1 - 1 ≡ suc k = let p = f.place in omega (arith, p) in
         let size = length-take-le k ws (let b = below in omega (arith, b)) in
         let all : take (suc k) ws ≡ take k ws ++ (w ∷ []) = take-suc ws k w below ∙ ap (λ (x : Window). take k ws ++ (x ∷ [])) here in
         let more : (row : Bounds3f) → added_mask k (mask_up_to (take k ws) row) (named c boxes depth w row) ≡ mask_up_to (take (suc k) ws) row =
@@ -120,27 +122,27 @@ module _ (moves : List Rows) (boxes : List Bounds3f) (depth : ℕ) (ticks : List
         r ∙ ap (λ (l : List ℕ). added_masks k l names) f.found ∙ ap (added_masks k _) (q ∙ accepted none)
         ∙ added-rows k (mask_up_to (take k ws)) (named c boxes depth w) rows (max_rows - length rows) in
         record {
-          place = omega (arith, p);
-          rest = rw add-one (first-left (number w) (stage number (drop (suc k) ws)) none ∙ sym split ∙ f.rest);
-          found = rw add-one (step ∙ ap (λ (g : Bounds3f → ℕ). map g rows ++ replicate (max_rows - length rows) 0) (λ j row. more row j));
+          place = omega arith;
+          rest = rw s (first-left (number w) (stage number (drop (suc k) ws)) none ∙ sym split ∙ f.rest);
+          found = rw s (step ∙ ap (λ (g : Bounds3f → ℕ). map g rows ++ replicate (max_rows - length rows) 0) (λ j row. more row j));
         }
       where
         accepted : number w ≡ 0 → Moves-window_names moves boxes depth w rows ≡ window_names moves boxes depth w rows
         accepted z = unfold Moves-window_names in rw (eq-eqb (number w) 0 z)
 
-  pub finding-last : {masks : List ℕ} {k i : ℕ} → Finding masks k i → length ticks ≤ i → Found-Is moves boxes depth ticks rows (record { masks = masks; refusal = 0 })
-  finding-last {masks} {k} {i} f h =
+  pub finding-last : {masks : List ℕ} {i : ℕ} → Finding masks i → length ticks ≤ i → Found-Is moves boxes depth ticks rows (record { masks = masks; refusal = 0 })
+  finding-last {masks} {i} f h =
       let p = f.place in
       let l = windows-length ticks in
-      let all : length (windows_of ticks) ≤ k = omega (arith, p, h, l) in
+      let all : length (windows_of ticks) ≤ i - 1 = omega (arith, p, h, l) in
       record {
         number = none all ∙ f.rest;
         masks = λ _. f.found ∙ whole all;
       }
     where
-      none : length (windows_of ticks) ≤ k → 0 ≡ stage number (drop k (windows_of ticks))
-      none l = unfold first_number in rw (drop_of_length-le (windows_of ticks) {i = k} l)
+      none : length (windows_of ticks) ≤ i - 1 → 0 ≡ stage number (drop (i - 1) (windows_of ticks))
+      none l = unfold first_number in rw (drop_of_length-le (windows_of ticks) {i = i - 1} l)
 
-      whole : length (windows_of ticks) ≤ k → map (mask_up_to (take k (windows_of ticks))) rows ++ replicate (max_rows - length rows) 0
+      whole : length (windows_of ticks) ≤ i - 1 → map (mask_up_to (take (i - 1) (windows_of ticks))) rows ++ replicate (max_rows - length rows) 0
           ≡ map (row_mask c boxes depth ticks) rows ++ replicate (max_rows - length rows) 0
-      whole l = unfold row_mask in ap (λ (ws : List Window). map (mask_up_to ws) rows ++ replicate (max_rows - length rows) 0) (take_all k (windows_of ticks) l)
+      whole l = unfold row_mask in ap (λ (ws : List Window). map (mask_up_to ws) rows ++ replicate (max_rows - length rows) 0) (take_all (i - 1) (windows_of ticks) l)

@@ -16,10 +16,9 @@ use Rattle.bounds_query.specs.matrix4x4.Rows.{Rows}
 use Rattle.bounds_query.specs.bounds3.declared.Point3f.{Point3f}
 use Rattle.bounds_query.specs.bounds3.declared.Bounds3f.{Bounds3f}
 use Rattle.bounds_query.specs.bounds3.Inside.{Inside}
-use Rattle.bounds_query.specs.transform.declared.PointAnswer.{PointAnswer}
 use Rattle.bounds_query.specs.transform.declared.BoundsAnswer.{BoundsAnswer}
 use Rattle.bounds_query.specs.bounds3.Bounds3f.{Bounds3f-from_point}
-use Rattle.bounds_query.specs.transform.Answer.{origin, PointAnswer-refusal, BoundsAnswer-bounds}
+use Rattle.bounds_query.specs.transform.Answer.{PointAnswer, origin, PointAnswer-refusal, BoundsAnswer-bounds}
 use Rattle.reached_rows.specs.bounds_overlap.Meets.{Bounds3f-meets}
 use Rattle.reached_rows.specs.motion_chain.Chain.{Chain, Chain-transform_point, stage}
 use Rattle.reached_rows.specs.motion_chain.Built.{BuiltChain}

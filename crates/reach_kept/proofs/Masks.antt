@@ -1,6 +1,6 @@
 -- Masks with one more digit: `added-rows`, `mask-more`, and row by row as code adds it, `adding-first`, `adding-next`, `adding-last`. Masks of k windows are below
--- 2^k: `masks-below`. Masks in lent places: `putting-first`, `putting-next`, `putting-last`.
-use Prim.Native.Nat.{ℕ, zero, suc, ◌+◌, ◌-◌, ◌*◌, ◌%◌, ◌^◌, ◌≤◌, ◌<◌}
+-- 2^k: `masks-below`. Masks copied into lent places: `copied-front`.
+use Prim.Native.Nat.{ℕ, zero, suc, ◌+◌, ◌*◌, ◌%◌, ◌^◌, ◌≤◌, ◌<◌}
 use mathlib.Core.Path.{◌≡◌, refl, sym, ap, subst, ◌∙◌}
 use mathlib.Core.Bool.{Bool, true, false, cond}
 use mathlib.Core.List.{List, [], ◌∷◌, ◌++◌, map}
@@ -8,13 +8,12 @@ use native.Mathlib.Nat.{pow-suc}
 use native.Mathlib.Omega.{arith}
 use native.Mathlib.Numerals.{add-one}
 use lib.ListN.{length, get_or, take, drop, set, replicate}
-use lib.Seq.{take_all, take-suc, length-take-le}
+use lib.Seq.{take_all}
 use lib.Pow.{pow_pos, pow-lt, shl_exact}
 use Rattle.bounds_query.specs.bounds3.declared.Bounds3f.{Bounds3f}
 use Rattle.reached_rows.specs.bounds_answers.UnionAll.{Each}
 use Rattle.window_times.specs.declared.Window.{Window}
 use Rattle.lent_laws.specs.Front.{in_front}
-use Rattle.lent_laws.proofs.Front.{front-next}
 use Rattle.reach_window.specs.reach_laws.Reach.{mask_of}
 use Rattle.reach_window.proofs.reach_laws.Masks.{mask_lt}
 use Rattle.reach_kept.specs.means.Masks.{added_mask, added_masks, Below}
@@ -116,18 +115,10 @@ digit_room mask k h l =
     omega (arith, e, below, l)
 
 -- ---- the masks in lent places
-module _ (masks old : List ℕ) where
-  pub record Putting (new : List ℕ) (i : ℕ) : Type 0 where
-    pub put : new ≡ in_front (take i masks) old
-
-  pub putting-first : Putting old 0
-  unfolding in_front
-  putting-first = record { put = refl }
-
-  pub putting-next : {new : List ℕ} {i : ℕ} → Putting new i → i < length masks → Putting (set new i (get_or masks i 0)) (i + 1)
-  putting-next {new} {i} p h = record {
-    put = rw (p.put, add-one, take-suc masks i 0 h) (front-next (take i masks) old (get_or masks i 0) i (length-take-le i masks (omega (arith, h))));
-  }
-
-  pub putting-last : {new : List ℕ} {i n : ℕ} → Putting new i → i ≡ n → new ≡ in_front (take n masks) old
-  putting-last {new} {i} {n} p e = p.put ∙ ap (λ (k : ℕ). in_front (take k masks) old) e
+pub copied-front : (items old : List ℕ) (n : ℕ) → length items ≡ n → n ≤ length old → items ++ drop n old ≡ in_front items old
+unfolding in_front
+copied-front [] old zero e h = refl
+copied-front [] old (suc n) e h = absurd (omega (arith, e))
+copied-front (x ∷ items) old zero e h = absurd (omega (arith, e))
+copied-front (x ∷ items) [] (suc n) e h = absurd (omega (arith, h))
+copied-front (x ∷ items) (y ∷ old) (suc n) e h = ap (λ (l : List ℕ). x ∷ l) (copied-front items old n (omega (arith, e)) (omega (arith, h)))

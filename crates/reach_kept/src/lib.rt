@@ -41,14 +41,11 @@ fn count_refusal(most: usize, n: usize) -> u8
 fn first_refusal(boxes: &[[f32; 6]]) -> u8
     ensures value { result ≡ stage Bounds3f-refusal (map Bounds3f-of_list boxes.now) }
 {
-    let n = boxes.len();
-    let mut k = 0;
-    while k < n {
-        let number = bounds_query::refusal(lent_arrays::bounds(&boxes[k]));
+    for b in boxes {
+        let number = bounds_query::refusal(lent_arrays::bounds(b));
         if number != 0 {
             return number;
         }
-        k += 1;
     }
     0
 }
@@ -102,10 +99,8 @@ fn add_window(masks: [u64; 256], k: u32, names: [bool; 256]) -> [u64; 256]
     ensures value { result ≡ added_masks k masks names }
 {
     let mut added = masks;
-    let mut i = 0;
-    while i < MAX_ROWS {
-        added[i] = add_digit(added[i], k, names[i]);
-        i += 1;
+    for (i, named) in names.iter().enumerate() {
+        added[i] = add_digit(added[i], k, *named);
     }
     added
 }
@@ -124,10 +119,7 @@ fn find(
         (map Bounds3f-of_list rows.now) result }
 {
     let mut masks = [0u64; 256];
-    let mut k = 0u32;
-    let mut i = 1;
-    let n = ticks.len();
-    while i < n {
+    for i in 1..ticks.len() {
         let w = Window {
             earlier: ticks[i - 1],
             later: ticks[i],
@@ -141,10 +133,8 @@ fn find(
             };
         }
         let names = named.names;
-        let next = add_window(masks, k, names);
+        let next = add_window(masks, i as u32 - 1, names);
         masks = next;
-        k += 1;
-        i += 1;
     }
     Found { masks, refusal: 0 }
 }
@@ -156,11 +146,7 @@ fn put_masks(masks: [u64; 256], n: usize, old: [u64; 256]) -> [u64; 256]
     ensures length { length old ≡ max_rows }
 {
     let mut places = old;
-    let mut i = 0;
-    while i < n {
-        places[i] = masks[i];
-        i += 1;
-    }
+    places[..n].copy_from_slice(&masks[..n]);
     places
 }
 

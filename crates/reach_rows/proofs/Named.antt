@@ -1,7 +1,6 @@
--- Rows named one by one: `names-next`, `names-last`. A test of some item, item by item: `some_next`, `some_end`. A union that grows is around what is joined:
+-- Rows named one by one: `naming-first`, `naming-next`, `naming-last`. What `any` answers of the boxes: `any-met`. A union that grows is around what is joined:
 -- `around-first`, `around-next`, `around-last`.
-use Prim.Native.Nat.{ℕ, zero, suc, ◌+◌, ◌≤◌, ◌<◌}
-use mathlib.Core.Logic.{inl, inr}
+use Prim.Native.Nat.{ℕ, suc, ◌+◌, ◌≤◌, ◌<◌}
 use mathlib.Core.Path.{◌≡◌, refl, sym, ap, subst, ◌∙◌}
 use mathlib.Core.Bool.{Bool, true, false, ◌||◌}
 use mathlib.Core.List.{List, [], ◌∷◌, ◌++◌, map, map-append}
@@ -9,9 +8,10 @@ use native.Mathlib.Omega.{arith}
 use native.Mathlib.Numerals.{add-one}
 use borrow.Author.Tests.{lt-ltb, le-ltb}
 use lib.Dec.{T}
-use lib.ListN.{length, get_or, take, drop, set, length-map, get_or-map, drop_of_length-le}
+use lib.ListN.{length, get_or, take, drop, set, length-map, drop_of_length-le}
 use lib.Seq.{take-suc, take_all, drop-cons, length-take-le}
 use lib.Ieee.{Float}
+use Rattle.std.specs.List.{list_any}
 use Rattle.bounds3.proofs.rounding.Order.{or_left, or_right}
 use Rattle.bounds3.specs.declared.Bounds3f.{Bounds3f}
 use Rattle.bounds3.specs.Bounds3f.{Bounds3f-union_bounds}
@@ -33,22 +33,14 @@ box-next : (boxes : List (List Float)) (i : ℕ) → i < length boxes → boxes_
 box-next boxes i h = ap boxes_of (drop-cons boxes i [] h)
 
 -- ---- some item
-module _ (boxes : List (List Float)) (row : Bounds3f) where
-  -- One of the boxes from a place on.
-  abbrev pub met_from : ℕ → Bool
-  met_from i = met_by (boxes_of (drop i boxes)) row
+pub any-met : (boxes : List (List Float)) (row : Bounds3f) → list_any (λ b. Bounds3f-meets (Bounds3f-of_list b) row) boxes ≡ met_by (boxes_of boxes) row
+unfolding some
+any-met [] row = refl
+any-met (b ∷ boxes) row = ap (λ (t : Bool). Bounds3f-meets (Bounds3f-of_list b) row || t) (any-met boxes row)
 
-  pub met-first : {i : ℕ} {m : Bool} → i < length boxes → m ≡ Bounds3f-meets (box_of boxes i) row → m ≡ true → true ≡ met_from i
-  unfolding some
-  met-first {i} {m} h e t = let x : Bounds3f-meets (box_of boxes i) row ≡ true = sym e ∙ t in rw (drop-cons boxes i [] h, x)
-
-  pub met-later : {i : ℕ} {m : Bool} → i < length boxes → m ≡ Bounds3f-meets (box_of boxes i) row → m ≡ false → met_from (i + 1) ≡ met_from i
-  unfolding some
-  met-later {i} {m} h e t = let x : Bounds3f-meets (box_of boxes i) row ≡ false = sym e ∙ t in rw (add-one, drop-cons boxes i [] h, x)
-
-  pub met-end : {i : ℕ} → length boxes ≤ i → false ≡ met_from i
-  unfolding some
-  met-end {i} h = rw (drop_of_length-le boxes {i = i} h)
+none-met : (boxes : List (List Float)) (row : Bounds3f) (i : ℕ) → length boxes ≤ i → met_by (boxes_of (drop i boxes)) row ≡ false
+unfolding some
+none-met boxes row i h = rw (drop_of_length-le boxes {i = i} h)
 
 -- ---- what is around the boxes
 module _ (boxes : List (List Float)) where
@@ -82,7 +74,7 @@ module _ (boxes : List (List Float)) where
   pub around-last : {union : Bounds3f} {i : ℕ} → Growing union i → length boxes ≤ i → Around (boxes_of boxes) union
   around-last {union} {i} g h = record {
     meets = λ row t.
-        none (Bounds3f-meets union row) (met_by (boxes_of (drop i boxes)) row) (sym (met-end boxes row {i = i} h)) (g.met row t);
+        none (Bounds3f-meets union row) (met_by (boxes_of (drop i boxes)) row) (none-met boxes row i h) (g.met row t);
   }
     where
       none : (x y : Bool) → y ≡ false → T (x || y) → T x
@@ -109,17 +101,15 @@ next-at boxes (r ∷ rows) row (x ∷ names) = ap (λ (l : List Bool). (x || met
 module _ (boxes : List Bounds3f) (rows : List (List Float)) (names : List Bool) where
   -- The first i rows are asked.
   pub record Naming (new : List Bool) (i : ℕ) : Type 0 where
-    pub within : i ≤ length rows
     pub asked : new ≡ next_names boxes (boxes_of (take i rows)) names
 
   pub naming-first : Naming names 0
   unfolding next_names
-  naming-first = record { within = omega arith; asked = refl }
+  naming-first = record { asked = refl }
 
   pub naming-next : {new : List Bool} {i : ℕ} {value : Bool} → Naming new i → i < length rows → value ≡ (get_or new i false || met_by boxes (box_of rows i))
       → Naming (set new i value) (i + 1)
   naming-next {new} {i} {value} n h e = record {
-    within = omega (arith, h);
     asked = rw (add-one, e, n.asked) (sym step);
   }
     where

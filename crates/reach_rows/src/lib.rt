@@ -15,12 +15,9 @@ fn around(boxes: &[[f32; 6]]) -> Bounds3f
     ensures around { Around (map Bounds3f-of_list boxes.now) result }
 {
     let mut union = Bounds3f::default();
-    let n = boxes.len();
-    let mut i = 0;
-    while i < n {
-        let next = union.union_bounds(lent_arrays::bounds(&boxes[i]));
+    for b in boxes {
+        let next = union.union_bounds(lent_arrays::bounds(b));
         union = next;
-        i += 1;
     }
     union
 }
@@ -29,15 +26,9 @@ fn around(boxes: &[[f32; 6]]) -> Bounds3f
 fn met_by(boxes: &[[f32; 6]], row: Bounds3f) -> bool
     ensures value { result ≡ met_by (map Bounds3f-of_list boxes.now) row }
 {
-    let n = boxes.len();
-    let mut i = 0;
-    while i < n {
-        if bounds_overlap::meets(lent_arrays::bounds(&boxes[i]), row) {
-            return true;
-        }
-        i += 1;
-    }
-    false
+    boxes
+        .iter()
+        .any(|b| bounds_overlap::meets(lent_arrays::bounds(b), row))
 }
 
 // Whether the row is named, or one of the boxes, which `union` is around, meets it. Accuracy: exact.
@@ -59,14 +50,11 @@ pub fn name_rows(boxes: &[[f32; 6]], rows: &[[f32; 6]], names: &mut [bool; 256])
     ensures left { names.new
         ≡ named_rows (map Bounds3f-of_list boxes.now) (map Bounds3f-of_list rows.now) names.old }
 {
-    let n = rows.len();
-    if n > MAX_ROWS {
+    if rows.len() > MAX_ROWS {
         return;
     }
     let union = around(boxes);
-    let mut i = 0;
-    while i < n {
-        names[i] = is_named(names[i], union, boxes, lent_arrays::bounds(&rows[i]));
-        i += 1;
+    for (i, row) in rows.iter().enumerate() {
+        names[i] = is_named(names[i], union, boxes, lent_arrays::bounds(row));
     }
 }

@@ -14,7 +14,7 @@ use Rattle.transform.specs.declared.BoundsAnswer.TheVariants.{Bounds, Refused}
 use Rattle.transform.specs.Answer.{BoundsAnswer-bounds}
 use Rattle.reach_rows.specs.bounds_overlap.Meets.{Bounds3f-meets}
 use Rattle.motion_piece.proofs.bounds_query.Union.{refused-bounds}
-use Rattle.motion_piece.specs.declared.PaddedPose.{PaddedPose}
+use Rattle.motion_piece.specs.means.Piece.{PaddedPose}
 use Rattle.motion_piece.specs.means.Piece.{PaddedPose-enclose_bounds}
 use Rattle.reach_laws.specs.motion_chain.Chain.{Chain}
 use Rattle.box_front.specs.declared.Front.{Front}

@@ -22,7 +22,7 @@ use Rattle.motion_piece.specs.bounds_query.Zeros.{BoundsAnswer-positive_zeros}
 use Rattle.motion_piece.proofs.bounds_query.Zeros.{zeros-refusal}
 use Rattle.reach_laws.specs.bounds_answers.UnionAll.{BoundsAnswer-union_all}
 use Rattle.motion_piece.proofs.motion_cover.NonZero.{BoundsAnswer-NonZero}
-use Rattle.motion_piece.specs.declared.PaddedPose.{PaddedPose}
+use Rattle.motion_piece.specs.means.Piece.{PaddedPose}
 use Rattle.motion_piece.specs.means.Piece.{PaddedPose-enclose_bounds}
 use Rattle.reach_laws.specs.motion_chain.Chain.{Chain, first_number, stage}
 use Rattle.box_front.specs.declared.Front.{Front}

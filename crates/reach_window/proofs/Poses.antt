@@ -21,7 +21,7 @@ use Rattle.interval.specs.declared.Interval.{Interval}
 use Rattle.animated_transform.specs.declared.AnimatedTransform.{AnimatedTransform}
 use Rattle.motion_point.specs.TransformPoint.{AnimatedTransform-constants}
 use Rattle.motion_piece.specs.motion_cover.Cover.{AnimatedTransform-enclose_bounds, Transform-enclose_padded}
-use Rattle.motion_piece.specs.declared.PaddedPose.{PaddedPose}
+use Rattle.motion_piece.specs.means.Piece.{PaddedPose}
 use Rattle.motion_piece.specs.means.Piece.{PaddedPose-enclose_bounds, PaddedPose-stored}
 use Rattle.motion_piece.proofs.Piece.{piece-composition, stored-composition}
 use Rattle.reach_laws.specs.motion_chain.Chain.{Chain, Chain-moves}

@@ -12,7 +12,7 @@ use Rattle.transform.specs.bounds3.List.{Bounds3f-list, Bounds3f-of_list}
 use Rattle.transform.specs.declared.BoundsAnswer.{BoundsAnswer}
 use Rattle.transform.specs.declared.BoundsAnswer.TheVariants.{Bounds, Refused}
 use Rattle.transform.specs.Answer.{BoundsAnswer-bounds}
-use Rattle.motion_piece.specs.declared.PaddedPose.{PaddedPose}
+use Rattle.motion_piece.specs.means.Piece.{PaddedPose}
 use Rattle.motion_piece.specs.means.Piece.{PaddedPose-enclose_bounds}
 use Rattle.box_front.specs.declared.Front.{Front}
 use Rattle.box_front.specs.means.Front.{place_count, Boxes-answers, Front-of, Places-put, PaddedPose-front, PaddedPose-places}

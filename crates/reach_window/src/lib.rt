@@ -4,7 +4,7 @@
 ghost use Rattle.std.specs.Prelude.{◌+◌, ◌^◌, ◌≤◌, ◌<◌, ◌≡◌, true, false, cond, [], ◌∷◌, map, eqb, length, get_or, replicate};
 ghost use Rattle.transform.specs.bounds3.List.{Bounds3f-of_list};
 ghost use Rattle.motion_piece.specs.bounds_query.Query.{max_depth};
-ghost use Rattle.motion_piece.specs.means.Piece.{PaddedPose-stored};
+ghost use Rattle.motion_piece.specs.means.Piece.{PaddedPose-judged, PaddedPose-stored};
 ghost use Rattle.motion_rows.specs.Rows.{AnimatedTransform-from_rows};
 ghost use Rattle.box_front.specs.means.Front.{place_count};
 ghost use Rattle.window_cover.specs.chain_rows.Kept.{Moves-chain};
@@ -50,9 +50,7 @@ fn piece(dt: Interval, d: u32, k: u64) -> Interval
 {
     let mut part = dt;
     let mut rest = k;
-    let mut n = d;
-    while n > 0 {
-        n -= 1;
+    for n in (0..d).rev() {
         let half = 1u64 << n;
         let mid = part.midpoint();
         let low = part.low;
@@ -76,7 +74,7 @@ fn take_pose(
     names: &mut [bool; 256],
 ) -> Front
     requires { length boxes.now ≤ place_count }
-    ensures walks { Walks boxes.now rows.now (pose ∷ []) front result names.old names.new }
+    ensures walks { Walks boxes.now rows.now (PaddedPose-judged pose ∷ []) front result names.old names.new }
 {
     let mut moved = [[0.0; 6]; 16];
     let next = box_front::take_pose(true, pose, boxes, front, &mut moved);
@@ -105,12 +103,10 @@ fn take_pieces(
     let a = motion_point::constants(m);
     let pieces = 1u64 << d;
     let mut reached = front;
-    let mut k = 0u64;
-    while k < pieces {
+    for k in 0..pieces {
         let pose = motion_piece::padded_enclosure(a, m.s0, m.s1, m.pad0, m.pad1, piece(dt, d, k));
         let next = take_pose(pose, boxes, rows, reached, names);
         reached = next;
-        k += 1;
     }
     reached
 }
@@ -216,12 +212,9 @@ fn take_moves(
         front result names.old names.new }
 {
     let mut reached = front;
-    let mut i = 0;
-    let n = moves.len();
-    while i < n {
+    for i in 0..moves.len() {
         let next = take_move(stage, moves, i, d, w, boxes, rows, reached, names);
         reached = next;
-        i += 1;
     }
     reached
 }

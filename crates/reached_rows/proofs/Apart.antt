@@ -1,5 +1,6 @@
 -- A row that is not named holds no padded point: `rows_apart`, of any cover, since the cover holds every such point and does not meet the row;
 -- `kept-rows-apart`, of the cover of a built chain, by that cover's guarantee. The clauses of the query, from what was named: `rows-refused`, `rows_named`.
+use Rattle.std.specs.Prelude.{Ok}
 use Prim.Native.Nat.{ℕ, zero, suc, ◌+◌, ◌-◌, ◌<◌}
 use mathlib.Core.Logic.{inl}
 use mathlib.Core.Path.{◌≡◌, refl, sym, subst}
@@ -13,7 +14,6 @@ use lib.Ieee.{Float}
 use Rattle.bounds3.specs.declared.Point3f.{Point3f}
 use Rattle.bounds3.specs.declared.Bounds3f.{Bounds3f}
 use Rattle.bounds3.proofs.Union.{subset-inside}
-use Rattle.bounds_query.specs.transform.declared.PointAnswer.TheVariants.{Moved}
 use Rattle.bounds_query.specs.transform.Answer.{OneOf, PointAnswer-point}
 use Rattle.bounds_query.proofs.transform.Answer.{one-of-cond}
 use Rattle.bounds_overlap.specs.Meets.{Bounds3f-meets}
@@ -50,7 +50,7 @@ not-met cover rows k h off = go (Bounds3f-meets cover (row_at rows k)) refl
 -- ---- the two statements
 pub rows_apart : (cover : Bounds3f) (rows : List Bounds3f) → RowsApart cover rows (met_from cover 0 rows)
 rows_apart cover rows k pad q p h off i at =
-    apart-inside cover (row_at rows k) p (not-met cover rows k h off) (subset-inside (padded-subset pad (Moved q) i) at)
+    apart-inside cover (row_at rows k) p (not-met cover rows k h off) (subset-inside (padded-subset pad (Ok q) i) at)
 
 pub kept-rows-apart : (cover : Bounds3f) (rows : List Bounds3f) → KeptRowsApart cover rows (met_from cover 0 rows)
 kept-rows-apart cover rows moves b depth k time p built none same h off number i =

@@ -35,15 +35,14 @@ module _ (cover : Bounds3f) (rows : List (List Float)) where
   abbrev all : List ℕ
   all = met_from cover 0 (map Bounds3f-of_list rows)
 
-  pub record Loop (places : List ℕ) (count place i : ℕ) : Type 0 where
+  pub record Loop (places : List ℕ) (count i : ℕ) : Type 0 where
     pub named : List ℕ
     pub holds : Named-Holds named places count
     pub few : length named ≤ i
-    pub same_place : place ≡ i
     pub whole : named ++ left_from i ≡ all
 
-  pub loop-first : Loop (replicate max_rows 0) 0 0 0
-  loop-first = record { named = []; holds = record { front = refl; counted = refl }; few = omega arith; same_place = refl; whole = refl }
+  pub loop-first : Loop (replicate max_rows 0) 0 0
+  loop-first = record { named = []; holds = record { front = refl; counted = refl }; few = omega arith; whole = refl }
 
   met-step : (i : ℕ) → i < length rows → Bounds3f-meets cover (Bounds3f-of_list (get_or rows i [])) ≡ true → left_from i ≡ i ∷ left_from (suc i)
   unfolding met_from
@@ -53,36 +52,32 @@ module _ (cover : Bounds3f) (rows : List (List Float)) where
   unfolding met_from
   missed-step i h m = ap (λ (l : List (List Float)). met_from cover i (map Bounds3f-of_list l)) (drop-cons rows i [] h) ∙ rw m
 
-  module _ {places : List ℕ} {count place i : ℕ} (l : Loop places count place i) where
+  module _ {places : List ℕ} {count i : ℕ} (l : Loop places count i) where
     pub loop-few : i < length rows → length rows ≤ max_rows → count < max_rows
     loop-few h t = let c = l.holds.counted in let n = l.few in omega (arith, c, n, h, t)
 
     pub loop-met : {places' : List ℕ} {count' : ℕ} → i < length rows → length rows ≤ max_rows → Bounds3f-meets cover (Bounds3f-of_list (get_or rows i [])) ≡ true
-        → places' ≡ set places count place → count' ≡ count + 1 → Loop places' count' (place + 1) (i + 1)
+        → places' ≡ set places count i → count' ≡ count + 1 → Loop places' count' (i + 1)
     loop-met {places'} {count'} h t m e f =
         let n = l.few in
-        let p = l.same_place in
         let s : i + 1 ≡ suc i = omega arith in
-        let more = length-append l.named (place ∷ []) in
+        let more = length-append l.named (i ∷ []) in
         record {
-          named = l.named ++ (place ∷ []);
-          holds = rw (e, f) (holds-add place l.holds (omega (arith, n, h, t)));
+          named = l.named ++ (i ∷ []);
+          holds = rw (e, f) (holds-add i l.holds (omega (arith, n, h, t)));
           few = omega (arith, n, more);
-          same_place = omega (arith, p);
-          whole = rw (s, p) (append_assoc l.named (i ∷ []) (left_from (suc i)) ∙ ap (λ (r : List ℕ). l.named ++ r) (sym (met-step i h m)) ∙ l.whole);
+          whole = rw s (append_assoc l.named (i ∷ []) (left_from (suc i)) ∙ ap (λ (r : List ℕ). l.named ++ r) (sym (met-step i h m)) ∙ l.whole);
         }
 
     pub loop-missed : {places' : List ℕ} {count' : ℕ} → i < length rows → Bounds3f-meets cover (Bounds3f-of_list (get_or rows i [])) ≡ false
-        → places' ≡ places → count' ≡ count → Loop places' count' (place + 1) (i + 1)
+        → places' ≡ places → count' ≡ count → Loop places' count' (i + 1)
     loop-missed {places'} {count'} h m e f =
         let n = l.few in
-        let p = l.same_place in
         let s : i + 1 ≡ suc i = omega arith in
         record {
           named = l.named;
           holds = rw (e, f) l.holds;
           few = omega (arith, n);
-          same_place = omega (arith, p);
           whole = rw s (ap (λ (r : List ℕ). l.named ++ r) (sym (missed-step i h m)) ∙ l.whole);
         }
 

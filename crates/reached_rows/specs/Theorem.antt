@@ -8,14 +8,13 @@
 --   Moves-reached moves time p   where the padded point p of the boom may be at a time, asked of the rows         crates/window_pairs/specs/Kept.antt
 --   Moves-Built moves            the rows are what building left, those of a chain or of one move                 crates/chain_rows/specs/Theorem.antt
 --   Moves-cover moves b depth    the cover query of a kept chain                                                  crates/chain_rows/specs/Kept.antt
-use Rattle.std.specs.Prelude.{ℕ, ◌<◌, ◌≡◌, not, List, T, length, get_or, Float}
+use Rattle.std.specs.Prelude.{ℕ, ◌<◌, ◌≡◌, not, List, T, length, get_or, Float, Ok}
 use Rattle.std.specs.Float.Ieee.{is_nan}
 use Rattle.bounds_query.specs.matrix4x4.Rows.{Rows}
 use Rattle.bounds3.specs.declared.Point3f.{Point3f}
 use Rattle.bounds3.specs.declared.Bounds3f.{Bounds3f}
 use Rattle.bounds3.specs.Bounds3f.{Bounds3f-from_point}
 use Rattle.bounds3.specs.Inside.{Inside}
-use Rattle.bounds_query.specs.transform.declared.PointAnswer.TheVariants.{Moved}
 use Rattle.bounds_query.specs.transform.Answer.{OneOf, origin, PointAnswer-refusal, BoundsAnswer-refusal, BoundsAnswer-bounds}
 use Rattle.window_pairs.specs.motion_pad.Grow.{PaddedInside}
 use Rattle.window_pairs.specs.chain_rows.Kept.{Moves-transform_point, Moves-cover}
@@ -31,7 +30,7 @@ row_at rows k = get_or rows k (Bounds3f-from_point origin)
 abbrev pub RowsApart : Bounds3f → List Bounds3f → List ℕ → Type 0
 RowsApart cover rows ks =
     (k : ℕ) (pad : Float) (q p : Point3f)
-    → k < length rows → (OneOf k ks → ⊥) → PaddedInside cover pad q → Inside (padded pad (Moved q)) p
+    → k < length rows → (OneOf k ks → ⊥) → PaddedInside cover pad q → Inside (padded pad (Ok q)) p
     → Inside (row_at rows k) p → ⊥
 
 -- The boom's point p is answered, and none of the points at which it may be is inside the row.

@@ -32,14 +32,11 @@ struct Named {
 fn first_refusal(rows: &[[f32; 6]]) -> u8
     ensures value { result ≡ stage Bounds3f-refusal (map Bounds3f-of_list rows.now) }
 {
-    let n = rows.len();
-    let mut k = 0;
-    while k < n {
-        let number = bounds_query::refusal(lent_arrays::bounds(&rows[k]));
+    for row in rows {
+        let number = bounds_query::refusal(lent_arrays::bounds(row));
         if number != 0 {
             return number;
         }
-        k += 1;
     }
     0
 }
@@ -66,16 +63,11 @@ fn name_rows(cover: Bounds3f, rows: &[[f32; 6]]) -> Named
 {
     let mut places = [0u32; 256];
     let mut count = 0;
-    let mut place = 0u32;
-    let mut i = 0;
-    let n = rows.len();
-    while i < n {
-        if bounds_overlap::meets(cover, lent_arrays::bounds(&rows[i])) {
-            places[count] = place;
+    for (i, row) in rows.iter().enumerate() {
+        if bounds_overlap::meets(cover, lent_arrays::bounds(row)) {
+            places[count] = i as u32;
             count += 1;
         }
-        place += 1;
-        i += 1;
     }
     Named { places, count }
 }

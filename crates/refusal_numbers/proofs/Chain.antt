@@ -15,7 +15,7 @@ use Rattle.run_schedule.specs.float32.Operators.{◌⊖◌}
 use Rattle.motion_bounds_laws.specs.pose_pair.declared.Pose.{Pose}
 use Rattle.motion_bounds_laws.specs.pose_pair.Pose.{Pose-is_finite, Pose-is_affine, Pose-is_padded, times_refusal, Pose-kind_number}
 use Rattle.motion_bounds_laws.proofs.pose_pair.Kind.{kind-each}
-use Rattle.motion_bounds_laws.specs.animated_transform.declared.AnimatedTransformAnswer.{AnimatedTransformAnswer}
+use Rattle.motion_bounds_laws.specs.animated_transform.New.{AnimatedTransformAnswer}
 use Rattle.motion_bounds_laws.specs.animated_transform.New.{AnimatedTransform-new}
 use Rattle.motion_bounds_laws.specs.animated_transform.Numbers.{kind_numbers}
 use Rattle.run_schedule.specs.transform.Answer.{OneOf}

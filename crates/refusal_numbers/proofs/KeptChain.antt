@@ -1,5 +1,6 @@
 -- The queries of a kept chain, whatever its rows, give the chain's numbers, and 12 where there are no moves:
 -- `rows-point-numbered`, `rows-points-numbered`, `rows-cover-numbered`.
+use Rattle.std.specs.Prelude.{Err}
 use Prim.Native.Nat.{ℕ}
 use mathlib.Core.Path.{◌≡◌, refl}
 use mathlib.Core.Bool.{Bool, true, false, cond}
@@ -14,10 +15,8 @@ use Rattle.run_schedule.proofs.control_flow.Choice.{cond-keeps}
 use Rattle.run_schedule.specs.matrix4x4.Rows.{Rows}
 use Rattle.run_schedule.specs.bounds3.declared.Point3f.{Point3f}
 use Rattle.run_schedule.specs.bounds3.declared.Bounds3f.{Bounds3f}
-use Rattle.run_schedule.specs.transform.declared.PointAnswer.{PointAnswer}
-use Rattle.run_schedule.specs.transform.declared.PointAnswer.TheVariants as point
 use Rattle.run_schedule.specs.transform.declared.BoundsAnswer.TheVariants as bounds
-use Rattle.run_schedule.specs.transform.Answer.{OneOf, PointAnswer-refusal, BoundsAnswer-refusal}
+use Rattle.run_schedule.specs.transform.Answer.{PointAnswer, OneOf, PointAnswer-refusal, BoundsAnswer-refusal}
 use Rattle.run_schedule.proofs.transform.Answer.{one-of-more, one-of-wider}
 use Rattle.motion_bounds_laws.specs.motion_point.Answer.{PointAnswer-Numbered}
 use Rattle.refused_run.specs.motion_cover.Answer.{BoundsAnswer-Numbered}
@@ -37,7 +36,7 @@ unfolding Moves-transform_point
 rows-point-numbered rows time p =
     let a = Rows-transform_point (get_or rows (Chain-index_at (Moves-chain rows) time) []) time p in
     let h = every-answer.rows-point (get_or rows (Chain-index_at (Moves-chain rows) time) []) time p in
-    cond-keeps (PointAnswer-Numbered (0 ∷ 5 ∷ 6 ∷ 12 ∷ [])) (eqb (length rows) 0) (point.Refused 12) a
+    cond-keeps (PointAnswer-Numbered (0 ∷ 5 ∷ 6 ∷ 12 ∷ [])) (eqb (length rows) 0) (Err 12) a
     (record { number = inr (inr (inr (inl refl))); none = λ e. absurd (omega (arith, e)) })
     (record { number = one-of-more (PointAnswer-refusal a) (0 ∷ 5 ∷ 6 ∷ []) (12 ∷ []) h.number; none = h.none })
 

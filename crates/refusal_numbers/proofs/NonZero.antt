@@ -1,5 +1,6 @@
 -- No motion box is refused with 0: `point-motion-nonzero`, `motion-nonzero`; of a point query it is in `transform-point-numbered` of motion_point, of a cover
 -- `cover-nonzero` of motion_cover. A number is refused only after the test that it isn't 0, and a union keeps one of its parts' numbers.
+use Rattle.std.specs.Prelude.{Ok, Err}
 use Prim.Native.Nat.{ℕ}
 use mathlib.Core.Path.{◌≡◌, refl}
 use mathlib.Core.Bool.{not}
@@ -14,12 +15,10 @@ use Rattle.run_schedule.specs.bounds3.Finite.{Point3f-is_finite}
 use Rattle.run_schedule.proofs.control_flow.Loop.{loop-keeps}
 use Rattle.run_schedule.proofs.control_flow.Choice.{cond-keeps}
 use Rattle.run_schedule.specs.transform.declared.Transform.{Transform}
-use Rattle.run_schedule.specs.transform.declared.PointAnswer.{PointAnswer}
-use Rattle.run_schedule.specs.transform.declared.PointAnswer.TheVariants as point
 use Rattle.run_schedule.specs.transform.declared.BoundsAnswer.{BoundsAnswer}
 use Rattle.run_schedule.specs.transform.declared.BoundsAnswer.TheVariants as bounds
 use Rattle.run_schedule.specs.transform.TransformBounds as transform
-use Rattle.run_schedule.specs.transform.Answer.{OneOf}
+use Rattle.run_schedule.specs.transform.Answer.{PointAnswer, OneOf}
 use Rattle.run_schedule.specs.bounds_query.Query.{Bounds3f-refusal}
 use Rattle.motion_bounds_laws.specs.axis_derivative.declared.Derivative.{Derivative}
 use Rattle.motion_bounds_laws.specs.pose_steps.declared.PoseConstants.{PoseConstants}
@@ -36,21 +35,21 @@ use Rattle.refusal_numbers.specs.Numbers.{MotionBoundsAnswer-Numbered}
 -- ---- boxes
 from-moved-nonzero : (a : PointAnswer) → PointAnswer-NonZero a → BoundsAnswer-NonZero (transform.BoundsAnswer-from_moved a)
 unfolding transform.BoundsAnswer-from_moved
-from-moved-nonzero (point.Moved p) h = tt
-from-moved-nonzero (point.Refused n) h = h
+from-moved-nonzero (Ok p) h = tt
+from-moved-nonzero (Err n) h = h
 
 union-moved-nonzero : (r : BoundsAnswer) (a : PointAnswer) → BoundsAnswer-NonZero r
     → PointAnswer-NonZero a → BoundsAnswer-NonZero (transform.BoundsAnswer-union_moved r a)
 unfolding transform.BoundsAnswer-union_moved
-union-moved-nonzero (bounds.Bounds b) (point.Moved p) h k = tt
-union-moved-nonzero (bounds.Bounds b) (point.Refused n) h k = k
+union-moved-nonzero (bounds.Bounds b) (Ok p) h k = tt
+union-moved-nonzero (bounds.Bounds b) (Err n) h k = k
 union-moved-nonzero (bounds.Refused n) a h k = h
 
 from-ends-nonzero : (a b : PointAnswer) → PointAnswer-NonZero a → PointAnswer-NonZero b → BoundsAnswer-NonZero (BoundsAnswer-from_ends a b)
 unfolding BoundsAnswer-from_ends
-from-ends-nonzero (point.Moved p) (point.Moved q) h k = tt
-from-ends-nonzero (point.Moved p) (point.Refused n) h k = k
-from-ends-nonzero (point.Refused n) b h k = h
+from-ends-nonzero (Ok p) (Ok q) h k = tt
+from-ends-nonzero (Ok p) (Err n) h k = k
+from-ends-nonzero (Err n) b h k = h
 
 -- ---- a stored transform over a box, corner by corner
 corner-nonzero : (t : Transform) (r : BoundsAnswer) (x y z : Float) → BoundsAnswer-NonZero r → BoundsAnswer-NonZero (transform.union_corner t r x y z)

@@ -1,5 +1,6 @@
 -- Building, every query and the answer to any file give document 01's numbers alone: `every-answer`. The numbers and the refused structs are each crate's own
 -- laws; that no refusal carries 0 is `NonZero.antt`.
+use Rattle.std.specs.Prelude.{Err}
 use Prim.Native.Nat.{ℕ}
 use mathlib.Core.Path.{◌≡◌, refl}
 use mathlib.Core.Bool.{not, ◌||◌}
@@ -10,9 +11,7 @@ use Rattle.run_schedule.proofs.control_flow.Choice.{cond-keeps}
 use Rattle.run_schedule.specs.matrix4x4.Rows.{Rows}
 use Rattle.run_schedule.specs.bounds3.declared.Point3f.{Point3f}
 use Rattle.run_schedule.specs.bounds3.Finite.{Point3f-is_finite}
-use Rattle.run_schedule.specs.transform.declared.PointAnswer.{PointAnswer}
-use Rattle.run_schedule.specs.transform.declared.PointAnswer.TheVariants.{Refused}
-use Rattle.run_schedule.specs.transform.Answer.{OneOf, PointAnswer-refusal}
+use Rattle.run_schedule.specs.transform.Answer.{PointAnswer, OneOf, PointAnswer-refusal}
 use Rattle.motion_bounds_laws.proofs.animated_transform.Numbers.{new-refused}
 use Rattle.motion_bounds_laws.proofs.motion_point.Query.{moved-point-judged}
 use Rattle.motion_bounds_laws.proofs.motion_point.NonZero.{point-numbered, transform-point-numbered}
@@ -31,7 +30,7 @@ use Rattle.refusal_numbers.proofs.Interpolate.{interpolate-numbered, rows-interp
 rows-point-number : (rows : Rows) (time : Float) (p : Point3f) → OneOf (PointAnswer-refusal (Rows-transform_point rows time p)) (0 ∷ 5 ∷ 6 ∷ [])
 unfolding Rows-transform_point
 rows-point-number rows time p =
-    cond-keeps (λ (a : PointAnswer). OneOf (PointAnswer-refusal a) (0 ∷ 5 ∷ 6 ∷ [])) (is_nan time || not (Point3f-is_finite p)) (Refused 6) _
+    cond-keeps (λ (a : PointAnswer). OneOf (PointAnswer-refusal a) (0 ∷ 5 ∷ 6 ∷ [])) (is_nan time || not (Point3f-is_finite p)) (Err 6) _
     (inr (inr (inl refl)))
     (worked (moved-point-judged (AnimatedTransform-from_rows rows) (PoseConstants-from_rows rows) time p).number)
   where

@@ -1,5 +1,6 @@
 -- The numbers of the pad query, of a move, `pad-numbered`, of a chain, `chain-pad-numbered`, and of what is kept of either, whatever the rows:
 -- `rows-pad-numbered`, `kept-pad-numbered`.
+use Rattle.std.specs.Prelude.{Ok, Err}
 use mathlib.Core.Path.{refl}
 use mathlib.Core.Logic.{inl, inr}
 use mathlib.Core.List.{List, [], ◌∷◌}
@@ -14,7 +15,6 @@ use Rattle.run_schedule.proofs.transform.Answer.{one-of-more}
 use Rattle.motion_bounds_laws.specs.animated_transform.declared.AnimatedTransform.{AnimatedTransform}
 use Rattle.motion_bounds_laws.specs.motion_point.PadAt.{AnimatedTransform-pad_at}
 use Rattle.interpolate_kept.specs.motion_rows.Rows.{AnimatedTransform-from_rows}
-use Rattle.interpolate_kept.specs.pad_query.declared.PadAnswer.TheVariants.{Pad, Refused}
 use Rattle.interpolate_kept.specs.pad_query.PadQuery.{PadAnswer-judged, PadAnswer-refusal, AnimatedTransform-pad, Rows-pad}
 use Rattle.refused_run.specs.motion_chain.Chain.{Chain, Chain-move_at}
 use Rattle.refused_run.specs.motion_chain.MoveAt.{Chain-index_at}
@@ -24,14 +24,14 @@ use Rattle.refusal_numbers.specs.Numbers.{PadAnswer-Numbered}
 judged-numbered : (pad : Float) → PadAnswer-Numbered (0 ∷ 5 ∷ 6 ∷ []) (PadAnswer-judged pad)
 unfolding PadAnswer-judged
 judged-numbered pad =
-    cond-keeps (PadAnswer-Numbered (0 ∷ 5 ∷ 6 ∷ [])) (finite pad) (Pad pad) (Refused 5)
+    cond-keeps (PadAnswer-Numbered (0 ∷ 5 ∷ 6 ∷ [])) (finite pad) (Ok pad) (Err 5)
     (record { number = inl refl; none = λ _. refl })
     (record { number = inr (inl refl); none = λ e. absurd (omega (arith, e)) })
 
 pub pad-numbered : (m : AnimatedTransform) (time : Float) → PadAnswer-Numbered (0 ∷ 5 ∷ 6 ∷ []) (AnimatedTransform-pad m time)
 unfolding AnimatedTransform-pad
 pad-numbered m time =
-    cond-keeps (PadAnswer-Numbered (0 ∷ 5 ∷ 6 ∷ [])) (is_nan time) (Refused 6) _
+    cond-keeps (PadAnswer-Numbered (0 ∷ 5 ∷ 6 ∷ [])) (is_nan time) (Err 6) _
     (record { number = inr (inr (inl refl)); none = λ e. absurd (omega (arith, e)) })
     (judged-numbered (AnimatedTransform-pad_at m time))
 
@@ -48,6 +48,6 @@ unfolding Moves-pad
 kept-pad-numbered rows time =
     let a = Rows-pad (get_or rows (Chain-index_at (Moves-chain rows) time) []) time in
     let h = rows-pad-numbered (get_or rows (Chain-index_at (Moves-chain rows) time) []) time in
-    cond-keeps (PadAnswer-Numbered (0 ∷ 5 ∷ 6 ∷ 12 ∷ [])) (eqb (length rows) 0) (Refused 12) a
+    cond-keeps (PadAnswer-Numbered (0 ∷ 5 ∷ 6 ∷ 12 ∷ [])) (eqb (length rows) 0) (Err 12) a
     (record { number = inr (inr (inr (inl refl))); none = λ e. absurd (omega (arith, e)) })
     (record { number = one-of-more (PadAnswer-refusal a) (0 ∷ 5 ∷ 6 ∷ []) (12 ∷ []) h.number; none = h.none })

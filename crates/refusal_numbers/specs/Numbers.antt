@@ -2,24 +2,22 @@
 -- or 18, and so are every query and, with document 02's 12, every file: `EveryAnswer`, on one page. 0 is none: no refusal carries it, and
 -- after a refusal every other number is +0 and every yes or no is no. The structs, rows and arguments are all structs, rows and arguments;
 -- the search of a motion box, the polar rounds and the slices end because their functions are proved to. The statement of `every-answer`.
-use Rattle.std.specs.Prelude.{ℕ, ◌≡◌, Bool, List, [], ◌∷◌, Float}
+use Rattle.std.specs.Prelude.{ℕ, ◌≡◌, Bool, List, [], ◌∷◌, Float, Ok}
 use Rattle.run_schedule.specs.matrix4x4.Rows.{Rows}
 use Rattle.run_schedule.specs.bounds3.declared.Point3f.{Point3f}
 use Rattle.run_schedule.specs.bounds3.declared.Bounds3f.{Bounds3f}
-use Rattle.run_schedule.specs.transform.declared.TransformAnswer.{TransformAnswer}
+use Rattle.run_schedule.specs.transform.Transform.{TransformAnswer}
 use Rattle.run_schedule.specs.transform.Answer.{OneOf}
 use Rattle.run_schedule.specs.transform.Transform.{TransformAnswer-refused}
 use Rattle.motion_bounds_laws.specs.pose_pair.declared.Pose.{Pose}
 use Rattle.motion_bounds_laws.specs.animated_transform.declared.AnimatedTransform.{AnimatedTransform}
-use Rattle.motion_bounds_laws.specs.animated_transform.declared.AnimatedTransformAnswer.{AnimatedTransformAnswer}
+use Rattle.motion_bounds_laws.specs.animated_transform.New.{AnimatedTransformAnswer}
 use Rattle.motion_bounds_laws.specs.animated_transform.New.{AnimatedTransformAnswer-refused, AnimatedTransform-new}
 use Rattle.motion_bounds_laws.specs.animated_transform.Numbers.{kind_numbers}
 use Rattle.motion_bounds_laws.specs.motion_point.TransformPoint.{AnimatedTransform-transform_point}
 use Rattle.motion_bounds_laws.specs.motion_point.Answer.{PointAnswer-Numbered}
 use Rattle.interpolate_kept.specs.motion_rows.TransformPoint.{Rows-transform_point}
-use Rattle.interpolate_kept.specs.pad_query.declared.PadAnswer.{PadAnswer}
-use Rattle.interpolate_kept.specs.pad_query.declared.PadAnswer.TheVariants.{Pad}
-use Rattle.interpolate_kept.specs.pad_query.PadQuery.{PadAnswer-refusal, PadAnswer-pad, AnimatedTransform-pad, Rows-pad}
+use Rattle.interpolate_kept.specs.pad_query.PadQuery.{PadAnswer, PadAnswer-refusal, PadAnswer-pad, AnimatedTransform-pad, Rows-pad}
 use Rattle.interpolate_kept.specs.interpolation.Interpolate.{AnimatedTransform-interpolate}
 use Rattle.interpolate_kept.specs.Kept.{Rows-interpolate}
 use Rattle.motion_bounds_laws.specs.motion_bounds.declared.MotionBoundsAnswer.{MotionBoundsAnswer}
@@ -36,7 +34,7 @@ use Rattle.file_rewrite.specs.motion_answer.Answer.{MoveFile-cover}
 -- Of a pad likewise: its number is one of those listed, and an answer whose number is 0 is a pad. (After a refusal the pad is +0, by `PadAnswer-pad`.)
 pub record PadAnswer-Numbered (numbers : List ℕ) (a : PadAnswer) : Type 0 where
   pub number : OneOf (PadAnswer-refusal a) numbers
-  pub none : PadAnswer-refusal a ≡ 0 → a ≡ Pad (PadAnswer-pad a)
+  pub none : PadAnswer-refusal a ≡ 0 → a ≡ Ok (PadAnswer-pad a)
 
 -- Of a motion box likewise: its number is one of those listed, and where it is 0 there is a box with its counts. (After
 -- a refusal the box is +0 and the counts are 0, by `MotionBoundsAnswer-bounds` and `MotionBoundsAnswer-examined`.)

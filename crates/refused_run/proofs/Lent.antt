@@ -14,7 +14,6 @@ use Rattle.chain_number.specs.lent_arrays.Arrays.{Pose-of_list}
 use Rattle.chain_number.specs.chain_poses.Poses.{Poses-of_lists}
 use Rattle.chain_number.proofs.chain_poses.Loops.{poses-length}
 use Rattle.chain_number.specs.Number.{Move-number, Chain-number}
-use Rattle.refused_run.specs.declared.Run.{Run}
 use Rattle.refused_run.specs.Run.{run_at, run_number, run_places, leftmost_place, has_run, leftmost_run}
 use Rattle.refused_run.specs.means.Tried.{first_of}
 use Rattle.refused_run.proofs.Least.{least-is}
@@ -72,7 +71,7 @@ module _ (rigid : Bool) (lists : List (List Float)) (n count : ℕ) where
       (least-is (λ j. eqb (run_number rigid (run_at poses j count)) n) (run_places (length poses) count) place (omega (arith, h, l)) missed
       (λ _. rw (sym (part-number place number) ∙ same) (eqb_refl n)))
 
-  pub missed-next : (place : ℕ) → Missed place → {r : ℕ} → r ≡ run_number rigid (Poses-of_lists (part place)) → (r ≡ n → ⊥) → Missed (suc place)
+  pub missed-next : (place : ℕ) → Missed place → {r : ℕ} → r ≡ run_number rigid (Poses-of_lists (part place)) → (r ≡ n → ⊥) → Missed (place + 1)
   missed-next place missed number other j h = go (ltb j place) (ltb→lt j place) (nltb→le j place)
     where
       go : (b : Bool) → (T b → j < place) → (T (not b) → place ≤ j) → T (not (eqb (run_number rigid (run_at poses j count)) n))

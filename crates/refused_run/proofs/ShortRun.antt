@@ -18,7 +18,7 @@ use Rattle.chain_number.specs.matrix4x4.Rows.{Matrix4x4-to_rows}
 use Rattle.chain_number.specs.matrix4x4.IsFinite.{Matrix4x4-is_finite}
 use Rattle.chain_number.specs.pose_pair.declared.Pose.{Pose}
 use Rattle.chain_number.specs.pose_pair.Pose.{Pose-is_finite, Pose-is_affine, Pose-is_padded, times_refusal, poses_refusal, Pose-kind_number}
-use Rattle.chain_number.specs.animated_transform.declared.AnimatedTransformAnswer.{AnimatedTransformAnswer}
+use Rattle.chain_number.specs.animated_transform.New.{AnimatedTransformAnswer}
 use Rattle.chain_number.specs.animated_transform.New.{AnimatedTransformAnswer-refused, AnimatedTransform-from_poses, AnimatedTransform-new}
 use Rattle.chain_number.proofs.bounds_answers.UnionAll.{each_of, each-implies}
 use Rattle.chain_number.specs.motion_chain.Chain.{min_poses, max_poses, neighbours, first_number, stage, Pose-number, Pair-number, kind_stage, chain_stages, chain_refusal}

@@ -41,13 +41,10 @@ fn leftmost_place(rigid: bool, number: u8, count: usize, poses: &[[f32; 18]]) ->
     ensures value { result ≡ leftmost_place rigid (Poses-of_lists poses.now) number count }
 {
     let places = run_places(poses.len(), count);
-    let mut left = places;
-    while 0 < left {
-        let place = places - left;
+    for place in 0..places {
         if run_number(rigid, &poses[place..place + count]) == number {
             return place;
         }
-        left = left - 1;
     }
     places
 }

@@ -2,7 +2,10 @@
 #![tactic(auto)]
 
 ghost use Rattle.std.specs.Prelude.{◌≡◌};
+ghost use Rattle.refusal.specs.Number.{refusal_number};
 ghost use Rattle.rigid_pose.specs.Rigid.{dot3, near_zero, Matrix4x4-has_shear, expansion, Matrix4x4-determinant, Matrix4x4-rigid_number};
+
+use refusal::Refusal;
 
 fn dot3(a: [f32; 4], b: [f32; 4]) -> f32
     ensures value { result ≡ dot3 a b }
@@ -47,14 +50,18 @@ pub fn determinant(m: [[f32; 4]; 4]) -> f32
     expansion(a, b, c)
 }
 
-// 17 for a matrix that scales or shears, then 18 for a determinant that isn't above zero, and 0 otherwise. Accuracy: heuristic, by rounded products.
-pub fn refusal(m: [[f32; 4]; 4]) -> u8
-    ensures value { result ≡ Matrix4x4-rigid_number m }
+// Refused with 17 where it scales or shears, then with 18 where its determinant isn't above zero. Accuracy: heuristic, by rounded products.
+pub fn judge(m: [[f32; 4]; 4]) -> Result<(), Refusal>
+    ensures value { refusal_number result ≡ Matrix4x4-rigid_number m }
 {
     let distorts = transform::has_scale(m) | has_shear(m);
     let proper = determinant(m) > 0.0;
     if distorts {
-        return 17;
+        return Err(Refusal::NotRigid);
     }
-    if proper { 0 } else { 18 }
+    if proper {
+        Ok(())
+    } else {
+        Err(Refusal::Determinant)
+    }
 }

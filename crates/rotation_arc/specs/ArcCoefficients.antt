@@ -1,5 +1,5 @@
 -- The coefficients of the derivative for two poses' parts, judged; without rotation every coefficient is +0. Definitions only.
-use Rattle.std.specs.Prelude.{Bool, true, false, ◌&&◌, cond, Float}
+use Rattle.std.specs.Prelude.{ℕ, Bool, true, false, ◌&&◌, cond, Float, Result, Ok, Err}
 use Rattle.std.specs.Float.Ieee.{neg}
 use Rattle.float32.specs.Operators.{one}
 use Rattle.float32.specs.Clamp.{clamp}
@@ -13,7 +13,17 @@ use Rattle.matrix4x4.specs.Rows.{Matrix4x4-to_rows}
 use Rattle.coefficients.specs.declared.Coefficients.{Coefficients}
 use Rattle.coefficients.specs.Coefficients.{Coefficients-new, Coefficients-zero}
 use Rattle.coefficients.specs.IsFinite.{Coefficients-is_finite}
-use Rattle.rotation_arc.specs.declared.CoefficientsAnswer.{CoefficientsAnswer}
+use Rattle.refusal.specs.declared.Refusal.{Refusal}
+use Rattle.refusal.specs.Number.{Refusal-number}
+
+-- A coefficient set beside a refusal's number, 0 for none: after a refusal every number is +0.
+pub record CoefficientsAnswer : Type 0 where
+  pub value : Coefficients
+  pub refusal : ℕ
+
+abbrev pub CoefficientsAnswer-of_result : Result Coefficients Refusal → CoefficientsAnswer
+CoefficientsAnswer-of_result (Ok c) = record { value = c; refusal = 0 }
+CoefficientsAnswer-of_result (Err r) = record { value = Coefficients-zero; refusal = Refusal-number r }
 
 -- document 01, Refusals, 5: a finished "quaternion .., coefficient set .. holds a value that isn't finite"
 unfoldable pub CoefficientsAnswer-judged : Quaternion → Coefficients → CoefficientsAnswer

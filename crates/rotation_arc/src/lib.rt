@@ -2,50 +2,41 @@
 #![tactic(auto)]
 
 ghost use Rattle.std.specs.Prelude.{◌≡◌};
+ghost use Rattle.refusal.specs.Number.{refusal_number};
 ghost use Rattle.rotation_arc.specs.ShorterArc.{flip, dots_refusal};
-ghost use Rattle.rotation_arc.specs.ArcCoefficients.{CoefficientsAnswer-judged, rotation_coefficients, pair_coefficients};
+ghost use Rattle.rotation_arc.specs.ArcCoefficients.{CoefficientsAnswer-of_result, CoefficientsAnswer-judged, rotation_coefficients, pair_coefficients};
 
 use coefficients::Coefficients;
 use matrix4x4::Matrix4x4;
 use quaternion::Quaternion;
+use refusal::Refusal;
 use vector3::Vector3f;
-
-// A coefficient set beside a refusal, after which every number is +0.
-#[derive(Clone, Copy)]
-pub struct CoefficientsAnswer {
-    pub value: Coefficients,
-    pub refusal: u8,
-}
 
 // The end's quaternion, negated where the rounded dot product with the start's is below zero, so that slerp takes the shorter arc. Accuracy: exact.
 pub fn flip(r0: Quaternion, r1: Quaternion) -> Quaternion
     ensures value { result ≡ flip r0 r1 }
 {
-    if r0.dot(r1) < 0.0 { r1.neg() } else { r1 }
+    if r0.dot(r1) < 0.0 { -r1 } else { r1 }
 }
 
-// 5 where the dot product of the two quaternions isn't finite, before or after the flip, and 0 otherwise. Accuracy: exact.
-pub fn dots_refusal(before: f32, after: f32) -> u8
-    ensures value { result ≡ dots_refusal before after }
+// Refused with 5 where the dot product of the two quaternions isn't finite, before or after the flip. Accuracy: exact.
+pub fn judge_dots(before: f32, after: f32) -> Result<(), Refusal>
+    ensures value { refusal_number result ≡ dots_refusal before after }
 {
     if float32::is_finite(before) & float32::is_finite(after) {
-        0
+        Ok(())
     } else {
-        5
+        Err(Refusal::NotFinite)
     }
 }
 
-fn judged(qperp: Quaternion, value: Coefficients) -> CoefficientsAnswer
-    ensures value { result ≡ CoefficientsAnswer-judged qperp value }
+fn judged(qperp: Quaternion, value: Coefficients) -> Result<Coefficients, Refusal>
+    ensures value { CoefficientsAnswer-of_result result ≡ CoefficientsAnswer-judged qperp value }
 {
     if qperp.is_finite() & value.is_finite() {
-        CoefficientsAnswer { value, refusal: 0 }
+        Ok(value)
     } else {
-        let zero = Coefficients::zero();
-        CoefficientsAnswer {
-            value: zero,
-            refusal: 5,
-        }
+        Err(Refusal::NotFinite)
     }
 }
 
@@ -58,11 +49,11 @@ fn rotation_coefficients(
     s0: Matrix4x4,
     s1: Matrix4x4,
     cos_theta: f32,
-) -> CoefficientsAnswer
-    ensures value { result ≡ rotation_coefficients t0 t1 r0 r1 s0 s1 cos_theta }
+) -> Result<Coefficients, Refusal>
+    ensures value { CoefficientsAnswer-of_result result ≡ rotation_coefficients t0 t1 r0 r1 s0 s1 cos_theta }
 {
     let theta = arc_cosine::acos(float32::clamp(cos_theta, -1.0, 1.0));
-    let qperp = r1.sub(r0.mul(cos_theta)).normalize();
+    let qperp = (r1 - r0 * cos_theta).normalize();
     judged(
         qperp,
         Coefficients::new(t0, t1, r0, qperp, theta, s0.to_rows(), s1.to_rows()),
@@ -80,16 +71,12 @@ pub fn pair_coefficients(
     s0: Matrix4x4,
     s1: Matrix4x4,
     cos_theta: f32,
-) -> CoefficientsAnswer
-    ensures value { result ≡ pair_coefficients has_rotation t0 t1 r0 r1 s0 s1 cos_theta }
+) -> Result<Coefficients, Refusal>
+    ensures value { CoefficientsAnswer-of_result result ≡ pair_coefficients has_rotation t0 t1 r0 r1 s0 s1 cos_theta }
 {
     if has_rotation {
         rotation_coefficients(t0, t1, r0, r1, s0, s1, cos_theta)
     } else {
-        let zero = Coefficients::zero();
-        CoefficientsAnswer {
-            value: zero,
-            refusal: 0,
-        }
+        Ok(Coefficients::zero())
     }
 }

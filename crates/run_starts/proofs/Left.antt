@@ -2,14 +2,14 @@
 use Prim.Native.Nat.{ℕ, zero, suc, ◌+◌, ◌-◌, ◌≤◌, ◌<◌}
 use mathlib.Core.Path.{◌≡◌, refl, sym, ap, subst, ◌∙◌}
 use mathlib.Core.Bool.{Bool, true, false}
-use mathlib.Core.List.{List, map, ◌++◌}
+use mathlib.Core.List.{List, ◌++◌}
 use native.Mathlib.Omega.{arith}
 use borrow.Author.Tests.{ltb-true, ltb-false, ne_eqb}
 use lib.Dec.{ltb}
 use lib.ListN.{length, get_or, replicate, length-append, length-map, length-replicate, get_or-append, get_or-map}
 use lib.Seq.{ext_get_or, get_or-append-add}
 use lib.Ieee.{Float}
-use Rattle.run_schedule.specs.Day.{Boom, Run, waiting, started, Run-start, boom_at, before, all_ticks, start_ticks, max_booms, day_refusal}
+use Rattle.run_schedule.specs.Day.{Boom, Run, waiting, Run-start, boom_at, before, all_ticks, start_ticks, max_booms, day_refusal}
 use Rattle.run_schedule.specs.Theorem.{DayKeeps}
 use Rattle.run_schedule.proofs.Tick.{run_at, before-size}
 use Rattle.run_schedule.proofs.State.{ticks_at}
@@ -19,7 +19,7 @@ use Rattle.run_starts.specs.means.Ends.{GoodLengths, Run-end, EndsOf, StartsOf}
 use Rattle.run_starts.proofs.Booms.{booms-length, ticks-at}
 use Rattle.run_starts.proofs.Taken.{day_booms}
 
-pub zero-places : (m k : ℕ) → ◌≡◌ {A = ℕ} (get_or (replicate m 0) k 0) 0
+zero-places : (m k : ℕ) → ◌≡◌ {A = ℕ} (get_or (replicate m 0) k 0) 0
 zero-places zero k = refl
 zero-places (suc m) zero = refl
 zero-places (suc m) (suc k) = zero-places m k

@@ -1,5 +1,5 @@
 -- A tick over the ends of runs: it tells the same as the definition's tick, boom by boom: `taking_step`.
-use Prim.Native.Nat.{ℕ, zero, suc, ◌+◌, ◌-◌, ◌≤◌, ◌<◌}
+use Prim.Native.Nat.{ℕ, suc, ◌+◌, ◌≤◌, ◌<◌}
 use mathlib.Core.Path.{◌≡◌, refl, sym, ap, subst, ◌∙◌}
 use mathlib.Core.Bool.{Bool, true, false, ◌&&◌}
 use mathlib.Core.Logic.{◌⊎◌, inl, inr}
@@ -13,9 +13,9 @@ use lib.Ieee.{Float}
 use Rattle.bounds_overlap.specs.Meets.{Bounds3f-meets}
 use Rattle.run_schedule.specs.Day.{Boom, Run, waiting, started, Run-goes_on, some_below, boom_at, runs_in, meets_running, taken, taken_below}
 use Rattle.run_schedule.proofs.Places.{some_same}
-use Rattle.run_schedule.proofs.Tick.{run_at, started-not-waiting, run-cases, SetAt, set_at, Starts, Stays, taken-cases}
+use Rattle.run_schedule.proofs.Tick.{run_at, run-cases, SetAt, set_at, Starts, Stays, taken-cases}
 use Rattle.run_starts.specs.Booms.{Booms-of_lists}
-use Rattle.run_starts.specs.means.Ends.{box_at, GoodLengths, Run-end, EndsOf, runs_and_meets, end_taken, Ticks}
+use Rattle.run_starts.specs.means.Ends.{GoodLengths, Run-end, EndsOf, runs_and_meets, end_taken, Ticks}
 use Rattle.run_starts.proofs.Booms.{booms-length, box-at, ticks-at}
 
 -- A run goes on in tick t where its end is later.
@@ -147,17 +147,6 @@ module _ (count : ℕ) (boxes : List (List Float)) (lengths : List ℕ) where
           (λ runs e.
           back (get_or new i 0) refl (taken day_booms t i (taken_below day_booms t i runs))
           (stays good t i h (taken_below day_booms t i runs) new e (λ w. absurd (g z w))))
-
-  -- The same by how many are left to be taken.
-  pub taking-down : GoodLengths count lengths → (t left : ℕ) (old new : List ℕ) (v : ℕ) → count ≤ 8 → length new ≡ 8 → 0 < left → left ≤ count
-      → v ≡ end_taken boxes lengths count t (get_or old (count - left) 0) new (count - left)
-      → Taking t (count - left) old new → Taking t (count - (left - 1)) old (set new (count - left) v)
-  taking-down good t left old new v few size some most e k =
-      let i : ℕ = count - left in
-      let n : i + 1 ≡ count - (left - 1) = omega (arith, some, most) in
-      let step = taking_step good t i old new (omega (arith, some, most)) (omega (arith, some, most, size, few)) k in
-      subst (λ (m : ℕ). Taking t m old (set new (count - left) v)) n
-      (subst (λ (x : ℕ). Taking t (i + 1) old (set new (count - left) x)) (sym e) step)
 
   pub taking-last : (t i : ℕ) (old new : List ℕ) → i ≡ count → Taking t i old new → Ticks day_booms t old new
   taking-last t i old new q k runs e =

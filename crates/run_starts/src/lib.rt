@@ -18,13 +18,10 @@ fn has_bad_length(lengths: &[u32; 8], count: usize) -> bool
     requires { count ≤ 8 }
     ensures value { result ≡ some_below count (bad_length_at lengths.now) }
 {
-    let mut i = 0;
-    while i < count {
-        let n = lengths[i];
-        if (n == 0) | (MAX_TICKS < n) {
+    for n in &lengths[..count] {
+        if (*n == 0) | (MAX_TICKS < *n) {
             return true;
         }
-        i += 1;
     }
     false
 }
@@ -34,13 +31,11 @@ fn boxes_refusal(boxes: &[[f32; 6]; 8], lengths: &[u32; 8], count: usize) -> u8
     requires { count ≤ 8 }
     ensures value { result ≡ first_box_refusal (Booms-of_lists count boxes.now lengths.now) }
 {
-    let mut i = 0;
-    while i < count {
-        let number = bounds_query::refusal(lent_arrays::bounds(&boxes[i]));
+    for corners in &boxes[..count] {
+        let number = bounds_query::refusal(lent_arrays::bounds(corners));
         if number != 0 {
             return number;
         }
-        i += 1;
     }
     0
 }
@@ -87,12 +82,10 @@ fn meets_running(boxes: &[[f32; 6]; 8], count: usize, ends: [u32; 8], t: u32, i:
     requires i_bound { i < 8 }
     ensures value { result ≡ some_below count (runs_and_meets boxes.now ends t i) }
 {
-    let mut j = 0;
-    while j < count {
+    for j in 0..count {
         if runs_and_meets(boxes, ends, t, i, j) {
             return true;
         }
-        j += 1;
     }
     false
 }
@@ -136,11 +129,8 @@ fn start_waiting(
     ensures value { Ticks (Booms-of_lists count boxes.now lengths.now) t ends result }
 {
     let mut now = ends;
-    let mut left = count;
-    while 0 < left {
-        let i = count - left;
+    for i in 0..count {
         now[i] = end_taken(boxes, lengths, count, t, ends[i], now, i);
-        left -= 1;
     }
     now
 }
@@ -150,12 +140,10 @@ fn waits(count: usize, ends: [u32; 8]) -> bool
     requires { count ≤ 8 }
     ensures value { result ≡ some_below count (λ i. eqb (get_or ends i 0) 0) }
 {
-    let mut i = 0;
-    while i < count {
-        if ends[i] == 0 {
+    for end in &ends[..count] {
+        if *end == 0 {
             return true;
         }
-        i += 1;
     }
     false
 }
@@ -176,10 +164,8 @@ fn next_stop(count: usize, ends: [u32; 8], t: u32) -> u32
     ensures value { NextStop count ends t result }
 {
     let mut next = LAST_TICK;
-    let mut i = 0;
-    while i < count {
-        next = sooner(t, ends[i], next);
-        i += 1;
+    for end in &ends[..count] {
+        next = sooner(t, *end, next);
     }
     next
 }
@@ -207,10 +193,8 @@ fn starts_of(lengths: &[u32; 8], count: usize, ends: [u32; 8]) -> [u32; 8]
     ensures value { StartsOf count lengths.now ends result }
 {
     let mut starts = [0u32; 8];
-    let mut i = 0;
-    while i < count {
+    for i in 0..count {
         starts[i] = ends[i] - lengths[i];
-        i += 1;
     }
     starts
 }

@@ -1,5 +1,6 @@
 -- pbrt's `transform_bounds` of an affine transform and a finite box: the smallest box round the eight moved corners, refused
 -- with 5 where one of them is not finite (`corners-span`). Rests on the unions of `bounds3`, and on wp being 1 (`point-affine`).
+use Rattle.std.specs.Prelude.{Ok, Err}
 use mathlib.Core.Path.{◌≡◌, refl}
 use mathlib.Core.Bool.{Bool, true, false, cond}
 use mathlib.Core.List.{List, [], ◌∷◌}
@@ -16,8 +17,7 @@ use Rattle.bounds_query.specs.bounds3.Inside.{Inside, Subset}
 use Rattle.bounds_query.proofs.bounds3.Finite.{test-finite, finite-test, low-finite, high-finite}
 use Rattle.bounds_query.proofs.bounds3.Union.{from-point-inside, union-least, union-point-box, union-point-inside, union-point-keeps, inside-subset}
 use Rattle.bounds_query.specs.transform.declared.Transform.{Transform}
-use Rattle.bounds_query.specs.transform.declared.PointAnswer.{PointAnswer}
-use Rattle.bounds_query.specs.transform.declared.PointAnswer.TheVariants as point
+use Rattle.bounds_query.specs.transform.Answer.{PointAnswer}
 use Rattle.bounds_query.specs.transform.declared.BoundsAnswer.{BoundsAnswer}
 use Rattle.bounds_query.specs.transform.declared.BoundsAnswer.TheVariants as bounds
 use Rattle.bounds_query.specs.transform.TransformPoint.{PointAnswer-judged, Transform-transform_point}
@@ -57,7 +57,7 @@ first-spans : (q : Point3f) {a : PointAnswer} → a ≡ PointAnswer-judged q →
 unfolding PointAnswer-judged BoundsAnswer-from_moved
 first-spans q e = rw e (go (Point3f-is_finite q) (test-finite q) finite-test)
   where
-    go : (b : Bool) → (T b → Finite q) → (Finite q → T b) → Spans (q ∷ []) (BoundsAnswer-from_moved (cond b (point.Moved q) (point.Refused 5)))
+    go : (b : Bool) → (T b → Finite q) → (Finite q → T b) → Spans (q ∷ []) (BoundsAnswer-from_moved (cond b (Ok q) (Err 5)))
     go true f g = ((f tt, tt), record { inside = (from-point-inside (f tt), tt); least = λ d a. inside-subset a.0 })
     go false f g = (refl, λ a. g a.0)
 
@@ -68,7 +68,7 @@ union-spans q qs (bounds.Refused n) e s = (s.0, λ a. s.1 a.1)
 union-spans q qs (bounds.Bounds c) e s = rw e (go (Point3f-is_finite q) (test-finite q) finite-test)
   where
     go : (b : Bool) → (T b → Finite q) → (Finite q → T b)
-        → Spans (q ∷ qs) (BoundsAnswer-union_moved (bounds.Bounds c) (cond b (point.Moved q) (point.Refused 5)))
+        → Spans (q ∷ qs) (BoundsAnswer-union_moved (bounds.Bounds c) (cond b (Ok q) (Err 5)))
     go true f g = ((f tt, s.0), union-hull c qs (f tt) s.1)
     go false f g = (refl, λ a. g a.0)
 

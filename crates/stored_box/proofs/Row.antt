@@ -22,7 +22,7 @@ use Rattle.bounds_query.specs.bounds3.Finite as point
 use Rattle.bounds_query.specs.bounds3.Inside.{Inside, Subset}
 use Rattle.bounds_query.specs.transform.TransformPoint.{mul_point}
 use Rattle.pose_steps.specs.interval.declared.Interval.{Interval}
-use Rattle.pose_steps.specs.interval.declared.Judged.{Judged}
+use Rattle.pose_steps.specs.interval.Judged.{Judged}
 use Rattle.pose_steps.specs.interval.Contains.{Finite}
 use Rattle.pose_steps.specs.interval.Interval.{Interval-point, Interval-new, Interval-hull, Interval-of_four}
 use Rattle.pose_steps.specs.interval.Enclosure.{not_finite, Interval-add_enclosure, Interval-mul_enclosure, Judged-judge, Judged-add_enclosure, Judged-mul_enclosure}
@@ -30,7 +30,7 @@ use Rattle.pose_steps.proofs.interval.Finite.{add-operands}
 use Rattle.pose_steps.proofs.interval.Refusal.{finite-accepted}
 use Rattle.pose_steps.specs.formula.Enclose.{Expr-enclose, Expr-enclose_all, Program-enclose}
 use Rattle.pose_steps.specs.declared.IntervalVector.{IntervalVector}
-use Rattle.pose_steps.specs.declared.JudgedVector.{JudgedVector}
+use Rattle.pose_steps.specs.Judged.{JudgedVector}
 use Rattle.pose_steps.specs.Stages.{row, vector, moved}
 use Rattle.pose_steps.specs.Pose.{Pose-transform_point}
 use Rattle.pose_steps.specs.Enclose.{IntervalRow-list, IntervalRow-point, IntervalVector-list}

@@ -2,7 +2,7 @@
 use Rattle.std.specs.Prelude.{◌≡◌, ◌⊎◌, ℕ}
 use Rattle.bounds_query.specs.bounds3.declared.Bounds3f.{Bounds3f}
 use Rattle.bounds_query.specs.transform.declared.Transform.{Transform}
-use Rattle.pose_steps.specs.declared.JudgedVector.{JudgedVector}
+use Rattle.pose_steps.specs.Judged.{JudgedVector}
 use Rattle.pose_steps.specs.Enclose.{IntervalMatrix-point, Pose-enclose_transform_point, Bounds3f-intervals}
 
 -- document 01, Cover: "the start transform over the box, by the interval steps below"; "constants as equal ends, x, y, z from the box"

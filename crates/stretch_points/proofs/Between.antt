@@ -1,20 +1,18 @@
 -- Between the end times a point query of a kept move is the pose at dt, composed with slerp's rotation: `between-query`. `none-of-five` takes the code's
 -- one test apart.
-use mathlib.Core.Path.{◌≡◌, refl, sym, ap, ◌∙◌}
+use mathlib.Core.Path.{◌≡◌, refl, sym, ◌∙◌}
 use mathlib.Core.Bool.{Bool, true, false, not, true≢false, ◌||◌}
-use lib.Ieee.{Float, le, eq, ne, is_nan}
+use lib.Ieee.{Float, le, ne}
 use Rattle.bounds3.proofs.rounding.Order.{differs-nan}
-use Rattle.bounds3.specs.float32.Operators.{◌⊖◌, ◌⊘◌, one}
 use Rattle.matrix4x4.specs.Rows.{Rows}
 use Rattle.bounds3.specs.declared.Point3f.{Point3f}
 use Rattle.bounds3.specs.Finite.{Point3f-is_finite}
-use Rattle.transform.specs.declared.PointAnswer.{PointAnswer}
 use Rattle.quaternion.specs.declared.Quaternion.{Quaternion}
 use Rattle.pose_steps.specs.unit_interval.Unit.{dt}
 use Rattle.pose_steps.specs.Pose.{Pose-slerp}
 use Rattle.pose.specs.means.Composition.{Pose-composed_point}
 use Rattle.pose.proofs.GivenRotation.{moved_point-composition}
-use Rattle.motion_rows.specs.animated_transform.AtTime.{at_start, at_end}
+use Rattle.motion_rows.specs.animated_transform.AtTime.{at_start}
 use Rattle.motion_rows.proofs.motion_point.Query.{moved-point-between}
 use Rattle.motion_rows.specs.Rows.{AnimatedTransform-from_rows, PoseConstants-from_rows}
 use Rattle.motion_rows.specs.TransformPoint.{Rows-transform_point}

@@ -9,8 +9,7 @@ use lib.Seq.{sets, length-sets, drop-cons}
 use lib.Ieee.{Float, nan}
 use Rattle.bounds3.specs.declared.Point3f.{Point3f}
 use Rattle.bounds3.specs.List.{Point3f-list}
-use Rattle.transform.specs.declared.PointAnswer.{PointAnswer}
-use Rattle.transform.specs.Answer.{PointAnswer-point}
+use Rattle.transform.specs.Answer.{PointAnswer, PointAnswer-point}
 use Rattle.motion_chain.specs.Built.{Each}
 use Rattle.motion_chain.specs.Times.{places_per_time, Points-list}
 use Rattle.stretch_points.specs.Points.{floats_at}

@@ -3,8 +3,7 @@
 use Rattle.std.specs.Prelude.{◌*◌, cond, List, map, eqb, length, Float}
 use Rattle.matrix4x4.specs.Rows.{Rows}
 use Rattle.bounds3.specs.declared.Point3f.{Point3f}
-use Rattle.transform.specs.declared.PointAnswer.{PointAnswer}
-use Rattle.transform.specs.Answer.{PointAnswer-point}
+use Rattle.transform.specs.Answer.{PointAnswer, PointAnswer-point}
 use Rattle.motion_rows.specs.TransformPoint.{Rows-transform_point}
 use Rattle.motion_chain.specs.Times.{places_per_time, PointsAnswer, points_at, Points-list}
 

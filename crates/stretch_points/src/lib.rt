@@ -4,10 +4,10 @@
 
 ghost use Rattle.std.specs.Prelude.{◌+◌, ◌*◌, ◌<◌, ◌≡◌, length};
 ghost use Rattle.std.proofs.lemmas.List.Edits.{sets};
-ghost use Rattle.sine_table.specs.Table.{sine_table};
 ghost use Rattle.bounds3.specs.List.{Point3f-list};
 ghost use Rattle.pose_steps.specs.Pose.{Pose-slerp};
 ghost use Rattle.pose_slerp.specs.means.Unjudged.{Perpendicular-of};
+ghost use Rattle.refusal.specs.Number.{numbered};
 ghost use Rattle.transform.specs.Answer.{PointAnswer-point};
 ghost use Rattle.motion_rows.specs.TransformPoint.{Rows-transform_point};
 ghost use Rattle.motion_chain.specs.Times.{places_per_time, PointsAnswer-refusal};
@@ -18,7 +18,8 @@ use bounds3::Point3f;
 use matrix4x4::Matrix4x4;
 use pose_steps::PoseConstants;
 use quaternion::{Quaternion, SLERP_THRESHOLD};
-use transform::PointAnswer;
+use refusal::Refusal;
+use trig::Sines;
 
 // What the times of a stretch have in common: the constants of its move and its scales, and the quaternion that slerp turns the first one to.
 #[derive(Clone, Copy)]
@@ -41,29 +42,27 @@ fn stretch_of(motion: &[[f32; 4]; 45]) -> Stretch
 }
 
 // `pose_slerp::slerp`, with the table of sines and the perpendicular quaternion at hand.
-fn slerp(table: &[u32; 2049], a: PoseConstants, perp: Quaternion, t: f32) -> Quaternion
-    requires fact_1 { table.now ≡ sine_table }
-    requires fact_2 { perp ≡ (Perpendicular-of a.r0 a.r1 a.cos_theta).q }
+fn slerp(sines: &Sines, a: PoseConstants, perp: Quaternion, t: f32) -> Quaternion
+    requires { perp ≡ (Perpendicular-of a.r0 a.r1 a.cos_theta).q }
     ensures value { result ≡ Pose-slerp a t }
 {
     if a.cos_theta > SLERP_THRESHOLD {
         return pose_slerp::slerp_near(a.r0, a.r1, t);
     }
-    let angle = trig::sin_cos_in(table, a.theta * t);
+    let angle = sines.sin_cos(a.theta * t);
     pose_slerp::turned(a.r0, perp, angle.sin, angle.cos)
 }
 
 // `motion_rows::transform_point`, with what a stretch has in common at hand.
 fn point_at(
-    table: &[u32; 2049],
+    sines: &Sines,
     motion: &[[f32; 4]; 45],
     stretch: Stretch,
     time: f32,
     p: Point3f,
-) -> PointAnswer
-    requires fact_1 { table.now ≡ sine_table }
-    requires fact_2 { stretch ≡ Stretch-of motion.now }
-    ensures value { result ≡ Rows-transform_point motion.now time p }
+) -> Result<Point3f, Refusal>
+    requires { stretch ≡ Stretch-of motion.now }
+    ensures value { numbered result ≡ Rows-transform_point motion.now time p }
 {
     let start = motion[16];
     let end = motion[17];
@@ -80,28 +79,23 @@ fn point_at(
     let a = stretch.a;
     let s0 = stretch.s0;
     let s1 = stretch.s1;
-    pose::composed_point(a, slerp(table, a, stretch.perp, t), s0, s1, t, p)
+    pose::composed_point(a, slerp(sines, a, stretch.perp, t), s0, s1, t, p)
 }
 
 // The number of the first time at which a kept move refuses a point; 0 for none. Accuracy: exact.
 pub fn first_refusal(motion: &[[f32; 4]; 45], times: &[f32], p: Point3f) -> u8
     ensures value { result ≡ PointsAnswer-refusal (Rows-transform_points motion.now times.now p) }
 {
-    let n = times.len();
-    if n == 0 {
+    if times.len() == 0 {
         return 0;
     }
-    let table = sine_table::table();
+    let sines = Sines::new();
     let stretch = stretch_of(motion);
-    let mut i = 0;
-    while i < n {
-        let answer = point_at(&table, motion, stretch, times[i], p);
-        match answer {
-            PointAnswer::Moved(q) => {
-                i = i + 1;
-            }
-            PointAnswer::Refused(number) => {
-                return number;
+    for time in times {
+        match point_at(&sines, motion, stretch, *time, p) {
+            Ok(_) => {}
+            Err(refusal) => {
+                return refusal.number();
             }
         }
     }
@@ -109,12 +103,12 @@ pub fn first_refusal(motion: &[[f32; 4]; 45], times: &[f32], p: Point3f) -> u8
 }
 
 // The answered point, or the origin.
-fn point_of(answer: PointAnswer) -> Point3f
-    ensures value { result ≡ PointAnswer-point answer }
+fn point_of(answer: Result<Point3f, Refusal>) -> Point3f
+    ensures value { result ≡ PointAnswer-point (numbered answer) }
 {
     match answer {
-        PointAnswer::Moved(q) => q,
-        PointAnswer::Refused(n) => Point3f {
+        Ok(q) => q,
+        Err(_) => Point3f {
             x: 0.0,
             y: 0.0,
             z: 0.0,
@@ -135,18 +129,14 @@ fn fill_stretch(motion: &[[f32; 4]; 45], times: &[f32], p: Point3f, answers: &mu
     requires { length answers.old ≡ places_per_time * length times.now }
     ensures left { answers.new ≡ floats_at (λ t. Rows-transform_point motion.now t p) times.now }
 {
-    let n = times.len();
-    if n == 0 {
+    if times.len() == 0 {
         return;
     }
-    let table = sine_table::table();
+    let sines = Sines::new();
     let stretch = stretch_of(motion);
-    let mut i = 0;
-    while i < n {
-        let next = i + 1;
-        let q = point_of(point_at(&table, motion, stretch, times[i], p));
+    for (i, time) in times.iter().enumerate() {
+        let q = point_of(point_at(&sines, motion, stretch, *time, p));
         put_three(answers, 3 * i, q);
-        i = next;
     }
 }
 

@@ -11,13 +11,10 @@ const MAX_TICKS: usize = 64;
 fn rise(ticks: &[f32]) -> bool
     ensures value { result ≡ Ticks-rise ticks.now }
 {
-    let n = ticks.len();
-    let mut i = 1;
-    while i < n {
+    for i in 1..ticks.len() {
         if !(ticks[i - 1] < ticks[i]) {
             return false;
         }
-        i = i + 1;
     }
     true
 }

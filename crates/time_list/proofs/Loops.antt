@@ -1,33 +1,18 @@
--- The tests of a list of times, as loops make them: `number-fails`, `number-next`, `number-end`; a test of neighbours: `never-falls`.
-use Prim.Native.Nat.{ℕ, zero, suc, ◌+◌, ◌≤◌, ◌<◌}
-use mathlib.Core.Path.{◌≡◌, refl}
-use mathlib.Core.Bool.{true, false, not, ◌&&◌}
+-- The tests of a list of times, as the code makes them: of each time, `numbers`, and of neighbours, `never-falls`.
+use mathlib.Core.Path.{◌≡◌, refl, ap}
+use mathlib.Core.Bool.{not, ◌&&◌}
 use mathlib.Core.List.{List, [], ◌∷◌}
-use native.Mathlib.Omega.{arith}
-use lib.ListN.{length, get_or, drop, drop_of_length-le}
-use lib.Ieee.{Float, nan, is_nan, le}
+use lib.Ieee.{Float, is_nan, le}
+use Rattle.std.specs.List.{list_all}
 use Rattle.motion_chain.proofs.control_flow.Neighbours.{EachNext}
 use Rattle.motion_chain.specs.Chain.{every}
 use Rattle.motion_chain.specs.Times.{times_are_numbers, never_falls}
 
 -- ---- no NaN
-number_at : (times : List Float) (i : ℕ) → i < length times
-    → times_are_numbers (drop i times) ≡ (not (is_nan (get_or times i nan)) && times_are_numbers (drop (suc i) times))
+pub numbers : (times : List Float) → list_all (λ t. not (is_nan t)) times ≡ times_are_numbers times
 unfolding times_are_numbers every
-number_at [] i h = absurd (omega (arith, h))
-number_at (t ∷ times) zero h = refl
-number_at (t ∷ times) (suc i) h = number_at times i (omega (arith, h))
-
-pub number-fails : (times : List Float) (i : ℕ) → i < length times → is_nan (get_or times i nan) ≡ true → times_are_numbers (drop i times) ≡ false
-number-fails times i h e = rw (number_at times i h, e)
-
-pub number-next : (times : List Float) (i : ℕ) → i < length times → is_nan (get_or times i nan) ≡ false
-    → times_are_numbers (drop (i + 1) times) ≡ times_are_numbers (drop i times)
-number-next times i h e = let n : i + 1 ≡ suc i = omega arith in rw (n, number_at times i h, e)
-
-pub number-end : (times : List Float) (i : ℕ) → length times ≤ i → times_are_numbers (drop i times) ≡ true
-unfolding times_are_numbers every
-number-end times i h = rw (drop_of_length-le times {i = i} h)
+numbers [] = refl
+numbers (t ∷ times) = ap (λ b. not (is_nan t) && b) (numbers times)
 
 -- ---- no fall
 pub never-falls : EachNext le never_falls

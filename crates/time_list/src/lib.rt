@@ -10,27 +10,16 @@ use bounds3::Point3f;
 fn are_numbers(times: &[f32]) -> bool
     ensures value { result ≡ times_are_numbers times.now }
 {
-    let n = times.len();
-    let mut i = 0;
-    while i < n {
-        if times[i] != times[i] {
-            return false;
-        }
-        i = i + 1;
-    }
-    true
+    times.iter().all(|t| !t.is_nan())
 }
 
 fn never_falls(times: &[f32]) -> bool
     ensures value { result ≡ never_falls times.now }
 {
-    let n = times.len();
-    let mut i = 1;
-    while i < n {
+    for i in 1..times.len() {
         if !(times[i - 1] <= times[i]) {
             return false;
         }
-        i = i + 1;
     }
     true
 }

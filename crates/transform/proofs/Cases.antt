@@ -1,5 +1,6 @@
 -- Cases of the definitions, by computing, for a translation by (1, 2, 3): it moves a point and a box, leaves a vector's length,
 -- and followed by itself is one by (2, 4, 6). A point is divided by its fourth coordinate, and is refused where that is zero.
+use Rattle.std.specs.Prelude.{Ok, Err}
 use mathlib.Core.Path.{◌≡◌, refl}
 use mathlib.Core.Bool.{false}
 use mathlib.Core.List.{[], ◌∷◌}
@@ -8,7 +9,6 @@ use lib.Ieee.{Float, binary32, round}
 use Rattle.matrix4x4.specs.Rows.{Row, Rows}
 use Rattle.bounds3.specs.declared.Point3f.{Point3f}
 use Rattle.transform.specs.declared.Transform.{Transform}
-use Rattle.transform.specs.declared.PointAnswer.TheVariants as point
 use Rattle.transform.specs.declared.BoundsAnswer.TheVariants as bounds
 use Rattle.transform.specs.Transform.{Transform-from_matrices, Transform-translate, Transform-mul}
 use Rattle.transform.specs.TransformPoint.{Transform-transform_point}
@@ -28,7 +28,7 @@ row a b c d = whole a ∷ whole b ∷ whole c ∷ whole d ∷ []
 abbrev by : ℕ → ℕ → ℕ → Transform
 by x y z = Transform-translate (record { x = whole x; y = whole y; z = whole z })
 
-translate-point : Transform-transform_point (by 1 2 3) (at 1 1 1) ≡ point.Moved (at 2 3 4)
+translate-point : Transform-transform_point (by 1 2 3) (at 1 1 1) ≡ Ok (at 2 3 4)
 unfolding computing
 translate-point = refl
 
@@ -51,10 +51,10 @@ perspective =
     let m : Rows = row 1 0 0 0 ∷ row 0 1 0 0 ∷ row 0 0 1 0 ∷ row 0 0 1 0 ∷ [] in
     Transform-from_matrices m m
 
-perspective-divides : Transform-transform_point perspective (at 4 6 2) ≡ point.Moved (at 2 3 1)
+perspective-divides : Transform-transform_point perspective (at 4 6 2) ≡ Ok (at 2 3 1)
 unfolding computing
 perspective-divides = refl
 
-perspective-refuses : Transform-transform_point perspective (at 4 6 0) ≡ point.Refused 5
+perspective-refuses : Transform-transform_point perspective (at 4 6 0) ≡ Err 5
 unfolding computing
 perspective-refuses = refl

@@ -10,7 +10,7 @@ use Rattle.matrix4x4.specs.Rows.{Rows, Matrix4x4-from_rows, Matrix4x4-to_rows}
 use Rattle.matrix4x4.specs.IsFinite.{Matrix4x4-is_finite}
 use Rattle.matrix_inverse.specs.Inverse.{Matrix4x4-inverse}
 use Rattle.matrix_inverse.proofs.Refusal.{inverse-refusal, inverse-finite}
-use Rattle.transform.specs.declared.TransformAnswer.{TransformAnswer}
+use Rattle.transform.specs.Transform.{TransformAnswer}
 use Rattle.transform.specs.Transform.{TransformAnswer-refused, Transform-from_matrix}
 
 pub from-matrix-refusal : (m : Rows) → (Transform-from_matrix m).refusal ≡ (Matrix4x4-inverse m).refusal

@@ -1,6 +1,7 @@
 -- The homogeneous coordinate wp of a moved point. `wp-one`: under an affine matrix it is 1 for a finite point, so that nothing is divided (`moved-affine`).
 -- `wp-zero`: where it is zero, the answer is the refusal 5, since a quotient by a zero is never finite (`div-zero`).
 -- Rests on the arithmetic of zeros in `matrix4x4`.
+use Rattle.std.specs.Prelude.{Err}
 use mathlib.Core.Path.{◌≡◌, refl}
 use mathlib.Core.Bool.{Bool, true, false, ◌&&◌, cond}
 use Prim.Native.Nat.{◌*◌}
@@ -17,7 +18,6 @@ use Rattle.matrix4x4.proofs.Zero.{Zero, signed, mul-zero, zero-add-zero, zero-ad
 use Rattle.bounds3.specs.declared.Point3f.{Point3f}
 use Rattle.bounds3.specs.Finite.{Point3f-is_finite, Finite}
 use Rattle.transform.specs.declared.Transform.{Transform}
-use Rattle.transform.specs.declared.PointAnswer.TheVariants.{Refused}
 use Rattle.transform.specs.TransformPoint.{mul_point, moved_point, PointAnswer-judged, Transform-transform_point}
 
 -- ---- wp is 1
@@ -59,7 +59,7 @@ zero-not-one : {z : Float} → Zero z → eq z one ≡ false
 unfolding eq of_bits
 zero-not-one (signed s e) = rw (ne_eqb (0 * up e * 1) (1 * down e) (λ h. let d = down_pos e in omega arith))
 
-pub wp-zero : (t : Transform) (p : Point3f) → T (eq (mul_point (row (Matrix4x4-to_rows t.m) 3) p) positive_zero) → Transform-transform_point t p ≡ Refused 5
+pub wp-zero : (t : Transform) (p : Point3f) → T (eq (mul_point (row (Matrix4x4-to_rows t.m) 3) p) positive_zero) → Transform-transform_point t p ≡ Err 5
 unfolding Transform-transform_point PointAnswer-judged moved_point Point3f-is_finite
 wp-zero t p h =
     let m = Matrix4x4-to_rows t.m in

@@ -1,26 +1,28 @@
--- Document 01's number and values for each case of an answer: 0 where nothing is refused, and every value +0 where something is.
+-- Moved points and boxes, or the number of a refusal; of each document 01's number and values: 0 where nothing is refused, and every value +0 where something is.
 -- `OneOf`: which numbers an answer can have. `Judged`: what is promised of an answer for which only 5 can be met. Definitions only.
-use Rattle.std.specs.Prelude.{◌≡◌, ◌⊎◌, List, [], ◌∷◌, ℕ, T}
+use Rattle.std.specs.Prelude.{◌≡◌, ◌⊎◌, List, [], ◌∷◌, ℕ, T, Result, Ok, Err}
 use Rattle.bounds3.specs.declared.Point3f.{Point3f}
 use Rattle.bounds3.specs.declared.Bounds3f.{Bounds3f}
 use Rattle.bounds3.specs.Bounds3f.{Bounds3f-from_point}
 use Rattle.bounds3.specs.Finite.{Point3f-is_finite, Bounds3f-is_finite}
 use Rattle.matrix4x4.specs.Rows.{positive_zero}
-use Rattle.transform.specs.declared.PointAnswer.{PointAnswer}
-use Rattle.transform.specs.declared.PointAnswer.TheVariants as point
 use Rattle.transform.specs.declared.BoundsAnswer.{BoundsAnswer}
 use Rattle.transform.specs.declared.BoundsAnswer.TheVariants as bounds
+
+-- a moved point, or the number of a refusal
+abbrev pub PointAnswer : Type 0
+PointAnswer = Result Point3f ℕ
 
 abbrev pub origin : Point3f
 origin = record { x = positive_zero; y = positive_zero; z = positive_zero }
 
 abbrev pub PointAnswer-refusal : PointAnswer → ℕ
-PointAnswer-refusal (point.Moved p) = 0
-PointAnswer-refusal (point.Refused n) = n
+PointAnswer-refusal (Ok p) = 0
+PointAnswer-refusal (Err n) = n
 
 abbrev pub PointAnswer-point : PointAnswer → Point3f
-PointAnswer-point (point.Moved p) = p
-PointAnswer-point (point.Refused n) = origin
+PointAnswer-point (Ok p) = p
+PointAnswer-point (Err n) = origin
 
 abbrev pub BoundsAnswer-refusal : BoundsAnswer → ℕ
 BoundsAnswer-refusal (bounds.Bounds b) = 0

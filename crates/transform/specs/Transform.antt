@@ -1,6 +1,6 @@
 -- pbrt's Transform as a pair of matrices: made from one or two, of a translation, a product, and its comparison. Definitions only.
 -- Each half is worked for itself: m_inv is whatever the operation's own line gives, and nothing asks that it is the inverse of m.
-use Rattle.std.specs.Prelude.{ℕ, Bool, ◌&&◌, cond, [], ◌∷◌, eqb, Float}
+use Rattle.std.specs.Prelude.{ℕ, Bool, ◌&&◌, cond, [], ◌∷◌, eqb, Float, Result, Ok, Err}
 use Rattle.std.specs.Float.Ieee.{neg}
 use Rattle.bounds3.specs.float32.Operators.{one}
 use Rattle.vector3.specs.declared.Vector3f.{Vector3f}
@@ -10,17 +10,27 @@ use Rattle.matrix4x4.specs.Mul.{Matrix4x4-mul}
 use Rattle.matrix4x4.specs.Eq.{Matrix4x4-eq}
 use Rattle.matrix_inverse.specs.Inverse.{Matrix4x4-inverse}
 use Rattle.transform.specs.declared.Transform.{Transform}
-use Rattle.transform.specs.declared.TransformAnswer.{TransformAnswer}
+use Rattle.refusal.specs.declared.Refusal.{Refusal}
+use Rattle.refusal.specs.Number.{Refusal-number}
 
 -- `Transform::from_matrices`
 abbrev pub Transform-from_matrices : Rows → Rows → Transform
 Transform-from_matrices m m⁻¹ = record { m = Matrix4x4-from_rows m; m_inv = Matrix4x4-from_rows m⁻¹ }
+
+-- A transform beside a refusal's number, 0 for none.
+pub record TransformAnswer : Type 0 where
+  pub transform : Transform
+  pub refusal : ℕ
 
 -- A transform that was refused: document 01's number, and every entry +0.
 abbrev pub TransformAnswer-refused : ℕ → TransformAnswer
 TransformAnswer-refused n =
     let z : Matrix4x4 = Matrix4x4-zero in
     record { transform = record { m = z; m_inv = z }; refusal = n }
+
+abbrev pub TransformAnswer-of_result : Result Transform Refusal → TransformAnswer
+TransformAnswer-of_result (Ok t) = record { transform = t; refusal = 0 }
+TransformAnswer-of_result (Err r) = TransformAnswer-refused (Refusal-number r)
 
 -- `Transform::from_matrix`, with the inverse's number handed on
 unfoldable pub Transform-from_matrix : Rows → TransformAnswer

@@ -1,24 +1,23 @@
 -- pbrt's `transform_bounds`: the union of a box's eight moved corners. Definitions only.
 -- Each moved point is judged as it is met, so that a NaN is never dropped by least or greatest; the first refusal stands.
-use Rattle.std.specs.Prelude.{Float}
+use Rattle.std.specs.Prelude.{Float, Ok, Err}
 use Rattle.bounds3.specs.declared.Bounds3f.{Bounds3f}
 use Rattle.bounds3.specs.Bounds3f.{Bounds3f-from_point, Bounds3f-union_point}
 use Rattle.transform.specs.declared.Transform.{Transform}
-use Rattle.transform.specs.declared.PointAnswer.{PointAnswer}
-use Rattle.transform.specs.declared.PointAnswer.TheVariants as point
+use Rattle.transform.specs.Answer.{PointAnswer}
 use Rattle.transform.specs.declared.BoundsAnswer.{BoundsAnswer}
 use Rattle.transform.specs.declared.BoundsAnswer.TheVariants as bounds
 use Rattle.transform.specs.TransformPoint.{Transform-transform_point}
 
 -- `Bounds3f::from_point` of a moved point
 unfoldable pub BoundsAnswer-from_moved : PointAnswer → BoundsAnswer
-BoundsAnswer-from_moved (point.Moved p) = bounds.Bounds (Bounds3f-from_point p)
-BoundsAnswer-from_moved (point.Refused n) = bounds.Refused n
+BoundsAnswer-from_moved (Ok p) = bounds.Bounds (Bounds3f-from_point p)
+BoundsAnswer-from_moved (Err n) = bounds.Refused n
 
 -- `ret.union_point` of a moved point
 unfoldable pub BoundsAnswer-union_moved : BoundsAnswer → PointAnswer → BoundsAnswer
-BoundsAnswer-union_moved (bounds.Bounds b) (point.Moved p) = bounds.Bounds (Bounds3f-union_point b p)
-BoundsAnswer-union_moved (bounds.Bounds b) (point.Refused n) = bounds.Refused n
+BoundsAnswer-union_moved (bounds.Bounds b) (Ok p) = bounds.Bounds (Bounds3f-union_point b p)
+BoundsAnswer-union_moved (bounds.Bounds b) (Err n) = bounds.Refused n
 BoundsAnswer-union_moved (bounds.Refused n) a = bounds.Refused n
 
 -- `ret.union_point(&self.transform_point(&Point3::new(x, y, z)))`

@@ -1,5 +1,5 @@
 -- pbrt's `transform_point`: the matrix half of a transform times (x, y, z, 1), divided by the fourth coordinate. Definitions only.
-use Rattle.std.specs.Prelude.{cond, Float}
+use Rattle.std.specs.Prelude.{cond, Float, Ok, Err}
 use Rattle.std.specs.Float.Ieee.{eq}
 use Rattle.bounds3.specs.float32.Operators.{◌⊕◌, ◌⊗◌, one}
 use Rattle.matrix4x4.specs.Rows.{Row, Rows, row, col, Matrix4x4-to_rows}
@@ -7,8 +7,7 @@ use Rattle.bounds3.specs.declared.Point3f.{Point3f}
 use Rattle.bounds3.specs.Point3f.{Point3f-div}
 use Rattle.bounds3.specs.Finite.{Point3f-is_finite}
 use Rattle.transform.specs.declared.Transform.{Transform}
-use Rattle.transform.specs.declared.PointAnswer.{PointAnswer}
-use Rattle.transform.specs.declared.PointAnswer.TheVariants.{Moved, Refused}
+use Rattle.transform.specs.Answer.{PointAnswer}
 
 -- A row times (x, y, z, 1): one of the sums xp, yp, zp and wp.
 abbrev pub mul_point : Row → Point3f → Float
@@ -23,7 +22,7 @@ moved_point m p =
 
 -- document 01, Refusals, 5: an "answer holds a value that isn't finite"
 unfoldable pub PointAnswer-judged : Point3f → PointAnswer
-PointAnswer-judged q = cond (Point3f-is_finite q) (Moved q) (Refused 5)
+PointAnswer-judged q = cond (Point3f-is_finite q) (Ok q) (Err 5)
 
 -- `Transform::transform_point`
 unfoldable pub Transform-transform_point : Transform → Point3f → PointAnswer

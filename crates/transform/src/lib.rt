@@ -1,12 +1,13 @@
 // pbrt's Transform: a 4x4 matrix with its inverse, applied to points, vectors and boxes.
-// Who judges what: `transform_point` and `transform_bounds` answer a refusal, 5, for a moved point that isn't finite; `from_matrix` hands on the inverse's,
+// Who judges what: `transform_point` and `transform_bounds` refuse a moved point that isn't finite, 5; `from_matrix` hands on the inverse's,
 // 4 or 5. All others refuse nothing. Neither a matrix nor a point is asked to be finite here: that is for the functions that build and that answer queries.
 #![tactic(auto)]
 
 ghost use Rattle.std.specs.Prelude.{◌≡◌};
+ghost use Rattle.refusal.specs.Number.{numbered};
 ghost use Rattle.matrix4x4.specs.Rows.{Matrix4x4-to_rows};
-ghost use Rattle.transform.specs.Transform.{TransformAnswer-refused, Transform-from_matrices, Transform-from_matrix};
-ghost use Rattle.transform.specs.Transform.{Transform-mul, Transform-translate, Transform-eq};
+ghost use Rattle.transform.specs.Transform.{TransformAnswer-of_result, Transform-from_matrices, Transform-from_matrix};
+ghost use Rattle.transform.specs.Transform.{Transform-mul, Transform-translate};
 ghost use Rattle.transform.specs.Answer.{PointAnswer-Judged, BoundsAnswer-Judged};
 ghost use Rattle.transform.specs.TransformPoint.{mul_point, moved_point, Transform-transform_point};
 ghost use Rattle.transform.specs.TransformVector.{mul_vector, moved_vector, Transform-transform_vector};
@@ -15,26 +16,15 @@ ghost use Rattle.transform.specs.HasScale.{not_one, image_squared, Matrix4x4-has
 
 use bounds3::{Bounds3f, Point3f};
 use matrix4x4::Matrix4x4;
+use refusal::Refusal;
+use std::ops::Mul;
 use vector3::Vector3f;
 
-#[derive(Clone, Copy)]
+// `==` is pbrt's, of both halves: `Transform-eq`.
+#[derive(Clone, Copy, PartialEq)]
 pub struct Transform {
     pub m: Matrix4x4,
     pub m_inv: Matrix4x4,
-}
-
-// A transform beside the number of a refusal, 0 for none: after a refusal every entry is +0.
-#[derive(Clone, Copy)]
-pub struct TransformAnswer {
-    pub transform: Transform,
-    pub refusal: u8,
-}
-
-// A moved point, or the number of a refusal.
-#[derive(Clone, Copy)]
-pub enum PointAnswer {
-    Moved(Point3f),
-    Refused(u8),
 }
 
 // A moved box, or the number of a refusal.
@@ -42,20 +32,6 @@ pub enum PointAnswer {
 pub enum BoundsAnswer {
     Bounds(Bounds3f),
     Refused(u8),
-}
-
-// A transform that was refused, by the number: every entry is +0. Accuracy: exact.
-pub fn refused(refusal: u8) -> TransformAnswer
-    ensures value { result ≡ TransformAnswer-refused refusal }
-{
-    let z = Matrix4x4 {
-        r0: [0.0; 4],
-        r1: [0.0; 4],
-        r2: [0.0; 4],
-        r3: [0.0; 4],
-    };
-    let transform = Transform { m: z, m_inv: z };
-    TransformAnswer { transform, refusal }
 }
 
 // A row times (x, y, z, 1), summed from the left.
@@ -86,27 +62,27 @@ fn moved_point(m: Matrix4x4, p: Point3f) -> Point3f
         z: mul_point(r2, p),
     };
     let wp = mul_point(r3, p);
-    if wp == 1.0 { q } else { q.div(wp) }
+    if wp == 1.0 { q } else { q / wp }
 }
 
 // The box of a moved point, or its refusal. Accuracy: exact.
-pub fn from_moved(a: PointAnswer) -> BoundsAnswer
-    ensures value { result ≡ BoundsAnswer-from_moved a }
+pub fn from_moved(a: Result<Point3f, Refusal>) -> BoundsAnswer
+    ensures value { result ≡ BoundsAnswer-from_moved (numbered a) }
 {
     match a {
-        PointAnswer::Moved(p) => BoundsAnswer::Bounds(Bounds3f::from_point(p)),
-        PointAnswer::Refused(n) => BoundsAnswer::Refused(n),
+        Ok(p) => BoundsAnswer::Bounds(Bounds3f::from_point(p)),
+        Err(refusal) => BoundsAnswer::Refused(refusal.number()),
     }
 }
 
 // The box with one more moved point: the first refusal stands.
-fn union_moved(r: BoundsAnswer, a: PointAnswer) -> BoundsAnswer
-    ensures value { result ≡ BoundsAnswer-union_moved r a }
+fn union_moved(r: BoundsAnswer, a: Result<Point3f, Refusal>) -> BoundsAnswer
+    ensures value { result ≡ BoundsAnswer-union_moved r (numbered a) }
 {
     match r {
         BoundsAnswer::Bounds(b) => match a {
-            PointAnswer::Moved(p) => BoundsAnswer::Bounds(b.union_point(p)),
-            PointAnswer::Refused(n) => BoundsAnswer::Refused(n),
+            Ok(p) => BoundsAnswer::Bounds(b.union_point(p)),
+            Err(refusal) => BoundsAnswer::Refused(refusal.number()),
         },
         BoundsAnswer::Refused(n) => BoundsAnswer::Refused(n),
     }
@@ -153,28 +129,18 @@ impl Transform {
     pub fn from_matrices(m: [[f32; 4]; 4], m_inv: [[f32; 4]; 4]) -> Transform
         ensures value { result ≡ Transform-from_matrices m m_inv }
     {
-        let a = Matrix4x4::from_rows(m);
-        let b = Matrix4x4::from_rows(m_inv);
+        let a = Matrix4x4::from(m);
+        let b = Matrix4x4::from(m_inv);
         Transform { m: a, m_inv: b }
     }
 
     // pbrt's `from_matrix`: a matrix with its inverse; pbrt goes on past a zero pivot, and here the refusal of the inverse, 4 or 5, is handed on.
     // Accuracy: each operation is correctly rounded.
-    pub fn from_matrix(m: [[f32; 4]; 4]) -> TransformAnswer
-        ensures value { result ≡ Transform-from_matrix m }
+    pub fn from_matrix(m: [[f32; 4]; 4]) -> Result<Transform, Refusal>
+        ensures value { TransformAnswer-of_result result ≡ Transform-from_matrix m }
     {
-        let inverse = matrix_inverse::inverse(m);
-        if inverse.refusal == 0 {
-            let a = Matrix4x4::from_rows(m);
-            let b = Matrix4x4::from_rows(inverse.matrix());
-            let transform = Transform { m: a, m_inv: b };
-            TransformAnswer {
-                transform,
-                refusal: 0,
-            }
-        } else {
-            refused(inverse.refusal)
-        }
+        let inverse = matrix_inverse::inverse(m)?;
+        Ok(Transform::from_matrices(m, inverse))
     }
 
     // pbrt's `translate`: the matrix that adds delta to a point, and the one that subtracts it. Accuracy: exact.
@@ -196,34 +162,17 @@ impl Transform {
         Transform { m, m_inv }
     }
 
-    // pbrt's product: first other, then self. Accuracy: each operation is correctly rounded.
-    pub fn mul(self, other: Transform) -> Transform
-        ensures value { result ≡ Transform-mul self other }
-    {
-        let m = matrix4x4::mul(self.m.to_rows(), other.m.to_rows());
-        let m_inv = matrix4x4::mul(other.m_inv.to_rows(), self.m_inv.to_rows());
-        Transform::from_matrices(m, m_inv)
-    }
-
-    // pbrt's `==` of both halves: a NaN differs from itself, and the two zeros are equal. Accuracy: exact.
-    pub fn eq(self, other: Transform) -> bool
-        ensures value { result ≡ Transform-eq self other }
-    {
-        matrix4x4::eq(self.m.to_rows(), other.m.to_rows())
-            & matrix4x4::eq(self.m_inv.to_rows(), other.m_inv.to_rows())
-    }
-
     // pbrt's `transform_point`: the matrix half times (x, y, z, 1), divided by the fourth coordinate where that isn't 1; refused with 5 where a moved
     // coordinate isn't finite. Accuracy: each operation is correctly rounded.
-    pub fn transform_point(self, p: Point3f) -> PointAnswer
-        ensures value { result ≡ Transform-transform_point self p }
-        ensures judged { PointAnswer-Judged result }
+    pub fn transform_point(self, p: Point3f) -> Result<Point3f, Refusal>
+        ensures value { numbered result ≡ Transform-transform_point self p }
+        ensures judged { PointAnswer-Judged (numbered result) }
     {
         let q = moved_point(self.m, p);
         if q.is_finite() {
-            PointAnswer::Moved(q)
+            Ok(q)
         } else {
-            PointAnswer::Refused(5)
+            Err(Refusal::NotFinite)
         }
     }
 
@@ -263,5 +212,18 @@ impl Transform {
         let r5 = self.union_corner(r4, h.x, h.y, l.z);
         let r6 = self.union_corner(r5, h.x, l.y, h.z);
         self.union_corner(r6, h.x, h.y, h.z)
+    }
+}
+
+// pbrt's product: first other, then self. Accuracy: each operation is correctly rounded.
+impl Mul for Transform {
+    type Output = Transform;
+
+    ghost mul_gives = { λ s t r. r ≡ Transform-mul s t };
+
+    fn mul(self, other: Transform) -> Transform {
+        let m = matrix4x4::mul(self.m.to_rows(), other.m.to_rows());
+        let m_inv = matrix4x4::mul(other.m_inv.to_rows(), self.m_inv.to_rows());
+        Transform::from_matrices(m, m_inv)
     }
 }

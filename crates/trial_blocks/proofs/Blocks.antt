@@ -1,15 +1,15 @@
--- Blocks put over others: one more of the kept moves, `copy-next`; one new move among them, `put_one`, or two, `put_two`. New moves put over the copied
+-- Blocks put over others: one new move among the kept ones, `put_one`, or two, `put_two`. New moves put over the copied
 -- ones are the changed moves put from the first block on: `changed-left`; of 31 blocks the first are the changed moves: `changed-front`.
 -- What a test tells of a place: `between`, `test-passed`.
 use Prim.Native.Nat.{ℕ, zero, suc, ◌+◌, ◌-◌, ◌≤◌, ◌<◌}
 use mathlib.Core.Path.{◌≡◌, refl, sym, ap, ◌∙◌}
 use mathlib.Core.Bool.{Bool, true, false, ◌&&◌, ◌||◌, cond, false≢true}
-use mathlib.Core.List.{List, [], ◌∷◌, ◌++◌}
+use mathlib.Core.List.{List, [], ◌∷◌}
 use native.Mathlib.Omega.{arith}
 use borrow.Author.Tests.{ltb-true, ltb-false, eqb-false, ne_eqb, le-ltb}
 use lib.Dec.{eqb, ltb}
 use lib.ListN.{length, get_or, take, drop, set, length-set}
-use lib.Seq.{sets, sets-eq, length-sets, set-set, set_comm, take-suc, length-take-le, take_at}
+use lib.Seq.{sets, sets-eq, length-sets, set-set, set_comm, take_at}
 use Rattle.trial_blocks.specs.Blocks.{Block, beside_blocks, changed_moves, changed_left}
 
 -- ---- a place with a move before it and one behind it
@@ -36,19 +36,6 @@ test-passed n place = go (eqb n 0) (eqb-false n 0) (ltb 31 n) (ltb-false 31 n) (
     go false f true g u h e = absurd (false≢true (sym e))
     go false f false g true h e = absurd (false≢true (sym e))
     go false f false g false h e = let z = f refl in record { some = omega (arith, z); few = g refl; inside = h refl }
-
--- ---- copying
-sets-snoc : (xs l : List Block) (k : ℕ) (x : Block) → sets l k (xs ++ (x ∷ [])) ≡ set (sets l k xs) (k + length xs) x
-sets-snoc [] l k x = let e : k + 0 ≡ k = omega arith in rw e
-sets-snoc (y ∷ xs) l k x = let e : k + suc (length xs) ≡ suc k + length xs = omega arith in rw e (sets-snoc xs (set l k y) (suc k) x)
-
-pub copy-next : (moves old : List Block) (i : ℕ) → i < length moves
-    → set (sets old 0 (take i moves)) i (get_or moves i []) ≡ sets old 0 (take (i + 1) moves)
-copy-next moves old i h =
-    let n : i + 1 ≡ suc i = omega arith in
-    let size = length-take-le i moves (omega (arith, h)) in
-    let k : 0 + length (take i moves) ≡ i = omega (arith, size) in
-    rw (n, take-suc moves i [] h, sets-snoc (take i moves) old 0 (get_or moves i []), k)
 
 -- ---- putting
 module _ (blocks beside : List Block) (n place : ℕ) where

@@ -32,12 +32,7 @@ fn copy_moves(moves: &[[[f32; 4]; 45]], blocks: &mut [[[f32; 4]; 45]; 31])
     requires { length moves.now ≤ 31 }
     ensures left { blocks.new ≡ sets blocks.old 0 moves.now }
 {
-    let n = moves.len();
-    let mut i = 0;
-    while i < n {
-        blocks[i] = moves[i];
-        i = i + 1;
-    }
+    blocks[..moves.len()].copy_from_slice(moves);
 }
 
 // The place of the first move beside a pose's place: the one before it, or the first of all.

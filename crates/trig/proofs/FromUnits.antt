@@ -1,8 +1,8 @@
 -- A whole number of units of 2 ^ -30 as the nearest float, by its two halves: each is a float exactly, and so is each scaled, so that the sum alone
 -- is rounded (`from_halves`). `half-casts` says that a half can be cast.
-use mathlib.Core.Path.{◌≡◌, refl, sym, ap, ap₂, subst, ◌∙◌}
+use mathlib.Core.Path.{◌≡◌, refl, ap, ap₂, ◌∙◌}
 use mathlib.Core.Bool.{false, true, true≢false}
-use Prim.Native.Nat.{ℕ, suc, ◌+◌, ◌-◌, ◌*◌, ◌/◌, ◌%◌, ◌^◌, ◌≤◌, ◌<◌}
+use Prim.Native.Nat.{ℕ, suc, ◌+◌, ◌*◌, ◌/◌, ◌%◌, ◌^◌, ◌≤◌, ◌<◌}
 use native.Mathlib.Nat.{le_trans, mul-pos, lt_of_lt_of_le, mul-lt-mul_of_pos_right, mul-le-mul_left}
 use native.Mathlib.Omega.{arith}
 use lib.IntN.{pos, negsuc}

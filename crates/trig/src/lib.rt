@@ -1,13 +1,15 @@
 // Sine and cosine, by document 01's table of sines, which a caller with many angles lends. Angles are in units of 2^-28, sines and cosines in units of 2^-30.
 #![tactic(auto)]
 
-ghost use Rattle.std.specs.Prelude.{◌≡◌, false, cond, ◌+◌, ◌-◌, ◌*◌, ◌/◌, ◌%◌, ◌^◌, ◌≤◌, ◌<◌, min, eqb, pos};
+ghost use Rattle.std.specs.Prelude.{◌≡◌, ℕ, List, false, cond, ◌+◌, ◌-◌, ◌*◌, ◌/◌, ◌%◌, ◌^◌, ◌≤◌, ◌<◌, min, eqb, pos};
 ghost use Rattle.std.specs.Float.{binary32};
 ghost use Rattle.std.specs.Float.Ieee.{round};
-ghost use Rattle.sine_table.specs.Table.{quarter_turn};
+ghost use Rattle.sine_table.specs.Table.{quarter_turn, sine_table};
 ghost use Rattle.sine_table.specs.QuarterSine.{entry};
 ghost use Rattle.trig.specs.Units.{angle_units, sin_units_over, cos_units_over, nearest_float, with_sign};
 ghost use Rattle.trig.specs.SinCos.{sin, cos, sin_over, cos_over};
+
+use std::marker::Model;
 
 const QUARTER_TURN: u64 = 421657428;
 
@@ -146,12 +148,52 @@ pub fn sin_cos_in(table: &[u32; 2049], a: f32) -> SinCos
     }
 }
 
+// The table of sines, made once and lent to all that asks for sines.
+#[derive(Drop)]
+pub struct Sines {
+    table: [u32; 2049],
+}
+
+impl Model for Sines {
+    ghost Value = { List ℕ };
+
+    ghost view = { λ s. s.table };
+
+    ghost invariant = { λ s. s.table ≡ sine_table };
+
+    ghost inverse = { λ t. record { table = t } };
+}
+
+impl Sines {
+    // The table. Naming it copies it, so a query does it once. Accuracy: exact.
+    pub fn new() -> Sines
+        ensures value { result ≡ sine_table }
+    {
+        Sines {
+            table: sine_table::table(),
+        }
+    }
+
+    // Its entries. Accuracy: exact.
+    pub fn entries(&self) -> &[u32; 2049]
+        ensures value { result.now ≡ sine_table }
+    {
+        &self.table
+    }
+
+    // Document 01's sine and cosine. Accuracy: heuristic, likewise.
+    pub fn sin_cos(&self, a: f32) -> SinCos
+        ensures value { (result.sin ≡ sin a) × (result.cos ≡ cos a) }
+    {
+        sin_cos_in(&self.table, a)
+    }
+}
+
 // Document 01's sine and cosine. Accuracy: heuristic, likewise.
 pub fn sin_cos(a: f32) -> SinCos
     ensures value { (result.sin ≡ sin a) × (result.cos ≡ cos a) }
 {
-    let table = sine_table::table();
-    sin_cos_in(&table, a)
+    Sines::new().sin_cos(a)
 }
 
 // The sine. Accuracy: heuristic, likewise.
@@ -172,9 +214,9 @@ pub fn cos(a: f32) -> f32
 pub fn sin_cos_pair(x: f32, y: f32) -> SinCosPair
     ensures value { (result.sin_x ≡ sin x) × (result.cos_x ≡ cos x) × (result.sin_y ≡ sin y) × (result.cos_y ≡ cos y) }
 {
-    let table = sine_table::table();
-    let p = sin_cos_in(&table, x);
-    let q = sin_cos_in(&table, y);
+    let sines = Sines::new();
+    let p = sines.sin_cos(x);
+    let q = sines.sin_cos(y);
     SinCosPair {
         sin_x: p.sin,
         cos_x: p.cos,

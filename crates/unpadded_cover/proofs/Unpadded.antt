@@ -14,7 +14,7 @@ use Rattle.motion_cover.specs.float32.Operators.{positive_zero, one}
 use Rattle.motion_cover.specs.float32.MinMax.{max_num}
 use Rattle.motion_cover.proofs.float32.Constants.{zero-finite, zero-refl}
 use Rattle.motion_cover.specs.interval.declared.Interval.{Interval}
-use Rattle.motion_cover.specs.interval.declared.Judged.{Judged}
+use Rattle.motion_cover.specs.interval.Judged.{Judged}
 use Rattle.motion_cover.specs.interval.Contains as interval
 use Rattle.motion_cover.specs.interval.Contains.{Refines}
 use Rattle.motion_cover.specs.interval.Enclosure.{Interval-add_enclosure, Judged-judge, Judged-add_enclosure}
@@ -37,7 +37,7 @@ use Rattle.motion_cover.specs.formula.Promise.{Pairwise}
 use Rattle.motion_cover.specs.pose_steps.declared.PoseConstants.{PoseConstants}
 use Rattle.motion_cover.specs.pose_steps.declared.IntervalVector.{IntervalVector}
 use Rattle.motion_cover.specs.pose_steps.declared.IntervalMatrix.{IntervalMatrix}
-use Rattle.motion_cover.specs.pose_steps.declared.JudgedVector.{JudgedVector}
+use Rattle.motion_cover.specs.pose_steps.Judged.{JudgedVector}
 use Rattle.motion_cover.specs.pose_steps.Enclose.{IntervalVector-list, IntervalMatrix-point, Pose-enclose_transform_point}
 use Rattle.motion_cover.specs.pose_steps.Enclose.{Pose-enclose_matrix, Pose-enclose_point, Bounds3f-intervals, IntervalVector-bounds}
 use Rattle.motion_cover.proofs.pose_steps.Finite.{stored-refines}

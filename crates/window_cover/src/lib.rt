@@ -97,12 +97,9 @@ fn union_moves(
         (boxes_from (stage_boxes b (min depth max_depth) w stage) true (map AnimatedTransform-from_rows moves.now))) }
 {
     let mut r = start;
-    let mut i = 0;
-    let n = moves.len();
-    while i < n {
+    for i in 0..moves.len() {
         let u = union_move(stage, r, moves, i, b, depth, w);
         r = u;
-        i = i + 1;
     }
     r
 }

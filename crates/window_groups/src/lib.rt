@@ -3,7 +3,6 @@
 #![tactic(auto)]
 
 ghost use Rattle.std.specs.Prelude.{◌≡◌};
-ghost use Rattle.sine_table.specs.Table.{sine_table};
 ghost use Rattle.interval.specs.Interval.{Interval-midpoint};
 ghost use Rattle.pose_steps.specs.Pose.{is_near};
 ghost use Rattle.cover_groups.specs.means.Groups.{Border-at};
@@ -16,51 +15,28 @@ use lanes_rotation::LanesVector;
 use matrix4x4::Matrix4x4;
 use pose_steps::PoseConstants;
 use quaternion::{Quaternion, SLERP_THRESHOLD};
-
-// The border at dt. Near slerp asks for no angle. Accuracy: heuristic, as sine and cosine are.
-fn border_at(table: &[u32; 2049], near: bool, theta: f32, dt: f32) -> Border
-    requires { table.now ≡ sine_table }
-    ensures value { result ≡ Border-at near theta dt }
-{
-    if near {
-        Border {
-            dt,
-            cos: 1.0,
-            sin: 0.0,
-        }
-    } else {
-        let x = theta * dt;
-        let angle = trig::sin_cos_in(table, x);
-        Border {
-            dt,
-            cos: angle.cos,
-            sin: angle.sin,
-        }
-    }
-}
+use trig::Sines;
 
 // The border half way between two. Accuracy: heuristic, as sine and cosine are.
-fn border_between(table: &[u32; 2049], near: bool, theta: f32, from: Border, to: Border) -> Border
-    requires { table.now ≡ sine_table }
+fn border_between(sines: &Sines, near: bool, theta: f32, from: Border, to: Border) -> Border
     ensures value { result ≡ Border-between near theta from.dt to.dt }
 {
     let dt = Interval {
         low: from.dt,
         high: to.dt,
     };
-    border_at(table, near, theta, dt.midpoint())
+    cover_groups::border_at(sines, near, theta, dt.midpoint())
 }
 
 // The borders of the four pieces between two borders. Accuracy: heuristic, as sine and cosine are.
-fn quarters(table: &[u32; 2049], near: bool, theta: f32, from: Border, to: Border) -> LanesBorders
-    requires fact_1 { table.now ≡ sine_table }
-    requires fact_2 { from ≡ Border-at near theta from.dt }
-    requires fact_3 { to ≡ Border-at near theta to.dt }
+fn quarters(sines: &Sines, near: bool, theta: f32, from: Border, to: Border) -> LanesBorders
+    requires from { from ≡ Border-at near theta from.dt }
+    requires to { to ≡ Border-at near theta to.dt }
     ensures value { result ≡ LanesBorders-quarters near theta from.dt to.dt }
 {
-    let mid = border_between(table, near, theta, from, to);
-    let b = border_between(table, near, theta, from, mid);
-    let d = border_between(table, near, theta, mid, to);
+    let mid = border_between(sines, near, theta, from, to);
+    let b = border_between(sines, near, theta, from, mid);
+    let d = border_between(sines, near, theta, mid, to);
     let dt = cover_groups::ends(from.dt, b.dt, mid.dt, d.dt, to.dt);
     let cos = cover_groups::ends(from.cos, b.cos, mid.cos, d.cos, to.cos);
     let sin = cover_groups::ends(from.sin, b.sin, mid.sin, d.sin, to.sin);
@@ -69,7 +45,7 @@ fn quarters(table: &[u32; 2049], near: bool, theta: f32, from: Border, to: Borde
 
 // The boxes of the 4 * 2^depth pieces between two borders, of the points p, joined to those before. Accuracy: encloses, where nothing is refused.
 fn join_halves(
-    table: &[u32; 2049],
+    sines: &Sines,
     a: PoseConstants,
     second: Quaternion,
     s0: Matrix4x4,
@@ -82,17 +58,17 @@ fn join_halves(
     depth: u32,
     union: LanesVector,
 ) -> LanesVector
-    requires { (table.now ≡ sine_table) × ((from ≡ Border-at (is_near a) a.theta from.dt) × (to ≡ Border-at (is_near a) a.theta to.dt)) }
+    requires { (from ≡ Border-at (is_near a) a.theta from.dt) × (to ≡ Border-at (is_near a) a.theta to.dt) }
     ensures value { result ≡ fold_halves (LanesVector-quarters a second s0 s1 pad0 pad1 p) depth from.dt to.dt union }
 {
     let near = a.cos_theta > SLERP_THRESHOLD;
     if depth == 0 {
-        let g = quarters(table, near, a.theta, from, to);
+        let g = quarters(sines, near, a.theta, from, to);
         return cover_groups::join_pieces(a, second, s0, s1, pad0, pad1, p, g, union);
     }
-    let mid = border_between(table, near, a.theta, from, to);
+    let mid = border_between(sines, near, a.theta, from, to);
     let below = join_halves(
-        table,
+        sines,
         a,
         second,
         s0,
@@ -106,7 +82,7 @@ fn join_halves(
         union,
     );
     join_halves(
-        table,
+        sines,
         a,
         second,
         s0,
@@ -135,15 +111,15 @@ pub fn union_groups(
 ) -> Bounds3f
     ensures value { result ≡ Halves-union a s0 s1 pad0 pad1 b depth dt first }
 {
-    let table = sine_table::table();
+    let sines = Sines::new();
     let second = cover_groups::second_quaternion(a);
     let p = lanes_box::repeated(b);
     let union = lanes_box::repeated(first);
     let near = a.cos_theta > SLERP_THRESHOLD;
-    let from = border_at(&table, near, a.theta, dt.low);
-    let to = border_at(&table, near, a.theta, dt.high);
+    let from = cover_groups::border_at(&sines, near, a.theta, dt.low);
+    let to = cover_groups::border_at(&sines, near, a.theta, dt.high);
     let joined = join_halves(
-        &table, a, second, s0, s1, pad0, pad1, p, from, to, depth, union,
+        &sines, a, second, s0, s1, pad0, pad1, p, from, to, depth, union,
     );
     lanes_box::joined(joined)
 }

@@ -12,8 +12,7 @@ use Rattle.bounds_meeting.specs.bounds3.declared.Point3f.{Point3f}
 use Rattle.bounds_meeting.specs.bounds3.declared.Bounds3f.{Bounds3f}
 use Rattle.bounds_meeting.specs.bounds3.Inside.{Subset}
 use Rattle.bounds_meeting.proofs.bounds3.Union.{subset-inside}
-use Rattle.bounds_meeting.specs.transform.declared.PointAnswer.{PointAnswer}
-use Rattle.bounds_meeting.specs.transform.Answer.{OneOf, PointAnswer-point, BoundsAnswer-bounds}
+use Rattle.bounds_meeting.specs.transform.Answer.{PointAnswer, OneOf, PointAnswer-point, BoundsAnswer-bounds}
 use Rattle.bounds_meeting.specs.bounds_overlap.Meets.{Bounds3f-meets}
 use Rattle.bounds_meeting.proofs.bounds_overlap.Overlap.{apart-inside}
 use Rattle.chain_window.specs.motion_pad.Grow.{PaddedInside}

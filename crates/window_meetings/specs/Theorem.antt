@@ -10,8 +10,7 @@ use Rattle.std.specs.Float.{nan}
 use Rattle.bounds_meeting.specs.bounds3.declared.Point3f.{Point3f}
 use Rattle.bounds_meeting.specs.bounds3.declared.Bounds3f.{Bounds3f}
 use Rattle.bounds_meeting.specs.bounds3.Inside.{Inside}
-use Rattle.bounds_meeting.specs.transform.declared.PointAnswer.{PointAnswer}
-use Rattle.bounds_meeting.specs.transform.Answer.{OneOf, PointAnswer-refusal, PointAnswer-point}
+use Rattle.bounds_meeting.specs.transform.Answer.{PointAnswer, OneOf, PointAnswer-refusal, PointAnswer-point}
 use Rattle.chain_window.specs.motion_pad.Grow.{Point3f-less, Point3f-plus}
 use Rattle.chain_window.specs.bounds_query.Query.{max_depth}
 use Rattle.chain_window.specs.motion_chain.Chain.{Chain, Chain-transform_point, Chain-pad_at}

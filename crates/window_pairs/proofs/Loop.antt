@@ -87,21 +87,18 @@ module _ (cover cover' : Window → BoundsAnswer) (ticks : List Float) where
   abbrev all : WindowsAnswer
   all = windows_from cover cover' 0 (windows_of ticks)
 
-  pub record Loop (k i : ℕ) (f : Found) : Type 0 where
+  pub record Loop (i : ℕ) (f : Found) : Type 0 where
     pub found : List ℕ
     pub holds : Found-Holds found f
-    pub few : length found ≤ k
-    pub place : k + 1 ≡ i
-    pub same : after found (left k) ≡ all
+    pub few : length found < i
+    pub same : after found (left (i - 1)) ≡ all
 
-  pub loop-first : Loop 0 1 (Found-none 0)
-  loop-first = record { found = []; holds = holds-none; few = omega arith; place = refl; same = after-nil all }
+  pub loop-first : Loop 1 (Found-none 0)
+  loop-first = record { found = []; holds = holds-none; few = omega arith; same = after-nil all }
 
-  step : (k i : ℕ) → k + 1 ≡ i → i < length ticks → windows_of (drop k ticks) ≡ window_at ticks i ∷ windows_of (drop (suc k) ticks)
-  step k i p h =
-      let e : i - 1 ≡ k = omega (arith, p) in
-      let g : i ≡ suc k = omega (arith, p) in
-      rw (e, g) (windows-at ticks k (omega (arith, p, h)))
+  step : (i : ℕ) → 0 < i → i < length ticks → windows_of (drop (i - 1) ticks) ≡ window_at ticks i ∷ windows_of (drop i ticks)
+  step zero p h = absurd (omega (arith, p))
+  step (suc k) p h = let e : suc k - 1 ≡ k = omega arith in rw e (windows-at ticks k h)
 
   refused-step : (k : ℕ) (w : Window) (ws : List Window) (m : Meeting) → m ≡ Meeting-of (cover w) (cover' w)
       → (m.refusal ≡ 0 → ⊥) → windows_from cover cover' k (w ∷ ws) ≡ refused m.refusal
@@ -113,28 +110,33 @@ module _ (cover cover' : Window → BoundsAnswer) (ticks : List Float) where
   unfolding windows_from
   taken_step k w ws m e h = rw (← e, eq-eqb m.refusal 0 h)
 
-  module _ {k i : ℕ} {f : Found} (l : Loop k i f) where
+  module _ {i : ℕ} {f : Found} (l : Loop i f) where
+    abbrev k : ℕ
+    k = i - 1
+
+    next : i < length ticks → windows_of (drop k ticks) ≡ window_at ticks i ∷ windows_of (drop i ticks)
+    next h = let n = l.few in step i (omega (arith, n)) h
+
     pub loop-few : i < length ticks → length ticks ≤ max_ticks → f.count < place_count
-    loop-few h t = let c = l.holds.count in let n = l.few in let p = l.place in omega (arith, c, n, p, h, t)
+    loop-few h t = let c = l.holds.count in let n = l.few in omega (arith, c, n, h, t)
 
     pub loop-next : {g : Found} (m : Meeting) → i < length ticks → length ticks ≤ max_ticks
         → m ≡ Meeting-of (cover (window_at ticks i)) (cover' (window_at ticks i)) → m.refusal ≡ 0
-        → g ≡ Found-add f m.meets k → Loop (k + 1) (i + 1) g
+        → g ≡ Found-add f m.meets k → Loop (i + 1) g
     loop-next {g} m h t e z a =
         let n = l.few in
-        let p = l.place in
-        let s : k + 1 ≡ suc k = omega arith in
-        let w = taken_step k (window_at ticks i) (windows_of (drop (suc k) ticks)) m e z in
-        let old = ap (windows_from cover cover' k) (step k i p h) ∙ w in
+        let s : i + 1 - 1 ≡ i = omega arith in
+        let q : suc k ≡ i = omega (arith, n) in
+        let w = taken_step k (window_at ticks i) (windows_of (drop i ticks)) m e z ∙ ap (λ (j : ℕ). WindowsAnswer-cons m.meets k (windows_from cover cover' j (windows_of (drop i ticks)))) q in
+        let old = ap (windows_from cover cover' k) (next h) ∙ w in
         record {
           found = cond m.meets (l.found ++ (k ∷ [])) l.found;
-          holds = rw a (holds-add m.meets k l.holds (omega (arith, n, p, h, t)));
+          holds = rw a (holds-add m.meets k l.holds (omega (arith, n, h, t)));
           few = grown l.found m.meets n;
-          place = omega (arith, p);
-          same = rw s (sym (after-cons l.found m.meets k (left (suc k))) ∙ sym (ap (after l.found) old) ∙ l.same);
+          same = rw s (sym (after-cons l.found m.meets k (left i)) ∙ sym (ap (after l.found) old) ∙ l.same);
         }
       where
-        grown : (ks : List ℕ) (b : Bool) → length ks ≤ k → length (cond b (ks ++ (k ∷ [])) ks) ≤ k + 1
+        grown : (ks : List ℕ) (b : Bool) → length ks < i → length (cond b (ks ++ (k ∷ [])) ks) < i + 1
         grown ks true h = let e = length-append ks (k ∷ []) in omega (arith, e, h)
         grown ks false h = omega (arith, h)
 
@@ -142,14 +144,14 @@ module _ (cover cover' : Window → BoundsAnswer) (ticks : List Float) where
         → m ≡ Meeting-of (cover (window_at ticks i)) (cover' (window_at ticks i)) → (m.refusal ≡ 0 → ⊥)
         → g ≡ Found-none m.refusal → Found-Is all g
     loop-refused {g} m h e z a =
-        let w = refused-step k (window_at ticks i) (windows_of (drop (suc k) ticks)) m e z in
-        let old = ap (after l.found) (ap (windows_from cover cover' k) (step k i l.place h) ∙ w) in
+        let w = refused-step k (window_at ticks i) (windows_of (drop i ticks)) m e z in
+        let old = ap (after l.found) (ap (windows_from cover cover' k) (next h) ∙ w) in
         subst (λ (x : WindowsAnswer). Found-Is x g) (sym old ∙ l.same) (ap (λ (x : Found). x.refusal) a, z)
 
     pub loop-last : length ticks ≤ i → Found-Is all f
     unfolding windows_from
     loop-last h =
-        let p = l.place in
-        let none = ap (windows_from cover cover' k) (windows-end ticks k (omega (arith, p, h))) in
+        let n = l.few in
+        let none = ap (windows_from cover cover' k) (windows-end ticks k (omega (arith, n, h))) in
         let old = ap (after l.found) none ∙ ap listed (append-nil l.found) in
         subst (λ (x : WindowsAnswer). Found-Is x f) (sym old ∙ l.same) l.holds

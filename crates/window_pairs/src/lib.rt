@@ -97,19 +97,14 @@ fn find(
         (Moves-window_cover others.now other depth) 0 (windows_of ticks.now)) result }
 {
     let mut found = none(0);
-    let mut k = 0u32;
-    let mut i = 1;
-    let n = ticks.len();
-    while i < n {
+    for i in 1..ticks.len() {
         let m = meeting_at(moves, others, b, other, depth, ticks, i);
         let refusal = m.refusal;
         if refusal != 0 {
             return none(refusal);
         }
-        let next = add(found, m.meets, k);
+        let next = add(found, m.meets, i as u32 - 1);
         found = next;
-        k = k + 1;
-        i = i + 1;
     }
     found
 }

@@ -4,6 +4,7 @@ use Prim.Native.Nat.{ℕ, zero, suc, ◌+◌, ◌-◌, ◌≤◌}
 use mathlib.Core.Path.{◌≡◌, refl, sym, ap, subst}
 use mathlib.Core.List.{List, [], ◌∷◌, map, Memᴰ}
 use native.Mathlib.Omega.{arith}
+use lib.Dec.{T}
 use lib.Ieee.{Float}
 use Rattle.bounds3.specs.declared.Bounds3f.{Bounds3f}
 use Rattle.bounds3.proofs.Union.{subset-trans, finite-self}
@@ -22,14 +23,16 @@ use Rattle.dt_pieces.specs.motion_pad.Pad.{Pad-enclose}
 use Rattle.dt_pieces.proofs.motion_pad.Zeros.{answers-zeros}
 use Rattle.dt_pieces.proofs.motion_cover.Proper.{box-refines}
 use Rattle.dt_pieces.proofs.motion_cover.Zeros.{Valued, grow-valued}
+use Rattle.interval.specs.Judged.{Judged-outcome, Judged-from}
 use Rattle.dt_pieces.specs.motion_piece.means.Piece.{PaddedPose-enclose_bounds}
+use Rattle.dt_pieces.proofs.motion_piece.Piece.{piece-steps}
 use Rattle.dt_pieces.specs.cover_depth.means.Piece.{Pose-enclose_bounds}
 use Rattle.dt_pieces.specs.bounds_answers.UnionAll.{BoundsAnswer-union_all, Each}
 use Rattle.dt_pieces.proofs.bounds_answers.UnionAll.{union-all-refused}
 use Rattle.cover_test.proofs.cover_lean.Join.{Self, union_list}
 use Rattle.cover_test.proofs.cover_lean.Test.{tested-enclosable}
 use Rattle.cover_test.proofs.cover_lean.Pieces.{each-lean, pieces-lean}
-use Rattle.cover_slices.specs.means.Lean.{coarse_depth}
+use Rattle.cover_slices.specs.means.Lean.{coarse_depth, BoundsAnswer-is_box}
 use Rattle.cover_slices.proofs.Groups.{coarse-small, box-answered}
 use Rattle.dt_pieces.specs.means.Pieces.{piece_box, union_pieces}
 use Rattle.window_groups.specs.means.Halves.{lean_over, Halves-union}
@@ -43,7 +46,14 @@ module _ (a : PoseConstants) (s0 s1 : Matrix4x4) (pad0 pad1 : Float) (b : Bounds
 
   pub piece-valued : (D : Interval) → Valued (piece D)
   unfolding piece_box PaddedPose-enclose_bounds
-  piece-valued D = grow-valued (Pad-enclose pad0 pad1 D) _
+  piece-valued D = grow-valued (Judged-from (Judged-outcome (Pad-enclose pad0 pad1 D))) _
+
+  abbrev judged : Interval → BoundsAnswer
+  judged D = Pose-enclose_bounds a s0 s1 pad0 pad1 D b
+
+  judged-piece : judged ≡ piece
+  unfolding piece_box
+  judged-piece i D = piece-steps a s0 s1 pad0 pad1 D b i
 
   -- Joined to answers that are the same.
   start-same : {r s : BoundsAnswer} (d : ℕ) (i : Interval) → BoundsAnswer-Same r s → BoundsAnswer-Same (union_pieces piece r d i) (union_pieces piece s d i)
@@ -77,15 +87,15 @@ module _ (a : PoseConstants) (s0 s1 : Matrix4x4) (pad0 pad1 : Float) (b : Bounds
 
     finer : (n h : ℕ) → coarse_depth a + n ≡ suc (suc h)
         → BoundsAnswer-Same (union_pieces piece (Bounds u) (suc (suc h)) i) (Bounds (Halves-union a s0 s1 pad0 pad1 b h i u))
-    unfolding union_pieces piece_box PaddedPose-enclose_bounds Pose-enclose_point Halves-union Lean-box LeanPose-box lean_over
+    unfolding union_pieces Pose-enclose_point Halves-union Lean-box LeanPose-box lean_over
     finer n h e =
         let v = lean.numbers in
         let parts = tested-enclosable a s0 s1 pad0 pad1 v.pad0-number v.pad1-number lean.parts in
         let values : PoseValues a s0 s1 = record { constants = v.constants; scale0 = v.scale0; scale1 = v.scale1 } in
         let r = box-refines b lean.ordered in
-        let c = box-answered (union_pieces piece (Bounds u) (coarse_depth a) i) lean.coarse in
+        let c = box-answered (union_pieces judged (Bounds u) (coarse_depth a) i)
+        (subst (λ (f : Interval → BoundsAnswer). T (BoundsAnswer-is_box (union_pieces f (Bounds u) (coarse_depth a) i))) (sym judged-piece) lean.coarse) in
         let self = finite-self lean.start in
-        let judged : Interval → BoundsAnswer = λ D. Pose-enclose_bounds a s0 s1 pad0 pad1 D b in
         let box : Interval → Bounds3f = λ D. Lean-box a s0 s1 pad0 pad1 D b in
         let each : (D : Interval) → Memᴰ D (pieces (suc (suc h)) i) → Self (box D) =
         subst (λ (k : ℕ). (D : Interval) → Memᴰ D (pieces k i) → Self (box D)) e
@@ -95,7 +105,8 @@ module _ (a : PoseConstants) (s0 s1 : Matrix4x4) (pad0 pad1 : Float) (b : Bounds
         subst (λ (k : ℕ). BoundsAnswer-Same (BoundsAnswer-union_all (Bounds u) (map judged (pieces k i))) (Bounds (union_list u (map box (pieces k i))))) e
         (pieces-lean parts values b r lean.corners (coarse_depth a) n lean.share (same-box self self) c.box c.accepted) in
         let lanes = halves-same (lean_over a s0 s1 pad0 pad1 b) h i u self each in
-        same-trans same (same-box lanes.within lanes.around)
+        subst (λ (f : Interval → BoundsAnswer). BoundsAnswer-Same (union_pieces f (Bounds u) (suc (suc h)) i) (Bounds (Halves-union a s0 s1 pad0 pad1 b h i u)))
+        judged-piece (same-trans same (same-box lanes.within lanes.around))
 
     pub groups-same : (h : ℕ) → 2 ≤ h → BoundsAnswer-Same (union_pieces piece (Bounds u) h i) (Bounds (Halves-union a s0 s1 pad0 pad1 b (h - 2) i u))
     groups-same zero l = absurd (omega (arith, l))

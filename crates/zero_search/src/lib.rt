@@ -1,9 +1,8 @@
-// The zero search of pbrt's motion box: where the derivative of a coordinate's motion may vanish, from 0 to 1. It names the table of sines once and lends it
+// The zero search of pbrt's motion box: where the derivative of a coordinate's motion may vanish, from 0 to 1. It makes the table of sines once and lends it
 // to all that asks for a sine.
 #![tactic(auto)]
 
 ghost use Rattle.std.specs.Prelude.{◌≡◌, ◌≤◌};
-ghost use Rattle.sine_table.specs.Table.{sine_table};
 ghost use Rattle.interval.specs.Interval.{Interval-new};
 ghost use Rattle.motion_derivative.specs.Derivative.{MotionDerivative-excludes_zero};
 ghost use Rattle.zero_search.specs.Search.{find_zeros, unit_search, Search-judged, interval_find_zeros};
@@ -11,7 +10,7 @@ ghost use Rattle.zero_search.specs.means.EndAngles.{AngleAt, AnglesAt};
 
 use interval::{Interval, IntervalSinCos};
 use motion_derivative::MotionDerivative;
-use trig::SinCos;
+use trig::{SinCos, Sines};
 use zero_list::Zeros;
 
 // How often the interval from 0 to 1 is halved.
@@ -31,25 +30,23 @@ struct EndAngles {
     high: SinCos,
 }
 
-fn end_at(table: &[u32; 2049], f: MotionDerivative, t: f32) -> SinCos
-    requires { table.now ≡ sine_table }
+fn end_at(sines: &Sines, f: MotionDerivative, t: f32) -> SinCos
     ensures value { AngleAt f t result }
 {
-    trig::sin_cos_in(table, 2.0 * f.theta * t)
+    sines.sin_cos(2.0 * f.theta * t)
 }
 
 // The angles at the ends of `Interval::new(i.low, i.high)`: those at i's own ends where they are in order, as they are unless rounding makes them equal.
-fn end_angles(table: &[u32; 2049], f: MotionDerivative, i: Interval, ends: EndAngles) -> EndAngles
-    requires fact_1 { table.now ≡ sine_table }
-    requires fact_2 { AnglesAt f i ends }
+fn end_angles(sines: &Sines, f: MotionDerivative, i: Interval, ends: EndAngles) -> EndAngles
+    requires { AnglesAt f i ends }
     ensures value { AnglesAt f (Interval-new i.low i.high) result }
 {
     if i.low < i.high {
         return ends;
     }
     let i = Interval::new(i.low, i.high);
-    let low = end_at(table, f, i.low);
-    let high = end_at(table, f, i.high);
+    let low = end_at(sines, f, i.low);
+    let high = end_at(sines, f, i.high);
     EndAngles { low, high }
 }
 
@@ -72,14 +69,14 @@ fn excludes_zero(f: MotionDerivative, i: Interval, ends: EndAngles) -> bool
 
 // The zeros of f in an interval, after those found before; the interval is halved as often as depth says. With them how many intervals were examined.
 fn find_zeros(
-    table: &[u32; 2049],
+    sines: &Sines,
     f: MotionDerivative,
     i: Interval,
     ends: EndAngles,
     depth: u32,
     found: Zeros,
 ) -> Search
-    requires { (table.now ≡ sine_table) × (AnglesAt f i ends × (depth ≤ 8)) }
+    requires { AnglesAt f i ends × (depth ≤ 8) }
     ensures value { result ≡ find_zeros depth f i found }
 {
     if excludes_zero(f, i, ends) {
@@ -90,18 +87,18 @@ fn find_zeros(
     }
     let mid = i.midpoint();
     if depth == 0 {
-        let zeros = found.accept(i, newton_method::newton(table, f, mid));
+        let zeros = found.accept(i, newton_method::newton(sines.entries(), f, mid));
         return Search { zeros, examined: 1 };
     }
-    let middle = end_at(table, f, mid);
+    let middle = end_at(sines, f, mid);
     let low = ends.low;
     let below = Interval {
         low: i.low,
         high: mid,
     };
-    let below_angles = end_angles(table, f, below, EndAngles { low, high: middle });
+    let below_angles = end_angles(sines, f, below, EndAngles { low, high: middle });
     let lower = find_zeros(
-        table,
+        sines,
         f,
         Interval::new(below.low, below.high),
         below_angles,
@@ -118,9 +115,9 @@ fn find_zeros(
         low: mid,
         high: i.high,
     };
-    let above_angles = end_angles(table, f, above, EndAngles { low: middle, high });
+    let above_angles = end_angles(sines, f, above, EndAngles { low: middle, high });
     let upper = find_zeros(
-        table,
+        sines,
         f,
         Interval::new(above.low, above.high),
         above_angles,
@@ -137,12 +134,12 @@ fn find_zeros(
 fn unit_search(f: MotionDerivative) -> Search
     ensures value { result ≡ unit_search f }
 {
-    let table = sine_table::table();
+    let sines = Sines::new();
     let i = Interval::new(0.0, 1.0);
-    let low = end_at(&table, f, i.low);
-    let high = end_at(&table, f, i.high);
+    let low = end_at(&sines, f, i.low);
+    let high = end_at(&sines, f, i.high);
     let ends = EndAngles { low, high };
-    find_zeros(&table, f, i, ends, DEPTH, Zeros::empty(0))
+    find_zeros(&sines, f, i, ends, DEPTH, Zeros::empty(0))
 }
 
 // A search's answer: 9 carries neither zeros nor a count. Accuracy: exact.

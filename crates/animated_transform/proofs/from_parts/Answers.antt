@@ -1,38 +1,56 @@
--- `from_parts` meets its contract: the number that was met chooses the case.
+-- `from_parts` meets its contract: what is judged of the parts chooses the case.
+use Rattle.std.proofs.lemmas.Result.{err_from_is_err_and}
 use mathlib.Core.Path.{◌≡◌}
-use lib.Ieee.{lt}
-use Rattle.refusal.specs.First.{first_refusal}
-use Rattle.quaternion.specs.Slerp.{slerp_threshold}
-use Rattle.rotation_arc.specs.ArcCoefficients.{pair_coefficients}
+use mathlib.Core.Bool.{not}
+use Rattle.refusal.proofs.Number.{number-tested}
+use Rattle.transform.specs.Transform.{Transform-eq}
 use Rattle.animated_transform.specs.New.{AnimatedTransform-from_parts}
-use borrow.Author.Tests.{eq-eqb, ne_eqb}
-use borrow.Author.Rules.{rules}
 use Rattle.animated_transform.proofs.from_parts.Goals as goal
 
-pub returns-then-n-ne0 : goal.returns-then-n-ne0
+pub returns-in_err-judge_dots : goal.returns-in_err-judge_dots
 unfolding AnimatedTransform-from_parts
-returns-then-n-ne0 c = record {
-  value = let dot = c.dot-cos_theta in
-      let coefficients : c.pair_coefficients-c.result ≡ pair_coefficients (lt dot.result slerp_threshold) _ _ _ _ _ _ dot.result =
-      c.pair_coefficients-c.ensures.value in
-      let number : c.first_refusal-n.result ≡ first_refusal c.dots_refusal-dots.result c.pair_coefficients-c.result.refusal =
-      c.first_refusal-n.ensures.value in
-      let flip = c.flip-r1.ensures.value in
-      let met = ne_eqb _ 0 c.if-n-ne0.true in
-      rw (← flip, ← dot.ensures.value, ← coefficients, ← c.dot.ensures.value, ← c.dots_refusal-dots.ensures.value, ← number, met) c.refused.ensures.value;
-}
+returns-in_err-judge_dots c =
+    let gave = err_from_is_err_and c.from_residual.result c.from_residual.ensures.1 in
+    record {
+      value = rw (
+        gave.1,
+        gave.2,
+        ← c.flip-r1.ensures.value,
+        ← c.dot-cos_theta.ensures.value,
+        ← c.dot.ensures.value,
+        ← c.in_err-judge_dots.ensures.value,
+        number-tested,
+        number-tested,
+      );
+    }
+
+pub returns-in_err-coefficients : goal.returns-in_err-coefficients
+unfolding AnimatedTransform-from_parts
+returns-in_err-coefficients c =
+    let gave = err_from_is_err_and c.from_residual-in_err-coefficients.result c.from_residual-in_err-coefficients.ensures.1 in
+    record {
+      value = rw (
+        gave.1,
+        gave.2,
+        ← c.flip-r1.ensures.value,
+        ← c.dot-cos_theta.ensures.value,
+        ← c.in_err-coefficients.ensures.value,
+        ← c.dot.ensures.value,
+        ← c.in_ok-judge_dots.ensures.value,
+        number-tested,
+      );
+    }
 
 pub returns : goal.returns
-unfolding AnimatedTransform-from_parts
+unfolding AnimatedTransform-from_parts Transform-eq
 returns c = record {
-  value = rw (
-    ← c.flip-r1.ensures.value,
-    ← c.dot-cos_theta.ensures.value,
-    ← c.pair_coefficients-c.ensures.value,
-    ← c.dot.ensures.value,
-    ← c.dots_refusal-dots.ensures.value,
-    ← c.first_refusal-n.ensures.value,
-    eq-eqb _ 0 c.if-n-ne0.false,
-    ← c.eq.ensures.value,
-  );
+  value = let equal : c.ne.result ≡ not (Transform-eq c.args.a c.args.b) = c.ne.ensures in
+      rw (
+        ← c.flip-r1.ensures.value,
+        ← c.dot-cos_theta.ensures.value,
+        ← c.in_ok-coefficients.ensures.value,
+        ← c.dot.ensures.value,
+        ← c.in_ok-judge_dots.ensures.value,
+        ← equal,
+      );
 }

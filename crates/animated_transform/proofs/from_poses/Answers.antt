@@ -1,29 +1,77 @@
--- `from_poses` meets its contract: the first number that was met chooses the case.
-use mathlib.Core.Path.{◌≡◌}
-use Rattle.refusal.specs.First.{first_refusal}
+-- `from_poses` meets its contract: the first that is refused chooses the case.
+use Rattle.std.proofs.lemmas.Result.{err_from_is_err_and}
+use Rattle.refusal.proofs.Number.{number-tested}
 use Rattle.animated_transform.specs.New.{AnimatedTransform-from_poses}
-use borrow.Author.Tests.{eq-eqb, ne_eqb}
-use borrow.Author.Rules.{rules}
 use Rattle.animated_transform.proofs.from_poses.Goals as goal
 
-pub returns-then-n-ne0 : goal.returns-then-n-ne0
+pub returns-in_err-a : goal.returns-in_err-a
 unfolding AnimatedTransform-from_poses
-returns-then-n-ne0 c = record {
-  value = let inverses : c.first_refusal-inverses.result ≡ first_refusal c.from_matrix-a.result.refusal c.from_matrix-b.result.refusal =
-      c.first_refusal-inverses.ensures.value in
-      rw (
+returns-in_err-a c =
+    let gave = err_from_is_err_and c.from_residual.result c.from_residual.ensures.1 in
+    record {
+      value = rw (
+        gave.1,
+        gave.2,
+        ← c.to_rows-m0.ensures.value,
+        ← c.in_err-a.ensures.value,
+        number-tested,
+        number-tested,
+        number-tested,
+      );
+    }
+
+pub returns-in_err-b : goal.returns-in_err-b
+unfolding AnimatedTransform-from_poses
+returns-in_err-b c =
+    let gave = err_from_is_err_and c.from_residual-in_err-b.result c.from_residual-in_err-b.ensures.1 in
+    record {
+      value = rw (
+        gave.1,
+        gave.2,
         ← c.to_rows-m0.ensures.value,
         ← c.to_rows-m1.ensures.value,
-        ← c.from_matrix-a.ensures.value,
-        ← c.from_matrix-b.ensures.value,
-        ← c.decompose-p.ensures.value,
-        ← c.decompose-q.ensures.value,
-        ← inverses,
-        ← c.first_refusal-parts.ensures.value,
-        ← c.first_refusal-n.ensures.value,
-        ne_eqb _ 0 c.if-n-ne0.true,
-      ) c.refused.ensures.value;
-}
+        ← c.in_ok-a.ensures.value,
+        ← c.in_err-b.ensures.value,
+        number-tested,
+        number-tested,
+      );
+    }
+
+pub returns-in_err-p : goal.returns-in_err-p
+unfolding AnimatedTransform-from_poses
+returns-in_err-p c =
+    let gave = err_from_is_err_and c.from_residual-in_err-p.result c.from_residual-in_err-p.ensures.1 in
+    record {
+      value = rw (
+        gave.1,
+        gave.2,
+        ← c.to_rows-m0.ensures.value,
+        ← c.to_rows-m1.ensures.value,
+        ← c.in_ok-a.ensures.value,
+        ← c.in_ok-b.ensures.value,
+        ← c.in_err-p.ensures.value,
+        number-tested,
+        number-tested,
+      );
+    }
+
+pub returns-in_err-q : goal.returns-in_err-q
+unfolding AnimatedTransform-from_poses
+returns-in_err-q c =
+    let gave = err_from_is_err_and c.from_residual-in_err-q.result c.from_residual-in_err-q.ensures.1 in
+    record {
+      value = rw (
+        gave.1,
+        gave.2,
+        ← c.to_rows-m0.ensures.value,
+        ← c.to_rows-m1.ensures.value,
+        ← c.in_ok-a.ensures.value,
+        ← c.in_ok-b.ensures.value,
+        ← c.in_ok-p.ensures.value,
+        ← c.in_err-q.ensures.value,
+        number-tested,
+      );
+    }
 
 pub returns : goal.returns
 unfolding AnimatedTransform-from_poses
@@ -31,14 +79,10 @@ returns c = record {
   value = rw (
     ← c.to_rows-m0.ensures.value,
     ← c.to_rows-m1.ensures.value,
-    ← c.from_matrix-a.ensures.value,
-    ← c.from_matrix-b.ensures.value,
-    ← c.decompose-p.ensures.value,
-    ← c.decompose-q.ensures.value,
-    ← c.first_refusal-inverses.ensures.value,
-    ← c.first_refusal-parts.ensures.value,
-    ← c.first_refusal-n.ensures.value,
-    eq-eqb _ 0 c.if-n-ne0.false,
+    ← c.in_ok-a.ensures.value,
+    ← c.in_ok-b.ensures.value,
+    ← c.in_ok-p.ensures.value,
+    ← c.in_ok-q.ensures.value,
   )
       c.from_parts.ensures.value;
 }

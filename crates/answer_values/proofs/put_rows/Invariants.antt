@@ -1,13 +1,8 @@
 -- `put_rows` puts them one by one. The invariant: what is left from the k-th on, put from `end` on, makes the whole.
-use Prim.Native.Nat.{◌-◌}
-use mathlib.Core.Path.{◌≡◌}
-use lib.ListN.{length, drop}
+use lib.ListN.{drop}
 use Rattle.answer_values.specs.Lines.{rows_pieces}
 use Rattle.answer_values.proofs.Lines.{Left}
 use Rattle.answer_values.proofs.put_rows.Given as goal
 
-abbrev pub invariant-loop-k : goal.invariant-loop-k
-invariant-loop-k l = (length l.out ≡ length l.initial.out) × Left (rows_pieces 4 (drop l.k l.rows)) (rows_pieces 4 l.rows) l.initial.out l.out l.at l.end
-
-abbrev pub decreases-loop-k : goal.decreases-loop-k
-decreases-loop-k l = length l.rows - l.k
+abbrev pub invariant-loop-row : goal.invariant-loop-row
+invariant-loop-row g l = Left (rows_pieces g.row.N (drop l.row-index l.rows)) (rows_pieces g.row.N l.rows) l.initial.out l.out l.at l.end

@@ -7,4 +7,4 @@ pub returns-then-cosine-w : goal.returns-then-cosine-w
 returns-then-cosine-w c = let r = c.counted_cos-cosine in record { value = halve-upper c.args.w c.args.b r.result r.ensures.value c.if-cosine-w.true; carried = r.ensures.value; counted = r.ensures.counted }
 
 pub returns : goal.returns
-returns c = let r = c.counted_cos-cosine in record { value = halve-lower c.args.w c.args.b r.result r.ensures.value c.if-cosine-w.false; carried = c.requires.fact_3; counted = r.ensures.counted }
+returns c = let r = c.counted_cos-cosine in record { value = halve-lower c.args.w c.args.b r.result r.ensures.value c.if-cosine-w.false; carried = c.requires.carried; counted = r.ensures.counted }

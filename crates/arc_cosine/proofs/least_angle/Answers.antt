@@ -1,6 +1,5 @@
 -- The invariant: with as many halvings left as cosines to 31, the bracket holds the least angle, its lower cosine is carried along (`Halving`), and its search
 -- ends where the whole one does (`Searching`). The measure is the distance of the ends.
-use Prim.Native.Nat.{◌-◌}
 use native.Mathlib.Omega.{arith}
 use Rattle.arc_cosine.proofs.Halving.{searching-starts, searching-inside, searching-counts, searching-again}
 use Rattle.arc_cosine.proofs.Halving.{searching-closer, searching-counted, halving-ends, halving-zero}
@@ -13,7 +12,7 @@ pub overflow_sub-b : goal.overflow_sub-b
 overflow_sub-b c = let l = c.loop-b.invariant.halving.order in omega (arith, l)
 
 pub halve-half-requires : goal.halve-half-requires
-halve-half-requires c = let s = c.loop-b.invariant in let opened = c.loop-b-test.true in record { fact_1 = c.requires; fact_2 = searching-inside s opened; fact_3 = s.halving.carried; fact_4 = searching-counts s opened }
+halve-half-requires c = let s = c.loop-b.invariant in let opened = c.loop-b-test.true in record { inside = searching-inside s opened; carried = s.halving.carried; cosines_bound = searching-counts s opened }
 
 pub loop-b-smaller : goal.loop-b-smaller
 loop-b-smaller c =

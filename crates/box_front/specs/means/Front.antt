@@ -7,7 +7,7 @@ use Rattle.transform.specs.declared.BoundsAnswer.{BoundsAnswer}
 use Rattle.transform.specs.declared.BoundsAnswer.TheVariants.{Bounds, Refused}
 use Rattle.bounds_query.specs.Query.{cover_refusal, BoundsAnswer-union_bounds}
 use Rattle.lent_arrays.specs.Arrays.{BoundsAnswer-left}
-use Rattle.motion_piece.specs.declared.PaddedPose.{PaddedPose}
+use Rattle.motion_piece.specs.means.Piece.{PaddedPose}
 use Rattle.motion_piece.specs.means.Piece.{PaddedPose-enclose_bounds}
 use Rattle.box_front.specs.declared.Front.{Front}
 

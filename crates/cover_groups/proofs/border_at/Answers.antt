@@ -1,7 +1,5 @@
--- `border_at` meets its contract: near slerp asks for no angle; otherwise the table that is lent gives the angle's own sine and cosine (`sin-lent`, `cos-lent`).
+-- `border_at` meets its contract: near slerp asks for no angle.
 use mathlib.Core.Path.{sym, ◌∙◌}
-use Rattle.bounds3.specs.float32.Operators.{◌⊗◌}
-use Rattle.trig.proofs.OverTable.{sin-lent, cos-lent}
 use Rattle.cover_groups.specs.means.Groups.{Border-from, Border-at}
 use Rattle.cover_groups.proofs.border_at.Goals as goal
 
@@ -16,9 +14,7 @@ pub returns-else-near : goal.returns-else-near
 unfolding Border-from Border-at
 returns-else-near c = record {
   value = let a = c.args in
-      let lent = c.requires in
-      let s = c.sin_cos_in-angle in
-      let x = a.theta ⊗ a.dt in
-      (λ i. Border-from a.dt (cos-lent lent x s.ensures.value.1 i) (sin-lent lent x s.ensures.value.0 i))
+      let s = c.sin_cos-angle.ensures.value in
+      (λ i. Border-from a.dt (s.1 i) (s.0 i))
       ∙ λ i. Border-at (sym c.if-near.false i) a.theta a.dt;
 }

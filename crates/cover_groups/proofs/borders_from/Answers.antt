@@ -8,5 +8,5 @@ pub returns : goal.returns
 unfolding LanesBorders-from LanesBorders-of LanesBorders-steps
 returns c = record {
   value = (λ i. LanesBorders-from (c.ends-dt.ensures.value i) (c.ends-cos.ensures.value i) (c.ends-sin.ensures.value i))
-      ∙ λ i. LanesBorders-of (c.requires.fact_2 i) (c.border_at-b.ensures.value i) (c.border_at-c.ensures.value i) (c.border_at-d.ensures.value i) (c.border_at-e.ensures.value i);
+      ∙ λ i. LanesBorders-of (c.requires i) (c.border_at-b.ensures.value i) (c.border_at-c.ensures.value i) (c.border_at-d.ensures.value i) (c.border_at-e.ensures.value i);
 }

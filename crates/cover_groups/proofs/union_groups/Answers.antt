@@ -15,7 +15,7 @@ use Rattle.cover_groups.proofs.Lanewise.{groups-lanes}
 use Rattle.cover_groups.proofs.union_groups.Goals as goal
 
 pub join_groups-joined-requires : goal.join_groups-joined-requires
-join_groups-joined-requires c = let a = c.args.a in let held = c.held_depth-h in let d = held.result in let h : d ≤ max_depth = omega (arith, held.ensures.value) in let start = c.border_at-from.ensures.value ∙ λ i. Border-at (is_near a) a.theta (sym (slice_end-first d) i) in record { fact_1 = c.table-table.ensures.value; fact_2 = h; fact_3 = omega (arith, slice-count d h); fact_4 = start }
+join_groups-joined-requires c = let a = c.args.a in let held = c.held_depth-h in let d = held.result in let h : d ≤ max_depth = omega (arith, held.ensures.value) in let start = c.border_at-from.ensures.value ∙ λ i. Border-at (is_near a) a.theta (sym (slice_end-first d) i) in record { h_bound = h; groups = omega (arith, slice-count d h); start = start }
 
 pub returns : goal.returns
 unfolding Groups-union

@@ -3,8 +3,8 @@ use Prim.Native.Nat.{◌-◌}
 use Rattle.decomposition.proofs.Rounds.{Reached}
 use Rattle.decomposition.proofs.decompose.Given as goal
 
-abbrev pub invariant-loop-m : goal.invariant-loop-m
-invariant-loop-m l = Reached l.m l.counter l.r
+abbrev pub invariant-loop-rit : goal.invariant-loop-rit
+invariant-loop-rit l = Reached l.m l.counter l.r
 
-abbrev pub decreases-loop-m : goal.decreases-loop-m
-decreases-loop-m l = 100 - l.counter
+abbrev pub decreases-loop-rit : goal.decreases-loop-rit
+decreases-loop-rit l = 100 - l.counter

@@ -4,8 +4,8 @@ use Rattle.decomposition.proofs.judged.Goals as goal
 
 pub returns-then-is_finite : goal.returns-then-is_finite
 unfolding Decomposition-judged
-returns-then-is_finite c = record { value = rw (rw (c.is_finite.ensures.value, c.is_finite-2.ensures.value) at c.if-is_finite.true, c.from_rows-rows.ensures.value) }
+returns-then-is_finite c = record { value = rw (rw (c.is_finite.ensures.value, c.is_finite-2.ensures.value) at c.if-is_finite.true, c.from-rows.ensures) }
 
 pub returns-else-is_finite : goal.returns-else-is_finite
 unfolding Decomposition-judged
-returns-else-is_finite c = record { value = rw (rw (c.is_finite.ensures.value, c.is_finite-2.ensures.value) at c.if-is_finite.false) c.refused.ensures.value }
+returns-else-is_finite c = record { value = rw (rw (c.is_finite.ensures.value, c.is_finite-2.ensures.value) at c.if-is_finite.false) }

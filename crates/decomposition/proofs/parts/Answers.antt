@@ -1,18 +1,17 @@
--- `parts` meets its contract: the inverse's number chooses the case.
-use borrow.Author.Tests.{eq-eqb, ne_eqb}
-use mathlib.Core.Path.{◌≡◌}
-use Rattle.matrix_quaternion.specs.FromMatrix.{Quaternion-from_matrix}
-use Rattle.decomposition.specs.Decompose.{scale_by, parts}
+-- `parts` meets its contract: what the inverse gives chooses the case.
+use Rattle.std.proofs.lemmas.Result.{err_from_is_err_and}
+use Rattle.refusal.proofs.Number.{number-tested}
+use Rattle.decomposition.specs.Decompose.{parts}
 use Rattle.decomposition.proofs.parts.Goals as goal
 
-pub returns-then-inverse-eq0 : goal.returns-then-inverse-eq0
+pub returns-in_err-inverse : goal.returns-in_err-inverse
 unfolding parts
-returns-then-inverse-eq0 c = record {
-  value = let rotation : c.quaternion_from_matrix.result ≡ Quaternion-from_matrix c.args.r = c.quaternion_from_matrix.ensures.value in
-      let scale : c.scale_by.result ≡ scale_by c.args.rigid c.matrix.result c.args.m = c.scale_by.ensures.value in
-      rw (← c.inverse-inverse.ensures.value, eq-eqb _ 0 c.if-inverse-eq0.true, ← rotation, ← c.matrix.ensures.value, ← scale) c.judged.ensures.value;
-}
+returns-in_err-inverse c =
+    let gave = err_from_is_err_and c.from_residual.result c.from_residual.ensures.1 in
+    record { value = rw (gave.1, gave.2, ← c.in_err-inverse.ensures.value, number-tested) }
 
-pub returns-else-inverse-eq0 : goal.returns-else-inverse-eq0
+pub returns : goal.returns
 unfolding parts
-returns-else-inverse-eq0 c = record { value = rw (← c.inverse-inverse.ensures.value, ne_eqb _ 0 c.if-inverse-eq0.false) c.refused.ensures.value }
+returns c = record {
+  value = rw (← c.in_ok-inverse.ensures.value, ← c.quaternion_from_matrix.ensures.value, ← c.scale_by.ensures.value) c.judged.ensures.value;
+}

@@ -1,11 +1,7 @@
 -- `next_byte` is the next place of the line once each run of spaces is one. The invariant: what stands before `i` is worth one space.
-use Prim.Native.Nat.{◌-◌, ◌≤◌, ◌<◌}
 use native.Mathlib.Omega.{arith}
 use mathlib.Core.Path.{◌≡◌, ◌∙◌}
-use mathlib.Core.List.{◌∷◌}
-use lib.ListN.{length, drop, get_or}
-use borrow.Author.Rules.{rules}
-use Rattle.motion_file.specs.Text.{space, single_spaced}
+use lib.ListN.{length}
 use Rattle.file_lines.proofs.Spaces.{next-other, run-first, run_more, run-over, run_end}
 use Rattle.file_lines.proofs.next_byte.Goals as goal
 
@@ -15,7 +11,7 @@ returns-then-line-at-ne32 c = next-other c.args.line.now c.args.at (omega arith)
 pub loop-i-init : goal.loop-i-init
 loop-i-init c =
     let a = c.args in
-    (omega arith, omega arith, c.if-line-at-ne32.false, run-first a.line.now a.at (omega arith) c.if-line-at-ne32.false)
+    (c.if-line-at-ne32.false, run-first a.line.now a.at (omega arith) c.if-line-at-ne32.false)
 
 pub returns-then-line-i-ne32 : goal.returns-then-line-i-ne32
 returns-then-line-i-ne32 c =
@@ -24,21 +20,22 @@ returns-then-line-i-ne32 c =
     record {
       after = omega arith;
       within = omega arith;
-      spaced = rw l.invariant.2 (l.invariant.3 ∙ run-over a.line.now l.i (omega arith) c.if-line-i-ne32.true);
+      spaced = rw l.invariant.0 (l.invariant.1 ∙ run-over a.line.now l.i (omega arith) c.if-line-i-ne32.true);
     }
 
 pub loop-i-preserved : goal.loop-i-preserved
 loop-i-preserved c =
     let a = c.args in
     let l = c.loop-i in
-    (omega arith, omega arith, l.invariant.2, l.invariant.3 ∙ run_more a.line.now l.i (omega arith) c.if-line-i-ne32.false)
+    (l.invariant.0, l.invariant.1 ∙ run_more a.line.now l.i (omega arith) c.if-line-i-ne32.false)
 
 pub returns : goal.returns
 returns c =
     let a = c.args in
     let l = c.loop-i in
+    let whole : l.i ≡ length a.line.now = omega arith in
     record {
       after = omega arith;
       within = omega arith;
-      spaced = rw l.invariant.2 (l.invariant.3 ∙ run_end a.line.now l.i (omega arith));
+      spaced = rw l.invariant.0 (rw whole at l.invariant.1 ∙ run_end a.line.now (length a.line.now) (omega arith));
     }

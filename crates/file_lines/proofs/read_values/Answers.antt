@@ -1,6 +1,5 @@
 -- `read_values` puts the values of a line once it is judged, and otherwise nothing.
 use mathlib.Core.Path.{sym, ◌∙◌}
-use borrow.Author.Rules.{rules}
 use Rattle.file_lines.specs.Values.{values_left}
 use Rattle.file_lines.proofs.read_values.Goals as goal
 

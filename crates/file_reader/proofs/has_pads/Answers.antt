@@ -3,7 +3,6 @@ use Prim.Native.Nat.{ℕ, ◌+◌}
 use native.Mathlib.Omega.{arith}
 use mathlib.Core.Path.{◌≡◌, ap, ◌∙◌}
 use mathlib.Core.List.{List}
-use borrow.Author.Rules.{rules}
 use Rattle.motion_file.specs.hexadecimal.Digit.{position}
 use Rattle.motion_file.proofs.hexadecimal.Digits.{position-bound}
 use Rattle.motion_file.specs.Text.{ascii, line_feed}

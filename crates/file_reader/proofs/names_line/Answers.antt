@@ -2,7 +2,6 @@
 -- `after-unfit`), or the place lies past the end (`after-unended`).
 use native.Mathlib.Omega.{arith}
 use mathlib.Core.Path.{sym, ◌∙◌}
-use borrow.Author.Rules.{rules}
 use Rattle.motion_file.specs.Layout.{names}
 use Rattle.motion_file.proofs.Lines.{after-fits, after-unfit, after-unended}
 use Rattle.file_reader.proofs.names_line.Goals as goal

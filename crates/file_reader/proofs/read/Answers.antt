@@ -2,7 +2,6 @@
 use native.Mathlib.Omega.{arith}
 use mathlib.Core.Path.{sym, ◌∙◌}
 use mathlib.Core.Bool.{true, false}
-use borrow.Author.Rules.{rules}
 use Rattle.motion_file.specs.Text.{ascii}
 use Rattle.motion_file.proofs.Files.{told}
 use Rattle.file_reader.proofs.read.Goals as goal

@@ -5,11 +5,10 @@ use mathlib.Core.Path.{◌≡◌, sym, subst}
 use lib.Ieee.{binary32, of_bits}
 use lib.ListN.{length, replicate}
 use lib.Seq.{length-take-le}
-use borrow.Author.Rules.{rules}
 use Rattle.motion_file.specs.Text.{ascii}
-use Rattle.motion_file.specs.Layout.{values as values', max_bytes, MoveFile-departs}
+use Rattle.motion_file.specs.Layout.{values as values', max_bytes}
 use Rattle.motion_file.specs.means.Place.{through}
-use Rattle.motion_file.proofs.Files.{Clauses, file-long, file-departs, file-poses, file-room, file-contents}
+use Rattle.motion_file.proofs.Files.{file-long, file-departs, file-poses, file-room, file-contents}
 use Rattle.file_reader.proofs.read_columns.Goals as goal
 
 pub returns-then-bytes-gt65536 : goal.returns-then-bytes-gt65536

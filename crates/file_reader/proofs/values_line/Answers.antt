@@ -2,7 +2,6 @@
 use native.Mathlib.Omega.{arith}
 use mathlib.Core.Path.{sym, ◌∙◌, ap}
 use lib.ListN.{length}
-use borrow.Author.Rules.{rules}
 use Rattle.motion_file.specs.Layout.{values, values_of}
 use Rattle.file_lines.specs.Values.{values_left}
 use Rattle.motion_file.proofs.Lines.{line-slice, after-fits, after-unfit, after-unended}

@@ -1,5 +1,5 @@
 -- `write_word` is `Word-write`. The invariant: the first i of the eight digits stand in the list from the place on.
-use Prim.Native.Nat.{◌+◌, ◌-◌}
+use Prim.Native.Nat.{◌+◌}
 use native.Mathlib.Omega.{arith}
 use mathlib.Core.Path.{◌≡◌, refl, sym, ◌∙◌}
 use lib.ListN.{length, length-set}

@@ -4,7 +4,7 @@ use mathlib.Core.Path.{sym, ◌∙◌}
 use lib.Ieee.{Float, div}
 use Rattle.transform.proofs.rounding.Order.{differs-nan}
 use Rattle.transform.specs.matrix4x4.Rows.{Rows}
-use Rattle.transform.specs.declared.TransformAnswer.{TransformAnswer}
+use Rattle.transform.specs.Transform.{TransformAnswer}
 use Rattle.pose_slerp.specs.unit_interval.Unit.{dt}
 use Rattle.interpolation.specs.Interpolate.{Pose-transform, AnimatedTransform-interpolate_by}
 use Rattle.motion_rows.specs.Rows.{AnimatedTransform-from_rows, PoseConstants-from_rows}
@@ -19,7 +19,7 @@ between rows = let m = AnimatedTransform-from_rows rows in Pose-transform (PoseC
 
 pub returns-then-time : goal.returns-then-time
 unfolding Rows-interpolate AnimatedTransform-interpolate_by
-returns-then-time c = record { value = rw (← differs-nan c.args.time, c.if-time.true, c.refused.ensures.value) }
+returns-then-time c = record { value = rw (← differs-nan c.args.time, c.if-time.true) }
 
 pub returns-then-constants-time : goal.returns-then-constants-time
 unfolding Rows-interpolate AnimatedTransform-from_rows

@@ -10,7 +10,7 @@ use Rattle.interpolation.proofs.composed_in_order.Goals as goal
 pub returns-then-finite : goal.returns-then-finite
 unfolding composed
 returns-then-finite c = record {
-  value = rw (c.scaled.ensures.value, ← c.translate-translation.ensures.value, ← c.transform_from_quaternion-rotation.ensures.value, ← c.mul-first.ensures.value, ← c.to_rows.ensures.value)
+  value = rw (c.scaled.ensures.value, ← c.translate-translation.ensures.value, ← c.transform_from_quaternion-rotation.ensures.value, ← c.mul-first.ensures, ← c.to_rows.ensures.value)
       (sym (ap (λ (b : Bool). cond b (scaled c.mul-first.result c.to_rows.result) (TransformAnswer-refused 5))
       (rw (c.is_finite.ensures.value, c.is_finite-2.ensures.value, c.is_finite-3.ensures.value, c.is_finite-4.ensures.value, c.is_finite-5.ensures.value) at c.if-finite.true)));
 }
@@ -18,7 +18,7 @@ returns-then-finite c = record {
 pub returns-else-finite : goal.returns-else-finite
 unfolding composed
 returns-else-finite c = record {
-  value = rw (c.refused.ensures.value, ← c.translate-translation.ensures.value, ← c.transform_from_quaternion-rotation.ensures.value, ← c.mul-first.ensures.value, ← c.to_rows.ensures.value)
+  value = rw (← c.translate-translation.ensures.value, ← c.transform_from_quaternion-rotation.ensures.value, ← c.mul-first.ensures, ← c.to_rows.ensures.value)
       (sym (ap (λ (b : Bool). cond b (scaled c.mul-first.result c.to_rows.result) (TransformAnswer-refused 5))
       (rw (c.is_finite.ensures.value, c.is_finite-2.ensures.value, c.is_finite-3.ensures.value, c.is_finite-4.ensures.value, c.is_finite-5.ensures.value) at c.if-finite.false)));
 }

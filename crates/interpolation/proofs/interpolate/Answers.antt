@@ -3,7 +3,7 @@ use mathlib.Core.Path.{sym, ap, ◌∙◌}
 use mathlib.Core.Bool.{Bool, cond}
 use lib.Ieee.{Float}
 use Rattle.matrix4x4.proofs.rounding.Order.{differs-nan}
-use Rattle.transform.specs.declared.TransformAnswer.{TransformAnswer}
+use Rattle.transform.specs.Transform.{TransformAnswer}
 use Rattle.unit_interval.specs.Unit.{dt}
 use Rattle.animated_transform.specs.declared.AnimatedTransform.{AnimatedTransform}
 use Rattle.animated_transform.specs.AtTime.{at_end}
@@ -19,7 +19,7 @@ known m time b =
 
 pub returns-then-time : goal.returns-then-time
 unfolding AnimatedTransform-interpolate_by
-returns-then-time c = record { value = rw (← differs-nan c.args.time, c.if-time.true, c.refused.ensures.value) }
+returns-then-time c = record { value = rw (← differs-nan c.args.time, c.if-time.true) }
 
 pub returns-then-m-time : goal.returns-then-m-time
 unfolding AnimatedTransform-interpolate_by

@@ -9,4 +9,4 @@ returns-then-is_finite c = record { value = rw (← c.is_finite.ensures.value, c
 
 pub returns-else-is_finite : goal.returns-else-is_finite
 unfolding TransformAnswer-judged
-returns-else-is_finite c = record { value = rw (← c.is_finite.ensures.value, c.if-is_finite.false, c.refused.ensures.value) }
+returns-else-is_finite c = record { value = rw (← c.is_finite.ensures.value, c.if-is_finite.false) }

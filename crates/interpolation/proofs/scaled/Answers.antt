@@ -1,13 +1,15 @@
--- `scaled` meets its contract: the number of the scale's inverse chooses the case.
-use borrow.Author.Tests.{eq-eqb, ne_eqb}
+-- `scaled` meets its contract: what the scale's inverse gives chooses the case.
+use Rattle.std.proofs.lemmas.Result.{err_from_is_err_and}
+use Rattle.refusal.proofs.Number.{number-tested}
 use Rattle.interpolation.specs.Interpolate.{scaled}
-use borrow.Author.Rules.{rules}
 use Rattle.interpolation.proofs.scaled.Goals as goal
 
-pub returns-then-s-eq0 : goal.returns-then-s-eq0
+pub returns-in_err-s : goal.returns-in_err-s
 unfolding scaled
-returns-then-s-eq0 c = record { value = rw (← c.to_rows.ensures.value, ← c.from_matrix-s.ensures.value, eq-eqb _ 0 c.if-s-eq0.true, ← c.mul.ensures.value, c.judged.ensures.value) }
+returns-in_err-s c =
+    let gave = err_from_is_err_and c.from_residual.result c.from_residual.ensures.1 in
+    record { value = rw (gave.1, gave.2, ← c.to_rows.ensures.value, ← c.in_err-s.ensures.value, number-tested) }
 
-pub returns-else-s-eq0 : goal.returns-else-s-eq0
+pub returns : goal.returns
 unfolding scaled
-returns-else-s-eq0 c = record { value = rw (← c.to_rows.ensures.value, ← c.from_matrix-s.ensures.value, ne_eqb _ 0 c.if-s-eq0.false, c.refused.ensures.value) }
+returns c = record { value = rw (← c.to_rows.ensures.value, ← c.in_ok-s.ensures.value, ← c.mul.ensures) c.judged.ensures.value }

@@ -12,8 +12,7 @@ pub returns-then-s-icol : goal.returns-then-s-icol
 returns-then-s-icol c = record {
   value = let found = c.search-p in
       let swapped = c.swap_rows-s in
-      rw (reached-zero_pivot c.loop-i.invariant.1 found.result swapped.result found.ensures.value swapped.ensures.value (search rules) c.if-s-icol.true)
-      c.refused.ensures.value;
+      rw (reached-zero_pivot c.loop-i.invariant.1 found.result swapped.result found.ensures.value swapped.ensures.value (search rules) c.if-s-icol.true);
 }
 
 pub overflow_add-ipiv : goal.overflow_add-ipiv

@@ -4,8 +4,8 @@ use Rattle.matrix_inverse.proofs.judged.Goals as goal
 
 pub returns-then-is_finite : goal.returns-then-is_finite
 unfolding InverseAnswer-judged
-returns-then-is_finite c = record { value = rw (← c.is_finite.ensures.value, c.if-is_finite.true) c.new.ensures.value }
+returns-then-is_finite c = record { value = rw (← c.is_finite.ensures.value, c.if-is_finite.true) }
 
 pub returns-else-is_finite : goal.returns-else-is_finite
 unfolding InverseAnswer-judged
-returns-else-is_finite c = record { value = rw (← c.is_finite.ensures.value, c.if-is_finite.false) c.refused.ensures.value }
+returns-else-is_finite c = record { value = rw (← c.is_finite.ensures.value, c.if-is_finite.false) }

@@ -6,9 +6,9 @@ pub returns : goal.returns
 unfolding affine
 returns c = record {
   value = rw (
-    c.add.ensures.value,
-    c.mul.ensures.value,
-    c.point-2.ensures.value,
-    c.point.ensures.value,
+    c.add.ensures,
+    c.mul.ensures,
+    c.from-2.ensures,
+    c.from.ensures,
   );
 }

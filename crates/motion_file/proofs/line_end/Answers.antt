@@ -1,5 +1,4 @@
 -- `line_end` is the place of the next line feed. The invariant: from `i` on it is the same place as from `at` on.
-use Prim.Native.Nat.{◌-◌}
 use native.Mathlib.Numerals.{add-one}
 use native.Mathlib.Omega.{arith}
 use Rattle.motion_file.specs.Text.{line_feed}
@@ -18,4 +17,4 @@ loop-i-preserved c =
     (omega (arith, position-next line_feed c.args.s.now l.i (omega arith) c.if-s-i-eq10.false))
 
 pub returns : goal.returns
-returns c = omega (arith, position-end line_feed c.args.s.now c.loop-i.i (omega arith))
+returns c = grind (arith, position-end)

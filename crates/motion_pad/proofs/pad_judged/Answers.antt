@@ -1,18 +1,49 @@
--- `pad_judged` meets its contract: its calls are the formula's operations in working order.
-use mathlib.Core.Path.{ap}
-use Rattle.interval_unjudged.specs.formula.Enclose.{enclosure}
-use Rattle.interval_unjudged.proofs.formula.Trace.{traced}
-use Rattle.motion_pad.specs.Pad.{pad_stage, Pad-inputs, Judged-of, Pad-enclose}
+-- `pad_judged` meets its contract: its calls are the formula's operations in working order, up to the first that is refused.
+use Rattle.interval.proofs.refusal.Outcome.{handed-on}
+use Rattle.motion_pad.proofs.Steps.{pad-steps}
 use Rattle.motion_pad.proofs.pad_judged.Goals as goal
 
+pub returns-in_err-s : goal.returns-in_err-s
+returns-in_err-s c = record {
+  value = let a = c.args in
+      rw (
+        handed-on _ _ c.from_residual.ensures,
+        pad-steps a.pad0 a.pad1 a.dt,
+        ← c.in_err-s.ensures.value,
+      );
+}
+
+pub returns-in_err-p : goal.returns-in_err-p
+returns-in_err-p c = record {
+  value = let a = c.args in
+      rw (
+        handed-on _ _ c.from_residual-in_err-p.ensures,
+        pad-steps a.pad0 a.pad1 a.dt,
+        ← c.in_ok-s.ensures.value,
+        ← c.in_err-p.ensures.value,
+      );
+}
+
+pub returns-in_err-q : goal.returns-in_err-q
+returns-in_err-q c = record {
+  value = let a = c.args in
+      rw (
+        handed-on _ _ c.from_residual-in_err-q.ensures,
+        pad-steps a.pad0 a.pad1 a.dt,
+        ← c.in_ok-s.ensures.value,
+        ← c.in_ok-p.ensures.value,
+        ← c.in_err-q.ensures.value,
+      );
+}
+
 pub returns : goal.returns
-unfolding Pad-enclose
 returns c = record {
   value = let a = c.args in
-      ap Judged-of
-      (traced (enclosure 0 (Pad-inputs a.pad0 a.pad1 a.dt)) pad_stage
-      _ c.sub_enclosure-s.ensures.value
-      _ c.mul_enclosure-p.ensures.value
-      _ c.mul_enclosure-q.ensures.value
-      _ c.add_enclosure.ensures.value);
+      rw (
+        c.add_enclosure.ensures.value,
+        pad-steps a.pad0 a.pad1 a.dt,
+        ← c.in_ok-s.ensures.value,
+        ← c.in_ok-p.ensures.value,
+        ← c.in_ok-q.ensures.value,
+      );
 }

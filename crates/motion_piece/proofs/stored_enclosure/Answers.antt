@@ -2,4 +2,4 @@
 use Rattle.motion_piece.proofs.stored_enclosure.Goals as goal
 
 pub returns : goal.returns
-returns c = record { value = rw (c.stored_pad-pad.ensures.value, c.matrix_point-entries.ensures.value) }
+returns c = record { value = rw (c.matrix_point-matrix.ensures.value, ← c.stored_pad-pad.ensures.value) }

@@ -3,7 +3,7 @@ use mathlib.Core.Path.{sym, ap, ◌∙◌}
 use mathlib.Core.Bool.{Bool, cond}
 use lib.Ieee.{Float}
 use Rattle.bounds3.specs.declared.Point3f.{Point3f}
-use Rattle.transform.specs.declared.PointAnswer.{PointAnswer}
+use Rattle.transform.specs.Answer.{PointAnswer}
 use Rattle.transform.specs.TransformPoint.{Transform-transform_point}
 use Rattle.unit_interval.specs.Unit.{dt}
 use Rattle.pose_steps.specs.declared.PoseConstants.{PoseConstants}

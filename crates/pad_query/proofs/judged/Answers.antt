@@ -7,6 +7,6 @@ pub returns-then-is_finite : goal.returns-then-is_finite
 unfolding PadAnswer-judged
 returns-then-is_finite c = record { value = rw (← c.is_finite.ensures.value, c.if-is_finite.true) }
 
-pub returns : goal.returns
+pub returns-else-is_finite : goal.returns-else-is_finite
 unfolding PadAnswer-judged
-returns c = record { value = rw (← c.is_finite.ensures.value, c.if-is_finite.false) }
+returns-else-is_finite c = record { value = rw (← c.is_finite.ensures.value, c.if-is_finite.false) }

@@ -1,5 +1,8 @@
 -- `put_pad` meets its contract: each arm is its case of the definition.
 use Rattle.pad_query.proofs.put_pad.Goals as goal
 
-pub returns-in-Pad : goal.returns-in-Pad
-returns-in-Pad c = record { refusal = rw c.in-Pad.is; left = rw c.in-Pad.is }
+pub returns-in-Ok : goal.returns-in-Ok
+returns-in-Ok c = record { refusal = rw c.in-Ok.is; left = rw c.in-Ok.is }
+
+pub returns-in-Err : goal.returns-in-Err
+returns-in-Err c = record { refusal = rw (c.in-Err.is, c.number.ensures.value); left = rw c.in-Err.is }

@@ -15,5 +15,5 @@ product-rows a b ex ey er em = rw (em, er, ex, ey)
 pub returns : goal.returns
 returns c = record {
   value = product-rows c.args.a c.args.b
-      c.to_rows.ensures.value c.to_rows-2.ensures.value c.mul.ensures.value c.from_rows.ensures.value;
+      c.to_rows.ensures.value c.to_rows-2.ensures.value c.mul.ensures.value c.from.ensures;
 }

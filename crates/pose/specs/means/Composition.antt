@@ -1,12 +1,11 @@
 -- The steps of a pose with its rotation given: `Pose-composition`, and a point moved by it, `Pose-composed_point`. Definitions only.
 -- With slerp's rotation they are `Pose-matrix` and `Pose-moved_point` (`moved_point-composition`).
-use Rattle.std.specs.Prelude.{◌&&◌, cond, eqb, Float}
+use Rattle.std.specs.Prelude.{◌&&◌, cond, eqb, Float, Ok, Err}
 use Rattle.bounds3.specs.declared.Point3f.{Point3f}
 use Rattle.bounds3.specs.Finite.{Point3f-is_finite}
 use Rattle.matrix4x4.specs.declared.Matrix4x4.{Matrix4x4}
 use Rattle.transform.specs.Transform.{translation}
-use Rattle.transform.specs.declared.PointAnswer.{PointAnswer}
-use Rattle.transform.specs.declared.PointAnswer.TheVariants.{Moved, Refused}
+use Rattle.transform.specs.Answer.{PointAnswer}
 use Rattle.quaternion.specs.declared.Quaternion.{Quaternion}
 use Rattle.quaternion.specs.IsFinite.{Quaternion-is_finite}
 use Rattle.pose_steps.specs.declared.PoseConstants.{PoseConstants}
@@ -27,4 +26,4 @@ unfoldable pub Pose-composed_point : PoseConstants → Quaternion → Matrix4x4 
 Pose-composed_point a rotate s0 s1 dt p =
     let pose = Pose-composition a rotate s0 s1 dt in
     let q = Pose-transform_point pose.m p in
-    cond (eqb pose.refusal 0 && Point3f-is_finite q) (Moved q) (Refused 5)
+    cond (eqb pose.refusal 0 && Point3f-is_finite q) (Ok q) (Err 5)

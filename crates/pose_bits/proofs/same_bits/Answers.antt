@@ -1,5 +1,4 @@
 -- `same_bits` compares bits; a float of binary32 is told by them (`bits-clauses`).
-use borrow.Author.Rules.{rules}
 use Rattle.pose_bits.proofs.Same.{bits-clauses}
 use Rattle.pose_bits.proofs.same_bits.Goals as goal
 

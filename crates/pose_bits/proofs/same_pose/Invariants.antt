@@ -1,14 +1,7 @@
--- `same_pose` compares place by place. The invariant: all places before i have the same float.
-use Prim.Native.Nat.{◌-◌, ◌≤◌}
-use mathlib.Core.Path.{◌≡◌}
-use native.Mathlib.Omega.{arith}
-use borrow.Author.Rules.{rules}
-use borrow.Author.Tests.{not-true, not-false}
-use Rattle.pose_bits.proofs.Same.{SameBelow, same_next, place-differs, all_same}
+-- `same_pose` compares place by place. The invariant: all places so far have the same float.
+use lib.ListN.{length}
+use Rattle.pose_bits.proofs.Same.{SameBelow}
 use Rattle.pose_bits.proofs.same_pose.Given as goal
 
-abbrev pub invariant-loop-i : goal.invariant-loop-i
-invariant-loop-i l = (l.i ≤ 18) × SameBelow l.a l.b l.i
-
-abbrev pub decreases-loop-i : goal.decreases-loop-i
-decreases-loop-i l = 18 - l.i
+abbrev pub invariant-loop-x : goal.invariant-loop-x
+invariant-loop-x l = SameBelow l.a l.b (length l.yielded)

@@ -1,43 +1,156 @@
--- `rotation_enclosure` meets its contract: its calls are the formula's operations in working order.
-use mathlib.Core.Path.{ap}
-use Rattle.pose_steps.specs.formula.Enclose.{enclosure}
-use Rattle.pose_steps.proofs.formula.Trace.{traced}
-use Rattle.pose_steps.specs.Stages.{rotation_stage}
-use Rattle.pose_steps.specs.Enclose.{IntervalQuaternion-list, JudgedMatrix-of, Pose-enclose_rotation}
+-- `rotation_enclosure` meets its contract: its calls are the formula's operations in working order, up to the first that is refused.
+use Rattle.pose_steps.proofs.refusal.Outcome.{handed-on}
+use Rattle.pose_judged.proofs.Stages.{rotation-steps}
 use Rattle.pose_judged.proofs.rotation_enclosure.Goals as goal
 
+pub returns-in_err-p : goal.returns-in_err-p
+returns-in_err-p c = record {
+  value = rw (
+    handed-on _ _ c.from_residual.ensures,
+    rotation-steps c.args.q,
+    ← c.in_err-p.ensures.value,
+  );
+}
+
+pub returns-in_err-m00 : goal.returns-in_err-m00
+returns-in_err-m00 c = record {
+  value = rw (
+    handed-on _ _ c.from_residual-in_err-m00.ensures,
+    rotation-steps c.args.q,
+    ← c.in_ok-p.ensures.value,
+    ← c.in_err-m00.ensures.value,
+  );
+}
+
+pub returns-in_err-m01 : goal.returns-in_err-m01
+returns-in_err-m01 c = record {
+  value = rw (
+    handed-on _ _ c.from_residual-in_err-m01.ensures,
+    rotation-steps c.args.q,
+    ← c.in_ok-p.ensures.value,
+    ← c.in_ok-m00.ensures.value,
+    ← c.in_err-m01.ensures.value,
+  );
+}
+
+pub returns-in_err-m02 : goal.returns-in_err-m02
+returns-in_err-m02 c = record {
+  value = rw (
+    handed-on _ _ c.from_residual-in_err-m02.ensures,
+    rotation-steps c.args.q,
+    ← c.in_ok-p.ensures.value,
+    ← c.in_ok-m00.ensures.value,
+    ← c.in_ok-m01.ensures.value,
+    ← c.in_err-m02.ensures.value,
+  );
+}
+
+pub returns-in_err-m10 : goal.returns-in_err-m10
+returns-in_err-m10 c = record {
+  value = rw (
+    handed-on _ _ c.from_residual-in_err-m10.ensures,
+    rotation-steps c.args.q,
+    ← c.in_ok-p.ensures.value,
+    ← c.in_ok-m00.ensures.value,
+    ← c.in_ok-m01.ensures.value,
+    ← c.in_ok-m02.ensures.value,
+    ← c.in_err-m10.ensures.value,
+  );
+}
+
+pub returns-in_err-m11 : goal.returns-in_err-m11
+returns-in_err-m11 c = record {
+  value = rw (
+    handed-on _ _ c.from_residual-in_err-m11.ensures,
+    rotation-steps c.args.q,
+    ← c.in_ok-p.ensures.value,
+    ← c.in_ok-m00.ensures.value,
+    ← c.in_ok-m01.ensures.value,
+    ← c.in_ok-m02.ensures.value,
+    ← c.in_ok-m10.ensures.value,
+    ← c.in_err-m11.ensures.value,
+  );
+}
+
+pub returns-in_err-m12 : goal.returns-in_err-m12
+returns-in_err-m12 c = record {
+  value = rw (
+    handed-on _ _ c.from_residual-in_err-m12.ensures,
+    rotation-steps c.args.q,
+    ← c.in_ok-p.ensures.value,
+    ← c.in_ok-m00.ensures.value,
+    ← c.in_ok-m01.ensures.value,
+    ← c.in_ok-m02.ensures.value,
+    ← c.in_ok-m10.ensures.value,
+    ← c.in_ok-m11.ensures.value,
+    ← c.in_err-m12.ensures.value,
+  );
+}
+
+pub returns-in_err-m20 : goal.returns-in_err-m20
+returns-in_err-m20 c = record {
+  value = rw (
+    handed-on _ _ c.from_residual-in_err-m20.ensures,
+    rotation-steps c.args.q,
+    ← c.in_ok-p.ensures.value,
+    ← c.in_ok-m00.ensures.value,
+    ← c.in_ok-m01.ensures.value,
+    ← c.in_ok-m02.ensures.value,
+    ← c.in_ok-m10.ensures.value,
+    ← c.in_ok-m11.ensures.value,
+    ← c.in_ok-m12.ensures.value,
+    ← c.in_err-m20.ensures.value,
+  );
+}
+
+pub returns-in_err-m21 : goal.returns-in_err-m21
+returns-in_err-m21 c = record {
+  value = rw (
+    handed-on _ _ c.from_residual-in_err-m21.ensures,
+    rotation-steps c.args.q,
+    ← c.in_ok-p.ensures.value,
+    ← c.in_ok-m00.ensures.value,
+    ← c.in_ok-m01.ensures.value,
+    ← c.in_ok-m02.ensures.value,
+    ← c.in_ok-m10.ensures.value,
+    ← c.in_ok-m11.ensures.value,
+    ← c.in_ok-m12.ensures.value,
+    ← c.in_ok-m20.ensures.value,
+    ← c.in_err-m21.ensures.value,
+  );
+}
+
+pub returns-in_err-m22 : goal.returns-in_err-m22
+returns-in_err-m22 c = record {
+  value = rw (
+    handed-on _ _ c.from_residual-in_err-m22.ensures,
+    rotation-steps c.args.q,
+    ← c.in_ok-p.ensures.value,
+    ← c.in_ok-m00.ensures.value,
+    ← c.in_ok-m01.ensures.value,
+    ← c.in_ok-m02.ensures.value,
+    ← c.in_ok-m10.ensures.value,
+    ← c.in_ok-m11.ensures.value,
+    ← c.in_ok-m12.ensures.value,
+    ← c.in_ok-m20.ensures.value,
+    ← c.in_ok-m21.ensures.value,
+    ← c.in_err-m22.ensures.value,
+  );
+}
+
 pub returns : goal.returns
-unfolding Pose-enclose_rotation
 returns c = record {
-  value = ap JudgedMatrix-of (traced (enclosure c.args.m (IntervalQuaternion-list c.args.q)) rotation_stage
-      _ c.mul_enclosure-xx.ensures.value
-      _ c.mul_enclosure-yy.ensures.value
-      _ c.mul_enclosure-zz.ensures.value
-      _ c.mul_enclosure-xy.ensures.value
-      _ c.mul_enclosure-xz.ensures.value
-      _ c.mul_enclosure-yz.ensures.value
-      _ c.mul_enclosure-wx.ensures.value
-      _ c.mul_enclosure-wy.ensures.value
-      _ c.mul_enclosure-wz.ensures.value
-      _ c.add_enclosure-a00.ensures.value
-      _ c.mul_enclosure-b00.ensures.value
-      _ c.sub_enclosure-m00.ensures.value
-      _ c.add_enclosure-a01.ensures.value
-      _ c.mul_enclosure-m01.ensures.value
-      _ c.sub_enclosure-a02.ensures.value
-      _ c.mul_enclosure-m02.ensures.value
-      _ c.sub_enclosure-a10.ensures.value
-      _ c.mul_enclosure-m10.ensures.value
-      _ c.add_enclosure-a11.ensures.value
-      _ c.mul_enclosure-b11.ensures.value
-      _ c.sub_enclosure-m11.ensures.value
-      _ c.add_enclosure-a12.ensures.value
-      _ c.mul_enclosure-m12.ensures.value
-      _ c.add_enclosure-a20.ensures.value
-      _ c.mul_enclosure-m20.ensures.value
-      _ c.sub_enclosure-a21.ensures.value
-      _ c.mul_enclosure-m21.ensures.value
-      _ c.add_enclosure-a22.ensures.value
-      _ c.mul_enclosure-b22.ensures.value
-      _ c.sub_enclosure-m22.ensures.value);
+  value = rw (
+    rotation-steps c.args.q,
+    ← c.in_ok-p.ensures.value,
+    ← c.in_ok-m00.ensures.value,
+    ← c.in_ok-m01.ensures.value,
+    ← c.in_ok-m02.ensures.value,
+    ← c.in_ok-m10.ensures.value,
+    ← c.in_ok-m11.ensures.value,
+    ← c.in_ok-m12.ensures.value,
+    ← c.in_ok-m20.ensures.value,
+    ← c.in_ok-m21.ensures.value,
+    ← c.in_ok-m22.ensures.value,
+  );
 }

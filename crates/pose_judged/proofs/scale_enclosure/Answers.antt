@@ -1,7 +1,44 @@
--- `scale_enclosure` meets its contract, row by row, the last call first.
-use Rattle.pose_steps.specs.Enclose.{Pose-enclose_scale}
+-- `scale_enclosure` meets its contract: row by row, up to the first that is refused.
+use Rattle.pose_steps.proofs.refusal.Outcome.{handed-on}
+use Rattle.pose_judged.proofs.Stages.{scale-steps}
 use Rattle.pose_judged.proofs.scale_enclosure.Goals as goal
 
+pub returns-in_err-r0 : goal.returns-in_err-r0
+returns-in_err-r0 c = record {
+  value = rw (
+    handed-on _ _ c.from_residual.ensures,
+    scale-steps c.args.s0 c.args.s1 c.args.dt,
+    ← c.in_err-r0.ensures.value,
+  );
+}
+
+pub returns-in_err-r1 : goal.returns-in_err-r1
+returns-in_err-r1 c = record {
+  value = rw (
+    handed-on _ _ c.from_residual-in_err-r1.ensures,
+    scale-steps c.args.s0 c.args.s1 c.args.dt,
+    ← c.in_ok-r0.ensures.value,
+    ← c.in_err-r1.ensures.value,
+  );
+}
+
+pub returns-in_err-r2 : goal.returns-in_err-r2
+returns-in_err-r2 c = record {
+  value = rw (
+    handed-on _ _ c.from_residual-in_err-r2.ensures,
+    scale-steps c.args.s0 c.args.s1 c.args.dt,
+    ← c.in_ok-r0.ensures.value,
+    ← c.in_ok-r1.ensures.value,
+    ← c.in_err-r2.ensures.value,
+  );
+}
+
 pub returns : goal.returns
-unfolding Pose-enclose_scale
-returns c = record { value = rw (c.scale_row_enclosure-r.ensures.value, c.scale_row_enclosure-q.ensures.value, c.scale_row_enclosure-p.ensures.value) }
+returns c = record {
+  value = rw (
+    scale-steps c.args.s0 c.args.s1 c.args.dt,
+    ← c.in_ok-r0.ensures.value,
+    ← c.in_ok-r1.ensures.value,
+    ← c.in_ok-r2.ensures.value,
+  );
+}

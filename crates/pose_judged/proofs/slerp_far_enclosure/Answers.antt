@@ -1,50 +1,176 @@
--- `slerp_far_enclosure` meets its contract: its calls are the formula's operations in working order.
-use mathlib.Core.Path.{ap}
-use mathlib.Core.List.{[], ◌∷◌, ◌++◌}
-use Rattle.pose_steps.specs.formula.Enclose.{enclosure}
-use Rattle.pose_steps.proofs.formula.Trace.{traced}
-use Rattle.pose_steps.specs.Stages.{slerp_far_stage}
-use Rattle.pose_steps.specs.Enclose.{IntervalQuaternion-list, JudgedQuaternion-of, Pose-enclose_slerp_far}
+-- `slerp_far_enclosure` meets its contract: its calls are the formula's operations in working order, up to the first that is refused.
+use Rattle.pose_steps.proofs.refusal.Outcome.{handed-on}
+use Rattle.pose_judged.proofs.Stages.{far-steps}
 use Rattle.pose_judged.proofs.slerp_far_enclosure.Goals as goal
 
+pub returns-in_err-thetap : goal.returns-in_err-thetap
+returns-in_err-thetap c = record {
+  value = rw (
+    handed-on _ _ c.from_residual.ensures,
+    far-steps c.args.q1 c.args.q2 c.args.cos_theta c.args.theta c.args.t,
+    ← c.in_err-thetap.ensures.value,
+  );
+}
+
+pub returns-in_err-px : goal.returns-in_err-px
+returns-in_err-px c = record {
+  value = rw (
+    handed-on _ _ c.from_residual-in_err-px.ensures,
+    far-steps c.args.q1 c.args.q2 c.args.cos_theta c.args.theta c.args.t,
+    ← c.in_ok-thetap.ensures.value,
+    ← c.in_err-px.ensures.value,
+  );
+}
+
+pub returns-in_err-py : goal.returns-in_err-py
+returns-in_err-py c = record {
+  value = rw (
+    handed-on _ _ c.from_residual-in_err-py.ensures,
+    far-steps c.args.q1 c.args.q2 c.args.cos_theta c.args.theta c.args.t,
+    ← c.in_ok-thetap.ensures.value,
+    ← c.in_ok-px.ensures.value,
+    ← c.in_err-py.ensures.value,
+  );
+}
+
+pub returns-in_err-pz : goal.returns-in_err-pz
+returns-in_err-pz c = record {
+  value = rw (
+    handed-on _ _ c.from_residual-in_err-pz.ensures,
+    far-steps c.args.q1 c.args.q2 c.args.cos_theta c.args.theta c.args.t,
+    ← c.in_ok-thetap.ensures.value,
+    ← c.in_ok-px.ensures.value,
+    ← c.in_ok-py.ensures.value,
+    ← c.in_err-pz.ensures.value,
+  );
+}
+
+pub returns-in_err-pw : goal.returns-in_err-pw
+returns-in_err-pw c = record {
+  value = rw (
+    handed-on _ _ c.from_residual-in_err-pw.ensures,
+    far-steps c.args.q1 c.args.q2 c.args.cos_theta c.args.theta c.args.t,
+    ← c.in_ok-thetap.ensures.value,
+    ← c.in_ok-px.ensures.value,
+    ← c.in_ok-py.ensures.value,
+    ← c.in_ok-pz.ensures.value,
+    ← c.in_err-pw.ensures.value,
+  );
+}
+
+pub returns-in_err-perp : goal.returns-in_err-perp
+returns-in_err-perp c = record {
+  value = rw (
+    handed-on _ _ c.from_residual-in_err-perp.ensures,
+    far-steps c.args.q1 c.args.q2 c.args.cos_theta c.args.theta c.args.t,
+    ← c.in_ok-thetap.ensures.value,
+    ← c.in_ok-px.ensures.value,
+    ← c.in_ok-py.ensures.value,
+    ← c.in_ok-pz.ensures.value,
+    ← c.in_ok-pw.ensures.value,
+    ← c.in_err-perp.ensures.value,
+  );
+}
+
+pub returns-in_err-at : goal.returns-in_err-at
+returns-in_err-at c = record {
+  value = rw (
+    handed-on _ _ c.from_residual-in_err-at.ensures,
+    far-steps c.args.q1 c.args.q2 c.args.cos_theta c.args.theta c.args.t,
+    ← c.in_ok-thetap.ensures.value,
+    ← c.in_ok-px.ensures.value,
+    ← c.in_ok-py.ensures.value,
+    ← c.in_ok-pz.ensures.value,
+    ← c.in_ok-pw.ensures.value,
+    ← c.in_ok-perp.ensures.value,
+    ← c.in_err-at.ensures.value,
+  );
+}
+
+pub returns-in_err-x : goal.returns-in_err-x
+returns-in_err-x c = record {
+  value = rw (
+    handed-on _ _ c.from_residual-in_err-x.ensures,
+    far-steps c.args.q1 c.args.q2 c.args.cos_theta c.args.theta c.args.t,
+    ← c.in_ok-thetap.ensures.value,
+    ← c.in_ok-px.ensures.value,
+    ← c.in_ok-py.ensures.value,
+    ← c.in_ok-pz.ensures.value,
+    ← c.in_ok-pw.ensures.value,
+    ← c.in_ok-perp.ensures.value,
+    ← c.in_ok-at.ensures.value,
+    ← c.in_err-x.ensures.value,
+  );
+}
+
+pub returns-in_err-y : goal.returns-in_err-y
+returns-in_err-y c = record {
+  value = rw (
+    handed-on _ _ c.from_residual-in_err-y.ensures,
+    far-steps c.args.q1 c.args.q2 c.args.cos_theta c.args.theta c.args.t,
+    ← c.in_ok-thetap.ensures.value,
+    ← c.in_ok-px.ensures.value,
+    ← c.in_ok-py.ensures.value,
+    ← c.in_ok-pz.ensures.value,
+    ← c.in_ok-pw.ensures.value,
+    ← c.in_ok-perp.ensures.value,
+    ← c.in_ok-at.ensures.value,
+    ← c.in_ok-x.ensures.value,
+    ← c.in_err-y.ensures.value,
+  );
+}
+
+pub returns-in_err-z : goal.returns-in_err-z
+returns-in_err-z c = record {
+  value = rw (
+    handed-on _ _ c.from_residual-in_err-z.ensures,
+    far-steps c.args.q1 c.args.q2 c.args.cos_theta c.args.theta c.args.t,
+    ← c.in_ok-thetap.ensures.value,
+    ← c.in_ok-px.ensures.value,
+    ← c.in_ok-py.ensures.value,
+    ← c.in_ok-pz.ensures.value,
+    ← c.in_ok-pw.ensures.value,
+    ← c.in_ok-perp.ensures.value,
+    ← c.in_ok-at.ensures.value,
+    ← c.in_ok-x.ensures.value,
+    ← c.in_ok-y.ensures.value,
+    ← c.in_err-z.ensures.value,
+  );
+}
+
+pub returns-in_err-w : goal.returns-in_err-w
+returns-in_err-w c = record {
+  value = rw (
+    handed-on _ _ c.from_residual-in_err-w.ensures,
+    far-steps c.args.q1 c.args.q2 c.args.cos_theta c.args.theta c.args.t,
+    ← c.in_ok-thetap.ensures.value,
+    ← c.in_ok-px.ensures.value,
+    ← c.in_ok-py.ensures.value,
+    ← c.in_ok-pz.ensures.value,
+    ← c.in_ok-pw.ensures.value,
+    ← c.in_ok-perp.ensures.value,
+    ← c.in_ok-at.ensures.value,
+    ← c.in_ok-x.ensures.value,
+    ← c.in_ok-y.ensures.value,
+    ← c.in_ok-z.ensures.value,
+    ← c.in_err-w.ensures.value,
+  );
+}
+
 pub returns : goal.returns
-unfolding Pose-enclose_slerp_far
 returns c = record {
-  value = ap JudgedQuaternion-of (traced (enclosure c.args.m (IntervalQuaternion-list c.args.q1
-      ++ IntervalQuaternion-list c.args.q2 ++ c.args.cos_theta ∷ c.args.theta ∷ c.args.t ∷ [])) slerp_far_stage
-      _ c.mul_enclosure-thetap.ensures.value
-      _ c.mul_enclosure-px.ensures.value
-      _ c.sub_enclosure-x.ensures.value
-      _ c.mul_enclosure-py.ensures.value
-      _ c.sub_enclosure-y.ensures.value
-      _ c.mul_enclosure-pz.ensures.value
-      _ c.sub_enclosure-z.ensures.value
-      _ c.mul_enclosure-pw.ensures.value
-      _ c.sub_enclosure-w.ensures.value
-      _ c.mul_enclosure-xx.ensures.value
-      _ c.mul_enclosure-yy.ensures.value
-      _ c.add_enclosure-xy.ensures.value
-      _ c.mul_enclosure-zz.ensures.value
-      _ c.add_enclosure-xyz.ensures.value
-      _ c.mul_enclosure-ww.ensures.value
-      _ c.add_enclosure-dot.ensures.value
-      _ c.sqrt_enclosure-n.ensures.value
-      _ c.div_enclosure-nx.ensures.value
-      _ c.div_enclosure-ny.ensures.value
-      _ c.div_enclosure-nz.ensures.value
-      _ c.div_enclosure-nw.ensures.value
-      _ c.sin_cos_enclosure-angle.ensures.value.0
-      _ c.sin_cos_enclosure-angle.ensures.value.1
-      _ c.mul_enclosure-ax.ensures.value
-      _ c.mul_enclosure-bx.ensures.value
-      _ c.add_enclosure-rx.ensures.value
-      _ c.mul_enclosure-ay.ensures.value
-      _ c.mul_enclosure-by.ensures.value
-      _ c.add_enclosure-ry.ensures.value
-      _ c.mul_enclosure-az.ensures.value
-      _ c.mul_enclosure-bz.ensures.value
-      _ c.add_enclosure-rz.ensures.value
-      _ c.mul_enclosure-aw.ensures.value
-      _ c.mul_enclosure-bw.ensures.value
-      _ c.add_enclosure-rw.ensures.value);
+  value = rw (
+    far-steps c.args.q1 c.args.q2 c.args.cos_theta c.args.theta c.args.t,
+    ← c.in_ok-thetap.ensures.value,
+    ← c.in_ok-px.ensures.value,
+    ← c.in_ok-py.ensures.value,
+    ← c.in_ok-pz.ensures.value,
+    ← c.in_ok-pw.ensures.value,
+    ← c.in_ok-perp.ensures.value,
+    ← c.in_ok-at.ensures.value,
+    ← c.in_ok-x.ensures.value,
+    ← c.in_ok-y.ensures.value,
+    ← c.in_ok-z.ensures.value,
+    ← c.in_ok-w.ensures.value,
+  );
 }

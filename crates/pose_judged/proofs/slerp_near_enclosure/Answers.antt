@@ -1,40 +1,81 @@
--- `slerp_near_enclosure` meets its contract: its calls are the formula's operations in working order.
-use mathlib.Core.Path.{ap}
+-- `slerp_near_enclosure` meets its contract: its calls are the formula's operations in working order, up to the first that is refused.
 use mathlib.Core.List.{[], ◌∷◌, ◌++◌}
-use Rattle.pose_steps.specs.formula.Enclose.{enclosure}
-use Rattle.pose_steps.proofs.formula.Trace.{traced}
+use Rattle.pose_steps.proofs.refusal.Outcome.{handed-on}
 use Rattle.pose_steps.specs.Stages.{slerp_near_stage}
-use Rattle.pose_steps.specs.Enclose.{IntervalQuaternion-list, JudgedQuaternion-of, Pose-enclose_slerp_near}
+use Rattle.pose_steps.specs.Enclose.{IntervalQuaternion-list, Pose-enclose_slerp_near}
+use Rattle.pose_judged.proofs.Stages.{quaternion-stage}
 use Rattle.pose_judged.proofs.slerp_near_enclosure.Goals as goal
+
+pub returns-in_err-s : goal.returns-in_err-s
+unfolding Pose-enclose_slerp_near
+returns-in_err-s c = record {
+  value = rw (
+    handed-on _ _ c.from_residual.ensures,
+    quaternion-stage slerp_near_stage (IntervalQuaternion-list c.args.q1 ++ IntervalQuaternion-list c.args.q2 ++ c.args.t ∷ []),
+    ← c.in_err-s.ensures.value,
+  );
+}
+
+pub returns-in_err-x : goal.returns-in_err-x
+unfolding Pose-enclose_slerp_near
+returns-in_err-x c = record {
+  value = rw (
+    handed-on _ _ c.from_residual-in_err-x.ensures,
+    quaternion-stage slerp_near_stage (IntervalQuaternion-list c.args.q1 ++ IntervalQuaternion-list c.args.q2 ++ c.args.t ∷ []),
+    ← c.in_ok-s.ensures.value,
+    ← c.in_err-x.ensures.value,
+  );
+}
+
+pub returns-in_err-y : goal.returns-in_err-y
+unfolding Pose-enclose_slerp_near
+returns-in_err-y c = record {
+  value = rw (
+    handed-on _ _ c.from_residual-in_err-y.ensures,
+    quaternion-stage slerp_near_stage (IntervalQuaternion-list c.args.q1 ++ IntervalQuaternion-list c.args.q2 ++ c.args.t ∷ []),
+    ← c.in_ok-s.ensures.value,
+    ← c.in_ok-x.ensures.value,
+    ← c.in_err-y.ensures.value,
+  );
+}
+
+pub returns-in_err-z : goal.returns-in_err-z
+unfolding Pose-enclose_slerp_near
+returns-in_err-z c = record {
+  value = rw (
+    handed-on _ _ c.from_residual-in_err-z.ensures,
+    quaternion-stage slerp_near_stage (IntervalQuaternion-list c.args.q1 ++ IntervalQuaternion-list c.args.q2 ++ c.args.t ∷ []),
+    ← c.in_ok-s.ensures.value,
+    ← c.in_ok-x.ensures.value,
+    ← c.in_ok-y.ensures.value,
+    ← c.in_err-z.ensures.value,
+  );
+}
+
+pub returns-in_err-w : goal.returns-in_err-w
+unfolding Pose-enclose_slerp_near
+returns-in_err-w c = record {
+  value = rw (
+    handed-on _ _ c.from_residual-in_err-w.ensures,
+    quaternion-stage slerp_near_stage (IntervalQuaternion-list c.args.q1 ++ IntervalQuaternion-list c.args.q2 ++ c.args.t ∷ []),
+    ← c.in_ok-s.ensures.value,
+    ← c.in_ok-x.ensures.value,
+    ← c.in_ok-y.ensures.value,
+    ← c.in_ok-z.ensures.value,
+    ← c.in_err-w.ensures.value,
+  );
+}
 
 pub returns : goal.returns
 unfolding Pose-enclose_slerp_near
 returns c = record {
-  value = ap JudgedQuaternion-of (traced
-      (enclosure c.args.m (IntervalQuaternion-list c.args.q1 ++ IntervalQuaternion-list c.args.q2 ++ c.args.t ∷ [])) slerp_near_stage
-      _ c.sub_enclosure-s.ensures.value
-      _ c.mul_enclosure-px.ensures.value
-      _ c.mul_enclosure-qx.ensures.value
-      _ c.add_enclosure-x.ensures.value
-      _ c.mul_enclosure-py.ensures.value
-      _ c.mul_enclosure-qy.ensures.value
-      _ c.add_enclosure-y.ensures.value
-      _ c.mul_enclosure-pz.ensures.value
-      _ c.mul_enclosure-qz.ensures.value
-      _ c.add_enclosure-z.ensures.value
-      _ c.mul_enclosure-pw.ensures.value
-      _ c.mul_enclosure-qw.ensures.value
-      _ c.add_enclosure-w.ensures.value
-      _ c.mul_enclosure-xx.ensures.value
-      _ c.mul_enclosure-yy.ensures.value
-      _ c.add_enclosure-xy.ensures.value
-      _ c.mul_enclosure-zz.ensures.value
-      _ c.add_enclosure-xyz.ensures.value
-      _ c.mul_enclosure-ww.ensures.value
-      _ c.add_enclosure-dot.ensures.value
-      _ c.sqrt_enclosure-n.ensures.value
-      _ c.div_enclosure-nx.ensures.value
-      _ c.div_enclosure-ny.ensures.value
-      _ c.div_enclosure-nz.ensures.value
-      _ c.div_enclosure-nw.ensures.value);
+  value = rw (
+    c.normalized.ensures.value,
+    quaternion-stage slerp_near_stage (IntervalQuaternion-list c.args.q1 ++ IntervalQuaternion-list c.args.q2 ++ c.args.t ∷ []),
+    ← c.in_ok-s.ensures.value,
+    ← c.in_ok-x.ensures.value,
+    ← c.in_ok-y.ensures.value,
+    ← c.in_ok-z.ensures.value,
+    ← c.in_ok-w.ensures.value,
+  );
 }

@@ -5,8 +5,8 @@ pub returns : goal.returns
 returns c = record {
   value = rw (
     c.slerp_far_enclosure.ensures.value,
-    c.point-theta.ensures.value,
-    c.point-cos_theta.ensures.value,
+    c.from-theta.ensures,
+    c.from-cos_theta.ensures,
     c.quaternion_point-q.ensures.value,
     c.quaternion_point-p.ensures.value,
   );

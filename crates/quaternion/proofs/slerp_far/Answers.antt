@@ -6,14 +6,14 @@ pub returns : goal.returns
 unfolding slerp_far
 returns c = record {
   value = rw (
-    c.add.ensures.value,
-    c.mul-b.ensures.value,
-    c.mul-a.ensures.value,
+    c.add.ensures,
+    c.mul-3.ensures,
+    c.mul-2.ensures,
     c.sin_cos-angle.ensures.value.0,
     c.sin_cos-angle.ensures.value.1,
     c.normalize-qperp.ensures.value,
-    c.sub.ensures.value,
-    c.mul.ensures.value,
+    c.sub.ensures,
+    c.mul.ensures,
     c.acos-theta.ensures.value,
     c.clamp.ensures.value,
   );

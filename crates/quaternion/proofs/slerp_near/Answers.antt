@@ -4,4 +4,4 @@ use Rattle.quaternion.proofs.slerp_near.Goals as goal
 
 pub returns : goal.returns
 unfolding slerp_near
-returns c = record { value = rw (c.normalize.ensures.value, c.add.ensures.value, c.mul-b.ensures.value, c.mul-a.ensures.value) }
+returns c = record { value = rw (c.normalize.ensures.value, c.add.ensures, c.mul-2.ensures, c.mul.ensures) }

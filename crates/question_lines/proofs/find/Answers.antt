@@ -1,19 +1,21 @@
--- `find`: the byte at the place is the one looked for, or one passed more.
-use Rattle.std.proofs.Common.{arith}
-use Rattle.question_lines.proofs.Found.{found-here, found-later, found_none}
+-- `find`: so many bytes stand before the first that is the one looked for.
+use Rattle.std.proofs.Common.{rules, tests, ◌∙◌, ap, ◌+◌, ℕ, not, nat_eq, drop}
+use Rattle.std.proofs.lemmas.Iterator.{YieldsList-from_slice}
+use Rattle.std.proofs.lemmas.Iterator.Adapters.{YieldsList-from_skip}
+use Rattle.std.proofs.lemmas.Iterator.Consumers.{count_from_yields_List}
+use Rattle.std.proofs.lemmas.Iterator.Search.{YieldsList-from_take_while}
+use Rattle.std.proofs.lemmas.List.Folds.{length-prefix_len}
+use Rattle.question_lines.proofs.Found.{before_is}
 use Rattle.question_lines.proofs.find.Goals as goal
-
-pub returns-then-text-at-clause-value : goal.returns-then-text-at-clause-value
-returns-then-text-at-clause-value c =
-    let l = c.loop-at in
-    omega (arith, l.invariant.passed, found-here c.args.b c.args.text.now l.at c.loop-at-test.true c.if-text-at.true)
-
-pub loop-at-preserved : goal.loop-at-preserved
-loop-at-preserved c =
-    let l = c.loop-at in
-    record { in_bounds = omega arith; passed = omega (arith, l.invariant.passed, found-later c.args.b c.args.text.now l.at c.loop-at-test.true c.if-text-at.false) }
 
 pub returns-clause-value : goal.returns-clause-value
 returns-clause-value c =
-    let l = c.loop-at in
-    omega (arith, l.invariant.passed, found_none c.args.b c.args.text.now l.at c.loop-at-test.false)
+    let a = c.args in
+    let left = drop a.from a.text.now in
+    let other = λ (x : ℕ). not (nat_eq x a.b) in
+    ap (λ (n : ℕ). a.from + n)
+    (count_from_yields_List c.take_while.result _ c.count.ensures.ran
+    (YieldsList-from_take_while _ other (YieldsList-from_skip a.from (YieldsList-from_slice a.text.now (cc)) (cc))
+    c.take_while.ensures.closure c.take_while.ensures.done (λ x b q k. search (rules, tests)))
+    ∙ length-prefix_len other left
+    ∙ before_is a.b left)

@@ -14,34 +14,32 @@ loop-k-init c =
     let a = c.args in
     let all : a.count - 0 ≡ a.count = omega arith in (
       omega arith,
-      omega arith,
       ap (λ (n : ℕ). decimals_end n a.line.now a.at) all,
       ap (λ (n : ℕ). decimals_stored n 0 a.line.now a.at a.wholes.now) all,
     )
 
 pub returns-then-line-end : goal.returns-then-line-end
 returns-then-line-end c = let a = c.args in let l = c.loop-k in let line = a.line.now in let e = decimal-past line l.end (omega (arith, c.if-line-end.true)) in let all = few a.count line a.at a.wholes.now _ _ l.invariant.0
-    (end-off line l.wholes a.count l.k l.end (omega arith) e ∙ l.invariant.2)
-    (stored-off line l.wholes a.count l.k l.end (omega arith) e ∙ l.invariant.3) in record { value = all.0; left = all.1 }
+    (end-off line l.wholes a.count l.k l.end (omega arith) e ∙ l.invariant.1)
+    (stored-off line l.wholes a.count l.k l.end (omega arith) e ∙ l.invariant.2) in record { value = all.0; left = all.1 }
 
-pub returns-in-Malformed : goal.returns-in-Malformed
-returns-in-Malformed c = let a = c.args in let l = c.loop-k in let line = a.line.now in let e = rw (c.part.ensures.value, c.word_end-end.ensures.value) at (sym c.read_decimal.ensures.value ∙ c.in-Malformed.is) in let all = few a.count line a.at a.wholes.now _ _ l.invariant.0
-    (end-off line l.wholes a.count l.k l.end (omega arith) e ∙ l.invariant.2)
-    (stored-off line l.wholes a.count l.k l.end (omega arith) e ∙ l.invariant.3) in record { value = all.0; left = all.1 }
+pub returns-in-None : goal.returns-in-None
+returns-in-None c = let a = c.args in let l = c.loop-k in let line = a.line.now in let e = rw (c.part.ensures.value, c.word_end-end.ensures.value) at (sym c.read_decimal.ensures.value ∙ c.in-None.is) in let all = few a.count line a.at a.wholes.now _ _ l.invariant.0
+    (end-off line l.wholes a.count l.k l.end (omega arith) e ∙ l.invariant.1)
+    (stored-off line l.wholes a.count l.k l.end (omega arith) e ∙ l.invariant.2) in record { value = all.0; left = all.1 }
 
 pub loop-k-preserved : goal.loop-k-preserved
 loop-k-preserved c =
     let a = c.args in
     let l = c.loop-k in
     let line = a.line.now in
-    let e = rw (c.part.ensures.value, c.word_end-end.ensures.value) at (sym c.read_decimal.ensures.value ∙ c.in-Value.is) in (
+    let e = rw (c.part.ensures.value, c.word_end-end.ensures.value) at (sym c.read_decimal.ensures.value ∙ c.in-Some.is) in (
       l.invariant.0,
-      omega arith,
-      rw c.word_end-end.ensures.value (sym (end_on line l.wholes a.count l.k l.end (omega arith) c.in-Value.n e) ∙ l.invariant.2),
-      rw c.word_end-end.ensures.value (sym (stored_on line l.wholes a.count l.k l.end (omega arith) c.in-Value.n e) ∙ l.invariant.3),
+      rw c.word_end-end.ensures.value (sym (end_on line l.wholes a.count l.k l.end (omega arith) c.in-Some.n e) ∙ l.invariant.1),
+      rw c.word_end-end.ensures.value (sym (stored_on line l.wholes a.count l.k l.end (omega arith) c.in-Some.n e) ∙ l.invariant.2),
     )
 
 pub returns : goal.returns
 returns c = let a = c.args in let l = c.loop-k in let none : a.count - l.k ≡ 0 = omega arith in let all = few a.count a.line.now a.at a.wholes.now _ _ l.invariant.0
-    (end_none a.line.now l.end ∙ rw none at l.invariant.2)
-    (stored-none a.line.now l.wholes l.k l.end ∙ rw none at l.invariant.3) in record { value = all.0; left = all.1 }
+    (end_none a.line.now l.end ∙ rw none at l.invariant.1)
+    (stored-none a.line.now l.wholes l.k l.end ∙ rw none at l.invariant.2) in record { value = all.0; left = all.1 }

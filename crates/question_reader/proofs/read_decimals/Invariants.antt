@@ -6,8 +6,5 @@ use Rattle.question_reader.proofs.read_decimals.Given as goal
 
 abbrev pub invariant-loop-k : goal.invariant-loop-k
 invariant-loop-k l =
-    (l.count ≤ 4) × (l.k ≤ l.count) × (decimals_end (l.count - l.k) l.line l.end ≡ decimals_end l.count l.line l.at)
+    (l.count ≤ 4) × (decimals_end (l.count - l.k) l.line l.end ≡ decimals_end l.count l.line l.at)
     × (decimals_stored (l.count - l.k) l.k l.line l.end l.wholes ≡ decimals_stored l.count 0 l.line l.at l.initial.wholes)
-
-abbrev pub decreases-loop-k : goal.decreases-loop-k
-decreases-loop-k l = l.count - l.k

@@ -5,7 +5,7 @@ use Rattle.transform.specs.declared.Transform.{Transform}
 use Rattle.interval.specs.declared.Interval.{Interval}
 use Rattle.animated_transform.specs.declared.AnimatedTransform.{AnimatedTransform}
 use Rattle.motion_point.specs.TransformPoint.{AnimatedTransform-constants}
-use Rattle.motion_piece.specs.declared.PaddedPose.{PaddedPose}
+use Rattle.motion_piece.specs.means.Piece.{PaddedPose}
 use Rattle.motion_piece.specs.means.Piece.{PaddedPose-over, PaddedPose-stored}
 use Rattle.reach_laws.specs.motion_chain.Chain.{Chain, Chain-moves}
 use Rattle.dt_share.specs.Share.{lower_half, upper_half, pieces}

@@ -12,7 +12,7 @@ turned r1 b = cond b (Quaternion-neg r1) r1
 
 pub returns-then-dot : goal.returns-then-dot
 unfolding flip
-returns-then-dot c = record { value = c.neg.ensures.value ∙ sym (ap (turned c.args.r1) (rw c.dot.ensures.value at c.if-dot.true)) }
+returns-then-dot c = record { value = c.neg.ensures ∙ sym (ap (turned c.args.r1) (rw c.dot.ensures.value at c.if-dot.true)) }
 
 pub returns-else-dot : goal.returns-else-dot
 unfolding flip

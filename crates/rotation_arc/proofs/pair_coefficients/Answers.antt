@@ -8,4 +8,4 @@ returns-then-has_rotation c = record { value = rw c.if-has_rotation.true c.rotat
 
 pub returns-else-has_rotation : goal.returns-else-has_rotation
 unfolding pair_coefficients
-returns-else-has_rotation c = record { value = rw (c.if-has_rotation.false, c.zero-zero.ensures.value) }
+returns-else-has_rotation c = record { value = rw (c.if-has_rotation.false, c.zero.ensures.value) }

@@ -11,8 +11,8 @@ returns c = record {
     c.to_rows-2.ensures.value,
     c.to_rows.ensures.value,
     c.normalize-qperp.ensures.value,
-    c.sub.ensures.value,
-    c.mul.ensures.value,
+    c.sub.ensures,
+    c.mul.ensures,
     c.acos-theta.ensures.value,
     c.clamp.ensures.value,
   );

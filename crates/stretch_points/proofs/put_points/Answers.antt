@@ -1,5 +1,4 @@
 -- `put_points` meets its contract: where the places are three a time the stretch fills them.
-use borrow.Author.Rules.{rules}
 use borrow.Author.Tests.{eq-eqb, ne_eqb}
 use Rattle.stretch_points.specs.Points.{Rows-points_put}
 use Rattle.stretch_points.proofs.put_points.Goals as goal

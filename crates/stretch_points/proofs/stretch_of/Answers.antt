@@ -1,6 +1,5 @@
 -- `stretch_of` meets its contract: its calls in turn.
 use Rattle.stretch_points.specs.means.Stretch.{Stretch-of}
-use borrow.Author.Rules.{rules}
 use Rattle.stretch_points.proofs.stretch_of.Goals as goal
 
 pub returns : goal.returns

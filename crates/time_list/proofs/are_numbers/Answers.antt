@@ -1,36 +1,17 @@
--- `are_numbers` meets its contract. Its loop keeps the test of the times from i on: that of all.
-use Prim.Native.Nat.{◌-◌, ◌≤◌}
-use mathlib.Core.Path.{◌≡◌, refl, sym, ◌∙◌}
-use native.Mathlib.Omega.{arith}
+-- `are_numbers` meets its contract: what `all` tells of the list (`numbers`).
+use mathlib.Core.Path.{◌∙◌}
+use mathlib.Core.Bool.{not}
+use lib.Ieee.{is_nan}
 use borrow.Author.Rules.{rules}
-use lib.ListN.{length, drop, get_or}
-use lib.Ieee.{nan}
-use Rattle.bounds3.proofs.rounding.Order.{differs-nan}
-use Rattle.motion_chain.specs.Times.{times_are_numbers}
-use Rattle.time_list.proofs.Loops.{number-fails, number-next, number-end}
+use borrow.Author.Tests.{tests}
+use Rattle.std.proofs.lemmas.Iterator.{YieldsList-from_slice}
+use Rattle.std.proofs.lemmas.Iterator.Search.{all_from_yields_List}
+use Rattle.time_list.proofs.Loops.{numbers}
 use Rattle.time_list.proofs.are_numbers.Goals as goal
-
-pub loop-i-init : goal.loop-i-init
-loop-i-init c = (refl, (omega arith, refl))
-
-pub returns-then-times-i : goal.returns-then-times-i
-returns-then-times-i c = record {
-  value = let l = c.loop-i in
-      let a = c.args in
-      let h = c.loop-i-test.true in
-      sym (number-fails a.times.now l.i h (sym (differs-nan (get_or a.times.now l.i nan)) ∙ c.if-times-i.true)) ∙ l.invariant.1.1;
-}
-
-pub loop-i-preserved : goal.loop-i-preserved
-loop-i-preserved c =
-    let l = c.loop-i in
-    let a = c.args in
-    let h = c.loop-i-test.true in
-    (refl, (omega (arith, h), number-next a.times.now l.i h (sym (differs-nan (get_or a.times.now l.i nan)) ∙ c.if-times-i.false) ∙ l.invariant.1.1))
 
 pub returns : goal.returns
 returns c = record {
-  value = let l = c.loop-i in
-      let a = c.args in
-      sym (number-end a.times.now l.i c.loop-i-test.false) ∙ l.invariant.1.1;
+  value =
+      all_from_yields_List (λ t. not (is_nan t)) _ _ _ c.all.ensures.ran (YieldsList-from_slice c.args.times.now cc) (λ x b q k. search (rules, tests))
+      ∙ numbers c.args.times.now;
 }

@@ -1,6 +1,5 @@
 -- `refusal` meets its contract: the two tests of the definition.
 use Rattle.motion_chain.specs.Times.{list_refusal}
-use borrow.Author.Rules.{rules}
 use Rattle.time_list.proofs.refusal.Goals as goal
 
 pub returns-then-are_numbers-is_finite : goal.returns-then-are_numbers-is_finite

@@ -2,10 +2,10 @@
 use Rattle.transform.specs.TransformBounds.{BoundsAnswer-from_moved}
 use Rattle.transform.proofs.from_moved.Goals as goal
 
-pub returns-in-Moved : goal.returns-in-Moved
+pub returns-in-Ok : goal.returns-in-Ok
 unfolding BoundsAnswer-from_moved
-returns-in-Moved c = record { value = rw (c.in-Moved.is, c.from_point.ensures.value) }
+returns-in-Ok c = record { value = rw (c.in-Ok.is, c.from_point.ensures.value) }
 
-pub returns-in-Refused : goal.returns-in-Refused
+pub returns-in-Err : goal.returns-in-Err
 unfolding BoundsAnswer-from_moved
-returns-in-Refused c = record { value = rw c.in-Refused.is }
+returns-in-Err c = record { value = rw (c.in-Err.is, c.number.ensures.value) }

@@ -18,7 +18,7 @@ unfolding moved_point
 returns-else-wp c = record {
   value = rw (
     rw c.mul_point-wp.ensures.value at c.if-wp.false,
-    c.div.ensures.value,
+    c.div.ensures,
     c.mul_point.ensures.value,
     c.mul_point-2.ensures.value,
     c.mul_point-3.ensures.value,

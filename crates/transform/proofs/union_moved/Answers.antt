@@ -2,13 +2,13 @@
 use Rattle.transform.specs.TransformBounds.{BoundsAnswer-union_moved}
 use Rattle.transform.proofs.union_moved.Goals as goal
 
-pub returns-in-Moved : goal.returns-in-Moved
+pub returns-in-Ok : goal.returns-in-Ok
 unfolding BoundsAnswer-union_moved
-returns-in-Moved c = record { value = rw (c.in-Bounds.is, c.in-Moved.is, c.union_point.ensures.value) }
+returns-in-Ok c = record { value = rw (c.in-Bounds.is, c.in-Ok.is, c.union_point.ensures.value) }
 
-pub returns-in-Refused-a : goal.returns-in-Refused-a
+pub returns-in-Err : goal.returns-in-Err
 unfolding BoundsAnswer-union_moved
-returns-in-Refused-a c = record { value = rw (c.in-Bounds.is, c.in-Refused-a.is) }
+returns-in-Err c = record { value = rw (c.in-Bounds.is, c.in-Err.is, c.number.ensures.value) }
 
 pub returns-in-Refused : goal.returns-in-Refused
 unfolding BoundsAnswer-union_moved

@@ -23,7 +23,7 @@ join_halves-below-requires t c =
     let a = c.args in
     let pre = c.requires in (
       omega arith,
-      (pre.0, (pre.1.0, between-at (is_near a.a) a.a.theta a.from.dt a.to.dt c.border_between-mid.ensures.value)),
+      (pre.0, between-at (is_near a.a) a.a.theta a.from.dt a.to.dt c.border_between-mid.ensures.value),
     )
 
 pub join_halves-requires : goal.join_halves-requires
@@ -31,7 +31,7 @@ join_halves-requires t c =
     let a = c.args in
     let pre = c.requires in (
       omega arith,
-      (pre.0, (between-at (is_near a.a) a.a.theta a.from.dt a.to.dt c.border_between-mid.ensures.value, pre.1.1)),
+      (between-at (is_near a.a) a.a.theta a.from.dt a.to.dt c.border_between-mid.ensures.value, pre.1),
     )
 
 pub returns : goal.returns

@@ -18,5 +18,5 @@ returns c = record {
       let b = c.border_between-b.ensures.value ∙ λ i. Border-between n th a.from.dt (mid i) in
       let d = c.border_between-d.ensures.value ∙ λ i. Border-between n th (mid i) a.to.dt in
       (λ i. LanesBorders-from (c.ends-dt.ensures.value i) (c.ends-cos.ensures.value i) (c.ends-sin.ensures.value i))
-      ∙ λ i. LanesBorders-of (c.requires.fact_2 i) (b i) (m i) (d i) (c.requires.fact_3 i);
+      ∙ λ i. LanesBorders-of (c.requires.from i) (b i) (m i) (d i) (c.requires.to i);
 }

@@ -14,7 +14,7 @@ join_halves-joined-requires c =
     let a = c.args in
     let near = is_near a.a in
     let theta = a.a.theta in
-    (c.table-table.ensures.value, (border-own near theta a.dt.low c.border_at-from.ensures.value, border-own near theta a.dt.high c.border_at-to.ensures.value))
+    (border-own near theta a.dt.low c.border_at-from.ensures.value, border-own near theta a.dt.high c.border_at-to.ensures.value)
 
 pub returns : goal.returns
 unfolding Halves-union lane_halves

@@ -16,7 +16,7 @@ returns-then-depth-eq0 t c =
     record {
       value = rw (
         c.accept-zeros.ensures.value,
-        newton-lent a.f c.requires.0 4 _ c.newton.ensures.value,
+        newton-lent a.f c.entries.ensures.value 4 _ c.newton.ensures.value,
         c.midpoint-mid.ensures.value,
         sym c.excludes_zero.ensures.value,
         c.if-excludes_zero.false,
@@ -27,7 +27,7 @@ returns-then-depth-eq0 t c =
 
 pub overflow_add-examined : goal.overflow_add-examined
 overflow_add-examined t c =
-    let few : c.find_zeros-lower.result.examined ≤ 511 = rw c.find_zeros-lower.ensures.value (few-examined _ (omega (arith, c.requires.1.1)) _ _ _) in
+    let few : c.find_zeros-lower.result.examined ≤ 511 = rw c.find_zeros-lower.ensures.value (few-examined _ (omega (arith, c.requires.1)) _ _ _) in
     omega (arith, few)
 
 pub returns-then-zeros-ne0 : goal.returns-then-zeros-ne0
@@ -41,13 +41,13 @@ returns-then-zeros-ne0 t c =
 
 pub overflow_add-examined-2 : goal.overflow_add-examined-2
 overflow_add-examined-2 t c =
-    let few : c.find_zeros-lower.result.examined ≤ 511 = rw c.find_zeros-lower.ensures.value (few-examined _ (omega (arith, c.requires.1.1)) _ _ _) in
+    let few : c.find_zeros-lower.result.examined ≤ 511 = rw c.find_zeros-lower.ensures.value (few-examined _ (omega (arith, c.requires.1)) _ _ _) in
     omega (arith, few)
 
 pub overflow_add-examined-3 : goal.overflow_add-examined-3
 overflow_add-examined-3 t c =
-    let few : c.find_zeros-lower.result.examined ≤ 511 = rw c.find_zeros-lower.ensures.value (few-examined _ (omega (arith, c.requires.1.1)) _ _ _) in
-    let few-2 : c.find_zeros-upper.result.examined ≤ 511 = rw c.find_zeros-upper.ensures.value (few-examined _ (omega (arith, c.requires.1.1)) _ _ _) in
+    let few : c.find_zeros-lower.result.examined ≤ 511 = rw c.find_zeros-lower.ensures.value (few-examined _ (omega (arith, c.requires.1)) _ _ _) in
+    let few-2 : c.find_zeros-upper.result.examined ≤ 511 = rw c.find_zeros-upper.ensures.value (few-examined _ (omega (arith, c.requires.1)) _ _ _) in
     omega (arith, few, few-2)
 
 pub returns : goal.returns

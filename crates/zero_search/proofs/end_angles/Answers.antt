@@ -3,7 +3,7 @@ use Rattle.interval.proofs.InOrder.{new-ordered}
 use Rattle.zero_search.proofs.end_angles.Goals as goal
 
 pub returns-then-i : goal.returns-then-i
-returns-then-i c = record { value = rw (new-ordered _ _ c.if-i.true) c.requires.fact_2 }
+returns-then-i c = record { value = rw (new-ordered _ _ c.if-i.true) c.requires }
 
 pub returns : goal.returns
 returns c = record { value = rw (← c.new-i.ensures.value) (c.end_at-low.ensures.value, c.end_at-high.ensures.value) }

@@ -4,4 +4,4 @@ use Rattle.bounds3.proofs.Bounds3f.corner.Goals as goal
 
 pub returns : goal.returns
 unfolding Bounds3f-corner
-returns c = record { value = rw (c.index-px.ensures.value, c.index-py.ensures.value, c.index-pz.ensures.value) }
+returns c = record { value = rw (c.index.ensures, c.index-2.ensures, c.index-3.ensures) }

@@ -6,12 +6,12 @@ pub returns : goal.returns
 unfolding MotionDerivative-range_at
 returns c = record {
   value = rw (
-    c.add-2.ensures.value,
-    c.add.ensures.value,
-    c.point.ensures.value,
-    c.mul-sines.ensures.value,
+    c.add-2.ensures,
+    c.add.ensures,
+    c.from.ensures,
+    c.mul-sines.ensures,
     c.affine-2.ensures.value,
-    c.mul-cosines.ensures.value,
+    c.mul-cosines.ensures,
     c.affine.ensures.value,
   );
 }

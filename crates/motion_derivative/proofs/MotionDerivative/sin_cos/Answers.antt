@@ -2,4 +2,4 @@
 use Rattle.motion_derivative.proofs.MotionDerivative.sin_cos.Goals as goal
 
 pub returns : goal.returns
-returns c = record { value = rw (← c.point.ensures.value, ← c.mul.ensures.value) c.sin_cos.ensures.value }
+returns c = record { value = rw (← c.from.ensures, ← c.mul.ensures) c.sin_cos.ensures.value }

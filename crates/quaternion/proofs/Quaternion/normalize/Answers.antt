@@ -4,4 +4,4 @@ use Rattle.quaternion.proofs.Quaternion.normalize.Goals as goal
 
 pub returns : goal.returns
 unfolding Quaternion-normalize
-returns c = record { value = rw (c.div.ensures.value, c.sqrt.ensures.value, c.dot.ensures.value) }
+returns c = record { value = rw (c.div.ensures, c.sqrt.ensures.value, c.dot.ensures.value) }

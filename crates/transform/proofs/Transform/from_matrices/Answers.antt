@@ -2,4 +2,4 @@
 use Rattle.transform.proofs.Transform.from_matrices.Goals as goal
 
 pub returns : goal.returns
-returns c = record { value = rw (c.from_rows-a.ensures.value, c.from_rows-b.ensures.value) }
+returns c = record { value = rw (c.from-a.ensures, c.from-b.ensures) }

@@ -1,26 +1,15 @@
--- `from_matrix` meets its contract: the inverse's number chooses the case.
-use borrow.Author.Tests.{eq-eqb, ne_eqb}
+-- `from_matrix` meets its contract: what the inverse gives chooses the case.
+use Rattle.std.proofs.lemmas.Result.{err_from_is_err_and}
+use Rattle.refusal.proofs.Number.{number-tested}
 use Rattle.transform.specs.Transform.{Transform-from_matrix}
 use Rattle.transform.proofs.Transform.from_matrix.Goals as goal
 
-pub returns-then-inverse-eq0 : goal.returns-then-inverse-eq0
+pub returns-in_err-inverse : goal.returns-in_err-inverse
 unfolding Transform-from_matrix
-returns-then-inverse-eq0 c = record {
-  value = rw (
-    eq-eqb _ 0 (rw c.inverse-inverse.ensures.value at c.if-inverse-eq0.true),
-    c.from_rows-a.ensures.value,
-    c.from_rows-b.ensures.value,
-    c.matrix.ensures.value,
-    c.inverse-inverse.ensures.value,
-  );
-}
+returns-in_err-inverse c =
+    let gave = err_from_is_err_and c.from_residual.result c.from_residual.ensures.1 in
+    record { value = rw (gave.1, gave.2, ← c.in_err-inverse.ensures.value, number-tested) }
 
-pub returns-else-inverse-eq0 : goal.returns-else-inverse-eq0
+pub returns : goal.returns
 unfolding Transform-from_matrix
-returns-else-inverse-eq0 c = record {
-  value = rw (
-    ne_eqb _ 0 (rw c.inverse-inverse.ensures.value at c.if-inverse-eq0.false),
-    c.refused.ensures.value,
-    c.inverse-inverse.ensures.value,
-  );
-}
+returns c = record { value = rw (← c.in_ok-inverse.ensures.value, c.from_matrices.ensures.value) }

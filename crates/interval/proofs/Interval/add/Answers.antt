@@ -1,7 +1,0 @@
--- `Interval::add` meets its contract: `Interval::new` of the two ends that the definition names.
-use Rattle.interval.specs.Interval.{Interval-add}
-use Rattle.interval.proofs.Interval.add.Goals as goal
-
-pub returns : goal.returns
-unfolding Interval-add
-returns c = record { value = c.new.ensures.value }

@@ -1,7 +1,0 @@
--- `Interval::mul` meets its contract: `Interval::new` of the two ends that the definition names.
-use Rattle.interval.specs.Interval.{Interval-mul}
-use Rattle.interval.proofs.Interval.mul.Goals as goal
-
-pub returns : goal.returns
-unfolding Interval-mul
-returns c = record { value = rw (← c.of_four-four.ensures.value) c.new.ensures.value }

@@ -1,7 +1,0 @@
--- `Judged::mul_enclosure` meets its contract: the four values are the definition's, judged.
-use Rattle.interval.specs.Enclosure.{Interval-mul_enclosure, Judged-mul_enclosure}
-use Rattle.interval.proofs.Judged.mul_enclosure.Goals as goal
-
-pub returns : goal.returns
-unfolding Interval-mul_enclosure Judged-mul_enclosure
-returns c = record { value = rw (c.judge.ensures.value, c.of_four.ensures.value) }

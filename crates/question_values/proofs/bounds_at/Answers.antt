@@ -1,7 +1,0 @@
--- `bounds_at` fills six places that hold +0.
-use Rattle.question_values.specs.Places.{values_at}
-use Rattle.question_values.proofs.bounds_at.Goals as goal
-
-pub returns : goal.returns
-unfolding values_at
-returns c = record { value = c.put_values.ensures.left }

@@ -1,7 +1,0 @@
--- `pose_at` fills eighteen places that hold +0.
-use Rattle.question_values.specs.Places.{values_at}
-use Rattle.question_values.proofs.pose_at.Goals as goal
-
-pub returns : goal.returns
-unfolding values_at
-returns c = record { value = c.put_values.ensures.left }
