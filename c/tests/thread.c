@@ -66,7 +66,7 @@ static bool outside(const standing *boom, unsigned cover_csr, unsigned point_csr
     return !inside(cover, moved);
 }
 
-/* How a process ends that asks for a cover whose one slice is too wide for its rotation, with some exceptions masked. */
+/* How a process ends that asks for a cover whose box leaves the range of floats on the way, with some exceptions masked. */
 static int ended(unsigned csr)
 {
     fflush(stdout);
@@ -74,15 +74,15 @@ static int ended(unsigned csr)
     if (child == 0) {
         const struct rlimit no_core = {0, 0};
         setrlimit(RLIMIT_CORE, &no_core);
-        jellyplain_pose start = {0, {{1, 0, 0, 0}, {0, 1, 0, 0}, {0, 0, 1, 0}, {0, 0, 0, 1}}, 0}, end = start;
+        jellyplain_pose start = {0, {{1e30f, 0, 0, 0}, {0, 1e30f, 0, 0}, {0, 0, 1e30f, 0}, {0, 0, 0, 1}}, 0}, end = start;
         end.time = end.matrix[0][3] = 1;
-        const float box[6] = {0, 0, 0, 0, 2, 0};
+        const float box[6] = {-1e30f, -1e30f, -1e30f, 1e30f, 1e30f, 1e30f};
         float cover[6];
         jellyplain_move move;
         if (jellyplain_build(false, &start, &end, &move) != JELLYPLAIN_NONE)
             _exit(1);
         _mm_setcsr(csr);
-        _exit(jellyplain_cover(&move, box, 0, cover) == JELLYPLAIN_SQUARED_LENGTH ? 0 : 1);
+        _exit(jellyplain_cover(&move, box, 0, cover) == JELLYPLAIN_NOT_FINITE ? 0 : 1);
     }
     int status = -1;
     waitpid(child, &status, 0);
@@ -106,7 +106,7 @@ int main(void)
     expect(outside(&halved, START, START | FLUSH_TO_ZERO), "a point asked with flush to zero leaves the cover that was reserved for it");
     expect(outside(&halved, START, START | DENORMALS_ARE_ZERO), "a point asked with denormals-are-zero leaves it");
     expect(outside(&near, START | DENORMALS_ARE_ZERO, START | DENORMALS_ARE_ZERO), "with denormals-are-zero a point leaves the cover that was reserved in the same way");
-    expect(ended(START) == 0, "a cover of depth 0 is refused with 10, with every exception masked");
+    expect(ended(START) == 0, "a cover of depth 0 is refused with 5, with every exception masked");
     int status = ended(START & ~INVALID_MASKED);
     expect(WIFSIGNALED(status) && WTERMSIG(status) == SIGFPE, "with the invalid operation unmasked the same cover ends the program by SIGFPE");
     printf("thread: %u not shown\n", failures);
