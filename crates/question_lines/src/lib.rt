@@ -17,7 +17,10 @@ pub fn find(text: &[u8], from: usize, b: u8) -> usize
     ensures value { result ≡ from + bytes_before b (drop from text.now) }
     ensures upper_bound { result ≤ max from (length text.now) }
 {
-    from + text.iter().skip(from).take_while(|x| **x != b).count()
+    if from >= text.len() {
+        return from;
+    }
+    from + text[from..].iter().take_while(|x| **x != b).count()
 }
 
 // Whether two texts are the same bytes. Accuracy: exact.
