@@ -66,23 +66,30 @@ static bool outside(const standing *boom, unsigned cover_csr, unsigned point_csr
     return !inside(cover, moved);
 }
 
-/* How a process ends that asks for a cover whose box leaves the range of floats on the way, with some exceptions masked. */
-static int ended(unsigned csr)
+/* A cover of depth 0 that is refused: of a move that scales and shifts, over a box. */
+typedef struct {
+    float scale;
+    float box[6];
+    uint8_t refusal;
+} refused;
+
+/* How a process ends that asks for such a cover with some exceptions masked. */
+static int ended(const refused *asked, unsigned csr)
 {
     fflush(stdout);
     pid_t child = fork();
     if (child == 0) {
         const struct rlimit no_core = {0, 0};
         setrlimit(RLIMIT_CORE, &no_core);
-        jellyplain_pose start = {0, {{1e30f, 0, 0, 0}, {0, 1e30f, 0, 0}, {0, 0, 1e30f, 0}, {0, 0, 0, 1}}, 0}, end = start;
+        const float s = asked->scale;
+        jellyplain_pose start = {0, {{s, 0, 0, 0}, {0, s, 0, 0}, {0, 0, s, 0}, {0, 0, 0, 1}}, 0}, end = start;
         end.time = end.matrix[0][3] = 1;
-        const float box[6] = {-1e30f, -1e30f, -1e30f, 1e30f, 1e30f, 1e30f};
         float cover[6];
         jellyplain_move move;
         if (jellyplain_build(false, &start, &end, &move) != JELLYPLAIN_NONE)
             _exit(1);
         _mm_setcsr(csr);
-        _exit(jellyplain_cover(&move, box, 0, cover) == JELLYPLAIN_NOT_FINITE ? 0 : 1);
+        _exit(jellyplain_cover(&move, asked->box, 0, cover) == asked->refusal ? 0 : 1);
     }
     int status = -1;
     waitpid(child, &status, 0);
@@ -96,6 +103,9 @@ int main(void)
     /* Half of a number at the end of the normal range, and a difference of two such numbers. */
     const standing halved = {{0, {{0.5f, 0, 0, 0}, {0, 0.5f, 0, 0}, {0, 0, 0.5f, 0}, {0, 0, 0, 1}}, 0}, {1.5e-38f, 0, 0}};
     const standing near = {{0, {{1, 0, 0, -1.7632415e-38f}, {0, 1, 0, 0}, {0, 0, 1, 0}, {0, 0, 0, 1}}, 0}, {1.1754944e-38f, 0, 0}};
+    /* One slice is too wide for its rotation; a box leaves the range of floats on the way. */
+    const refused wide = {1, {0, 0, 0, 0, 2, 0}, JELLYPLAIN_SQUARED_LENGTH};
+    const refused far = {1e30f, {-1e30f, -1e30f, -1e30f, 1e30f, 1e30f, 1e30f}, JELLYPLAIN_NOT_FINITE};
 
     expect((_mm_getcsr() & CONTROL) == START, "a program starts with round to nearest, denormal numbers and masked exceptions");
     expect(!outside(&turned, START, START) && !outside(&halved, START, START) && !outside(&near, START, START), "so started, the three points are inside their covers");
@@ -106,8 +116,10 @@ int main(void)
     expect(outside(&halved, START, START | FLUSH_TO_ZERO), "a point asked with flush to zero leaves the cover that was reserved for it");
     expect(outside(&halved, START, START | DENORMALS_ARE_ZERO), "a point asked with denormals-are-zero leaves it");
     expect(outside(&near, START | DENORMALS_ARE_ZERO, START | DENORMALS_ARE_ZERO), "with denormals-are-zero a point leaves the cover that was reserved in the same way");
-    expect(ended(START) == 0, "a cover of depth 0 is refused with 5, with every exception masked");
-    int status = ended(START & ~INVALID_MASKED);
+    expect(ended(&wide, START) == 0, "a cover of depth 0 is refused with 10, with every exception masked");
+    expect(ended(&wide, START & ~INVALID_MASKED) == 0, "with the invalid operation unmasked too");
+    expect(ended(&far, START) == 0, "a cover of depth 0 is refused with 5, with every exception masked");
+    int status = ended(&far, START & ~INVALID_MASKED);
     expect(WIFSIGNALED(status) && WTERMSIG(status) == SIGFPE, "with the invalid operation unmasked the same cover ends the program by SIGFPE");
     printf("thread: %u not shown\n", failures);
     return failures == 0 ? 0 : 1;
