@@ -134,7 +134,7 @@ quiet "$CC" -std=c99 -I c c/tests/fuzz.c "$made/writes.c" "$library/libjellyplai
 "$made/fuzz_writes" 20261118 30000 60 >"$made/said" && fail "c/tests/fuzz.c passes a function that writes although it refuses"
 grep -Fq "jellyplain_pad: writes although it refuses" "$made/said" || { cat "$made/said"; fail "c/tests/fuzz.c doesn't name the function that writes although it refuses"; }
 if here python3 && here objdump; then
-    quiet tools/stack --check || fail "tools/stack --check: a call can take more stack than JELLYPLAIN_STACK"
+    quiet tools/stack --check || fail "tools/stack --check: a call can take more stack than c/jellyplain.h says"
 else
     skipped "tools/stack --check" "python3 with objdump"
 fi

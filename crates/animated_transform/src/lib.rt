@@ -6,6 +6,7 @@ ghost use Rattle.decomposition.specs.Decompose.{Decomposition-accepted};
 ghost use Rattle.animated_transform.specs.Built.{Built};
 ghost use Rattle.animated_transform.specs.New.{AnimatedTransformAnswer-of_result, AnimatedTransform-from_parts};
 ghost use Rattle.animated_transform.specs.New.{AnimatedTransform-from_poses, AnimatedTransform-new};
+ghost use Rattle.animated_transform.specs.means.Parts.{AnimatedTransformAnswer-of_parts};
 
 use coefficients::Coefficients;
 use decomposition::Decomposition;
@@ -38,29 +39,49 @@ pub struct AnimatedTransform {
     pub rigid: bool,
 }
 
-// The move between two poses, from their transforms a and b and their parts p and q.
-fn from_parts(
-    rigid: bool,
-    start: Pose,
-    end: Pose,
+// What is worked of each pose by itself: the transforms a and b, and the parts p and q.
+#[derive(Clone, Copy)]
+struct PairParts {
     a: Transform,
     b: Transform,
     p: Decomposition,
     q: Decomposition,
-) -> Result<AnimatedTransform, Refusal>
-    ensures value { AnimatedTransformAnswer-of_result result
-        ≡ AnimatedTransform-from_parts rigid start end a b (Decomposition-accepted p) (Decomposition-accepted q) }
+}
+
+// Both inverses are met before the parts. Not inlined, so that its stack is given back before the arc cosine takes its own.
+#[inline(never)]
+fn pair_parts(rigid: bool, start: Pose, end: Pose) -> Result<PairParts, Refusal>
+    ensures value { AnimatedTransformAnswer-of_parts rigid start end result ≡ AnimatedTransform-from_poses rigid start end }
 {
-    let t0 = p.t;
-    let t1 = q.t;
-    let r0 = p.r;
-    let r1 = rotation_arc::flip(r0, q.r);
-    let s0 = p.s;
-    let s1 = q.s;
+    let m0 = start.m.to_rows();
+    let m1 = end.m.to_rows();
+    let a = Transform::from_matrix(m0)?;
+    let b = Transform::from_matrix(m1)?;
+    let p = decomposition::decompose(rigid, m0)?;
+    let q = decomposition::decompose(rigid, m1)?;
+    Ok(PairParts { a, b, p, q })
+}
+
+// The move between two poses, from what was worked of each.
+fn from_parts(
+    rigid: bool,
+    start: Pose,
+    end: Pose,
+    parts: &PairParts,
+) -> Result<AnimatedTransform, Refusal>
+    ensures value { AnimatedTransformAnswer-of_result result ≡ AnimatedTransform-from_parts rigid start end parts.now.a parts.now.b
+        (Decomposition-accepted parts.now.p) (Decomposition-accepted parts.now.q) }
+{
+    let t0 = parts.p.t;
+    let t1 = parts.q.t;
+    let r0 = parts.p.r;
+    let r1 = rotation_arc::flip(r0, parts.q.r);
+    let s0 = parts.p.s;
+    let s1 = parts.q.s;
     let cos_theta = r0.dot(r1);
     // slerp is linear above 0.9995 and has_rotation asks for less: at 0.9995 itself neither holds.
     let has_rotation = cos_theta < SLERP_THRESHOLD;
-    rotation_arc::judge_dots(r0.dot(q.r), cos_theta)?;
+    rotation_arc::judge_dots(r0.dot(parts.q.r), cos_theta)?;
     let coefficients = rotation_arc::pair_coefficients(
         has_rotation,
         t0,
@@ -72,11 +93,11 @@ fn from_parts(
         cos_theta,
     )?;
     Ok(AnimatedTransform {
-        start_transform: a,
-        end_transform: b,
+        start_transform: parts.a,
+        end_transform: parts.b,
         start_time: start.time,
         end_time: end.time,
-        actually_animated: a != b,
+        actually_animated: parts.a != parts.b,
         has_rotation,
         t0,
         t1,
@@ -91,17 +112,12 @@ fn from_parts(
     })
 }
 
-// The move of two poses that are finite, affine and in order: both inverses are met before the parts.
+// The move of two poses that are finite, affine and in order.
 fn from_poses(rigid: bool, start: Pose, end: Pose) -> Result<AnimatedTransform, Refusal>
     ensures value { AnimatedTransformAnswer-of_result result ≡ AnimatedTransform-from_poses rigid start end }
 {
-    let m0 = start.m.to_rows();
-    let m1 = end.m.to_rows();
-    let a = Transform::from_matrix(m0)?;
-    let b = Transform::from_matrix(m1)?;
-    let p = decomposition::decompose(rigid, m0)?;
-    let q = decomposition::decompose(rigid, m1)?;
-    from_parts(rigid, start, end, a, b, p, q)
+    let parts = pair_parts(rigid, start, end)?;
+    from_parts(rigid, start, end, &parts)
 }
 
 impl AnimatedTransform {

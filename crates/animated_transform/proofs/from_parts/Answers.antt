@@ -44,7 +44,7 @@ returns-in_err-coefficients c =
 pub returns : goal.returns
 unfolding AnimatedTransform-from_parts Transform-eq
 returns c = record {
-  value = let equal : c.ne.result ≡ not (Transform-eq c.args.a c.args.b) = c.ne.ensures in
+  value = let equal : c.ne.result ≡ not (Transform-eq c.args.parts.now.a c.args.parts.now.b) = c.ne.ensures in
       rw (
         ← c.flip-r1.ensures.value,
         ← c.dot-cos_theta.ensures.value,
