@@ -135,6 +135,9 @@ quiet "$CC" -std=c99 -I c c/tests/fuzz.c "$made/writes.c" "$library/libjellyplai
 grep -Fq "jellyplain_pad: writes although it refuses" "$made/said" || { cat "$made/said"; fail "c/tests/fuzz.c doesn't name the function that writes although it refuses"; }
 if here python3 && here objdump; then
     quiet tools/stack --check || fail "tools/stack --check: a call can take more stack than c/jellyplain.h says"
+    sed 's/points and pads 10;/points and pads 1;/' c/jellyplain.h >"$made/header.h"
+    tools/stack --check --header "$made/header.h" >"$made/said" && fail "tools/stack --check passes a header that says too little"
+    grep -Fq "jellyplain_point takes" "$made/said" || { cat "$made/said"; fail "tools/stack --check doesn't name the function that takes more than the header says"; }
 else
     skipped "tools/stack --check" "python3 with objdump"
 fi
