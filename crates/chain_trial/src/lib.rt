@@ -109,7 +109,9 @@ fn change_refusal(
     build_beside(moves, place, pose, blocks)
 }
 
-// The cover of the kept moves with the new ones in place of those beside the pose.
+// The cover of the kept moves with the new ones in place of those beside the pose. Not inlined, so that its copy of the moves isn't on the stack while a
+// move is built.
+#[inline(never)]
 fn changed_cover(
     moves: &[[[f32; 4]; 45]],
     place: usize,
